@@ -17,7 +17,7 @@ pub fn next_document<S: yaml_token_source_t>(
     parser: &mut yaml_parser_t<S>,
 ) -> Result<yaml_document_t, yaml_error_type_t>
     requires { between_documents parser.old ≡ true }
-    ensures { ForHistory parser.old (λ _ _. LoadsFrom S.gives S.known S.may_break
+    ensures { ForHistory parser.old (λ _ _. LoadsFrom S.yaml_token_source_t
         (next_bounded (magnitude parser.old.max_entries)) left_over parser.old result parser.new) }
 {
     yaml_parser_load(parser)

@@ -10,7 +10,7 @@ use unsafe_libyaml::{
 pub fn next_event<S: yaml_token_source_t>(
     parser: &mut yaml_parser_t<S>,
 ) -> Result<yaml_event_t, yaml_error_type_t>
-    ensures { ParsesNext S.gives S.bound S.known S.may_break parser.old result parser.new }
+    ensures { ParsesNext S.yaml_token_source_t parser.old result parser.new }
 {
     yaml_parser_parse(parser)
 }

@@ -24,7 +24,7 @@ pub fn all_events<S: yaml_token_source_t + Drop>(
 ) -> Result<yaml_run_t, AllocError>
     ensures of_tree { (t : Stream) (f : Fault) → in_order t ≡ true
         → S.known source ≡ Some (coming (tokens t) f)
-        → IfOk result (λ run. RunsTo S.gives S.may_break source run (events t) Ends) }
+        → IfOk result (λ run. RunsTo S.yaml_token_source_t source run (events t) Ends) }
 {
     yaml_parser_parse_all(alloc, source)
 }
@@ -36,7 +36,7 @@ pub fn all_documents<S: yaml_token_source_t + Drop>(
 ) -> Result<yaml_documents_t, AllocError>
     ensures of_list { (l : List Token) (f : Fault) (loads : List Load) → IsLoads l f loads
         → S.known source ≡ Some (coming l f)
-        → IfOk result (λ all. LoadsTo S.gives S.may_break source all loads) }
+        → IfOk result (λ all. LoadsTo S.yaml_token_source_t source all loads) }
 {
     yaml_parser_load_all(alloc, source)
 }

@@ -142,7 +142,7 @@ fn clear(event: &mut yaml_event_t)
 pub fn yaml_parser_parse<S: yaml_token_source_t>(
     parser: &mut yaml_parser_t<S>,
 ) -> Result<yaml_event_t, yaml_error_type_t>
-    ensures { ParsesNext S.gives S.bound S.known S.may_break parser.old result parser.new }
+    ensures { ParsesNext S.yaml_token_source_t parser.old result parser.new }
 {
     parser.next_event()
 }
@@ -157,8 +157,7 @@ pub fn yaml_parser_parse_into<S: yaml_token_source_t>(
     parser: &mut yaml_parser_t<S>,
     event: &mut yaml_event_t,
 ) -> Result<(), yaml_error_type_t>
-    ensures { ParsesNext S.gives S.bound S.known S.may_break parser.old (answered result event.new)
-        parser.new }
+    ensures { ParsesNext S.yaml_token_source_t parser.old (answered result event.new) parser.new }
 {
     parser.next_event_into(event)
 }

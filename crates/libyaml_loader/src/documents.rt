@@ -40,8 +40,7 @@ impl<'a, S: yaml_token_source_t> Iterator for yaml_parser_documents_t<'a, S> {
 
     ghost can_next = { λ s. between_documents s.parser.now ≡ true };
 
-    ghost next_gives = { λ s r t. YieldsDocument S.gives S.bound S.known S.may_break s.parser.now r
-        t.parser.now
+    ghost next_gives = { λ s r t. YieldsDocument S.yaml_token_source_t s.parser.now r t.parser.now
         × (t.parser.ghost_name ≡ s.parser.ghost_name) };
 
     ghost remaining = { λ s. at_most (items_left S.bound s.parser.now) };

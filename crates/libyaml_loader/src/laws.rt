@@ -35,11 +35,11 @@ pub fn loop_yields_loads<S: yaml_token_source_t>()
     ensures of_list { (old new : Parser S) (documents : List Document) (ending : Ending) (l : List Token)
         (f : Fault) (loads : List Load) → History old [] [] → S.known old.source ≡ Some (coming l f)
         → IsBoundedLoads (magnitude old.max_entries) l f loads
-        → LoopYields S.gives S.bound S.known S.may_break old documents ending new
+        → LoopYields S.yaml_token_source_t old documents ending new
         → AreLoadsOf S.may_break new documents ending loads }
     ensures of_run { (old new : Parser S) (documents : List Document) (ending : Ending) (e : List Event)
         (x : Ending) → RunToCome S.known old e x → NestsSoFar e
-        → LoopYields S.gives S.bound S.known S.may_break old documents ending new
+        → LoopYields S.yaml_token_source_t old documents ending new
         → AreLoadsOf S.may_break new documents ending (bounded_loads (magnitude old.max_entries) e x) }
 {}
 
@@ -49,8 +49,8 @@ pub fn loop_yields_loads<S: yaml_token_source_t>()
 pub fn load_of_run<S: yaml_token_source_t>()
     ensures { (n : ℕ) (old new : Parser S) (r : DocumentOrError) (events : List Event) (ending : Ending)
         → RunToCome S.known old events ending
-        → LoadsFrom S.gives S.known S.may_break (next_bounded n) left_over old r new
-        → LoadOfRun S.known S.may_break (next_bounded n) left_over r new events ending }
+        → LoadsFrom S.yaml_token_source_t (next_bounded n) left_over old r new
+        → LoadOfRun S.yaml_token_source_t (next_bounded n) left_over r new events ending }
 {}
 
 /// What a loader was handed and gave says, whichever push led there.

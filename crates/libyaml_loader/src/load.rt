@@ -57,11 +57,11 @@ pub fn yaml_parser_load<S: yaml_token_source_t>(
     // over every source, by the events that were taken; a parser with a history keeps no fault
     ensures no_fault { ForHistory parser.old (λ _ _. has_failed parser.old ≡ false) }
     ensures loads { has_failed parser.old ≡ false
-        → LoadsFrom S.gives S.known S.may_break (next_bounded (magnitude parser.old.max_entries)) left_over
+        → LoadsFrom S.yaml_token_source_t (next_bounded (magnitude parser.old.max_entries)) left_over
         parser.old result parser.new }
     // nodes and the entries of their lists are together at most twice the events that were taken
     ensures linear { has_failed parser.old ≡ false → IfOk result (λ d. (taken : List yaml_event_t)
-        × Took S.gives S.known parser.old parser.new taken × (size d.nodes ≤ 2 * length taken)) }
+        × Took S.yaml_token_source_t parser.old parser.new taken × (size d.nodes ≤ 2 * length taken)) }
     // a document without nodes is returned only where the parser has ended
     ensures without_root { IfOk result (λ d. d.nodes ≡ []
         → ForHistory parser.old (λ _ _. HasEnded parser.new)) }
@@ -99,7 +99,7 @@ fn next_document<S: yaml_token_source_t>(
     ensures failed { IfErr result (λ _. has_failed parser.new ≡ true) }
     ensures bound { parser.new.max_entries ≡ parser.old.max_entries }
     ensures between { between_documents parser.new ≡ true }
-    ensures loads { LoadsFrom S.gives S.known S.may_break (next_bounded composer.max_entries) left_over
+    ensures loads { LoadsFrom S.yaml_token_source_t (next_bounded composer.max_entries) left_over
         parser.old result parser.new }
 {
     loop {

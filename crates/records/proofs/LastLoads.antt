@@ -1,8 +1,8 @@
 -- The last load is none of a loop's documents.
-use Rattle.std.proofs.Common.{◌≡◌, ◌≢◌, ◌++◌, ◌∷◌, ℕ, List, [], Option, Some, None, false, Ok, Err, map, sym, ap, ◌∙◌}
+use Rattle.std.proofs.Common.{◌≡◌, ◌≢◌, ◌++◌, ◌∷◌, List, [], Option, Some, None, false, Ok, Err, map, sym, ap, ◌∙◌}
 use Rattle.std.proofs.lemmas.List.{append-nil}
-use Rattle.libyaml_types.specs.Fault.{Answer, Fault}
-use Rattle.libyaml_types.specs.Source.{Coming}
+use Rattle.libyaml_types.specs.Fault.{Fault}
+use Rattle.libyaml_types.specs.declared.source.yaml_token_source_t.{Ghosts}
 use Rattle.libyaml_grammar.specs.runs.Runs.{Ending, Ends, Fails}
 use Rattle.libyaml_documents.specs.Documents.{Document, empty_document}
 use Rattle.libyaml_documents.specs.declared.node.yaml_node_t.{yaml_node_t}
@@ -45,16 +45,15 @@ all_rooted : (stop : Stop) (x : Ending) (l : List Begun) (ds : List Document) �
 all_rooted stop x [] ds r e = last_rooted x ds r e
 all_rooted stop x (b ∷ bs) ds r e = then_rooted _ _ b.opening _ x (loads_by stop x bs) (all_rooted stop x bs) ds r e
 
-module _ {S : Type 0} (gives : S → Answer → S → Type 0) (bound : S → ℕ) (known : S → Option Coming)
-    (MayBreak : S → Fault → Type 0) where
+module _ {S : Type 0} (g : Ghosts S) where
   rooted : (old new : Parser S) (documents : List Document) (ending : Ending)
-      → LoopYields gives bound known MayBreak old documents ending new → Rooted documents
+      → LoopYields g old documents ending new → Rooted documents
   rooted old new documents ending (no_item y) = tt
   rooted old new documents ending (fault f y) = tt
   rooted old new documents ending (document d later end next y more) = (y.1, rooted next new later end more)
 
   pub last_is_left : (old new : Parser S) (documents : List Document) (ending : Ending)
-      → LoopYields gives bound known MayBreak old documents ending new
+      → LoopYields g old documents ending new
       → (stop : Stop) (x : Ending) (l : List Begun) (loads rest : List Load) → loads ≡ loads_by stop x l
       → loads ≡ map Ok documents ++ rest → rest ≢ []
   last_is_left old new documents ending y stop x l loads rest are all none =

@@ -2,9 +2,9 @@
 use Rattle.std.proofs.Common.{◌≡◌, ◌≢◌, ◌++◌, ◌⊎◌, ℕ, List, [], ◌∷◌, Option, Some, None, Ok, Err, refl, sym}
 use Rattle.std.proofs.Common.{inl, inr, ap, ◌∙◌, append_assoc, subst}
 use Rattle.std.proofs.lemmas.List.{append-nil}
-use Rattle.libyaml_types.specs.Fault.{Answer, Fault, fault_of, no_fault}
-use Rattle.libyaml_types.specs.Source.{Coming}
+use Rattle.libyaml_types.specs.Fault.{Fault, fault_of, no_fault}
 use Rattle.libyaml_types.specs.declared.fault.yaml_parser_t_prefix.{yaml_parser_t_prefix}
+use Rattle.libyaml_types.specs.declared.source.yaml_token_source_t.{Ghosts}
 use Rattle.libyaml_grammar.specs.runs.Runs.{Ending, Ends, Fails}
 use Rattle.libyaml_grammar.specs.sentences.Events.{Event}
 use Rattle.libyaml_documents.specs.Documents.{Document}
@@ -27,15 +27,13 @@ use Rattle.records.proofs.Adding.{documents_more}
 use Rattle.records.proofs.Exceeding.{after_documents}
 
 -- the documents that came so far were put: whatever comes of the parser now came of the first one after these
-pub record PutSoFar {S : Type 0} (gives : S → Answer → S → Type 0) (bound : S → ℕ) (known : S → Option Coming)
-    (MayBreak : S → Fault → Type 0)
-    (first now : Parser S) (before : Lists) (n : document_counts_t) (after : Lists) (m : document_counts_t) : Type 0 where
+pub record PutSoFar {S : Type 0} (g : Ghosts S) (first now : Parser S) (before : Lists) (n : document_counts_t)
+    (after : Lists) (m : document_counts_t) : Type 0 where
   pub done : List Document
-  pub loaded : LoadedInTurn gives known (magnitude first.max_entries) first now done
+  pub loaded : LoadedInTurn g (magnitude first.max_entries) first now done
   pub adds : Adds (λ r. with_documents r done) before n after m
-  pub then_yields : (later : List Document) (ending : Ending) (last : Parser S)
-      → LoopYields gives bound known MayBreak now later ending last
-      → LoopYields gives bound known MayBreak first (done ++ later) ending last
+  pub then_yields : (later : List Document) (ending : Ending) (last : Parser S) → LoopYields g now later ending last
+      → LoopYields g first (done ++ later) ending last
   pub bound_stays : now.max_entries ≡ first.max_entries
 
 -- there is always a load
@@ -49,12 +47,11 @@ some_loads : (stop : Stop) (x : Ending) (l : List Begun) → loads_by stop x l �
 some_loads stop x [] e = not_cons (last_load x) [] (sym e)
 some_loads stop x (b ∷ bs) e = some_then _ _ b.opening _ (last_load x) (loads_by stop x bs) e
 
-module _ {S : Type 0} (gives : S → Answer → S → Type 0) (bound : S → ℕ) (known : S → Option Coming)
-    (MayBreak : S → Fault → Type 0) where
-  pub put_none : (p : Parser S) (a : Lists) (n : document_counts_t) → PutSoFar gives bound known MayBreak p p a n a n
+module _ {S : Type 0} (g : Ghosts S) where
+  pub put_none : (p : Parser S) (a : Lists) (n : document_counts_t) → PutSoFar g p p a n a n
   put_none p a n = record {
     done = [];
-    loaded = none_in_turn gives known (magnitude p.max_entries) p;
+    loaded = none_in_turn g (magnitude p.max_entries) p;
     adds = λ old all h. h;
     then_yields = λ later ending last y. y;
     bound_stays = refl;
@@ -62,25 +59,23 @@ module _ {S : Type 0} (gives : S → Answer → S → Type 0) (bound : S → ℕ
 
   -- with a document more
   loaded_one : (first p q : Parser S) (a b : Lists) (n k : document_counts_t) (d : Document)
-      (so_far : PutSoFar gives bound known MayBreak first p a n b k)
-      → YieldsDocument gives bound known MayBreak p (Some (Ok d)) q
-      → LoadedInTurn gives known (magnitude first.max_entries) first q (so_far.done ++ d ∷ [])
+      (so_far : PutSoFar g first p a n b k) → YieldsDocument g p (Some (Ok d)) q
+      → LoadedInTurn g (magnitude first.max_entries) first q (so_far.done ++ d ∷ [])
   loaded_one first p q a b n k d so_far item =
-      one_more gives known (magnitude first.max_entries) first p q so_far.done d so_far.loaded
-      (subst (λ (m : ℕ). LoadsFrom gives known MayBreak (next_bounded m) left_over p (Ok d) q)
+      one_more g (magnitude first.max_entries) first p q so_far.done d so_far.loaded
+      (subst (λ (m : ℕ). LoadsFrom g (next_bounded m) left_over p (Ok d) q)
       (ap magnitude so_far.bound_stays) item.2.loads) item.1
 
   pub put_one : (first p q : Parser S) (a b c : Lists) (n k m : document_counts_t) (d : Document)
-      → PutSoFar gives bound known MayBreak first p a n b k
-      → YieldsDocument gives bound known MayBreak p (Some (Ok d)) q → Adds (λ r. with_document r d) b k c m
-      → PutSoFar gives bound known MayBreak first q a n c m
+      → PutSoFar g first p a n b k → YieldsDocument g p (Some (Ok d)) q → Adds (λ r. with_document r d) b k c m
+      → PutSoFar g first q a n c m
   put_one first p q a b c n k m d so_far item adds = record {
     done = so_far.done ++ d ∷ [];
     loaded = loaded_one first p q a b n k d so_far item;
     adds = documents_more a b c n k m so_far.done d so_far.adds adds;
     then_yields = λ (later : List Document) (ending : Ending) (last : Parser S)
-        (y : LoopYields gives bound known MayBreak q later ending last).
-        subst (λ (l : List Document). LoopYields gives bound known MayBreak first l ending last)
+        (y : LoopYields g q later ending last).
+        subst (λ (l : List Document). LoopYields g first l ending last)
         (sym (append_assoc so_far.done (d ∷ []) later))
         (so_far.then_yields (d ∷ later) ending last (document d later ending q item y));
     bound_stays = item.2.bound ∙ so_far.bound_stays;
@@ -88,9 +83,8 @@ module _ {S : Type 0} (gives : S → Answer → S → Type 0) (bound : S → ℕ
 
   -- this document makes them too many
   pub put_too_many : (first p q : Parser S) (a b : Lists) (n k : document_counts_t) (d : Document)
-      → PutSoFar gives bound known MayBreak first p a n b k
-      → YieldsDocument gives bound known MayBreak p (Some (Ok d)) q → Exceeds (λ r. with_document r d) b k
-      → (events : List Event) (ending : Ending) → RunToCome known first events ending
+      → PutSoFar g first p a n b k → YieldsDocument g p (Some (Ok d)) q → Exceeds (λ r. with_document r d) b k
+      → (events : List Event) (ending : Ending) → RunToCome g.known first events ending
       → PutsUncounted a n (bounded_loads (magnitude first.max_entries) events ending)
   put_too_many first p q a b n k d so_far item over events ending run =
       let most = magnitude first.max_entries in
@@ -105,27 +99,24 @@ module _ {S : Type 0} (gives : S → Answer → S → Type 0) (bound : S → ℕ
       }
 
   ends_with : (first p q : Parser S) (a b : Lists) (n m : document_counts_t) (f : Fault) (ending : Ending)
-      → PutSoFar gives bound known MayBreak first p a n b m
-      → LoopYields gives bound known MayBreak p [] ending q → (((f ≡ no_fault) × (ending ≡ Ends)) ⊎ (ending ≡ Fails f))
-      → PutsDocuments gives bound known MayBreak first f a n b m
+      → PutSoFar g first p a n b m
+      → LoopYields g p [] ending q → (((f ≡ no_fault) × (ending ≡ Ends)) ⊎ (ending ≡ Fails f))
+      → PutsDocuments g first f a n b m
   ends_with first p q a b n m f ending so_far y ends = record {
     documents = so_far.done;
     ending = ending;
     last = q;
-    yields = subst (λ (l : List Document). LoopYields gives bound known MayBreak first l ending q)
+    yields = subst (λ (l : List Document). LoopYields g first l ending q)
         (append-nil so_far.done) (so_far.then_yields [] ending q y);
     ends = ends;
     adds = so_far.adds;
   }
 
-  pub put_all : (first p q : Parser S) (a b : Lists) (n m : document_counts_t)
-      → PutSoFar gives bound known MayBreak first p a n b m
-      → YieldsDocument gives bound known MayBreak p None q → PutsDocuments gives bound known MayBreak first no_fault a n b m
+  pub put_all : (first p q : Parser S) (a b : Lists) (n m : document_counts_t) → PutSoFar g first p a n b m
+      → YieldsDocument g p None q → PutsDocuments g first no_fault a n b m
   put_all first p q a b n m so_far item = ends_with first p q a b n m no_fault Ends so_far (no_item item) (inl (refl, refl))
 
   pub put_up_to : (first p q : Parser S) (a b : Lists) (n m : document_counts_t) (f : yaml_parser_t_prefix)
-      → PutSoFar gives bound known MayBreak first p a n b m
-      → YieldsDocument gives bound known MayBreak p (Some (Err f)) q
-      → PutsDocuments gives bound known MayBreak first (fault_of f) a n b m
+      → PutSoFar g first p a n b m → YieldsDocument g p (Some (Err f)) q → PutsDocuments g first (fault_of f) a n b m
   put_up_to first p q a b n m f so_far item = ends_with first p q a b n m (fault_of f) (Fails (fault_of f)) so_far
       (fault f item) (inr refl)

@@ -1,6 +1,6 @@
 -- What a whole run over documents hands out.
 use Rattle.std.proofs.Common.{arith, ◌≡◌, ◌≢◌, ◌≤◌, ◌+◌, ◌^◌, ◌++◌, ◌⊎◌, ◌∷◌, ℕ, List, [], Ok, length, map, min, refl}
-use Rattle.std.proofs.Common.{sym, ap, ◌∙◌, inl, inr, Some, subst}
+use Rattle.std.proofs.Common.{sym, ap, ◌∙◌, inl, inr, subst}
 use Rattle.std.proofs.lemmas.List.{length-append, take_all}
 use Rattle.libyaml_types.specs.Fault.{Fault, memory_fault, no_fault}
 use Rattle.libyaml_types.specs.Source.{Coming}
@@ -12,13 +12,12 @@ use Rattle.libyaml_graphs.specs.loads.Loads.{Load, last_load}
 use Rattle.libyaml_loader.specs.loads.LoadsInTurn.{AreLoadsOf, LoopYields, cut_short, whole}
 use Rattle.records.specs.Puts.{Puts}
 use Rattle.records.specs.FaultRecord.{EndsBy, HandsOut, fault_bytes, fault_record}
-use Rattle.records.specs.RecordSource.{RecordsGive, read_records}
-use Rattle.records.specs.RecordSourceLaws.{RecordsBreakOff}
+use Rattle.records.specs.RecordSource.{read_records}
 use Rattle.records.specs.declared.records.token_record_t.{token_record_t}
 use Rattle.records.specs.Buffers.{Adds, HeldIn, Holds, Lists, counts_of, many_texts, no_records}
 use Rattle.records.specs.DocumentRecords.{recorded, with_documents}
 use Rattle.records.specs.DocumentRun.{HandsOutLoads, LoadsEndBy, PutsUncounted, RecordsRunOut, Uncountable, WithinRoom}
-use Rattle.records.specs.DocumentRun.{with_words}
+use Rattle.records.specs.DocumentRun.{record_source, with_words}
 use Rattle.records.specs.declared.records.document_counts_t.{document_counts_t}
 use Rattle.records.specs.declared.records.documents_run_t.{documents_run_t}
 use Rattle.records.proofs.Adding.{held_more}
@@ -69,17 +68,17 @@ module _ (tokens : List token_record_t) (bytes : List ℕ) (f : Fault) (document
   no_memory e = let i = ap (λ (y : Fault). y.error) e in cc
 
   runs_out : (p : Parser Coming) (ending : Ending)
-      → LoopYields RecordsGive (λ s. length s.tokens) Some RecordsBreakOff (new_parser (read_records tokens bytes)) documents ending p
+      → LoopYields record_source (new_parser (read_records tokens bytes)) documents ending p
       → EndsBy f ending → f ≡ memory_fault → RecordsRunOut tokens bytes documents
   runs_out p ending y (inl (none, is)) memory = absurd (no_memory (sym none ∙ memory))
   runs_out p ending y (inr is) memory = record {
     last = p;
-    yields = subst (λ (x : Ending). LoopYields RecordsGive (λ s. length s.tokens) Some RecordsBreakOff
-        (new_parser (read_records tokens bytes)) documents x p) (is ∙ ap Fails memory) y;
+    yields = subst (λ (x : Ending). LoopYields record_source (new_parser (read_records tokens bytes)) documents x p)
+        (is ∙ ap Fails memory) y;
   }
 
   pub stops : (p : Parser Coming) (ending : Ending)
-      → LoopYields RecordsGive (λ s. length s.tokens) Some RecordsBreakOff (new_parser (read_records tokens bytes)) documents ending p
+      → LoopYields record_source (new_parser (read_records tokens bytes)) documents ending p
       → EndsBy f ending → (later : List Load) → LoadsEndBy f later ⊎ (f ≡ memory_fault)
       → LoadsEndBy f later ⊎ ((f ≡ memory_fault) × RecordsRunOut tokens bytes documents)
   stops p ending y by later (inl e) = inl e

@@ -1,7 +1,8 @@
 -- A run over token records that puts documents: what is put into the buffers, and what is returned.
-use Rattle.std.specs.Prelude.{◌≡◌, ◌≢◌, ◌++◌, ◌⊎◌, ◌∷◌, ℕ, List, [], length, map, Option, Some, Ok, Err}
-use Rattle.libyaml_types.specs.Fault.{Answer, Fault, no_fault, memory_fault}
+use Rattle.std.specs.Prelude.{◌≡◌, ◌≢◌, ◌++◌, ◌⊎◌, ◌∷◌, ℕ, List, [], length, map, Some, Ok, Err}
+use Rattle.libyaml_types.specs.Fault.{Fault, no_fault, memory_fault}
 use Rattle.libyaml_types.specs.Source.{Coming}
+use Rattle.libyaml_types.specs.declared.source.yaml_token_source_t.{Ghosts}
 use Rattle.libyaml_grammar.specs.runs.Runs.{Ending, Ends, Fails}
 use Rattle.libyaml_documents.specs.Documents.{Document, most_nodes}
 use Rattle.libyaml_events.specs.machine.Config.{Parser}
@@ -24,14 +25,12 @@ AreLoadsOfRecords tokens texts loads = IsBoundedLoads most_nodes (read_records t
     (read_records tokens texts).fault loads
 
 -- a loop over a parser's documents was put, up to its ending, from this parser to a last one
-pub record PutsDocuments {S : Type 0} (gives : S → Answer → S → Type 0) (bound : S → ℕ) (known : S → Option Coming)
-    (MayBreak : S → Fault → Type 0)
-    (parser : Parser S) (f : Fault) (before : Lists) (n : document_counts_t) (after : Lists)
-    (m : document_counts_t) : Type 0 where
+pub record PutsDocuments {S : Type 0} (g : Ghosts S) (parser : Parser S) (f : Fault) (before : Lists)
+    (n : document_counts_t) (after : Lists) (m : document_counts_t) : Type 0 where
   pub documents : List Document
   pub ending : Ending
   pub last : Parser S
-  pub yields : LoopYields gives bound known MayBreak parser documents ending last
+  pub yields : LoopYields g parser documents ending last
   pub ends : EndsBy f ending
   pub adds : Adds (λ r. with_documents r documents) before n after m
 
@@ -47,11 +46,19 @@ pub record PutsUncounted (before : Lists) (n : document_counts_t) (loads : List 
 abbrev pub LoadsEndBy : Fault → (later : List Load) → Type 0
 LoadsEndBy f later = ((f ≡ no_fault) × (later ≡ last_load Ends ∷ [])) ⊎ (later ≡ Err f ∷ [])
 
+-- the source of token records
+abbrev pub record_source : Ghosts Coming
+record_source = record {
+  gives = RecordsGive;
+  bound = λ s. length s.tokens;
+  known = Some;
+  may_break = RecordsBreakOff;
+}
+
 -- A parser of these records loaded these documents, and its last load failed for memory, where it may take some.
 pub record RecordsRunOut (tokens : List token_record_t) (texts : List ℕ) (documents : List Document) : Type 0 where
   pub last : Parser Coming
-  pub yields : LoopYields RecordsGive (λ s. length s.tokens) Some RecordsBreakOff (new_parser (read_records tokens texts)) documents
-      (Fails memory_fault) last
+  pub yields : LoopYields record_source (new_parser (read_records tokens texts)) documents (Fails memory_fault) last
 
 -- The first documents of loads were handed out, of which the last load is none, and then the words of a fault: all of
 -- them, with the loads' own ending, or those before an allocation failed.

@@ -163,7 +163,7 @@ fn put_documents<S: yaml_token_source_t>(
     wanted: &mut document_counts_t,
 ) -> Result<yaml_parser_t_prefix, AllocError>
     requires between { between_documents parser.old ≡ true }
-    ensures run { IfOk result (λ fault. PutsDocuments S.gives S.bound S.known S.may_break parser.old
+    ensures run { IfOk result (λ fault. PutsDocuments S.yaml_token_source_t parser.old
         (fault_of fault) (lists documents.old nodes.old items.old pairs.old directives.old texts.old)
         wanted.old (lists documents.new nodes.new items.new pairs.new directives.new texts.new) wanted.new) }
     ensures uncounted { OnErr result ((events : List Event) (ending : Ending)

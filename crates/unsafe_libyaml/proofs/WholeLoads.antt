@@ -8,7 +8,7 @@ use Rattle.libyaml_types.specs.declared.enums.yaml_error_type_t.TheVariants.{YAM
 use Rattle.libyaml_documents.specs.Documents.{Document, empty_document}
 use Rattle.libyaml_events.specs.machine.Config.{Parser}
 use Rattle.libyaml_grammar.specs.sentences.Events.{Event, events}
-use Rattle.libyaml_types.specs.Fault.{Answer, Fault, memory_fault}
+use Rattle.libyaml_types.specs.Fault.{Fault, memory_fault}
 use Rattle.libyaml_types.specs.Fault as faults
 use Rattle.libyaml_events.proofs.lent.CallsInTurn.{both_calls}
 use Rattle.libyaml_events.specs.sources.History.{answers, begins, between_documents, has_failed, kept_fault, new_parser}
@@ -17,10 +17,10 @@ use Rattle.libyaml_grammar.specs.sentences.Nesting.{IsNested}
 use Rattle.libyaml_grammar.specs.sentences.Order.{in_order}
 use Rattle.libyaml_events.proofs.lent.Histories as histories
 use Rattle.libyaml_grammar.specs.runs.Runs.{Ending, Ends, Fails}
-use Rattle.libyaml_types.specs.Source.{Coming}
 use Rattle.libyaml_grammar.specs.sentences.Tokens.{Token}
 use Rattle.libyaml_grammar.specs.sentences.Trees.{Stream, tokens}
 use Rattle.libyaml_types.specs.declared.fault.yaml_parser_t_prefix.{yaml_parser_t_prefix}
+use Rattle.libyaml_types.specs.declared.source.yaml_token_source_t.{Ghosts}
 use Rattle.libyaml_graphs.specs.loads.Bounds.{NoneLacksMemory, bounded_loads, next_bounded}
 use Rattle.libyaml_graphs.specs.loads.GraphLaws.{RootsFollow}
 use Rattle.libyaml_graphs.specs.loads.Loads.{IsLoads, Load, last_load, left_over, loads, loads_of}
@@ -47,9 +47,8 @@ abbrev oks : List Document → List Load
 oks ds = map (λ (d : Document). Ok d) ds
 
 -- Within the loads over a source: the parser loaded these documents since it was made.
-pub record Loaded {S : Type 0} (gives : S → Answer → S → Type 0) (known : S → Option Coming) (source : S) (p : Parser S)
-    (loaded : List Document) : Type 0 where
-  pub in_turn : LoadedInTurn gives known most (new_parser source) p loaded
+pub record Loaded {S : Type 0} (g : Ghosts S) (source : S) (p : Parser S) (loaded : List Document) : Type 0 where
+  pub in_turn : LoadedInTurn g most (new_parser source) p loaded
   pub between : between_documents p ≡ true
   pub bound : p.max_entries ≡ pos 2147483647
 
@@ -85,43 +84,38 @@ loaded_first within all (same e) loaded behind h = (behind, sym e ∙ h)
 loaded_first within all (met ds rest i j) loaded behind h = let k = oks_first loaded ds behind rest (sym i ∙ h)
     in (k.0, j ∙ k.1)
 
-pub loaded_none : {S : Type 0} (gives : S → Answer → S → Type 0) (known : S → Option Coming) (source : S) (p : Parser S)
-    → p ≡ new_parser source → between_documents p ≡ true → p.max_entries ≡ pos 2147483647
-    → Loaded gives known source p []
-loaded_none gives known source p is between bound = record {
-  in_turn = subst (λ q. LoadedInTurn gives known most (new_parser source) q []) (sym is)
-      (none_in_turn gives known most (new_parser source));
+pub loaded_none : {S : Type 0} (g : Ghosts S) (source : S) (p : Parser S) → p ≡ new_parser source
+    → between_documents p ≡ true → p.max_entries ≡ pos 2147483647 → Loaded g source p []
+loaded_none g source p is between bound = record {
+  in_turn = subst (λ q. LoadedInTurn g most (new_parser source) q []) (sym is)
+      (none_in_turn g most (new_parser source));
   between = between;
   bound = bound;
 }
 
-pub loaded_as : {S : Type 0} (gives : S → Answer → S → Type 0) (known : S → Option Coming) (source : S) (p : Parser S)
-    (a b : List Document) → b ≡ a → Loaded gives known source p a → Loaded gives known source p b
-loaded_as gives known source p a b h l = subst (λ (k : List Document). Loaded gives known source p k) (sym h) l
+pub loaded_as : {S : Type 0} (g : Ghosts S) (source : S) (p : Parser S) (a b : List Document) → b ≡ a
+    → Loaded g source p a → Loaded g source p b
+loaded_as g source p a b h l = subst (λ (k : List Document). Loaded g source p k) (sym h) l
 
-module _ {S : Type 0} (gives : S → Answer → S → Type 0) (known : S → Option Coming) (MayBreak : S → Fault → Type 0)
-    (source : S) (old new : Parser S)
-    (r : DocumentOrError) (call : has_failed old ≡ false
-    → LoadsFrom gives known MayBreak (next_bounded (magnitude old.max_entries)) left_over old r new)
-    (loaded : List Document) (was : Loaded gives known source old loaded) where
+module _ {S : Type 0} (g : Ghosts S) (source : S) (old new : Parser S) (r : DocumentOrError)
+    (call : has_failed old ≡ false → LoadsFrom g (next_bounded (magnitude old.max_entries)) left_over old r new)
+    (loaded : List Document) (was : Loaded g source old loaded) where
   abbrev given : List Event
   given = was.in_turn.taken
 
-  abbrev so : GaveSoFar gives source old given
+  abbrev so : GaveSoFar g.gives source old given
   so = was.in_turn.took.history [] [] begins
 
-  loads_of_call : (q : DocumentOrError) → r ≡ q → LoadsFrom gives known MayBreak (next_bounded most) left_over old q new
+  loads_of_call : (q : DocumentOrError) → r ≡ q → LoadsFrom g (next_bounded most) left_over old q new
   loads_of_call q is =
-      subst (λ (n : ℕ). LoadsFrom gives known MayBreak (next_bounded n) left_over old q new) (ap magnitude was.bound)
-      (subst (λ (q : DocumentOrError). LoadsFrom gives known MayBreak (next_bounded (magnitude old.max_entries))
-      left_over old q new) is
+      subst (λ (n : ℕ). LoadsFrom g (next_bounded n) left_over old q new) (ap magnitude was.bound)
+      (subst (λ (q : DocumentOrError). LoadsFrom g (next_bounded (magnitude old.max_entries)) left_over old q new) is
       (call (histories.faultless old so.more given so.history)))
 
   -- what was given goes on by the events that were taken
-  gave_on : (p : Parser S) (taken : List Event) → Took gives known old p taken
-      → GaveSoFar gives source p (given ++ taken)
+  gave_on : (p : Parser S) (taken : List Event) → Took g old p taken → GaveSoFar g.gives source p (given ++ taken)
   gave_on p taken took
-      = both_calls gives (new_parser source) old p [] [] given taken so
+      = both_calls g.gives (new_parser source) old p [] [] given taken so
       (took.history so.more given so.history)
 
   so_far_behind : (taken rest : List Event) (x : Ending) → bounded_loads most ((given ++ taken) ++ rest) x
@@ -131,10 +125,9 @@ module _ {S : Type 0} (gives : S → Answer → S → Type 0) (known : S → Opt
 
   -- after one document more
   pub loaded_next : between_documents new ≡ true → new.max_entries ≡ old.max_entries → (d : Document) → r ≡ Ok d
-      → d.nodes ≢ []
-      → Loaded gives known source new (loaded ++ d ∷ [])
+      → d.nodes ≢ [] → Loaded g source new (loaded ++ d ∷ [])
   loaded_next between bound d is has_root = record {
-    in_turn = one_more gives known most (new_parser source) old new loaded d was.in_turn (loads_of_call (Ok d) is) has_root;
+    in_turn = one_more g most (new_parser source) old new loaded d was.in_turn (loads_of_call (Ok d) is) has_root;
     between = between;
     bound = bound ∙ was.bound;
   }
@@ -158,7 +151,7 @@ module _ {S : Type 0} (gives : S → Answer → S → Type 0) (known : S → Opt
         (so_far_behind taken rest x) in
         (later, h ∙ ap (λ (ds : List Document). oks ds ++ later) (sym items))
 
-    pub gathers_loads : (d : Document) → r ≡ Ok d → d.nodes ≡ [] → all.fault ≡ None → GathersLoads gives source all
+    pub gathers_loads : (d : Document) → r ≡ Ok d → d.nodes ≡ [] → all.fault ≡ None → GathersLoads g.gives source all
     gathers_loads d is no_root no_fault = go (loads_of_call (Ok d) is)
       where
         ends : ending_of all.fault ≡ Ends
@@ -167,11 +160,11 @@ module _ {S : Type 0} (gives : S → Answer → S → Type 0) (known : S → Opt
         no_end : ◌≡◌ {A = Load} (Err memory_fault) (Ok d) → ⊥
         no_end h = cc
 
-        roots_of : (taken : List Event) → Took gives known old new taken → RootsFollow taken
+        roots_of : (taken : List Event) → Took g old new taken → RootsFollow taken
         roots_of taken took = roots_behind given taken
             (roots_follow (given ++ taken) (histories.nests new _ _ (gave_on new taken took).history))
 
-        go : Loads gives known (next_bounded most) left_over old new d → GathersLoads gives source all
+        go : Loads g (next_bounded most) left_over old new d → GathersLoads g.gives source all
         go (whole taken took is_load left b) =
             let x = Fails memory_fault in
             let load = ap (λ (l : List Event). next_bounded most l x) (sym (append-nil taken)) ∙ is_load [] x in
@@ -205,7 +198,7 @@ module _ {S : Type 0} (gives : S → Answer → S → Type 0) (known : S → Opt
       ends_so = ap ending_of fault_is ∙ ap Fails kept
 
       has_memory : (kept_fault new).error ≢ YAML_MEMORY_ERROR
-      has_memory m = other (ap (λ (g : Fault). g.error) kept ∙ m)
+      has_memory m = other (ap (λ (w : Fault). w.error) kept ∙ m)
 
       stands : (e : List Event) (x : Ending) → next_bounded most e x ≡ Err (kept_fault new) → (given : List Event)
           → bounded_loads most given x ≡ oks loaded ++ bounded_loads most e x
@@ -214,9 +207,8 @@ module _ {S : Type 0} (gives : S → Answer → S → Type 0) (known : S → Opt
           (so_far ∙ ap (λ (t : List Load). oks loaded ++ t) (fault_of e x most (kept_fault new) last))
           (has_memory, tt) ends_so
 
-      by_parser_call : (taken : List Event) (parser : Parser S) → Took gives known old parser taken
-          → ParserFails gives known MayBreak parser new
-          → ((x : Ending) → next_bounded most taken x ≡ last_load x) → GathersLoads gives source all
+      by_parser_call : (taken : List Event) (parser : Parser S) → Took g old parser taken → ParserFails g parser new
+          → ((x : Ending) → next_bounded most taken x ≡ last_load x) → GathersLoads g.gives source all
       by_parser_call taken parser took fails last =
           let k = gave_on parser taken took in
           let call = fails.history _ _ k.history in
@@ -238,9 +230,10 @@ module _ {S : Type 0} (gives : S → Answer → S → Type 0) (known : S → Opt
                 (stopped_so p f (sym fault_is ∙ h) kept other call);
           }
 
-      by_loader_step : (taken : List Event) (parser : Parser S) → Took gives known old parser taken → (f : Fault)
+      by_loader_step : (taken : List Event) (parser : Parser S) → Took g old parser taken → (f : Fault)
           → KeptBy f parser new
-          → ((rest : List Event) (x : Ending) → next_bounded most (taken ++ rest) x ≡ Err f) → GathersLoads gives source all
+          → ((rest : List Event) (x : Ending) → next_bounded most (taken ++ rest) x ≡ Err f)
+          → GathersLoads g.gives source all
       by_loader_step taken parser took f keeps fails =
           let k = gave_on parser taken took in
           record {
@@ -256,20 +249,20 @@ module _ {S : Type 0} (gives : S → Answer → S → Type 0) (known : S → Opt
                 ∙ ap (λ (l : List Event). loads l (ending_of all.fault)) (append-nil (given ++ taken));
             are_first = are_first taken;
             whole = λ (h : all.fault ≡ None). absurd (none_is_some p (sym h ∙ fault_is));
-            stopped = λ (g : yaml_parser_t_prefix) (h : all.fault ≡ Some g). inr
+            stopped = λ (w : yaml_parser_t_prefix) (h : all.fault ≡ Some w). inr
                 (error (ap kept_fault (keeps _ _ k.history)));
           }
         where
           error : kept_fault new ≡ f → (rest : List Event) (x : Ending)
               → loads ((given ++ taken) ++ rest) x ≡ as_whole_loads all.documents.items (ending_of all.fault)
           error is_kept rest x = sym (stands (taken ++ rest) x
-              (fails rest x ∙ ap (λ (g : Fault). Err g) (sym is_kept)) ((given ++ taken) ++ rest)
+              (fails rest x ∙ ap (λ (w : Fault). Err w) (sym is_kept)) ((given ++ taken) ++ rest)
               (so_far_behind taken rest x))
 
-      pub gathers_to_fault : GathersLoads gives source all
+      pub gathers_to_fault : GathersLoads g.gives source all
       gathers_to_fault = go (loads_of_call (Err y) is)
         where
-          go : LoadFails gives known MayBreak (next_bounded most) left_over old new → GathersLoads gives source all
+          go : LoadFails g (next_bounded most) left_over old new → GathersLoads g.gives source all
           go (by_parser taken parser took fails last) = by_parser_call taken parser took fails last
           go (by_loader before e parser took f keeps waits fails) =
               by_loader_step (before ++ e ∷ []) parser took f keeps fails
@@ -277,29 +270,27 @@ module _ {S : Type 0} (gives : S → Answer → S → Type 0) (known : S → Opt
               (keeps _ _ (gave_on parser (before ++ e ∷ []) took).history)))
 
 -- over a source that knows its tokens, by the run of the tokens that it was asked for
-pub loads_to : {S : Type 0} (gives : S → Answer → S → Type 0) (MayBreak : S → Fault → Type 0) (source : S)
-    (all : yaml_documents_t)
-    (g : GathersLoads gives source all) (l : List Token) (f : Fault) (a : List Load) (h : IsLoads l f a)
-    → Tells MayBreak g.tokens.stands g.asked g.last g.taken h.events h.ending → LoadsTo gives MayBreak source all a
-loads_to gives MayBreak source all g l f a h tells = subst (LoadsTo gives MayBreak source all) (sym h.all)
-    (go all.fault refl)
+pub loads_to : {S : Type 0} (g : Ghosts S) (source : S) (all : yaml_documents_t) (w : GathersLoads g.gives source all)
+    (l : List Token) (f : Fault) (a : List Load) (h : IsLoads l f a)
+    → Tells g.may_break w.tokens.stands w.asked w.last w.taken h.events h.ending → LoadsTo g source all a
+loads_to g source all w l f a h tells = subst (LoadsTo g source all) (sym h.all) (go all.fault refl)
   where
-    told_so : (y : Ending) → ending_of all.fault ≡ y → (g.taken ≡ h.events) × (y ≡ h.ending)
-        → LoadsTo gives MayBreak source all (loads h.events h.ending)
-    told_so y i k = told.whole (g.are_loads ∙ ap₂ loads k.0 (i ∙ k.1))
+    told_so : (y : Ending) → ending_of all.fault ≡ y → (w.taken ≡ h.events) × (y ≡ h.ending)
+        → LoadsTo g source all (loads h.events h.ending)
+    told_so y i k = told.whole (w.are_loads ∙ ap₂ loads k.0 (i ∙ k.1))
 
-    begins : Begins g.taken h.events
-    begins = tells.begins g.begins_run
+    begins : Begins w.taken h.events
+    begins = tells.begins w.begins_run
 
-    go : (o : Option yaml_parser_t_prefix) → all.fault ≡ o → LoadsTo gives MayBreak source all (loads h.events h.ending)
-    go None i = told_so Ends (ap ending_of i) (tells.whole (g.whole i))
+    go : (o : Option yaml_parser_t_prefix) → all.fault ≡ o → LoadsTo g source all (loads h.events h.ending)
+    go None i = told_so Ends (ap ending_of i) (tells.whole (w.whole i))
     go (Some p) i = ⊎_elim (λ s. ⊎_elim (told_so (Fails (faults.fault_of p)) (ap ending_of i))
-        (λ b. let (rest, k) = g.are_first begins.0 h.ending in
-        told.broken_off (answers g.asked g.last) g.tokens.stands (faults.fault_of p) g.tokens.gave b
+        (λ b. let (rest, k) = w.are_first begins.0 h.ending in
+        told.broken_off (answers w.asked w.last) w.tokens.stands (faults.fault_of p) w.tokens.gave b
         (ap ending_of i) rest (ap (λ (l : List Event). loads l h.ending) begins.1 ∙ k))
         (tells.stopped (faults.fault_of p) s))
         (λ c. told.whole (sym (c begins.0 h.ending) ∙ ap (λ (l : List Event). loads l h.ending) (sym begins.1)))
-        (g.stopped p i)
+        (w.stopped p i)
 
 -- after a document with a root fewer events are left
 pub fewer : (d : Document) (new old : ℕ) → (d ≡ empty_document None [] false false) ⊎ (new < old) → d.nodes ≢ [] → new < old

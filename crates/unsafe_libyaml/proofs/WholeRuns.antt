@@ -18,10 +18,11 @@ use Rattle.libyaml_events.specs.sources.Needs.{EachNeeded}
 use Rattle.libyaml_events.specs.sources.Parsing.{CarriesOn, Cause, FailsBy, HasFailed, IsWhole, StopsShort}
 use Rattle.libyaml_events.specs.sources.Parsing as cause
 use Rattle.libyaml_grammar.specs.runs.Runs.{Ending, Ends, Fails, IsRun}
-use Rattle.libyaml_types.specs.Source.{Coming, Follows, coming}
+use Rattle.libyaml_types.specs.Source.{Follows, coming}
 use Rattle.libyaml_grammar.specs.sentences.Tokens.{Token}
 use Rattle.libyaml_grammar.proofs.lent.Running.{sentence_run}
 use Rattle.libyaml_types.specs.declared.fault.yaml_parser_t_prefix.{yaml_parser_t_prefix}
+use Rattle.libyaml_types.specs.declared.source.yaml_token_source_t.{Ghosts}
 use Rattle.libyaml_events.proofs.lent.CallsInTurn.{both_calls, gave_then, no_call, one_call}
 use Rattle.libyaml_events.proofs.lent.RunStops.{answers_both}
 use Rattle.libyaml_events.proofs.lent.Histories as histories
@@ -135,49 +136,47 @@ pub record Tells {S : Type 0} (MayBreak : S → Fault → Type 0) (stands : S) (
   pub begins : BeginsEachRun asked given → Begins given e
 
 -- over a source that knows its tokens
-module _ {S : Type 0} (gives : S → Answer → S → Type 0) (known : S → Option Coming) (MayBreak : S → Fault → Type 0)
-    (follows : (s t : S) (a : Answer) → gives s a t → Follows (MayBreak t) (known s) a (known t))
+module _ {S : Type 0} (g : Ghosts S)
+    (follows : (s t : S) (a : Answer) → g.gives s a t → Follows (g.may_break t) (g.known s) a (g.known t))
     (source : S) (l : List Token) (f : Fault) (e : List Event) (x : Ending) (is_run : IsRun l f e x)
-    (k : known source ≡ Some (coming l f))
-    (asked : List Token) (last : List Answer) (given : List Event) (a : Asked gives source asked last given) where
-  stopped_run : (g : Fault) → StoppedBy asked last given g → ((given ≡ e) × (Fails g ≡ x)) ⊎ MayBreak a.stands g
-  stopped_run g by = go by
+    (k : g.known source ≡ Some (coming l f)) (asked : List Token) (last : List Answer) (given : List Event)
+    (a : Asked g.gives source asked last given) where
+  stopped_run : (w : Fault) → StoppedBy asked last given w → ((given ≡ e) × (Fails w ≡ x)) ⊎ g.may_break a.stands w
+  stopped_run w by = go by
     where
       gave_as : (b : List Token) (r : List Answer) → last ≡ answers b r
-          → Gave gives source (answers (asked ++ b) r) a.stands
-      gave_as b r i = subst (λ (y : List Answer). Gave gives source y a.stands)
+          → Gave g.gives source (answers (asked ++ b) r) a.stands
+      gave_as b r i = subst (λ (y : List Answer). Gave g.gives source y a.stands)
           (ap (answers asked) i ∙ answers_both asked b r) a.gave
 
-      go : StoppedBy asked last given g → ((given ≡ e) × (Fails g ≡ x)) ⊎ MayBreak a.stands g
-      go (of_grammar b i h) = inl (failed_known gives known MayBreak follows [] source a.stands l f k e x is_run (asked ++ b)
-          given g (gave_as b [] i) h)
-      go (of_source b i c h) = short_known gives known MayBreak follows [] source a.stands l f k e x is_run (asked ++ b)
-          given g (gave_as b (Err g ∷ []) i) h
+      go : StoppedBy asked last given w → ((given ≡ e) × (Fails w ≡ x)) ⊎ g.may_break a.stands w
+      go (of_grammar b i h) = inl (failed_known g follows [] source a.stands l f k e x is_run (asked ++ b)
+          given w (gave_as b [] i) h)
+      go (of_source b i c h) = short_known g follows [] source a.stands l f k e x is_run (asked ++ b)
+          given w (gave_as b (Err w ∷ []) i) h
 
-  pub tells : Tells MayBreak a.stands asked last given e x
+  pub tells : Tells g.may_break a.stands asked last given e x
   tells = record {
-    whole = whole_known gives known MayBreak follows [] source a.stands l f k e x is_run asked given last a.gave;
+    whole = whole_known g follows [] source a.stands l f k e x is_run asked given last a.gave;
     stopped = stopped_run;
-    begins = λ begins. let (rest, all) = asked_front gives known MayBreak follows asked last source a.stands a.gave l f k in
+    begins = λ begins. let (rest, all) = asked_front g follows asked last source a.stands a.gave l f k in
         begins rest f e x (subst (λ (y : List Token). IsRun y f e x) all is_run);
   }
 
-pub runs_to : {S : Type 0} (gives : S → Answer → S → Type 0) (MayBreak : S → Fault → Type 0) (source : S)
-    (run : yaml_run_t) (g : Gathers gives source run)
-    (e : List Event) (x : Ending) → Tells MayBreak g.tokens.stands g.asked g.last run.events.items e x
-    → RunsTo gives MayBreak source run e x
-runs_to gives MayBreak source run g e x tells = go run.fault refl
+pub runs_to : {S : Type 0} (g : Ghosts S) (source : S) (run : yaml_run_t) (w : Gathers g.gives source run)
+    (e : List Event) (x : Ending) → Tells g.may_break w.tokens.stands w.asked w.last run.events.items e x
+    → RunsTo g source run e x
+runs_to g source run w e x tells = go run.fault refl
   where
-    whole_so : (y : Ending) → ending_of run.fault ≡ y → (run.events.items ≡ e) × (y ≡ x)
-        → RunsTo gives MayBreak source run e x
+    whole_so : (y : Ending) → ending_of run.fault ≡ y → (run.events.items ≡ e) × (y ≡ x) → RunsTo g source run e x
     whole_so y i h = whole h.0 (i ∙ h.1)
 
-    go : (o : Option yaml_parser_t_prefix) → run.fault ≡ o → RunsTo gives MayBreak source run e x
-    go None i = whole_so Ends (ap ending_of i) (tells.whole (g.whole i))
+    go : (o : Option yaml_parser_t_prefix) → run.fault ≡ o → RunsTo g source run e x
+    go None i = whole_so Ends (ap ending_of i) (tells.whole (w.whole i))
     go (Some p) i = ⊎_elim (whole_so (Fails (fault_of p)) (ap ending_of i))
-        (λ b. broken_off (answers g.asked g.last) g.tokens.stands (fault_of p) g.tokens.gave b (ap ending_of i)
-        (tells.begins g.begins_run))
-        (tells.stopped (fault_of p) (g.stopped p i))
+        (λ b. broken_off (answers w.asked w.last) w.tokens.stands (fault_of p) w.tokens.gave b (ap ending_of i)
+        (tells.begins w.begins_run))
+        (tells.stopped (fault_of p) (w.stopped p i))
 
 -- the run over a tree's tokens
 pub tree_runs : (t : Stream) (f : Fault) → in_order t ≡ true → IsRun (tokens t) f (events t) Ends

@@ -8,6 +8,7 @@ use Rattle.libyaml_grammar.specs.sentences.Events.{Event}
 use Rattle.libyaml_grammar.specs.sentences.Nesting.{NestsSoFar}
 use Rattle.libyaml_grammar.specs.sentences.Tokens.{Token}
 use Rattle.libyaml_types.specs.declared.fault.yaml_parser_t_prefix.{yaml_parser_t_prefix}
+use Rattle.libyaml_types.specs.declared.source.yaml_token_source_t.{Ghosts}
 use Rattle.libyaml_events.specs.sources.Calls.{Gave}
 use Rattle.libyaml_events.specs.sources.Determined.{BeginsEachRun}
 use Rattle.libyaml_events.specs.sources.Parsing.{IsWhole}
@@ -21,14 +22,12 @@ as_whole_loads documents ending = map (λ (d : Document). Ok d) documents ++ las
 
 -- These loads; or the source broke off after the results that it gave, by a fault that it names as possible where it then
 -- stood, and the documents are a prefix. A list never does.
-pub data LoadsTo {S : Type 0} (gives : S → Answer → S → Type 0) (MayBreak : S → Fault → Type 0) (source : S)
-    (all : yaml_documents_t) (loads : List Load)
-    : Type 0 where
-  whole : as_whole_loads all.documents.items (ending_of all.fault) ≡ loads → LoadsTo gives MayBreak source all loads
-  broken_off : (given : List Answer) (s : S) (f : Fault) → Gave gives source given s → MayBreak s f
+pub data LoadsTo {S : Type 0} (g : Ghosts S) (source : S) (all : yaml_documents_t) (loads : List Load) : Type 0 where
+  whole : as_whole_loads all.documents.items (ending_of all.fault) ≡ loads → LoadsTo g source all loads
+  broken_off : (given : List Answer) (s : S) (f : Fault) → Gave g.gives source given s → g.may_break s f
       → ending_of all.fault ≡ Fails f
       → (rest : List Load) → loads ≡ map (λ (d : Document). Ok d) all.documents.items ++ rest
-      → LoadsTo gives MayBreak source all loads
+      → LoadsTo g source all loads
 
 -- these events have a composer error, whatever follows them: their loads are these documents and the fault
 abbrev pub ComposerError : List Event → yaml_documents_t → Type 0

@@ -13,6 +13,7 @@ use Rattle.libyaml_events.specs.sources.History.{answers}
 use Rattle.libyaml_events.specs.sources.Needs.{EachNeeded, EachWasNeeded}
 use Rattle.libyaml_events.specs.sources.Parsing.{HasFailed, IsWhole, StopsShort}
 use Rattle.libyaml_types.specs.declared.fault.yaml_parser_t_prefix.{yaml_parser_t_prefix}
+use Rattle.libyaml_types.specs.declared.source.yaml_token_source_t.{Ghosts}
 use Rattle.unsafe_libyaml.specs.declared.parse_all.yaml_run_t.{yaml_run_t}
 
 -- how a run ended, by the fault after its events
@@ -22,13 +23,11 @@ ending_of (Some f) = Fails (fault_of f)
 
 -- These events and this ending; or the source broke off after the results that it gave, by a fault that it names as
 -- possible where it then stood, and the events are a prefix. A list never does.
-pub data RunsTo {S : Type 0} (gives : S → Answer → S → Type 0) (MayBreak : S → Fault → Type 0) (source : S)
-    (run : yaml_run_t) (events : List Event)
+pub data RunsTo {S : Type 0} (g : Ghosts S) (source : S) (run : yaml_run_t) (events : List Event)
     (ending : Ending) : Type 0 where
-  whole : run.events.items ≡ events → ending_of run.fault ≡ ending → RunsTo gives MayBreak source run events ending
-  broken_off : (given : List Answer) (s : S) (f : Fault) → Gave gives source given s → MayBreak s f
-      → ending_of run.fault ≡ Fails f
-      → Begins run.events.items events → RunsTo gives MayBreak source run events ending
+  whole : run.events.items ≡ events → ending_of run.fault ≡ ending → RunsTo g source run events ending
+  broken_off : (given : List Answer) (s : S) (f : Fault) → Gave g.gives source given s → g.may_break s f
+      → ending_of run.fault ≡ Fails f → Begins run.events.items events → RunsTo g source run events ending
 
 -- What a source was asked for until a run stopped: it gave these tokens and then, where a call failed, what that call asked
 -- for. Each was needed when it was asked for.

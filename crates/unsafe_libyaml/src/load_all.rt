@@ -51,7 +51,7 @@ pub fn yaml_parser_load_all<S: yaml_token_source_t + Drop>(
     ensures of_tree { (t : Stream) (f : Fault) → in_order t ≡ true
         → S.known source ≡ Some (coming (tokens t) f)
         → IfOk result (λ all. (n : IsNested (events t))
-        × LoadsTo S.gives S.may_break source all (loads_of n.texts (last_load Ends ∷ []))) }
+        × LoadsTo S.yaml_token_source_t source all (loads_of n.texts (last_load Ends ∷ []))) }
     // a cut tree that fits gives those of its whole documents, and then the open one's composer error or
     // its own
     ensures of_cut_tree { (before : List Token) (token : Token) (behind : List Token) (c : Cut) (f : Fault)
@@ -59,11 +59,11 @@ pub fn yaml_parser_load_all<S: yaml_token_source_t + Drop>(
         → is_behind_properties c behind ≡ true → S.known source ≡ Some (coming (before ++ token ∷ behind) f)
         → IfOk result (λ all. (loads : List Load)
         × NestedLoads (cut_events c token) (Fails (fault c token.content token.start_mark)) loads
-        × LoadsTo S.gives S.may_break source all loads) }
+        × LoadsTo S.yaml_token_source_t source all loads) }
     // any list of tokens gives its loads
     ensures of_list { (l : List Token) (f : Fault) (loads : List Load) → IsLoads l f loads
         → S.known source ≡ Some (coming l f)
-        → IfOk result (λ all. LoadsTo S.gives S.may_break source all loads) }
+        → IfOk result (λ all. LoadsTo S.yaml_token_source_t source all loads) }
     // over every source, also one that does not know its tokens
     ensures gathers { IfOk result (λ all. GathersLoads S.gives source all) }
     // nodes and the entries of their lists are together at most twice the events that were taken, and eight

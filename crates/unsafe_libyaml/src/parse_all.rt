@@ -45,17 +45,17 @@ pub fn yaml_parser_parse_all<S: yaml_token_source_t + Drop>(
     // the tokens of a tree in order give its events, and the end
     ensures of_tree { (t : Stream) (f : Fault) → in_order t ≡ true
         → S.known source ≡ Some (coming (tokens t) f)
-        → IfOk result (λ run. RunsTo S.gives S.may_break source run (events t) Ends) }
+        → IfOk result (λ run. RunsTo S.yaml_token_source_t source run (events t) Ends) }
     // a cut tree that fits gives its events, and its fault
     ensures of_cut_tree { (before : List Token) (token : Token) (behind : List Token) (c : Cut) (f : Fault)
         → Fits before token c
         → is_behind_properties c behind ≡ true → S.known source ≡ Some (coming (before ++ token ∷ behind) f)
-        → IfOk result (λ run. RunsTo S.gives S.may_break source run (cut_events c token)
+        → IfOk result (λ run. RunsTo S.yaml_token_source_t source run (cut_events c token)
         (Fails (fault c token.content token.start_mark))) }
     // any list of tokens gives its run
     ensures of_list { (l : List Token) (f : Fault) (e : List Event) (x : Ending) → IsRun l f e x
         → S.known source ≡ Some (coming l f)
-        → IfOk result (λ run. RunsTo S.gives S.may_break source run e x) }
+        → IfOk result (λ run. RunsTo S.yaml_token_source_t source run e x) }
     // over every source, also one that does not know its tokens
     ensures gathers { IfOk result (λ run. Gathers S.gives source run) }
 {
@@ -82,7 +82,7 @@ fn parse_onto<S: yaml_token_source_t>(
     parser: &mut yaml_parser_t<S>,
     events: &mut Vec<yaml_event_t>,
 ) -> Result<Result<bool, yaml_error_type_t>, AllocError>
-    ensures { IfOk result (λ is_last. ParsesOnto S.gives S.bound S.known S.may_break parser.old
+    ensures { IfOk result (λ is_last. ParsesOnto S.yaml_token_source_t parser.old
         events.old.items is_last parser.new events.new.items) }
 {
     let place = events.len();

@@ -4,5 +4,4 @@ use Rattle.example_list.proofs.collected_events.Given as goal
 
 abbrev pub invariant-loop-item : goal.invariant-loop-item
 invariant-loop-item g l =
-    let t = g.S.yaml_token_source_t in
-    Iterated t.gives t.bound t.known t.may_break l.initial.item-iterator (items_then [] l.events.items) l.item-iterator
+    Iterated g.S.yaml_token_source_t l.initial.item-iterator (items_then [] l.events.items) l.item-iterator

@@ -1,5 +1,5 @@
 -- After a document no fault is kept.
-use Rattle.std.proofs.Common.{◌≡◌, List, Option, Ok, Err, IfOk, inl, inr, false, sym, ◌∙◌}
+use Rattle.std.proofs.Common.{◌≡◌, List, Ok, Err, IfOk, inl, inr, false, sym, ◌∙◌}
 use Rattle.std.proofs.lemmas.Bool.{true≢false}
 use Rattle.libyaml_events.specs.machine.Config.{Parser}
 use Rattle.libyaml_events.specs.sources.History.{Remembers, has_failed}
@@ -8,13 +8,11 @@ use Rattle.libyaml_grammar.specs.runs.Runs.{Ending}
 use Rattle.libyaml_grammar.specs.sentences.Events.{Event}
 use Rattle.libyaml_graphs.specs.loads.Loads.{Load}
 use Rattle.libyaml_loader.specs.loads.Loading.{DocumentOrError, LoadsFrom, at_end, whole}
-use Rattle.libyaml_types.specs.Fault.{Answer, Fault}
-use Rattle.libyaml_types.specs.Source.{Coming}
+use Rattle.libyaml_types.specs.declared.source.yaml_token_source_t.{Ghosts}
 
-module _ {S : Type 0} (gives : S → Answer → S → Type 0) (known : S → Option Coming) (MayBreak : S → Fault → Type 0)
-    (load : List Event → Ending → Load)
-    (left : List Event → List Event) (old new : Parser S) (none : has_failed old ≡ false) where
-  pub faultless : Remembers old → (r : DocumentOrError) → LoadsFrom gives known MayBreak load left old r new
+module _ {S : Type 0} (g : Ghosts S) (load : List Event → Ending → Load) (left : List Event → List Event)
+    (old new : Parser S) (none : has_failed old ≡ false) where
+  pub faultless : Remembers old → (r : DocumentOrError) → LoadsFrom g load left old r new
       → IfOk r (λ _. has_failed new ≡ false)
   faultless h (Err x) l = tt
   faultless (inl fault) (Ok d) l = absurd (true≢false (sym fault ∙ none))

@@ -1,10 +1,10 @@
 -- Two outcomes that the contract of a load allows are one.
-use Rattle.std.proofs.Common.{◌≡◌, ◌⊎◌, inl, inr, List, [], ◌∷◌, ◌++◌, Option, None, Ok, Err, IfOk, IfErr, false, refl}
+use Rattle.std.proofs.Common.{◌≡◌, ◌⊎◌, inl, inr, List, [], ◌∷◌, ◌++◌, None, Ok, Err, IfOk, IfErr, false, refl}
 use Rattle.std.proofs.Common.{sym, ap, ◌∙◌, subst}
 use Rattle.std.proofs.Common.{append_assoc, append-nil}
 use Rattle.libyaml_documents.specs.Documents.{empty_document}
 use Rattle.libyaml_types.specs.Fault.{Answer, Fault, no_fault}
-use Rattle.libyaml_types.specs.Source.{Coming}
+use Rattle.libyaml_types.specs.declared.source.yaml_token_source_t.{Ghosts}
 use Rattle.libyaml_grammar.specs.sentences.Tokens.{Token}
 use Rattle.libyaml_grammar.specs.sentences.Events.{Event}
 use Rattle.libyaml_grammar.specs.cuts.Settled.{Begins}
@@ -70,10 +70,8 @@ not_last z h = ok_not_err (empty_document None [] false false) no_fault (sym (h 
 empty_front : (t : List Event) → t ++ [] ≡ [] → t ≡ []
 empty_front t e = sym (append-nil t) ∙ e
 
-module _ {S : Type 0} (gives : S → Answer → S → Type 0) (known : S → Option Coming) (may_break : S → Fault → Type 0)
-    (load : List Event → Ending → Load)
-    (left : List Event → List Event) (old : Parser S) (asked : List Token)
-    (given : List Event) (history : History old asked given) where
+module _ {S : Type 0} (g : Ghosts S) (load : List Event → Ending → Load) (left : List Event → List Event)
+    (old : Parser S) (asked : List Token) (given : List Event) (history : History old asked given) where
   -- before the last of these events no load was decided
   record IsLastOf (taken : List Event) : Type 0 where
     before : List Event
@@ -100,19 +98,18 @@ module _ {S : Type 0} (gives : S → Answer → S → Type 0) (known : S → Opt
         → History mid (asked ++ more) (given ++ taken) → EachNeeded (asked ++ more) last (given ++ taken)
         → RunStop (answers (asked ++ more) last) (given ++ taken) x → ((y : Ending) → load taken y ≡ last_load y)
         → StoppedSo x mid r new → Came a r new
-    out : LoadRunsOut gives load old r new asked given → Came a r new
+    out : LoadRunsOut g.gives load old r new asked given → Came a r new
 
   record CameBy (a : List Answer) (r : DocumentOrError) (new : Parser S) : Type 0 where
-    gave : Gave gives old.source a new.source
+    gave : Gave g.gives old.source a new.source
     came : Came a r new
 
-  nothing_needed : (l : List Token) (g : List Event) → EachNeeded l [] g
-  nothing_needed l g [] x behind e = absurd cc
-  nothing_needed l g (t ∷ front) x behind e = absurd cc
+  nothing_needed : (l : List Token) (w : List Event) → EachNeeded l [] w
+  nothing_needed l w [] x behind e = absurd cc
+  nothing_needed l w (t ∷ front) x behind e = absurd cc
 
   outcome : (r : DocumentOrError) (new : Parser S) → IfErr r (λ x. x ≡ (kept_fault new).error)
-      → (l : LoadsFrom gives known may_break load left old r new)
-      → CameBy (results_in gives known may_break load left old new asked given history r l) r new
+      → (l : LoadsFrom g load left old r new) → CameBy (results_in g load left old new asked given history r l) r new
   outcome (Ok d) new k (whole taken took l f b) =
       let c = took.history asked given history in
       record { gave = c.gave; came = decided c.more taken new (Ok d) refl c.history l (refl, refl, f) }
@@ -129,19 +126,19 @@ module _ {S : Type 0} (gives : S → Answer → S → Type 0) (known : S → Opt
       let c = took.history asked given history in
       let h = fails.history (asked ++ c.more) (given ++ taken) c.history in
       record {
-        gave = gave_then gives c.more h.more old.source parser.source new.source c.gave h.gave;
+        gave = gave_then g.gives c.more h.more old.source parser.source new.source c.gave h.gave;
         came =
             go c h h.cause;
       }
     where
-      go : (c : CarriedOn gives old parser asked given taken)
-          (h : FailsBy gives parser new (asked ++ c.more) (given ++ taken))
+      go : (c : CarriedOn g.gives old parser asked given taken)
+          (h : FailsBy g.gives parser new (asked ++ c.more) (given ++ taken))
           → Cause parser.config (asked ++ c.more) (given ++ taken) h.more (kept_fault new)
           → Came (answers c.more h.more) (Err x) new
       go c h (of_memory m e take meets f)
           = out (in_parser (ap Err (k ∙ ap (λ (z : Fault). z.error) f)) taken parser c (record {
             more = m;
-            gave = subst (λ (z : List Answer). Gave gives parser.source z new.source) e h.gave;
+            gave = subst (λ (z : List Answer). Gave g.gives parser.source z new.source) e h.gave;
             needed = subst (λ (z : List Answer). EachNeeded (asked ++ c.more) z (given ++ taken)) e h.needed;
             may_take = take;
             meets = subst (λ (z : List Answer). MeetsRefusal parser.config z) e meets;
@@ -157,12 +154,12 @@ module _ {S : Type 0} (gives : S → Answer → S → Type 0) (known : S → Opt
   outcome (Err x) new k (by_loader before e parser took f kept o l) =
       let c = took.history asked given history in
       let n = kept (asked ++ c.more) (given ++ (before ++ e ∷ [])) c.history in
-      let g : kept_fault new ≡ f = ap (λ (p : Parser S). p.config.fault) n in
+      let v : kept_fault new ≡ f = ap (λ (p : Parser S). p.config.fault) n in
       record {
-        gave = subst (λ (p : Parser S). Gave gives old.source (answers c.more []) p.source) (sym n) c.gave;
+        gave = subst (λ (p : Parser S). Gave g.gives old.source (answers c.more []) p.source) (sym n) c.gave;
         came = decided c.more (before ++ e ∷ []) parser (Err f) refl c.history l (
-          ap Err (k ∙ ap (λ (z : Fault). z.error) g),
-          g,
+          ap Err (k ∙ ap (λ (z : Fault). z.error) v),
+          v,
           record { before = before; event = e; all = refl; waits = o },
         );
       }
@@ -170,16 +167,16 @@ module _ {S : Type 0} (gives : S → Answer → S → Type 0) (known : S → Opt
       let c = took.history asked given history in
       let n = kept (asked ++ c.more) (given ++ (before ++ e ∷ [])) c.history in
       record {
-        gave = subst (λ (p : Parser S). Gave gives old.source (answers c.more []) p.source) (sym n) c.gave;
+        gave = subst (λ (p : Parser S). Gave g.gives old.source (answers c.more []) p.source) (sym n) c.gave;
         came = out (in_loader (ap Err (k ∙ ap (λ (p : Parser S). p.config.fault.error) n)) before e parser c grows n);
       }
 
   -- two parsers that gave the same events, over tokens of one list
-  same_kept : (p q : Parser S) (m n : List Token) (g h : List Event) → History p (asked ++ m) g
-      → History q (asked ++ n) h → g ≡ h
+  same_kept : (p q : Parser S) (m n : List Token) (w h : List Event) → History p (asked ++ m) w
+      → History q (asked ++ n) h → w ≡ h
       → (r s : List Answer) → OneBegins (answers (asked ++ m) r) (answers (asked ++ n) s)
       → (p.config ≡ q.config) × (asked ++ m ≡ asked ++ n)
-  same_kept p q m n g h i j e r s o = go (token_front (asked ++ m) (asked ++ n) r s o)
+  same_kept p q m n w h i j e r s o = go (token_front (asked ++ m) (asked ++ n) r s o)
     where
       go : ((rest : List Token) × (asked ++ n ≡ (asked ++ m) ++ rest))
           ⊎ ((rest : List Token) × (asked ++ m ≡ (asked ++ n) ++ rest))
@@ -190,8 +187,8 @@ module _ {S : Type 0} (gives : S → Answer → S → Type 0) (known : S → Opt
   -- where one of two lists begins the other, and both leave what follows them, they are one
   both_leave : (a b : List Event) → ((rest : List Event) → left (a ++ rest) ≡ rest)
       → ((rest : List Event) → left (b ++ rest) ≡ rest) → Begins a b → a ≡ b
-  both_leave a b g h (t, i) =
-      let j : t ++ [] ≡ [] = sym (g (t ++ []))
+  both_leave a b w h (t, i) =
+      let j : t ++ [] ≡ [] = sym (w (t ++ []))
       ∙ (ap left (sym (append_assoc a t []) ∙ ap (λ (v : List Event). v ++ []) (sym i)) ∙ h []) in
       sym (append-nil a) ∙ (ap (λ (v : List Event). a ++ v) (sym (empty_front t j)) ∙ sym i)
 
@@ -212,57 +209,57 @@ module _ {S : Type 0} (gives : S → Answer → S → Type 0) (known : S → Opt
       → ((rest : List Event) (x : Ending) → load (a ++ rest) x ≡ z)
       → ((rest : List Event) (x : Ending) → load (b ++ rest) x ≡ y)
       → Decided z mid a r p → Decided y other b s q → a ≡ b
-  same_taken r s p q mid other a b (Ok c) (Ok d) e (inl o) l k g h = both_leave a b g.2 h.2 o
-  same_taken r s p q mid other a b (Ok c) (Ok d) e (inr o) l k g h = sym (both_leave b a h.2 g.2 o)
-  same_taken r s p q mid other a b (Ok c) (Err f) e o l k g h = absurd (ok_not_err c f e)
-  same_taken r s p q mid other a b (Err f) (Ok d) e o l k g h = absurd (ok_not_err d f (sym e))
-  same_taken r s p q mid other a b (Err f) (Err x) e (inl o) l k g h = both_last a b (Err f) l h.2 o
-  same_taken r s p q mid other a b (Err f) (Err x) e (inr o) l k g h = sym (both_last b a (Err x) k g.2 o)
+  same_taken r s p q mid other a b (Ok c) (Ok d) e (inl o) l k w h = both_leave a b w.2 h.2 o
+  same_taken r s p q mid other a b (Ok c) (Ok d) e (inr o) l k w h = sym (both_leave b a h.2 w.2 o)
+  same_taken r s p q mid other a b (Ok c) (Err f) e o l k w h = absurd (ok_not_err c f e)
+  same_taken r s p q mid other a b (Err f) (Ok d) e o l k w h = absurd (ok_not_err d f (sym e))
+  same_taken r s p q mid other a b (Err f) (Err x) e (inl o) l k w h = both_last a b (Err f) l h.2 o
+  same_taken r s p q mid other a b (Err f) (Err x) e (inr o) l k w h = sym (both_last b a (Err x) k w.2 o)
 
   both_decided : (r s : DocumentOrError) (p q mid other : Parser S) (a b : List Event) (z y : Load) → z ≡ y
       → mid.config ≡ other.config
       → p.max_entries ≡ q.max_entries → Decided z mid a r p → Decided y other b s q → LoadsAlike r p s q
-  both_decided r s p q mid other a b (Ok c) (Ok d) e k m g h =
+  both_decided r s p q mid other a b (Ok c) (Ok d) e k m w h =
       record {
-        result = g.0 ∙ (ap Ok (ok_same c d e) ∙ sym h.0);
+        result = w.0 ∙ (ap Ok (ok_same c d e) ∙ sym h.0);
         bound = m;
-        behind_document = subst (λ (v : DocumentOrError). IfOk v (λ _. p.config ≡ q.config)) (sym g.0)
-            (sym g.1 ∙ (k ∙ h.1));
-        behind_error = subst (λ (v : DocumentOrError). IfErr v (λ _. kept_fault p ≡ kept_fault q)) (sym g.0) tt;
+        behind_document = subst (λ (v : DocumentOrError). IfOk v (λ _. p.config ≡ q.config)) (sym w.0)
+            (sym w.1 ∙ (k ∙ h.1));
+        behind_error = subst (λ (v : DocumentOrError). IfErr v (λ _. kept_fault p ≡ kept_fault q)) (sym w.0) tt;
       }
-  both_decided r s p q mid other a b (Ok c) (Err f) e k m g h = absurd (ok_not_err c f e)
-  both_decided r s p q mid other a b (Err f) (Ok d) e k m g h = absurd (ok_not_err d f (sym e))
-  both_decided r s p q mid other a b (Err f) (Err x) e k m g h =
+  both_decided r s p q mid other a b (Ok c) (Err f) e k m w h = absurd (ok_not_err c f e)
+  both_decided r s p q mid other a b (Err f) (Ok d) e k m w h = absurd (ok_not_err d f (sym e))
+  both_decided r s p q mid other a b (Err f) (Err x) e k m w h =
       let n = err_same f x e in
       record {
-        result = g.0 ∙ (ap (λ (v : Fault). Err v.error) n ∙ sym h.0);
+        result = w.0 ∙ (ap (λ (v : Fault). Err v.error) n ∙ sym h.0);
         bound = m;
-        behind_document = subst (λ (v : DocumentOrError). IfOk v (λ _. p.config ≡ q.config)) (sym g.0) tt;
-        behind_error = subst (λ (v : DocumentOrError). IfErr v (λ _. kept_fault p ≡ kept_fault q)) (sym g.0)
-            (g.1 ∙ (n ∙ sym h.1));
+        behind_document = subst (λ (v : DocumentOrError). IfOk v (λ _. p.config ≡ q.config)) (sym w.0) tt;
+        behind_error = subst (λ (v : DocumentOrError). IfErr v (λ _. kept_fault p ≡ kept_fault q)) (sym w.0)
+            (w.1 ∙ (n ∙ sym h.1));
       }
 
   both_stopped : (r s : DocumentOrError) (p q mid other : Parser S) (x y : Ending) → x ≡ y
       → mid.config ≡ other.config → StoppedSo x mid r p → StoppedSo y other s q
       → p.max_entries ≡ q.max_entries → LoadsAlike r p s q
-  both_stopped r s p q mid other Ends Ends e k g h m =
+  both_stopped r s p q mid other Ends Ends e k w h m =
       record {
-        result = g.0 ∙ sym h.0;
+        result = w.0 ∙ sym h.0;
         bound = m;
-        behind_document = subst (λ (v : DocumentOrError). IfOk v (λ _. p.config ≡ q.config)) (sym g.0)
-            (sym g.1 ∙ (k ∙ h.1));
-        behind_error = subst (λ (v : DocumentOrError). IfErr v (λ _. kept_fault p ≡ kept_fault q)) (sym g.0) tt;
+        behind_document = subst (λ (v : DocumentOrError). IfOk v (λ _. p.config ≡ q.config)) (sym w.0)
+            (sym w.1 ∙ (k ∙ h.1));
+        behind_error = subst (λ (v : DocumentOrError). IfErr v (λ _. kept_fault p ≡ kept_fault q)) (sym w.0) tt;
       }
-  both_stopped r s p q mid other Ends (Fails f) e k g h m = absurd cc
-  both_stopped r s p q mid other (Fails f) Ends e k g h m = absurd cc
-  both_stopped r s p q mid other (Fails f) (Fails x) e k g h m =
+  both_stopped r s p q mid other Ends (Fails f) e k w h m = absurd cc
+  both_stopped r s p q mid other (Fails f) Ends e k w h m = absurd cc
+  both_stopped r s p q mid other (Fails f) (Fails x) e k w h m =
       let n = fault_same f x e in
       record {
-        result = g.0 ∙ (ap (λ (v : Fault). Err v.error) n ∙ sym h.0);
+        result = w.0 ∙ (ap (λ (v : Fault). Err v.error) n ∙ sym h.0);
         bound = m;
-        behind_document = subst (λ (v : DocumentOrError). IfOk v (λ _. p.config ≡ q.config)) (sym g.0) tt;
-        behind_error = subst (λ (v : DocumentOrError). IfErr v (λ _. kept_fault p ≡ kept_fault q)) (sym g.0)
-            (g.1 ∙ (n ∙ sym h.1));
+        behind_document = subst (λ (v : DocumentOrError). IfOk v (λ _. p.config ≡ q.config)) (sym w.0) tt;
+        behind_error = subst (λ (v : DocumentOrError). IfErr v (λ _. kept_fault p ≡ kept_fault q)) (sym w.0)
+            (w.1 ∙ (n ∙ sym h.1));
       }
 
   -- what is decided by its events is no run that stopped
@@ -287,19 +284,19 @@ module _ {S : Type 0} (gives : S → Answer → S → Type 0) (known : S → Opt
       = absolute asked m n u v (subst (λ (z : List Answer). OneBegins z (answers n v)) e (subst (OneBegins a) f o))
 
   one_of : (a b : List Answer) (r s : DocumentOrError) (p q : Parser S) → p.max_entries ≡ q.max_entries
-      → OneBegins a b → Came a r p → Came b s q → OneLoad gives load old asked given a b r p s q
+      → OneBegins a b → Came a r p → Came b s q → OneLoad g.gives load old asked given a b r p s q
   one_of a b r s p q same o (out h) k = first_runs_out h
   one_of a b r s p q same o h (out k) = second_runs_out k
-  one_of a b r s p q same o (decided m t mid z e i l g) (decided n u other y f j k h) =
+  one_of a b r s p q same o (decided m t mid z e i l gs) (decided n u other y f j k h) =
       let w = behind_asked a b m n [] [] e f o in
       let c = taken_comparable (asked ++ m) (asked ++ n) [] [] (given ++ t) (given ++ u)
       (histories.begins_each_run mid (asked ++ m) (given ++ t) i)
       (histories.begins_each_run other (asked ++ n) (given ++ u) j) w in
       let d = within c in
-      let v = same_taken r s p q mid other t u z y (same_load d) d l k g h in
+      let v = same_taken r s p q mid other t u z y (same_load d) d l k gs h in
       let kept = same_kept mid other m n (given ++ t) (given ++ u) i j (ap (λ (x : List Event). given ++ x) v) [] [] w in
       alike (e ∙ (ap (λ (x : List Token). answers x []) (front_same asked m n kept.1) ∙ sym f))
-      (both_decided r s p q mid other t u z y (same_load d) kept.0 same g h)
+      (both_decided r s p q mid other t u z y (same_load d) kept.0 same gs h)
     where
       within : Begins (given ++ t) (given ++ u) ⊎ Begins (given ++ u) (given ++ t) → Begins t u ⊎ Begins u t
       within (inl x) = inl (behind_given given t u x)
@@ -312,12 +309,12 @@ module _ {S : Type 0} (gives : S → Answer → S → Type 0) (known : S → Opt
       same_load (inr (x, v))
           = sym (l [] Ends) ∙ (ap (λ (w : List Event). load w Ends)
           (ap (λ (w : List Event). w ++ []) v ∙ append_assoc u x []) ∙ k (x ++ []) Ends)
-  one_of a b r s p q same o (decided m t mid z e i l g) (stopped n v u other y f j needed stop last h)
+  one_of a b r s p q same o (decided m t mid z e i l w) (stopped n v u other y f j needed stop last h)
       = absurd (not_both m n t u mid [] v z y i l stop last (behind_asked a b m n [] v e f o))
-  one_of a b r s p q same o (stopped n v u other y f j needed stop last h) (decided m t mid z e i l g)
+  one_of a b r s p q same o (stopped n v u other y f j needed stop last h) (decided m t mid z e i l w)
       = absurd (not_both m n t u mid [] v z y i l stop last
       (turned (answers (asked ++ n) v) (answers (asked ++ m) []) (behind_asked a b n m v [] f e o)))
-  one_of a b r s p q same o (stopped m u t mid x e i needed stop last g) (stopped n v w other y f j wanted halt end h) =
+  one_of a b r s p q same o (stopped m u t mid x e i needed stop last gs) (stopped n v w other y f j wanted halt end h) =
       let c = behind_asked a b m n u v e f o in
       let d = one_run_by_answers (given ++ t) (given ++ w) x y
       (record {
@@ -340,13 +337,13 @@ module _ {S : Type 0} (gives : S → Answer → S → Type 0) (known : S → Opt
       let l : answers (asked ++ m) u ≡ answers (asked ++ m) v = d.0 ∙ ap (λ (z : List Token). answers z v) (sym k.1) in
       alike (e ∙ (ap (answers m) (same_behind (asked ++ m) u v l)
       ∙ (ap (λ (z : List Token). answers z v) (front_same asked m n k.1) ∙ sym f)))
-      (both_stopped r s p q mid other x y d.2 k.0 g h same)
+      (both_stopped r s p q mid other x y d.2 k.0 gs h same)
 
   abbrev Of : DocumentOrError → Parser S → Type 0
-  Of r new = LoadOutcome gives known may_break load left old r new
+  Of r new = LoadOutcome g load left old r new
 
   pub one_load_proof : (r s : DocumentOrError) (p q : Parser S) (a : Of r p) (b : Of s q)
-      → OneLoadByAnswers gives load old asked given (load_results_of history a) (load_results_of history b) r p s q
+      → OneLoadByAnswers g.gives load old asked given (load_results_of history a) (load_results_of history b) r p s q
   one_load_proof r s p q a b =
       let x = outcome r p a.error a.loads in
       let y = outcome s q b.error b.loads in
@@ -357,17 +354,18 @@ module _ {S : Type 0} (gives : S → Answer → S → Type 0) (known : S → Opt
       }
 
   -- over a source that returns in one way
-  module _ (way : AnswersOneWay gives old.source) where
+  module _ (way : AnswersOneWay g.gives old.source) where
     pub one_way_load : (r s : DocumentOrError) (p q : Parser S) → Of r p → Of s q
-        → (LoadRunsOut gives load old r p asked given ⊎ LoadRunsOut gives load old s q asked given)
+        → (LoadRunsOut g.gives load old r p asked given ⊎ LoadRunsOut g.gives load old s q asked given)
         ⊎ (LoadsAlike r p s q × (p.source ≡ q.source))
     one_way_load r s p q a b =
         let x = one_load_proof r s p q a b in
-        let w = one_source_proof gives old.source p.source q.source (load_results_of history a) (load_results_of history b) way x.first_gave x.second_gave in
+        let w = one_source_proof g.gives old.source p.source q.source (load_results_of history a)
+        (load_results_of history b) way x.first_gave x.second_gave in
         go (load_results_of history a) (load_results_of history b) w.1 (x.one w.0)
       where
-        go : (k l : List Answer) → (k ≡ l → p.source ≡ q.source) → OneLoad gives load old asked given k l r p s q
-            → (LoadRunsOut gives load old r p asked given ⊎ LoadRunsOut gives load old s q asked given)
+        go : (k l : List Answer) → (k ≡ l → p.source ≡ q.source) → OneLoad g.gives load old asked given k l r p s q
+            → (LoadRunsOut g.gives load old r p asked given ⊎ LoadRunsOut g.gives load old s q asked given)
             ⊎ (LoadsAlike r p s q × (p.source ≡ q.source))
         go k l same (alike e h) = inr (h, same e)
         go k l same (first_runs_out h) = inl (inl h)

@@ -1,5 +1,5 @@
 -- What one call of the parser says of the events that a load takes.
-use Rattle.std.proofs.Common.{◌≡◌, ℕ, ◌++◌, ◌∷◌, List, [], Option, Some, Bool, Ok, Err, true, false, refl, sym}
+use Rattle.std.proofs.Common.{◌≡◌, ◌++◌, ◌∷◌, List, [], Some, Bool, Ok, Err, true, false, refl, sym}
 use Rattle.std.proofs.Common.{ap, ◌∙◌, subst, append_assoc}
 use Rattle.std.proofs.lemmas.Bool.{true≢false}
 use Rattle.libyaml_types.specs.declared.enums.yaml_error_type_t.{yaml_error_type_t}
@@ -11,13 +11,14 @@ use Rattle.libyaml_events.specs.sources.Calls.{EventOrError}
 use Rattle.libyaml_events.specs.sources.CallsInTurn.{CarriedOn}
 use Rattle.libyaml_events.specs.machine.Config.{Parser}
 use Rattle.libyaml_grammar.specs.sentences.Events.{Event}
-use Rattle.libyaml_types.specs.Fault.{Answer, Fault}
+use Rattle.libyaml_types.specs.Fault.{Answer}
 use Rattle.libyaml_events.specs.sources.History.{History, between_documents, has_failed, is_over}
 use Rattle.libyaml_events.specs.sources.ParsesNext.{ParsesNext}
 use Rattle.libyaml_events.specs.sources.Parsing.{CarriesOn}
 use Rattle.libyaml_events.specs.sources.RunToCome.{RunToCome}
 use Rattle.libyaml_grammar.specs.runs.Runs.{Ending, Ends}
-use Rattle.libyaml_types.specs.Source.{Coming, Follows}
+use Rattle.libyaml_types.specs.Source.{Follows}
+use Rattle.libyaml_types.specs.declared.source.yaml_token_source_t.{Ghosts}
 use Rattle.libyaml_events.specs.parsers.OutsideEvents.{is_outside_event}
 use Rattle.libyaml_events.specs.parsers.Stages.{is_event}
 use Rattle.libyaml_grammar.specs.sentences.Tokens.{Token}
@@ -32,20 +33,21 @@ outside_end : (k : unnamed_yaml_event_t_data) (m : yaml_mark_t) (c : Closing) �
 outside_end (ev.DocumentEnd d) m c h = refl
 outside_end _ m c h = absurd cc
 
-module _ {S : Type 0} (gives : S → Answer → S → Type 0) (known : S → Option Coming) where
-  pub took_none : (p : Parser S) → Took gives known p p []
+module _ {S : Type 0} (g : Ghosts S) where
+  pub took_none : (p : Parser S) → Took g p p []
   took_none p = record {
-    history = λ (asked : List Token) (given : List Event) (h : History p asked given). no_call gives p p p asked given h;
-    runs = λ (events : List Event) (ending : Ending) (run : RunToCome known p events ending). record
+    history = λ (asked : List Token) (given : List Event)
+        (h : History p asked given). no_call g.gives p p p asked given h;
+    runs = λ (events : List Event) (ending : Ending) (run : RunToCome g.known p events ending). record
         { later = events; all = refl; run = run };
   }
 
-  pub took_both : (old mid new : Parser S) (a b : List Event) → Took gives known old mid a
-      → Took gives known mid new b → Took gives known old new (a ++ b)
+  pub took_both : (old mid new : Parser S) (a b : List Event) → Took g old mid a
+      → Took g mid new b → Took g old new (a ++ b)
   took_both old mid new a b x y = record {
     history = λ (asked : List Token) (given : List Event) (h : History old asked given). let c
-        = x.history asked given h in both_calls gives old mid new asked given a b c (y.history _ _ c.history);
-    runs = λ (events : List Event) (ending : Ending) (run : RunToCome known old events ending).
+        = x.history asked given h in both_calls g.gives old mid new asked given a b c (y.history _ _ c.history);
+    runs = λ (events : List Event) (ending : Ending) (run : RunToCome g.known old events ending).
         let l = x.runs events ending run in
         let m = y.runs l.later ending l.run in
         record {
@@ -56,19 +58,19 @@ module _ {S : Type 0} (gives : S → Answer → S → Type 0) (known : S → Opt
         };
   }
 
-module _ {S : Type 0} (gives : S → Answer → S → Type 0) (known : S → Option Coming) (MayBreak : S → Fault → Type 0) where
+module _ {S : Type 0} (g : Ghosts S) where
   -- no event was left
   pub record FindsEnd (old new : Parser S) : Type 0 where
-    pub took : Took gives known old new []
-    pub ends : (events : List Event) (ending : Ending) → RunToCome known old events ending
+    pub took : Took g old new []
+    pub ends : (events : List Event) (ending : Ending) → RunToCome g.known old events ending
         → (events ≡ []) × (ending ≡ Ends)
     pub stands : (asked : List Token) (given : List Event) → History old asked given → HasEnded new
 
-  module _ (follows : (s t : S) (a : Answer) → gives s a t → Follows (MayBreak t) (known s) a (known t))
+  module _ (follows : (s t : S) (a : Answer) → g.gives s a t → Follows (g.may_break t) (g.known s) a (g.known t))
       (old new : Parser S) (r : EventOrError) where
     -- the clauses of a call
     abbrev pub Called : Type 0
-    Called = (bound : S → ℕ) × ParsesNext gives bound known MayBreak old r new
+    Called = ParsesNext g old r new
 
     module _ (c : Called) (e : Event) (is : r ≡ Ok e) where
       same : r ≡ Ok empty_event → e ≡ empty_event
@@ -82,23 +84,23 @@ module _ {S : Type 0} (gives : S → Answer → S → Type 0) (known : S → Opt
         where
           go : (b : Bool) → is_over old ≡ b → is_over old ≡ false
           go false h = h
-          go true h = absurd (true≢false (sym an_event ∙ ap (λ (x : Event). is_event x.content) (same (c.1.ended h).0)))
+          go true h = absurd (true≢false (sym an_event ∙ ap (λ (x : Event). is_event x.content) (same (c.ended h).0)))
 
       carried : is_event e.content ≡ true → (asked : List Token) (given : List Event) → History old asked given
-          → CarriesOn gives old e new asked given
-      carried an_event = rw is at (c.1.carries_on (running an_event))
+          → CarriesOn g.gives old e new asked given
+      carried an_event = rw is at (c.carries_on (running an_event))
 
-      pub took_event : is_event e.content ≡ true → Took gives known old new (e ∷ [])
+      pub took_event : is_event e.content ≡ true → Took g old new (e ∷ [])
       took_event an_event = record {
-        history = λ asked given h. one_call gives old old new asked given e (carried an_event asked given h);
+        history = λ asked given h. one_call g.gives old old new asked given e (carried an_event asked given h);
         runs = λ events ending run.
             let k = carried an_event run.asked run.given run.history in
-            further gives known MayBreak follows old new events ending run k.more (e ∷ []) k.gave k.history;
+            further g follows old new events ending run k.more (e ∷ []) k.gave k.history;
       }
 
       -- after a document's end the parser stands between documents
       pub behind_close : (d : Closing) → closing_of e ≡ Some d → between_documents new ≡ true
-      behind_close d closes = (rw is at c.1.outside) (outside_end e.content e.end_mark d closes)
+      behind_close d closes = (rw is at c.outside) (outside_end e.content e.end_mark d closes)
 
       over : is_event e.content ≡ false → (asked : List Token) (given : List Event) → History old asked given
           → is_over old ≡ true
@@ -106,30 +108,30 @@ module _ {S : Type 0} (gives : S → Answer → S → Type 0) (known : S → Opt
         where
           go : (b : Bool) → is_over old ≡ b → is_over old ≡ true
           go true h = h
-          go false h = absurd (true≢false (sym ((rw is at (c.1.carries_on h)) asked given history).an_event ∙ empty))
+          go false h = absurd (true≢false (sym ((rw is at (c.carries_on h)) asked given history).an_event ∙ empty))
 
       pub finds_end : is_event e.content ≡ false → FindsEnd old new
       finds_end empty = record {
         took = record {
           history = λ (asked : List Token) (given : List Event) (h : History old asked given).
-              subst (λ (p : Parser S). CarriedOn gives old p asked given [])
-              (sym (c.1.ended (over empty asked given h)).1) (no_call gives old old old asked given h);
-          runs = λ (events : List Event) (ending : Ending) (run : RunToCome known old events ending). record {
+              subst (λ (p : Parser S). CarriedOn g.gives old p asked given [])
+              (sym (c.ended (over empty asked given h)).1) (no_call g.gives old old old asked given h);
+          runs = λ (events : List Event) (ending : Ending) (run : RunToCome g.known old events ending). record {
             later = events;
             all = refl;
             run
-                = subst (λ (p : Parser S). RunToCome known p events ending)
-                (sym (c.1.ended (over empty run.asked run.given run.history)).1) run;
+                = subst (λ (p : Parser S). RunToCome g.known p events ending)
+                (sym (c.ended (over empty run.asked run.given run.history)).1) run;
           };
         };
-        ends = λ (events : List Event) (ending : Ending) (run : RunToCome known old events ending).
+        ends = λ (events : List Event) (ending : Ending) (run : RunToCome g.known old events ending).
             let h = over empty run.asked run.given run.history in
-            let s = (c.1.ended h).1 in
-            c.1.nothing_behind_end (ap is_over s ∙ h) events ending
-            (subst (λ (p : Parser S). RunToCome known p events ending) (sym s) run);
+            let s = (c.ended h).1 in
+            c.nothing_behind_end (ap is_over s ∙ h) events ending
+            (subst (λ (p : Parser S). RunToCome g.known p events ending) (sym s) run);
         stands = λ (asked : List Token) (given : List Event) (history : History old asked given).
             let h = over empty asked given history in
-            let s = (c.1.ended h).1 in
+            let s = (c.ended h).1 in
             let over : is_over new ≡ true = ap is_over s ∙ h in
             record {
               over = over;
@@ -138,11 +140,11 @@ module _ {S : Type 0} (gives : S → Answer → S → Type 0) (known : S → Opt
             };
       }
 
-    pub parser_fails : Called → (x : yaml_error_type_t) → r ≡ Err x → ParserFails gives known MayBreak old new
+    pub parser_fails : Called → (x : yaml_error_type_t) → r ≡ Err x → ParserFails g old new
     parser_fails c x is = record {
-      history = rw is at c.1.fails;
-      no_lookahead = rw is at c.1.no_lookahead;
-      depth_left = rw is at c.1.depth_left;
-      runs = λ events ending run. fails_here gives known MayBreak follows old new events ending run
-          ((rw is at c.1.fails) run.asked run.given run.history);
+      history = rw is at c.fails;
+      no_lookahead = rw is at c.no_lookahead;
+      depth_left = rw is at c.depth_left;
+      runs = λ events ending run. fails_here g follows old new events ending run
+          ((rw is at c.fails) run.asked run.given run.history);
     }

@@ -1,9 +1,9 @@
 -- A loop over the documents of a parser (docs/DEFINITIONS.md, "Loads of a parser").
-use Rattle.std.specs.Prelude.{◌≡◌, ◌≢◌, ◌≤◌, ◌<◌, ◌⊎◌, ◌*◌, ◌++◌, ◌∷◌, ℕ, List, [], length, map, Option, None, Some}
+use Rattle.std.specs.Prelude.{◌≡◌, ◌≢◌, ◌≤◌, ◌<◌, ◌⊎◌, ◌*◌, ◌++◌, ◌∷◌, List, [], length, map, Option, None, Some}
 use Rattle.std.specs.Prelude.{Result, Ok, Err, IfOk, IfErr, true, false}
-use Rattle.libyaml_types.specs.Fault.{Answer, Fault, fault_of, memory_fault}
-use Rattle.libyaml_types.specs.Source.{Coming}
+use Rattle.libyaml_types.specs.Fault.{Fault, fault_of, memory_fault}
 use Rattle.libyaml_types.specs.declared.fault.yaml_parser_t_prefix.{yaml_parser_t_prefix}
+use Rattle.libyaml_types.specs.declared.source.yaml_token_source_t.{Ghosts}
 use Rattle.libyaml_grammar.specs.runs.Runs.{Ending, Ends, Fails}
 use Rattle.libyaml_grammar.specs.sentences.Events.{Event}
 use Rattle.libyaml_events.specs.machine.Config.{Parser}
@@ -19,9 +19,7 @@ use Rattle.libyaml_loader.specs.loads.Loading.{DocumentOrError, HasEnded, LoadsF
 use Rattle.libyaml_loader.specs.loads.NextLoad.{Answers}
 
 -- what the clauses of `yaml_parser_load` say of a parser that keeps no fault
-pub record LoadsNext {S : Type 0} (gives : S → Answer → S → Type 0) (token_bound : S → ℕ)
-    (known : S → Option Coming) (MayBreak : S → Fault → Type 0) (old
-    : Parser S) (r : DocumentOrError) (new : Parser S) : Type 0 where
+pub record LoadsNext {S : Type 0} (g : Ghosts S) (old : Parser S) (r : DocumentOrError) (new : Parser S) : Type 0 where
   pub ended : is_over old ≡ true → (r ≡ Ok (empty_document None [] false false)) × (new ≡ old)
   pub fails : IfErr r (λ x. (x ≡ (kept_fault new).error) × (is_over new ≡ true))
   pub failed : IfErr r (λ _. has_failed new ≡ true)
@@ -29,40 +27,33 @@ pub record LoadsNext {S : Type 0} (gives : S → Answer → S → Type 0) (token
   pub bound : new.max_entries ≡ old.max_entries
   pub between : between_documents new ≡ true
   pub falls : IfOk r (λ d. (d ≡ empty_document None [] false false)
-      ⊎ (events_left token_bound new < events_left token_bound old))
-  pub loads : LoadsFrom gives known MayBreak (next_bounded (magnitude old.max_entries)) left_over old r new
-  pub linear : IfOk r (λ d. (taken : List Event) × Took gives known old new taken × (size d.nodes ≤ 2 * length taken))
+      ⊎ (events_left g.bound new < events_left g.bound old))
+  pub loads : LoadsFrom g (next_bounded (magnitude old.max_entries)) left_over old r new
+  pub linear : IfOk r (λ d. (taken : List Event) × Took g old new taken × (size d.nodes ≤ 2 * length taken))
   pub without_root : IfOk r (λ d. d.nodes ≡ [] → ForHistory old (λ _ _. HasEnded new))
-  pub next_load : ForRun known old (λ events ending. UnlessBroken MayBreak r new
-      (Answers known (next_bounded (magnitude old.max_entries) events ending) r new (left_over events) ending))
+  pub next_load : ForRun g.known old (λ events ending. UnlessBroken g.may_break r new
+      (Answers g.known (next_bounded (magnitude old.max_entries) events ending) r new (left_over events) ending))
 
 -- The next document as `yaml_parser_load` returns it, or the fault once; after the stream's end or a fault no item.
 -- A document without nodes is no item.
-abbrev pub YieldsDocument : {S : Type 0} → (S → Answer → S → Type 0) → (S → ℕ) → (S → Option Coming)
-    → (S → Fault → Type 0) → Parser S
-    → Option (Result Document yaml_parser_t_prefix) → Parser S → Type 0
-YieldsDocument gives bound known MayBreak old None new =
+abbrev pub YieldsDocument : {S : Type 0} → Ghosts S → Parser S → Option (Result Document yaml_parser_t_prefix)
+    → Parser S → Type 0
+YieldsDocument g old None new =
     ((has_failed old ≡ true) × (new ≡ old))
     ⊎ ((has_failed old ≡ false) × (is_over new ≡ true)
-    × ((d : Document) × (d.nodes ≡ []) × LoadsNext gives bound known MayBreak old (Ok d) new))
-YieldsDocument gives bound known MayBreak old (Some (Ok d)) new =
-    (has_failed old ≡ false) × (d.nodes ≢ []) × LoadsNext gives bound known MayBreak old (Ok d) new
-YieldsDocument gives bound known MayBreak old (Some (Err f)) new =
-    (has_failed old ≡ false) × LoadsNext gives bound known MayBreak old (Err f.error) new × (fault_of f ≡ kept_fault new)
+    × ((d : Document) × (d.nodes ≡ []) × LoadsNext g old (Ok d) new))
+YieldsDocument g old (Some (Ok d)) new = (has_failed old ≡ false) × (d.nodes ≢ []) × LoadsNext g old (Ok d) new
+YieldsDocument g old (Some (Err f)) new =
+    (has_failed old ≡ false) × LoadsNext g old (Err f.error) new × (fault_of f ≡ kept_fault new)
 
 -- A whole loop over the documents, from one parser to a later one: these documents came, and then no item, or this fault.
-pub data LoopYields {S : Type 0} (gives : S → Answer → S → Type 0) (bound : S → ℕ) (known : S → Option Coming)
-    (MayBreak : S → Fault → Type 0) : Parser S
-    → List Document → Ending → Parser S → Type 0 where
-  no_item : {old new : Parser S} → YieldsDocument gives bound known MayBreak old None new
-      → LoopYields gives bound known MayBreak old [] Ends new
-  fault : (f : yaml_parser_t_prefix) → {old new : Parser S}
-      → YieldsDocument gives bound known MayBreak old (Some (Err f)) new
-      → LoopYields gives bound known MayBreak old [] (Fails (fault_of f)) new
+pub data LoopYields {S : Type 0} (g : Ghosts S) : Parser S → List Document → Ending → Parser S → Type 0 where
+  no_item : {old new : Parser S} → YieldsDocument g old None new → LoopYields g old [] Ends new
+  fault : (f : yaml_parser_t_prefix) → {old new : Parser S} → YieldsDocument g old (Some (Err f)) new
+      → LoopYields g old [] (Fails (fault_of f)) new
   document : (d : Document) (later : List Document) (ending : Ending) (next : Parser S) → {old new : Parser S}
-      → YieldsDocument gives bound known MayBreak old (Some (Ok d)) next
-      → LoopYields gives bound known MayBreak next later ending new
-      → LoopYields gives bound known MayBreak old (d ∷ later) ending new
+      → YieldsDocument g old (Some (Ok d)) next → LoopYields g next later ending new
+      → LoopYields g old (d ∷ later) ending new
 
 -- The documents of a loop and its ending are these loads; or memory ran out, or the source broke off by a fault
 -- that it names as possible where it then stands, and the documents are a prefix.

@@ -5,8 +5,9 @@ use Rattle.libyaml_grammar.specs.sentences.Events.{Event}
 use Rattle.libyaml_events.specs.sources.History.{kept_fault}
 use Rattle.libyaml_grammar.specs.runs.Runs.{Ending}
 use Rattle.libyaml_events.specs.sources.RunToCome.{RunToCome}
-use Rattle.libyaml_types.specs.Fault.{Fault, memory_fault}
+use Rattle.libyaml_types.specs.Fault.{memory_fault}
 use Rattle.libyaml_types.specs.Source.{Coming}
+use Rattle.libyaml_types.specs.declared.source.yaml_token_source_t.{Ghosts}
 use Rattle.libyaml_graphs.specs.loads.Loads.{Load}
 use Rattle.libyaml_loader.specs.loads.Loading.{DocumentOrError}
 
@@ -18,10 +19,10 @@ Answers known (Err f) r new to_come ending = (r ≡ Err f.error) × (kept_fault 
 
 -- What a load that returned this says of a run that was to come: its first load is this document, and the events that it
 -- leaves are to come; or its first load is the fault that is kept, or an allocation failed, or the source broke off.
-abbrev pub LoadOfRun : {S : Type 0} → (known : S → Option Coming) → (MayBreak : S → Fault → Type 0)
-    → (load : List Event → Ending → Load)
+abbrev pub LoadOfRun : {S : Type 0} → (g : Ghosts S) → (load : List Event → Ending → Load)
     → (left : List Event → List Event) → DocumentOrError → (new : Parser S) → List Event → Ending → Type 0
-LoadOfRun known MayBreak load left (Ok d) new events ending = (load events ending ≡ Ok d)
-    × RunToCome known new (left events) ending
-LoadOfRun known MayBreak load left (Err x) new events ending
-    = (load events ending ≡ Err (kept_fault new)) ⊎ ((kept_fault new ≡ memory_fault) ⊎ MayBreak new.source (kept_fault new))
+LoadOfRun g load left (Ok d) new events ending = (load events ending ≡ Ok d)
+    × RunToCome g.known new (left events) ending
+LoadOfRun g load left (Err x) new events ending
+    = (load events ending ≡ Err (kept_fault new)) ⊎ ((kept_fault new ≡ memory_fault)
+    ⊎ g.may_break new.source (kept_fault new))

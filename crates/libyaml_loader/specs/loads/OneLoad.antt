@@ -1,9 +1,9 @@
 -- Two outcomes of one load that its contract allows: they are one, unless memory ran out in one of them
 -- (docs/DEFINITIONS.md, "One outcome").
-use Rattle.std.specs.Prelude.{◌≡◌, ◌++◌, ◌∷◌, List, [], Option, Ok, Err, IfOk, IfErr}
+use Rattle.std.specs.Prelude.{◌≡◌, ◌++◌, ◌∷◌, List, [], Ok, Err, IfOk, IfErr}
 use Rattle.libyaml_types.specs.declared.enums.yaml_error_type_t.TheVariants.{YAML_MEMORY_ERROR}
-use Rattle.libyaml_types.specs.Fault.{Answer, Fault, memory_fault}
-use Rattle.libyaml_types.specs.Source.{Coming}
+use Rattle.libyaml_types.specs.Fault.{Answer, memory_fault}
+use Rattle.libyaml_types.specs.declared.source.yaml_token_source_t.{Ghosts}
 use Rattle.libyaml_grammar.specs.sentences.Tokens.{Token}
 use Rattle.libyaml_grammar.specs.sentences.Events.{Event}
 use Rattle.libyaml_grammar.specs.runs.Runs.{Ending}
@@ -17,39 +17,34 @@ use Rattle.libyaml_loader.specs.loads.LoadGrowth.{GrowsAt}
 use Rattle.libyaml_loader.specs.loads.Loading.{DocumentOrError, LoadsFrom, at_end, by_loader, by_memory, by_parser, whole}
 
 -- what the clauses `fails`, `bound` and `loads` of a load say of an outcome
-pub record LoadOutcome {S : Type 0} (gives : S → Answer → S → Type 0) (known : S → Option Coming)
-    (MayBreak : S → Fault → Type 0) (load : List Event
-    → Ending → Load) (left : List Event → List Event) (old : Parser S) (r : DocumentOrError) (new : Parser S) : Type 0 where
+pub record LoadOutcome {S : Type 0} (g : Ghosts S) (load : List Event → Ending → Load)
+    (left : List Event → List Event) (old : Parser S) (r : DocumentOrError) (new : Parser S) : Type 0 where
   pub error : IfErr r (λ x. x ≡ (kept_fault new).error)
   pub bound : new.max_entries ≡ old.max_entries
-  pub loads : LoadsFrom gives known MayBreak load left old r new
+  pub loads : LoadsFrom g load left old r new
 
 -- The results of the source that an outcome names: the tokens by which its events came, and then what the parser's failed
 -- call asked for.
-abbrev pub results_in : {S : Type 0} → (gives : S → Answer → S → Type 0) → (known : S → Option Coming)
-    → (MayBreak : S → Fault → Type 0) → (load : List Event
-    → Ending → Load) → (left : List Event → List Event) → (old new : Parser S) → (asked : List Token)
-    → (given : List Event) → History old asked given
-    → (r : DocumentOrError) → LoadsFrom gives known MayBreak load left old r new → List Answer
-results_in gives known MayBreak load left old new asked given h (Ok d) (whole taken took loads leaves stands) =
+abbrev pub results_in : {S : Type 0} → (g : Ghosts S) → (load : List Event → Ending → Load)
+    → (left : List Event → List Event) → (old new : Parser S) → (asked : List Token) → (given : List Event)
+    → History old asked given → (r : DocumentOrError) → LoadsFrom g load left old r new → List Answer
+results_in g load left old new asked given h (Ok d) (whole taken took loads leaves stands) =
     answers (took.history asked given h).more []
-results_in gives known MayBreak load left old new asked given h (Ok d) (at_end taken took loads leaves runs is ended)
+results_in g load left old new asked given h (Ok d) (at_end taken took loads leaves runs is ended)
     = answers (took.history asked given h).more []
-results_in gives known MayBreak load left old new asked given h (Err x) (by_parser taken parser took fails loads) =
+results_in g load left old new asked given h (Err x) (by_parser taken parser took fails loads) =
     let c = took.history asked given h in
     answers c.more (fails.history (asked ++ c.more) (given ++ taken) c.history).more
-results_in gives known MayBreak load left old new asked given h (Err x) (by_loader before e parser took f kept waits loads)
+results_in g load left old new asked given h (Err x) (by_loader before e parser took f kept waits loads)
     = answers (took.history asked given h).more []
-results_in gives known MayBreak load left old new asked given h (Err x) (by_memory before e parser took kept grows)
+results_in g load left old new asked given h (Err x) (by_memory before e parser took kept grows)
     = answers (took.history asked given h).more []
 
-abbrev pub load_results_of : {S : Type 0} {gives : S → Answer → S → Type 0} {known : S → Option Coming} {MayBreak : S
-    → Fault → Type 0} {load : List Event
-    → Ending → Load} {left : List Event → List Event} {old new : Parser S} {asked : List Token} {given : List Event}
-    {r : DocumentOrError}
-    → History old asked given → LoadOutcome gives known MayBreak load left old r new → List Answer
-load_results_of {S} {gives} {known} {MayBreak} {load} {left} {old} {new} {asked} {given} {r} h o
-    = results_in gives known MayBreak load left old new asked given h r o.loads
+abbrev pub load_results_of : {S : Type 0} {g : Ghosts S} {load : List Event → Ending → Load}
+    {left : List Event → List Event} {old new : Parser S} {asked : List Token} {given : List Event}
+    {r : DocumentOrError} → History old asked given → LoadOutcome g load left old r new → List Answer
+load_results_of {S} {g} {load} {left} {old} {new} {asked} {given} {r} h o
+    = results_in g load left old new asked given h r o.loads
 
 -- Memory ran out: in the parser, after the events that were taken; or in the loader, at an event where a load may take it.
 pub data LoadRunsOut {S : Type 0} (gives : S → Answer → S → Type 0) (load : List Event → Ending → Load)

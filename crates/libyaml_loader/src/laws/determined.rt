@@ -26,15 +26,15 @@ use libyaml_events::yaml_token_source_t;
 pub fn one_load<S: yaml_token_source_t>()
     ensures running { (old p q : Parser S) (r s : DocumentOrError) (n : ℕ) (asked : List Token)
         (given : List Event) → (h : History old asked given)
-        → (a : LoadOutcome S.gives S.known S.may_break (next_bounded n) left_over old r p)
-        → (b : LoadOutcome S.gives S.known S.may_break (next_bounded n) left_over old s q)
+        → (a : LoadOutcome S.yaml_token_source_t (next_bounded n) left_over old r p)
+        → (b : LoadOutcome S.yaml_token_source_t (next_bounded n) left_over old s q)
         → OneLoadByAnswers S.gives (next_bounded n) old asked given (load_results_of h a) (load_results_of h b)
         r p s q }
     // so over a source that returns in one way there is one outcome, but for memory
     ensures one_way { (old p q : Parser S) (r s : DocumentOrError) (n : ℕ) (asked : List Token)
         (given : List Event) → History old asked given → AnswersOneWay S.gives old.source
-        → LoadOutcome S.gives S.known S.may_break (next_bounded n) left_over old r p
-        → LoadOutcome S.gives S.known S.may_break (next_bounded n) left_over old s q
+        → LoadOutcome S.yaml_token_source_t (next_bounded n) left_over old r p
+        → LoadOutcome S.yaml_token_source_t (next_bounded n) left_over old s q
         → (LoadRunsOut S.gives (next_bounded n) old r p asked given
         ⊎ LoadRunsOut S.gives (next_bounded n) old s q asked given)
         ⊎ (LoadsAlike r p s q × (p.source ≡ q.source)) }

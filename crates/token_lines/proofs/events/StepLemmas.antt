@@ -17,7 +17,8 @@ use Rattle.libyaml_events.proofs.lent.KnownTokens.{fails_behind, further, nothin
 use Rattle.libyaml_grammar.specs.runs.Runs.{Ending, Ends}
 use Rattle.libyaml_types.specs.declared.fault.yaml_parser_t_prefix.{yaml_parser_t_prefix}
 use Rattle.libyaml_types.specs.Fault.{Answer, Fault, fault_of}
-use Rattle.libyaml_types.specs.Source.{Coming, Follows}
+use Rattle.libyaml_types.specs.Source.{Follows}
+use Rattle.libyaml_types.specs.declared.source.yaml_token_source_t.{Ghosts}
 use Rattle.line_writing.specs.EventText.{event_line}
 use Rattle.line_writing.specs.FaultText.{fault_text}
 use Rattle.token_lines.specs.declared.run.RunStep.TheVariants as step
@@ -45,24 +46,25 @@ module _ {S : Type 0} (old new : Parser S) (r : EventOrError) (e : yaml_event_t)
   running_by true h is an_event ended = absurd (gives_empty is (ended h) an_event)
   running_by false h is an_event ended = h
 
-module _ {S : Type 0} (gives : S → Answer → S → Type 0) (known : S → Option Coming) (MayBreak : S → Fault → Type 0)
-    (follows : (s t : S) (a : Answer) → gives s a t → Follows (MayBreak t) (known s) a (known t)) where
+module _ {S : Type 0} (g : Ghosts S)
+    (follows : (s t : S) (a : Answer) → g.gives s a t → Follows (g.may_break t) (g.known s) a (g.known t)) where
   -- a run that was to come, of which the lines of some events were written, and then a last step was made
   module _ (first p q : Parser S) (a b c d : Option (List ℕ)) (all : List yaml_event_t) (ending : Ending)
-      (r : RunToCome known first all ending)
-      (w : AllWritten event_line gives first p a b r.asked r.given) where
-    pub all_lines : Turn gives step.Ended p q b c (r.asked ++ w.more) (r.given ++ w.events) → Keeps c d → (ending ≡ Ends)
+      (r : RunToCome g.known first all ending)
+      (w : AllWritten event_line g.gives first p a b r.asked r.given) where
+    pub all_lines : Turn g.gives step.Ended p q b c (r.asked ++ w.more) (r.given ++ w.events) → Keeps c d
+        → (ending ≡ Ends)
         × Appends a d (concat (event_lines all))
     all_lines (gave_event e on wrote) kept =
         let done = w.events ++ e ∷ [] in
-        let rest = further gives known MayBreak follows first q all ending r (w.more ++ on.more) done
-        (gave_both gives w.more on.more first.source p.source q.source w.gave on.gave)
+        let rest = further g follows first q all ending r (w.more ++ on.more) done
+        (gave_both g.gives w.more on.more first.source p.source q.source w.gave on.gave)
         (history_more q r.asked w.more on.more r.given w.events (e ∷ []) on.history) in
-        let none = nothing_behind_end known q (on.ends ∙ wrote.0) rest.later ending rest.run in
+        let none = nothing_behind_end g.known q (on.ends ∙ wrote.0) rest.later ending rest.run in
         let same : w.events ++ e ∷ [] ≡ all =
         sym (rest.all ∙ ap (λ (l : List yaml_event_t). done ++ l) none.0 ∙ append-nil done) in
         let lines : Appends a c (concat (event_lines (w.events ++ e ∷ []))) =
-        subst (Appends a c) (texts_more event_line gives w.events e)
+        subst (Appends a c) (texts_more event_line g.gives w.events e)
         (Appends-trans a b c (concat (event_lines w.events)) (event_line e) w.wrote wrote.1) in (
           none.1,
           Appends-kept a c d (concat (event_lines all))
@@ -71,9 +73,9 @@ module _ {S : Type 0} (gives : S → Answer → S → Type 0) (known : S → Opt
     all_lines (failed by wrote) kept = absurd wrote
 
     fails_there : (f : Fault) (later : List yaml_event_t) → all ≡ w.events ++ later
-        → FailsHere (MayBreak q.source) f later ending
+        → FailsHere (g.may_break q.source) f later ending
         → Appends a d (concat (event_lines w.events) ++ fault_text f)
-        → WritesFault (MayBreak q.source) f a d (event_lines all) ending
+        → WritesFault (g.may_break q.source) f a d (event_lines all) ending
     fails_there f later split (inl e) wrote =
         let same : w.events ≡ all = sym (split ∙ ap (λ (l : List yaml_event_t). w.events ++ l) e.0 ∙ append-nil w.events) in
         whole e.1 (subst (λ (l : List yaml_event_t). Appends a d (concat (event_lines l) ++ fault_text f)) same wrote)
@@ -82,21 +84,22 @@ module _ {S : Type 0} (gives : S → Answer → S → Type 0) (known : S → Opt
         (ap event_lines split ∙ map-append event_line w.events later) why wrote
 
     pub lines_and_fault : (f : yaml_parser_t_prefix)
-        → Turn gives (step.Failed f) p q b c (r.asked ++ w.more) (r.given ++ w.events)
-        → Appends c d (fault_text (fault_of f)) → WritesFault (MayBreak q.source) (fault_of f) a d (event_lines all) ending
+        → Turn g.gives (step.Failed f) p q b c (r.asked ++ w.more) (r.given ++ w.events)
+        → Appends c d (fault_text (fault_of f)) → WritesFault (g.may_break q.source) (fault_of f) a d
+        (event_lines all) ending
     lines_and_fault f turn told = go turn
       where
         then_fault : Keeps b c → Appends a d (concat (event_lines w.events) ++ fault_text (fault_of f))
         then_fault kept = Appends-trans a b d (concat (event_lines w.events)) (fault_text (fault_of f)) w.wrote
             (keeps_then b c d (fault_text (fault_of f)) kept told)
 
-        go : Turn gives (step.Failed f) p q b c (r.asked ++ w.more) (r.given ++ w.events)
-            → WritesFault (MayBreak q.source) (fault_of f) a d (event_lines all) ending
+        go : Turn g.gives (step.Failed f) p q b c (r.asked ++ w.more) (r.given ++ w.events)
+            → WritesFault (g.may_break q.source) (fault_of f) a d (event_lines all) ending
         go (gave_event e on wrote) =
-            let rest = further gives known MayBreak follows first p all ending r w.more w.events w.gave w.history in
+            let rest = further g follows first p all ending r w.more w.events w.gave w.history in
             fails_there (fault_of f) rest.later rest.all (inr (inl wrote.0)) (then_fault wrote.1)
         go (failed by wrote) =
-            let rest = fails_behind gives known MayBreak follows first p q all ending r w.more w.events w.gave w.history by in
+            let rest = fails_behind g follows first p q all ending r w.more w.events w.gave w.history by in
             fails_there (fault_of f) rest.0 rest.1
-            (subst (λ (g : Fault). FailsHere (MayBreak q.source) g rest.0 ending) (sym wrote.0) rest.2)
+            (subst (λ (v : Fault). FailsHere (g.may_break q.source) v rest.0 ending) (sym wrote.0) rest.2)
             (then_fault wrote.1)

@@ -14,9 +14,9 @@ use Rattle.libyaml_documents.specs.declared.node.yaml_node_t.{yaml_node_t}
 use Rattle.libyaml_documents.specs.Documents.{Document}
 use Rattle.libyaml_events.specs.machine.Config.{Parser}
 use Rattle.libyaml_types.specs.declared.fault.yaml_parser_t_prefix.{yaml_parser_t_prefix}
-use Rattle.libyaml_types.specs.Fault.{Answer, Fault, fault_of}
+use Rattle.libyaml_types.specs.Fault.{Fault, fault_of}
 use Rattle.libyaml_events.specs.sources.History.{ForHistory, History, has_failed, kept_fault}
-use Rattle.libyaml_types.specs.Source.{Coming}
+use Rattle.libyaml_types.specs.declared.source.yaml_token_source_t.{Ghosts}
 use Rattle.libyaml_events.proofs.lent.Histories as histories
 use Rattle.libyaml_graphs.specs.loads.Bounds.{next_bounded}
 use Rattle.libyaml_graphs.specs.loads.Loads.{left_over}
@@ -54,17 +54,16 @@ keeps_both (Some x) (Some y) None h k = absurd k
 keeps_both (Some x) (Some y) (Some z) h k = k ∙ h
 
 -- From the first parser to this one loads returned documents in turn, and the text of each was written.
-pub record WrittenInTurn {S : Type 0} (gives : S → Answer → S → Type 0) (known : S → Option Coming) (n : ℕ)
-    (first now : Parser S) (before after : Option (List ℕ)) : Type 0 where
+pub record WrittenInTurn {S : Type 0} (g : Ghosts S) (n : ℕ) (first now : Parser S)
+    (before after : Option (List ℕ)) : Type 0 where
   pub documents : List Document
-  pub loaded : LoadedInTurn gives known n first now documents
+  pub loaded : LoadedInTurn g n first now documents
   pub wrote : Appends before after (concat (flat_map document_lines documents))
 
-module _ {S : Type 0} (gives : S → Answer → S → Type 0) (known : S → Option Coming) (MayBreak : S → Fault → Type 0)
-    (n : ℕ) where
+module _ {S : Type 0} (g : Ghosts S) (n : ℕ) where
   pub turn_of : (s : RunStep) (p q : Parser S) (b c : Option (List ℕ)) (r a : DocumentOrError) → r ≡ a
-      → LoadsFrom gives known MayBreak (next_bounded n) left_over p r q → StepForLoad s a (kept_fault q) b c
-      → (s ≡ step.Ended → ForHistory p (λ _ _. HasEnded q)) → LoadTurn gives known MayBreak n s p q b c
+      → LoadsFrom g (next_bounded n) left_over p r q → StepForLoad s a (kept_fault q) b c
+      → (s ≡ step.Ended → ForHistory p (λ _ _. HasEnded q)) → LoadTurn g n s p q b c
   turn_of s p q b c r a is load wrote ends
       = record {
         loaded = r;
@@ -74,8 +73,8 @@ module _ {S : Type 0} (gives : S → Answer → S → Type 0) (known : S → Opt
         ends = ends;
       }
 
-  pub none_loaded : (p : Parser S) (x : Option (List ℕ)) → WrittenInTurn gives known n p p x x
-  none_loaded p x = record { documents = []; loaded = none_in_turn gives known n p; wrote = Appends-nil x }
+  pub none_loaded : (p : Parser S) (x : Option (List ℕ)) → WrittenInTurn g n p p x x
+  none_loaded p x = record { documents = []; loaded = none_in_turn g n p; wrote = Appends-nil x }
 
   texts_more : (ds : List Document) (d : Document)
       → concat (flat_map document_lines ds) ++ concat (document_lines d) ≡ concat (flat_map document_lines (ds ++ d ∷ []))
@@ -86,25 +85,24 @@ module _ {S : Type 0} (gives : S → Answer → S → Type 0) (known : S → Opt
       ∙ ap (λ (l : List ℕ). concat (document_lines e) ++ l) (texts_more ds d)
       ∙ sym (concat-append (document_lines e) (flat_map document_lines (ds ++ d ∷ [])))
 
-  pub one_loaded : (first p q : Parser S) (a b c : Option (List ℕ)) → WrittenInTurn gives known n first p a b
-      → LoadTurn gives known MayBreak n step.Written p q b c → WrittenInTurn gives known n first q a c
+  pub one_loaded : (first p q : Parser S) (a b c : Option (List ℕ)) → WrittenInTurn g n first p a b
+      → LoadTurn g n step.Written p q b c → WrittenInTurn g n first q a c
   one_loaded first p q a b c w turn = go turn.loaded turn.load turn.wrote
     where
-      go : (r : DocumentOrError) → LoadsFrom gives known MayBreak (next_bounded n) left_over p r q
-          → StepForLoad step.Written r (kept_fault q) b c
-          → WrittenInTurn gives known n first q a c
+      go : (r : DocumentOrError) → LoadsFrom g (next_bounded n) left_over p r q
+          → StepForLoad step.Written r (kept_fault q) b c → WrittenInTurn g n first q a c
       go (Ok d) load (some, wrote) = record {
         documents = w.documents ++ d ∷ [];
-        loaded = loader.one_more gives known n first p q w.documents d w.loaded load some;
+        loaded = loader.one_more g n first p q w.documents d w.loaded load some;
         wrote = subst (Appends a c) (texts_more w.documents d)
             (Appends-trans a b c (concat (flat_map document_lines w.documents)) (concat (document_lines d)) w.wrote wrote);
       }
       go (Err x) load wrote = absurd wrote
 
   -- as what was asked for and given since
-  all_loaded : (first p : Parser S) (a b : Option (List ℕ)) → WrittenInTurn gives known n first p a b
+  all_loaded : (first p : Parser S) (a b : Option (List ℕ)) → WrittenInTurn g n first p a b
       → (asked : List yaml_token_t) (given : List yaml_event_t) → History first asked given
-      → AllLoaded gives n first p a b asked given
+      → AllLoaded g.gives n first p a b asked given
   all_loaded first p a b w asked given history =
       let on = w.loaded.took.history asked given history in
       record {
@@ -158,29 +156,24 @@ loads_output kept b c d (Ok x) w = tt
 loads_output kept b c d (Err x) w = absurd w
 
 -- the bound of the first parser
-module _ {S : Type 0} (gives : S → Answer → S → Type 0) (known : S → Option Coming) (MayBreak : S → Fault
-    → Type 0) (s : RunStep) (p q : Parser S) (b c : Option (List ℕ)) (z w : ℤ) (same : z ≡ w) where
-  pub turn_at : (has_failed p ≡ false → LoadTurn gives known MayBreak (magnitude z) s p q b c) → has_failed p ≡ false
-      → LoadTurn gives known MayBreak (magnitude w) s p q b c
-  turn_at turns running = subst (λ (y : ℤ). LoadTurn gives known MayBreak (magnitude y) s p q b c) same (turns running)
+module _ {S : Type 0} (g : Ghosts S) (s : RunStep) (p q : Parser S) (b c : Option (List ℕ)) (z w : ℤ) (same : z ≡ w) where
+  pub turn_at : (has_failed p ≡ false → LoadTurn g (magnitude z) s p q b c) → has_failed p ≡ false
+      → LoadTurn g (magnitude w) s p q b c
+  turn_at turns running = subst (λ (y : ℤ). LoadTurn g (magnitude y) s p q b c) same (turns running)
 
-pub last_load_at : {S W : Type 0} (gives : S → Answer → S → Type 0) (known : S → Option Coming)
-    (MayBreak : S → Fault → Type 0) (contents : W
-    → Option (List ℕ)) (end : run_end_t) (s : RunStep) (first p q : Parser S) (writer : W) (a c d : Option (List ℕ))
-    (asked : List yaml_token_t)
+pub last_load_at : {S W : Type 0} (g : Ghosts S) (contents : W → Option (List ℕ)) (end : run_end_t) (s : RunStep)
+    (first p q : Parser S) (writer : W) (a c d : Option (List ℕ)) (asked : List yaml_token_t)
     (given : List yaml_event_t) → p.max_entries ≡ first.max_entries
-    → WrittenInTurn gives known (magnitude first.max_entries) first p a (contents writer)
-    → (has_failed p ≡ false → LoadTurn gives known MayBreak (magnitude p.max_entries) s p q (contents writer) c)
+    → WrittenInTurn g (magnitude first.max_entries) first p a (contents writer)
+    → (has_failed p ≡ false → LoadTurn g (magnitude p.max_entries) s p q (contents writer) c)
     → ((r : DocumentOrError) → StepForLoad s r (kept_fault q) (contents writer) c
     → WroteForLoad end r (kept_fault q) (contents writer) d)
     → (end ≡ Ended → s ≡ step.Ended) → History first asked given
-    → LastLoad gives known MayBreak contents (magnitude first.max_entries) end first q a d asked given
-last_load_at gives known MayBreak contents end s first p q writer a c d asked given bound w turns wrote ended history =
-    let earlier = all_loaded gives known MayBreak (magnitude first.max_entries) first p a (contents writer) w asked given
-    history in
+    → LastLoad g contents (magnitude first.max_entries) end first q a d asked given
+last_load_at g contents end s first p q writer a c d asked given bound w turns wrote ended history =
+    let earlier = all_loaded g (magnitude first.max_entries) first p a (contents writer) w asked given history in
     let running = histories.faultless p (asked ++ earlier.more) (given ++ earlier.events) earlier.history in
-    let turn = turn_at gives known MayBreak s p q
-    (contents writer) c p.max_entries first.max_entries bound turns running in
+    let turn = turn_at g s p q (contents writer) c p.max_entries first.max_entries bound turns running in
     record {
       parser = p;
       writer = writer;

@@ -17,7 +17,8 @@ use Rattle.libyaml_events.proofs.lent.KnownTokens.{further}
 use Rattle.libyaml_grammar.proofs.lent.NestingSoFar.{run_nests_so_far}
 use Rattle.libyaml_grammar.specs.runs.Runs.{Ending}
 use Rattle.libyaml_types.specs.Fault.{Answer, Fault, memory_fault}
-use Rattle.libyaml_types.specs.Source.{Coming, Follows}
+use Rattle.libyaml_types.specs.Source.{Follows}
+use Rattle.libyaml_types.specs.declared.source.yaml_token_source_t.{Ghosts}
 use Rattle.libyaml_graphs.specs.loads.Bounds.{bounded_loads, next_bounded}
 use Rattle.libyaml_graphs.specs.loads.GraphLaws.{RootsFollow}
 use Rattle.libyaml_graphs.specs.loads.Loads.{Load, left_over}
@@ -66,14 +67,13 @@ ending_of : (ds : List Document) (l : List Load) → loads_ending (map Ok ds ++ 
 ending_of [] l = refl
 ending_of (d ∷ ds) l = ending_of ds l
 
-module _ {S W : Type 0} (gives : S → Answer → S → Type 0) (known : S → Option Coming) (MayBreak : S → Fault → Type 0)
-    (follows : (s t : S) (a : Answer) → gives s a t → Follows (MayBreak t) (known s) a (known t))
+module _ {S W : Type 0} (g : Ghosts S)
+    (follows : (s t : S) (a : Answer) → g.gives s a t → Follows (g.may_break t) (g.known s) a (g.known t))
     (contents : W → Option (List ℕ)) (n : ℕ) (first last : Parser S) (before after : Option (List ℕ))
-    (events : List yaml_event_t) (ending : Ending)
-    (run : RunToCome known first events ending) (result : run_end_t)
-    (l : LastLoad gives known MayBreak contents n result first last before after run.asked run.given) where
-  rest : RestOfRun known l.parser l.earlier.events events ending
-  rest = further gives known MayBreak follows first l.parser events ending run l.earlier.more l.earlier.events
+    (events : List yaml_event_t) (ending : Ending) (run : RunToCome g.known first events ending) (result : run_end_t)
+    (l : LastLoad g contents n result first last before after run.asked run.given) where
+  rest : RestOfRun g.known l.parser l.earlier.events events ending
+  rest = further g follows first l.parser events ending run l.earlier.more l.earlier.events
       l.earlier.gave l.earlier.history
 
   abbrev later : List Load
@@ -101,9 +101,9 @@ module _ {S W : Type 0} (gives : S → Answer → S → Type 0) (known : S → O
       (Appends-trans before (contents l.writer) after (concat earlier) (concat ls ++ bs) l.earlier.wrote h)
 
   abbrev Told : Fault → Type 0
-  Told f = WritesFault (MayBreak last.source) f before after (loads_lines loads) (loads_ending loads)
+  Told f = WritesFault (g.may_break last.source) f before after (loads_lines loads) (loads_ending loads)
 
-  cut : (f : Fault) → (f ≡ memory_fault) ⊎ MayBreak last.source f → (ls more : List (List ℕ))
+  cut : (f : Fault) → (f ≡ memory_fault) ⊎ g.may_break last.source f → (ls more : List (List ℕ))
       → loads_lines later ≡ ls ++ more
       → Appends (contents l.writer) after (concat ls ++ fault_text f) → Told f
   cut f why ls more is wrote = broken_off (earlier ++ ls) more
@@ -117,10 +117,9 @@ module _ {S W : Type 0} (gives : S → Answer → S → Type 0) (known : S → O
       (roots_follow (r.given ++ rest.later)
       (run_nests_so_far (r.asked ++ r.rest) r.fault (r.given ++ rest.later) ending r.run))
 
-  go : (end : run_end_t) (r : DocumentOrError)
-      → LoadOfRun known MayBreak (next_bounded n) left_over r last rest.later ending
+  go : (end : run_end_t) (r : DocumentOrError) → LoadOfRun g (next_bounded n) left_over r last rest.later ending
       → WroteForLoad end r (kept_fault last) (contents l.writer) after
-      → WritesLoads (MayBreak last.source) end before after loads
+      → WritesLoads (g.may_break last.source) end before after loads
   go Ended (Ok d) load wrote =
       let only = last_of rest.later ending n d follow load.0 wrote.0 in
       let none = lines ∙ ap (λ (x : List (List ℕ)). earlier ++ x) (no_lines later d only.0 wrote.0)
@@ -147,6 +146,6 @@ module _ {S W : Type 0} (gives : S → Answer → S → Type 0) (known : S → O
       subst Told (sym wrote.0) (cut (kept_fault last) why [] (loads_lines later) refl wrote.1)
   go OutputFailed (Err x) load wrote = tt
 
-  pub writes_loads_so : WritesLoads (MayBreak last.source) result before after loads
-  writes_loads_so = go result l.loaded (load_of_run gives known MayBreak (next_bounded n) left_over l.parser last l.loaded rest.later
+  pub writes_loads_so : WritesLoads (g.may_break last.source) result before after loads
+  writes_loads_so = go result l.loaded (load_of_run g (next_bounded n) left_over l.parser last l.loaded rest.later
       ending rest.run l.load) l.wrote

@@ -31,7 +31,7 @@ use Rattle.libyaml_loader.specs.loads.Loading.{DocumentOrError, LoadsFrom, at_en
 use Rattle.libyaml_loader.specs.loads.OneLoad.{results_in}
 use Rattle.libyaml_types.specs.Fault.{Answer, Fault, memory_fault, no_fault}
 use Rattle.libyaml_types.specs.declared.fault.yaml_parser_t_prefix.{yaml_parser_t_prefix}
-use Rattle.libyaml_types.specs.Source.{Coming}
+use Rattle.libyaml_types.specs.declared.source.yaml_token_source_t.{Ghosts}
 use Rattle.line_writing.specs.DocumentText.{document_lines}
 use Rattle.line_writing.specs.FaultText.{fault_text}
 use Rattle.token_lines.specs.declared.run.Outcome.{Outcome}
@@ -76,9 +76,8 @@ turned : (a b : List Answer) → OneBegins a b → OneBegins b a
 turned a b (inl h) = inr h
 turned a b (inr h) = inl h
 
-module _ {S W : Type 0} (gives : S → Answer → S → Type 0) (known : S → Option Coming)
-    (may_break : S → Fault → Type 0) (contents : W → Option (List ℕ)) (n : ℕ)
-    (old : Parser S) (before : Option (List ℕ)) (asked : List yaml_token_t) (given : List yaml_event_t) where
+module _ {S W : Type 0} (g : Ghosts S) (contents : W → Option (List ℕ)) (n : ℕ) (old : Parser S)
+    (before : Option (List ℕ)) (asked : List yaml_token_t) (given : List yaml_event_t) where
   -- how an outcome came: the parser stopped, or the last event has a composer error; or memory ran out, or the
   -- output failed
   data Came (o : Outcome) (after : Option (List ℕ)) (a : List Answer) : Type 0 where
@@ -98,11 +97,11 @@ module _ {S W : Type 0} (gives : S → Answer → S → Type 0) (known : S → O
 
   module _ (last : Parser S) (after : Option (List ℕ)) where
     abbrev Of : run_end_t → Type 0
-    Of end = LastLoad gives known may_break contents n end old last before after asked given
+    Of end = LastLoad g contents n end old last before after asked given
 
     -- the events of a load are further ones of the run
     further : (end : run_end_t) (o : Of end) (p : Parser S) (taken : List yaml_event_t)
-        → (c : CarriedOn gives o.parser p (asked ++ o.earlier.more) (given ++ o.earlier.events) taken)
+        → (c : CarriedOn g.gives o.parser p (asked ++ o.earlier.more) (given ++ o.earlier.events) taken)
         → History p (asked ++ (o.earlier.more ++ c.more)) (given ++ (o.earlier.events ++ taken))
     further end o p taken c =
         subst (λ (l : List yaml_token_t). History p l (given ++ (o.earlier.events ++ taken)))
@@ -115,7 +114,8 @@ module _ {S W : Type 0} (gives : S → Answer → S → Type 0) (known : S → O
     all_loads end o taken x z e = o.earlier.loads taken x ∙ ap (λ (l : List Load). map Ok o.earlier.documents ++ l) e
 
     roots : (end : run_end_t) (o : Of end) (p : Parser S) (taken : List yaml_event_t)
-        → (c : CarriedOn gives o.parser p (asked ++ o.earlier.more) (given ++ o.earlier.events) taken) → RootsFollow taken
+        → (c : CarriedOn g.gives o.parser p (asked ++ o.earlier.more) (given ++ o.earlier.events) taken)
+        → RootsFollow taken
     roots end o p taken c = roots_behind (given ++ o.earlier.events) taken
         (roots_follow ((given ++ o.earlier.events) ++ taken)
         (histories.nests p ((asked ++ o.earlier.more) ++ c.more) ((given ++ o.earlier.events) ++ taken) c.history))
@@ -149,11 +149,11 @@ module _ {S W : Type 0} (gives : S → Answer → S → Type 0) (known : S → O
     given_there end o = given ++ o.earlier.events
 
     abbrev FromHere : (end : run_end_t) → Of end → DocumentOrError → Type 0
-    FromHere end o r = LoadsFrom gives known may_break (next_bounded n) left_over o.parser r last
+    FromHere end o r = LoadsFrom g (next_bounded n) left_over o.parser r last
 
     abbrev results : (end : run_end_t) (o : Of end) (r : DocumentOrError) → FromHere end o r → List Answer
     results end o r l = answers o.earlier.more
-        (results_in gives known may_break (next_bounded n) left_over o.parser last (asked_there end o)
+        (results_in g (next_bounded n) left_over o.parser last (asked_there end o)
         (given_there end o) o.earlier.history r l)
 
     -- the same of lists that were put together the other way round
@@ -193,10 +193,11 @@ module _ {S W : Type 0} (gives : S → Answer → S → Type 0) (known : S → O
 
     -- it failed
     by_cause : (told : yaml_parser_t_prefix) (o : Of (Faulted told)) (parser : Parser S) (taken : List yaml_event_t)
-        → (c : CarriedOn gives o.parser parser (asked_there (Faulted told) o) (given_there (Faulted told) o) taken)
+        → (c : CarriedOn g.gives o.parser parser (asked_there (Faulted told) o) (given_there (Faulted told) o) taken)
         → (load : (x : Ending) → next_bounded n taken x ≡ last_load x)
         → Appends (contents o.writer) after (fault_text (kept_fault last))
-        → (h : FailsBy gives parser last (asked_there (Faulted told) o ++ c.more) (given_there (Faulted told) o ++ taken))
+        → (h : FailsBy g.gives parser last (asked_there (Faulted told) o ++ c.more)
+        (given_there (Faulted told) o ++ taken))
         → Cause parser.config (asked_there (Faulted told) o ++ c.more) (given_there (Faulted told) o ++ taken)
         h.more (kept_fault last)
         → Came outcome.Faulted after (answers o.earlier.more (answers c.more h.more))
@@ -213,9 +214,9 @@ module _ {S W : Type 0} (gives : S → Answer → S → Type 0) (known : S → O
         (answers_both o.earlier.more c.more h.more)
         (histories.needed parser (asked ++ (o.earlier.more ++ c.more)) (given ++ (o.earlier.events ++ taken))
         (further (Faulted told) o parser taken c))
-        (moved (λ (l : List yaml_token_t) (g : List yaml_event_t). EachNeeded l h.more g) o.earlier.more c.more
+        (moved (λ (l : List yaml_token_t) (v : List yaml_event_t). EachNeeded l h.more v) o.earlier.more c.more
         o.earlier.events taken h.needed)
-        (moved (λ (l : List yaml_token_t) (g : List yaml_event_t). RunStop (answers l h.more) g
+        (moved (λ (l : List yaml_token_t) (v : List yaml_event_t). RunStop (answers l h.more) v
         (Fails (kept_fault last))) o.earlier.more c.more o.earlier.events taken
         (grammar_stop (asked_there (Faulted told) o ++ c.more) h.more (given_there (Faulted told) o ++ taken)
         (kept_fault last) l e f))
@@ -228,9 +229,9 @@ module _ {S W : Type 0} (gives : S → Answer → S → Type 0) (known : S → O
         (answers_both o.earlier.more c.more h.more)
         (histories.needed parser (asked ++ (o.earlier.more ++ c.more)) (given ++ (o.earlier.events ++ taken))
         (further (Faulted told) o parser taken c))
-        (moved (λ (l : List yaml_token_t) (g : List yaml_event_t). EachNeeded l h.more g) o.earlier.more c.more
+        (moved (λ (l : List yaml_token_t) (v : List yaml_event_t). EachNeeded l h.more v) o.earlier.more c.more
         o.earlier.events taken h.needed)
-        (moved (λ (l : List yaml_token_t) (g : List yaml_event_t). RunStop (answers l h.more) g
+        (moved (λ (l : List yaml_token_t) (v : List yaml_event_t). RunStop (answers l h.more) v
         (Fails (kept_fault last))) o.earlier.more c.more o.earlier.events taken
         (source_stop (asked_there (Faulted told) o ++ c.more) h.more (given_there (Faulted told) o ++ taken)
         (kept_fault last) l e f))
@@ -259,7 +260,7 @@ module _ {S W : Type 0} (gives : S → Answer → S → Type 0) (known : S → O
         (λ rest y. ap (λ (l : List yaml_event_t). bounded_loads n l y) (append_assoc o.earlier.events taken rest)
         ∙ (o.earlier.loads (taken ++ rest) y ∙ ap (λ (l : List Load). map Ok o.earlier.documents ++ l)
         (fault_of (taken ++ rest) y n f (load rest y))))
-        (refl, faulted told o f (subst (λ (g : Fault). Appends (contents o.writer) after (fault_text g)) is w.1))
+        (refl, faulted told o f (subst (λ (v : Fault). Appends (contents o.writer) after (fault_text v)) is w.1))
     failed told o (Err x) (by_memory prior e parser took kept grows) w =
         let c = took.history (asked_there (Faulted told) o) (given_there (Faulted told) o) o.earlier.history in
         broke (record {
@@ -277,20 +278,18 @@ module _ {S W : Type 0} (gives : S → Answer → S → Type 0) (known : S → O
     came (Faulted told) o = failed told o o.loaded o.load o.wrote
     came OutputFailed o = unknown refl
 
-pub one_writing_of_nodes_proof : {S W : Type 0} (gives : S → Answer → S → Type 0) (known : S → Option Coming)
-    (may_break : S → Fault → Type 0) (contents : W
-    → Option (List ℕ)) (n : ℕ)
+pub one_writing_of_nodes_proof : {S W : Type 0} (g : Ghosts S) (contents : W → Option (List ℕ)) (n : ℕ)
     → (old p q : Parser S) (first second : run_end_t) (written : List ℕ) (after later : Option (List ℕ))
     (asked : List yaml_token_t) (given : List yaml_event_t)
-    → (a : LastLoad gives known may_break contents n first old p (Some written) after asked given)
-    → (b : LastLoad gives known may_break contents n second old q (Some written) later asked given)
+    → (a : LastLoad g contents n first old p (Some written) after asked given)
+    → (b : LastLoad g contents n second old q (Some written) later asked given)
     → OneBegins (results_of_nodes a) (results_of_nodes b)
     → OneOutput BreaksOffByNone BreaksOffByNone (outcome_of first) (outcome_of second) (Some written) after later
-one_writing_of_nodes_proof {S} gives known may_break contents n old p q first second written
+one_writing_of_nodes_proof {S} g contents n old p q first second written
     after later asked given a b one
     = go (results_of_nodes a) (results_of_nodes b) one
-    (came gives known may_break contents n old (Some written) asked given p after first a)
-    (came gives known may_break contents n old (Some written) asked given q later second b)
+    (came g contents n old (Some written) asked given p after first a)
+    (came g contents n old (Some written) asked given q later second b)
   where
     after_both : (k l : List Answer) (m i : List yaml_token_t) (u v : List Answer) → k ≡ answers m u
         → l ≡ answers i v → OneBegins k l
@@ -300,22 +299,22 @@ one_writing_of_nodes_proof {S} gives known may_break contents n old p q first se
         (subst (λ (j : List Answer). OneBegins j (answers i v)) e (subst (OneBegins k) f o))
 
     -- a composer error is one of all longer lists of events
-    by_composer : (d c : List Document) (f : Fault) (y : Ending) (e g : List yaml_event_t)
+    by_composer : (d c : List Document) (f : Fault) (y : Ending) (e t : List yaml_event_t)
         → ((rest : List yaml_event_t) (x : Ending) → bounded_loads n (e ++ rest) x ≡ map Ok d
-        ++ last_load (Fails f) ∷ []) → bounded_loads n g y ≡ map Ok c ++ last_load y ∷ []
-        → Begins e g → (d ≡ c) × (Fails f ≡ y)
-    by_composer d c f y e g l k h =
+        ++ last_load (Fails f) ∷ []) → bounded_loads n t y ≡ map Ok c ++ last_load y ∷ []
+        → Begins e t → (d ≡ c) × (Fails f ≡ y)
+    by_composer d c f y e t l k h =
         let s = same_loads d c (last_load (Fails f)) (last_load y)
         (sym (l h.0 y) ∙ (ap (λ (z : List yaml_event_t). bounded_loads n z y) (sym h.1) ∙ k)) in
         (s.0, last_same (Fails f) y s.1)
 
-    both_composer : (d c : List Document) (f x : Fault) (e g : List yaml_event_t)
+    both_composer : (d c : List Document) (f x : Fault) (e t : List yaml_event_t)
         → ((rest : List yaml_event_t) (y : Ending) → bounded_loads n (e ++ rest) y ≡ map Ok d ++ last_load (Fails f) ∷ [])
-        → ((rest : List yaml_event_t) (y : Ending) → bounded_loads n (g ++ rest) y ≡ map Ok c
-        ++ last_load (Fails x) ∷ []) → Begins e g → (d ≡ c) × (Fails f ≡ Fails x)
-    both_composer d c f x e g l k h =
-        by_composer d c f (Fails x) e g l
-        (ap (λ (z : List yaml_event_t). bounded_loads n z (Fails x)) (sym (append-nil g)) ∙ k [] (Fails x)) h
+        → ((rest : List yaml_event_t) (y : Ending) → bounded_loads n (t ++ rest) y ≡ map Ok c
+        ++ last_load (Fails x) ∷ []) → Begins e t → (d ≡ c) × (Fails f ≡ Fails x)
+    both_composer d c f x e t l k h =
+        by_composer d c f (Fails x) e t l
+        (ap (λ (z : List yaml_event_t). bounded_loads n z (Fails x)) (sym (append-nil t)) ∙ k [] (Fails x)) h
 
     alike_by : (x y : Ending) (d c : List Document) → (d ≡ c) × (x ≡ y)
         → Wrote x (outcome_of first) d (Some written) after → Wrote y (outcome_of second) c (Some written) later
@@ -323,39 +322,39 @@ one_writing_of_nodes_proof {S} gives known may_break contents n old p q first se
     alike_by x y d c s w z = let r = both_wrote x y (outcome_of first) (outcome_of second) d c written after later
         s.1 s.0 w z in alike r.0 r.1
 
-    go : (k l : List Answer) → OneBegins k l → Came gives known may_break contents n old
-        (Some written) asked given (outcome_of first) after k
-        → Came gives known may_break contents n old (Some written) asked given
+    go : (k l : List Answer) → OneBegins k l → Came g contents n old
+        (Some written) asked given (outcome_of first) after k → Came g contents n old (Some written) asked given
         (outcome_of second) later l → OneOutput BreaksOffByNone BreaksOffByNone (outcome_of first)
         (outcome_of second) (Some written) after later
     go k l o (broke x) y = first_breaks x
     go k l o x (broke y) = second_breaks y
     go k l o (unknown e) y = output_failed (inl e)
     go k l o x (unknown e) = output_failed (inr e)
-    go k l o (stopped m u e d x i each then stop loads w) (stopped j v g c y f other also halt more z) =
-        let r = one_run_by_answers (given ++ e) (given ++ g) x y
+    go k l o (stopped m u e d x i each then stop loads w) (stopped j v t c y f other also halt more z) =
+        let r = one_run_by_answers (given ++ e) (given ++ t) x y
         (record { asked = asked ++ m; last = u; needed = each; needed_last = then; stop = stop })
         (record { asked = asked ++ j; last = v; needed = other; needed_last = also; stop = halt })
         (after_both k l m j u v i f o) in
         let s = same_loads d c (last_load x) (last_load y)
-        (sym loads ∙ (ap (λ (b : List yaml_event_t). bounded_loads n b x) (front_same given e g r.1)
-        ∙ (ap (bounded_loads n g) r.2 ∙ more))) in
+        (sym loads ∙ (ap (λ (b : List yaml_event_t). bounded_loads n b x) (front_same given e t r.1)
+        ∙ (ap (bounded_loads n t) r.2 ∙ more))) in
         alike_by x y d c (s.0, r.2) w z
-    go k l o (composer m e d f i each runs loads w) (stopped j v g c y h other also halt more z) =
-        let b = begins_stopped (asked ++ m) [] (answers (asked ++ j) v) (given ++ e) (given ++ g) y each runs halt
+    go k l o (composer m e d f i each runs loads w) (stopped j v t c y h other also halt more z) =
+        let b = begins_stopped (asked ++ m) [] (answers (asked ++ j) v) (given ++ e) (given ++ t) y each runs halt
         (after_both k l m j [] v i h o) in
-        alike_by (Fails f) y d c (by_composer d c f y e g loads more (after_given given e g b)) w z
-    go k l o (stopped m u e d x i each then stop loads w) (composer j g c f h other runs more z) =
-        let b = begins_stopped (asked ++ j) [] (answers (asked ++ m) u) (given ++ g) (given ++ e) x other runs stop
+        alike_by (Fails f) y d c (by_composer d c f y e t loads more (after_given given e t b)) w z
+    go k l o (stopped m u e d x i each then stop loads w) (composer j t c f h other runs more z) =
+        let b = begins_stopped (asked ++ j) [] (answers (asked ++ m) u) (given ++ t) (given ++ e) x other runs stop
         (turned (answers (asked ++ m) u) (answers (asked ++ j) []) (after_both k l m j u [] i h o)) in
-        let s = by_composer c d f x g e more loads (after_given given g e b) in
+        let s = by_composer c d f x t e more loads (after_given given t e b) in
         alike_by x (Fails f) d c (sym s.0, sym s.1) w z
-    go k l o (composer m e d f i each runs loads w) (composer j g c x h other begins more z) =
-        both (taken_comparable (asked ++ m) (asked ++ j) [] [] (given ++ e) (given ++ g) runs begins
+    go k l o (composer m e d f i each runs loads w) (composer j t c x h other begins more z) =
+        both (taken_comparable (asked ++ m) (asked ++ j) [] [] (given ++ e) (given ++ t) runs begins
         (after_both k l m j [] [] i h o))
       where
-        both : Begins (given ++ e) (given ++ g) ⊎ Begins (given ++ g) (given ++ e)
+        both : Begins (given ++ e) (given ++ t) ⊎ Begins (given ++ t) (given ++ e)
             → OneOutput BreaksOffByNone BreaksOffByNone (outcome_of first) (outcome_of second) (Some written) after later
-        both (inl b) = alike_by (Fails f) (Fails x) d c (both_composer d c f x e g loads more (after_given given e g b)) w z
-        both (inr b) = let s = both_composer c d x f g e more loads (after_given given g e b)
+        both (inl b) = alike_by (Fails f) (Fails x) d c
+            (both_composer d c f x e t loads more (after_given given e t b)) w z
+        both (inr b) = let s = both_composer c d x f t e more loads (after_given given t e b)
             in alike_by (Fails f) (Fails x) d c (sym s.0, sym s.1) w z

@@ -5,7 +5,7 @@ use Rattle.libyaml_types.specs.declared.token.yaml_token_t.{yaml_token_t}
 use Rattle.libyaml_events.specs.machine.Config.{Parser}
 use Rattle.libyaml_events.specs.sources.History.{answers}
 use Rattle.libyaml_types.specs.Fault.{Answer, Fault}
-use Rattle.libyaml_types.specs.Source.{Coming}
+use Rattle.libyaml_types.specs.declared.source.yaml_token_source_t.{Ghosts}
 use Rattle.libyaml_graphs.specs.loads.Bounds.{next_bounded}
 use Rattle.libyaml_graphs.specs.loads.Loads.{left_over}
 use Rattle.libyaml_loader.specs.loads.OneLoad.{results_in}
@@ -30,13 +30,11 @@ abbrev pub writing_results_of : {S W : Type 0} {gives : S → Answer → S → T
 writing_results_of end o = answers o.earlier.more (results_in_call o.call)
 
 -- likewise of documents, whose last load names what it asked for
-abbrev pub results_of_nodes : {S W : Type 0} {gives : S → Answer → S → Type 0} {known : S → Option Coming}
-    {MayBreak : S → Fault → Type 0} {contents : W
-    → Option (List ℕ)} {n : ℕ} {end : run_end_t} {first last : Parser S} {before after : Option (List ℕ)}
-    {asked : List yaml_token_t} {given
-    : List yaml_event_t} → LastLoad gives known MayBreak contents n end first last before after asked given → List Answer
-results_of_nodes {gives} {known} {MayBreak} {n} {last} {asked} {given} o
-    = answers o.earlier.more (results_in gives known MayBreak (next_bounded n) left_over o.parser last
+abbrev pub results_of_nodes : {S W : Type 0} {g : Ghosts S} {contents : W → Option (List ℕ)} {n : ℕ} {end : run_end_t}
+    {first last : Parser S} {before after : Option (List ℕ)} {asked : List yaml_token_t} {given : List yaml_event_t}
+    → LastLoad g contents n end first last before after asked given → List Answer
+results_of_nodes {g} {n} {last} {asked} {given} o
+    = answers o.earlier.more (results_in g (next_bounded n) left_over o.parser last
     (asked ++ o.earlier.more) (given ++ o.earlier.events)
     o.earlier.history o.loaded o.load)
 

@@ -1,6 +1,6 @@
 -- That no document is held back: the text of each is written before anything of the next is asked for
 -- (docs/DEFINITIONS.md, "Runs over lines").
-use Rattle.std.specs.Prelude.{◌≡◌, ◌≤◌, ◌*◌, ◌++◌, ◌∷◌, ℕ, List, [], length, map, Option, Ok, Err, ◌≢◌, All}
+use Rattle.std.specs.Prelude.{◌≡◌, ◌≤◌, ◌*◌, ◌-◌, ◌++◌, ◌∷◌, ℕ, List, [], length, map, Option, Ok, Err, ◌≢◌, All}
 use Rattle.std.specs.List.{concat, flat_map}
 use Rattle.std.specs.Io.KnownBytes.{Appends, Keeps}
 use Rattle.libyaml_types.specs.declared.event.yaml_event_t.{yaml_event_t}
@@ -11,7 +11,7 @@ use Rattle.libyaml_events.specs.machine.Config.{Parser}
 use Rattle.libyaml_types.specs.Fault.{Answer, Fault, fault_of, memory_fault}
 use Rattle.libyaml_events.specs.sources.History.{History, answers, kept_fault}
 use Rattle.libyaml_grammar.specs.runs.Runs.{Ending}
-use Rattle.libyaml_types.specs.Source.{Coming}
+use Rattle.libyaml_types.specs.declared.source.yaml_token_source_t.{Ghosts}
 use Rattle.libyaml_graphs.specs.loads.Bounds.{bounded_loads, next_bounded}
 use Rattle.libyaml_graphs.specs.loads.Linear.{documents_size}
 use Rattle.libyaml_graphs.specs.loads.Loads.{Load, left_over}
@@ -60,16 +60,14 @@ pub record AllLoaded {S : Type 0} (gives : S → Answer → S
 
 -- The last load: the writer held the text of each document that was loaded before, and what was written since is of this
 -- load.
-pub record LastLoad {S W : Type 0} (gives : S → Answer → S → Type 0) (known : S → Option Coming)
-    (MayBreak : S → Fault → Type 0) (contents : W
-    → Option (List ℕ)) (n : ℕ) (end : run_end_t) (first last : Parser S) (before after : Option (List ℕ))
-    (asked : List yaml_token_t)
+pub record LastLoad {S W : Type 0} (g : Ghosts S) (contents : W → Option (List ℕ)) (n : ℕ) (end : run_end_t)
+    (first last : Parser S) (before after : Option (List ℕ)) (asked : List yaml_token_t)
     (given : List yaml_event_t) : Type 0 where
   pub parser : Parser S
   pub writer : W
-  pub earlier : AllLoaded gives n first parser before (contents writer) asked given
+  pub earlier : AllLoaded g.gives n first parser before (contents writer) asked given
   pub loaded : DocumentOrError
-  pub load : LoadsFrom gives known MayBreak (next_bounded n) left_over parser loaded last
+  pub load : LoadsFrom g (next_bounded n) left_over parser loaded last
   pub wrote : WroteForLoad end loaded (kept_fault last) (contents writer) after
   -- the run ends only where the parser has ended
   pub ends : end ≡ Ended → HasEnded last
@@ -78,6 +76,15 @@ pub record LastLoad {S W : Type 0} (gives : S → Answer → S → Type 0) (know
 pub record WritesKept {S : Type 0} (end : run_end_t) (old new : Parser S) (before after : Option (List ℕ)) : Type 0 where
   pub parser : new ≡ old
   pub wrote : WroteFault end (kept_fault old) before after
+
+-- the source of a reader's lines
+abbrev pub line_source : {R : Type 0} → (R → Option (List ℕ)) → Ghosts (LineSource R)
+line_source remaining = record {
+  gives = Gives remaining;
+  bound = λ s. s.max_tokens - s.given;
+  known = known_of remaining;
+  may_break = BreaksOff;
+}
 
 -- each list of a document that a new parser loads has at most so many entries
 abbrev pub most_entries : ℕ
@@ -95,6 +102,5 @@ pub record NodesOver {R W : Type 0} (remaining : R → Option (List ℕ)) (conte
   pub last : Parser (LineSource R)
   pub starts : StartsAt reader first
   pub writes : WritesNodesOf (remaining reader) (BreaksOff last.source) end before after
-  pub in_turn : LastLoad (Gives remaining) (known_of remaining) BreaksOff contents most_entries end first last
-      before after [] []
+  pub in_turn : LastLoad (line_source remaining) contents most_entries end first last before after [] []
   pub linear : documents_size in_turn.earlier.documents ≤ 8 * length in_turn.earlier.more

@@ -3,9 +3,9 @@ use Rattle.std.specs.Prelude.{◌≡◌, ◌≢◌, ℕ, List, [], Option, Ok, E
 use Rattle.std.specs.List.{concat}
 use Rattle.std.specs.Io.KnownBytes.{Appends, Keeps}
 use Rattle.libyaml_events.specs.machine.Config.{Parser}
-use Rattle.libyaml_types.specs.Fault.{Answer, Fault, fault_of, memory_fault}
+use Rattle.libyaml_types.specs.Fault.{Fault, fault_of, memory_fault}
 use Rattle.libyaml_events.specs.sources.History.{ForHistory, kept_fault}
-use Rattle.libyaml_types.specs.Source.{Coming}
+use Rattle.libyaml_types.specs.declared.source.yaml_token_source_t.{Ghosts}
 use Rattle.libyaml_graphs.specs.loads.Bounds.{next_bounded}
 use Rattle.libyaml_graphs.specs.loads.Loads.{left_over}
 use Rattle.libyaml_loader.specs.loads.Loading.{DocumentOrError, HasEnded, LoadsFrom}
@@ -24,10 +24,10 @@ StepForLoad (Failed f) (Err x) kept before after = (fault_of f ≡ kept) × Keep
 StepForLoad _ (Err x) kept before after = ⊥
 
 -- one step: its load, and what was written after it
-pub record LoadTurn {S : Type 0} (gives : S → Answer → S → Type 0) (known : S → Option Coming) (MayBreak : S → Fault
-    → Type 0) (n : ℕ) (step : RunStep) (old new : Parser S) (before after : Option (List ℕ)) : Type 0 where
+pub record LoadTurn {S : Type 0} (g : Ghosts S) (n : ℕ) (step : RunStep) (old new : Parser S)
+    (before after : Option (List ℕ)) : Type 0 where
   pub loaded : DocumentOrError
-  pub load : LoadsFrom gives known MayBreak (next_bounded n) left_over old loaded new
+  pub load : LoadsFrom g (next_bounded n) left_over old loaded new
   pub wrote : StepForLoad step loaded (kept_fault new) before after
   pub ends : step ≡ Ended → ForHistory old (λ _ _. HasEnded new)
 

@@ -61,9 +61,8 @@ pub fn one_writing_of_events<S: yaml_token_source_t, W: Write>()
 pub fn one_writing_of_nodes<S: yaml_token_source_t, W: Write>()
     ensures { (old p q : Parser S) (first second : run_end_t) (n : ℕ) (written : List ℕ)
         (after later : Option (List ℕ)) (asked : List yaml_token_t) (given : List yaml_event_t)
-        → (a : LastLoad S.gives S.known S.may_break W.contents n first old p (Some written) after asked given)
-        → (b : LastLoad S.gives S.known S.may_break W.contents n second old q (Some written) later asked
-        given)
+        → (a : LastLoad S.yaml_token_source_t W.contents n first old p (Some written) after asked given)
+        → (b : LastLoad S.yaml_token_source_t W.contents n second old q (Some written) later asked given)
         → OneBegins (results_of_nodes a) (results_of_nodes b)
         → OneOutput BreaksOffByNone BreaksOffByNone (outcome_of first) (outcome_of second)
         (Some written) after later }

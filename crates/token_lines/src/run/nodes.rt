@@ -57,7 +57,7 @@ pub fn write_nodes<S: yaml_token_source_t, W: Write>(
         (bounded_loads (magnitude parser.old.max_entries) events ending) }
     // at the parser's last load each document's text had been written
     ensures in_turn { (asked : List yaml_token_t) (given : List yaml_event_t) → History parser.old asked given
-        → LastLoad S.gives S.known S.may_break W.contents (magnitude parser.old.max_entries) result parser.old
+        → LastLoad S.yaml_token_source_t W.contents (magnitude parser.old.max_entries) result parser.old
         parser.new (W.contents writer.old) (W.contents writer.new) asked given }
     ensures between { between_documents parser.new ≡ true }
     ensures bound { parser.new.max_entries ≡ parser.old.max_entries }
@@ -85,7 +85,7 @@ fn write_next<S: yaml_token_source_t, W: Write>(
     ensures kept { has_failed parser.old ≡ true → IsKept result (kept_fault parser.old)
         × (parser.new ≡ parser.old) × (writer.new ≡ writer.old) }
     ensures turn { has_failed parser.old ≡ false
-        → LoadTurn S.gives S.known S.may_break (magnitude parser.old.max_entries) result parser.old parser.new
+        → LoadTurn S.yaml_token_source_t (magnitude parser.old.max_entries) result parser.old parser.new
         (W.contents writer.old) (W.contents writer.new) }
 {
     let loaded = yaml_parser_load(parser);

@@ -6,9 +6,8 @@ use Rattle.libyaml_loader.proofs.laws.loop_yields_loads.Goals as goal
 
 pub returns-clause-of_run : goal.returns-clause-of_run
 returns-clause-of_run g c old new documents ending e x run nests loop =
-    let t = g.S.yaml_token_source_t in
-    of_run t.gives t.bound t.known t.may_break (magnitude old.max_entries) old new documents ending e x refl run
+    of_run g.S.yaml_token_source_t (magnitude old.max_entries) old new documents ending e x refl run
     (roots_follow e nests) loop
 
 pub returns-clause-of_list : goal.returns-clause-of_list
-returns-clause-of_list g c = let t = g.S.yaml_token_source_t in of_list t.gives t.bound t.known t.may_break
+returns-clause-of_list g c = of_list g.S.yaml_token_source_t

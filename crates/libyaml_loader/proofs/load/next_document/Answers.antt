@@ -26,7 +26,7 @@ use Rattle.libyaml_loader.proofs.load.next_document.Goals.{After-yaml_parser_par
 
 -- an event came
 record Came (g : given.Over) (c : After-yaml_parser_parse_into g) : Type 0 where
-  took : Took g.S.yaml_token_source_t.gives g.S.yaml_token_source_t.known c.loop-composer.parser
+  took : Took g.S.yaml_token_source_t c.loop-composer.parser
       c.yaml_parser_parse_into.new.parser (c.yaml_parser_parse_into.new.event ∷ [])
   runs : is_over c.loop-composer.parser ≡ false
   fell : events_left g.S.yaml_token_source_t.bound c.yaml_parser_parse_into.new.parser
@@ -38,11 +38,11 @@ came g c u ok an_event =
     let t = g.S.yaml_token_source_t in
     let call = c.yaml_parser_parse_into in
     let is = ap (λ r. answered r call.new.event) ok in
-    let run = running t.gives t.known t.may_break g.met.S.yaml_token_source_t.follows c.loop-composer.parser call.new.parser
-    (answered call.result call.new.event) (t.bound, call.ensures) call.new.event is an_event in
+    let run = running t g.met.S.yaml_token_source_t.follows c.loop-composer.parser call.new.parser
+    (answered call.result call.new.event) call.ensures call.new.event is an_event in
     record {
-      took = took_event t.gives t.known t.may_break g.met.S.yaml_token_source_t.follows c.loop-composer.parser call.new.parser
-          (answered call.result call.new.event) (t.bound, call.ensures) call.new.event is an_event;
+      took = took_event t g.met.S.yaml_token_source_t.follows c.loop-composer.parser call.new.parser
+          (answered call.result call.new.event) call.ensures call.new.event is an_event;
       runs = run;
       fell = rw ok at (call.ensures.falls run);
     }
@@ -52,8 +52,8 @@ loop-composer-init g c =
     let t = g.S.yaml_token_source_t in
     let n = c.args.composer.max_entries in
     let none = c.requires.none_open in (
-      subst (λ (b : Bool). OnTheWay t.gives t.known t.may_break n c.args.parser.now c.args.parser.now
-          (state_by b c.args.composer.ctx)) (sym none) (way_none t.gives t.known t.may_break n c.args.parser.now),
+      subst (λ (b : Bool). OnTheWay t n c.args.parser.now c.args.parser.now
+          (state_by b c.args.composer.ctx)) (sym none) (way_none t n c.args.parser.now),
       c.requires.sound,
       refl,
       le_refl (events_left t.bound c.args.parser.now),
@@ -69,12 +69,11 @@ loop-composer-smaller g c = (came g (goal.at.loop-composer-smaller g c).After-ya
 
 pub loop-composer-preserved : goal.loop-composer-preserved
 loop-composer-preserved g c =
-    let t = g.S.yaml_token_source_t in
     let call = c.yaml_parser_parse_into in
     let k = came g (goal.at.loop-composer-preserved g c).After-yaml_parser_parse_into _
     c.in_ok-yaml_parser_parse_into.was (sym c.is_event.ensures ∙ c.if-not-is_event.false) in
     let i = c.loop-composer.invariant in (
-      way_more t.gives t.known t.may_break c.args.composer.max_entries c.args.parser.now c.loop-composer.parser
+      way_more g.S.yaml_token_source_t c.args.composer.max_entries c.args.parser.now c.loop-composer.parser
           (composer_state c.loop-composer.composer) i.0 call.new.parser (composer_state c.compose.new.self) call.new.event
           k.took
           (subst (λ (n : ℕ). Leads n (composer_state c.loop-composer.composer) (call.new.event ∷ []) []
@@ -92,12 +91,12 @@ returns-in_err-yaml_parser_parse_into-clause-loads g c =
     let call = c.yaml_parser_parse_into in
     let n = c.args.composer.max_entries in
     let e : c.from_residual.result ≡ Err c.in_err-yaml_parser_parse_into.field-0.0 = search rules in
-    subst (λ (r : DocumentOrError). LoadsFrom t.gives t.known t.may_break (next_bounded n) left_over c.args.parser.now r
+    subst (λ (r : DocumentOrError). LoadsFrom t (next_bounded n) left_over c.args.parser.now r
     call.new.parser) (sym e)
-    (way_fails t.gives t.known t.may_break n c.args.parser.now c.loop-composer.parser
+    (way_fails t n c.args.parser.now c.loop-composer.parser
     (composer_state c.loop-composer.composer) c.loop-composer.invariant.0 call.new.parser
-    (parser_fails t.gives t.known t.may_break g.met.S.yaml_token_source_t.follows c.loop-composer.parser call.new.parser
-    (answered call.result call.new.event) (t.bound, call.ensures) c.in_err-yaml_parser_parse_into.field-0.0
+    (parser_fails t g.met.S.yaml_token_source_t.follows c.loop-composer.parser call.new.parser
+    (answered call.result call.new.event) call.ensures c.in_err-yaml_parser_parse_into.field-0.0
     (ap (λ r. answered r call.new.event) c.in_err-yaml_parser_parse_into.was)))
 
 pub returns-in_err-yaml_parser_parse_into-clause-ended : goal.returns-in_err-yaml_parser_parse_into-clause-ended
@@ -112,10 +111,11 @@ returns-then-not-is_event-clause-loads g c =
     let t = g.S.yaml_token_source_t in
     let call = c.yaml_parser_parse_into in
     let empty : is_event call.new.event.content ≡ false = sym c.is_event.ensures ∙ c.if-not-is_event.true in
-    way_finds_end t.gives t.known t.may_break c.args.composer.max_entries c.args.parser.now c.loop-composer.parser
+    way_finds_end t c.args.composer.max_entries c.args.parser.now c.loop-composer.parser
     (composer_state c.loop-composer.composer) c.loop-composer.invariant.0 call.new.parser c.empty_document.result
-    (finds_end t.gives t.known t.may_break g.met.S.yaml_token_source_t.follows c.loop-composer.parser call.new.parser (answered call.result call.new.event)
-    (t.bound, call.ensures) call.new.event (ap (λ r. answered r call.new.event) c.in_ok-yaml_parser_parse_into.was) empty)
+    (finds_end t g.met.S.yaml_token_source_t.follows c.loop-composer.parser call.new.parser
+    (answered call.result call.new.event)
+    call.ensures call.new.event (ap (λ r. answered r call.new.event) c.in_ok-yaml_parser_parse_into.was) empty)
     c.empty_document.ensures
 
 pub returns-then-not-is_event-clause-ended : goal.returns-then-not-is_event-clause-ended
@@ -135,13 +135,13 @@ returns-in-Ok-Some-clause-loads g c =
     let x = c.loop-composer.composer in
     let ends : (x.is_open ≡ true) × (closing_of call.new.event ≡ Some (closing_by c.in-Ok-Some.closing))
     × (c.compose.new.self ≡ x) = rw c.in-Ok-Some.field-0-is at c.in-Ok-Some.ensures.composes in
-    way_ends t.gives t.known t.may_break c.args.composer.max_entries c.args.parser.now c.loop-composer.parser
+    way_ends t c.args.composer.max_entries c.args.parser.now c.loop-composer.parser
     (composer_state x) c.loop-composer.invariant.0 call.new.parser call.new.event (opening_of_document x.ctx.document) (loader_of x.ctx)
     (closing_by c.in-Ok-Some.closing) c.into_document.result k.took (ap (λ (b : Bool). state_by b x.ctx) ends.0) ends.1
     (c.into_document.ensures ∙ ap (λ (y : Composer). ended_by (closing_by c.in-Ok-Some.closing) y.ctx) ends.2)
-    (behind_close t.gives t.known t.may_break g.met.S.yaml_token_source_t.follows c.loop-composer.parser call.new.parser
+    (behind_close t g.met.S.yaml_token_source_t.follows c.loop-composer.parser call.new.parser
     (answered call.result call.new.event)
-    (t.bound, call.ensures) call.new.event
+    call.ensures call.new.event
     (ap (λ r. answered r call.new.event) c.in_ok-yaml_parser_parse_into.was) (closing_by c.in-Ok-Some.closing) ends.1)
 
 pub returns-in-Ok-Some-clause-falls : goal.returns-in-Ok-Some-clause-falls
@@ -159,12 +159,11 @@ returns-in-Ok-Some-clause-ended g c ended =
 
 pub returns-in-Err-clause-loads : goal.returns-in-Err-clause-loads
 returns-in-Err-clause-loads g c =
-    let t = g.S.yaml_token_source_t in
     let call = c.yaml_parser_parse_into in
     let k = came g (goal.at.returns-in-Err-clause-loads g c).After-yaml_parser_parse_into _
     c.in_ok-yaml_parser_parse_into.was (sym c.is_event.ensures ∙ c.if-not-is_event.false) in
     let n = c.args.composer.max_entries in
-    way_refused t.gives t.known t.may_break n c.args.parser.now c.loop-composer.parser
+    way_refused g.S.yaml_token_source_t n c.args.parser.now c.loop-composer.parser
     (composer_state c.loop-composer.composer) c.loop-composer.invariant.0 call.new.parser c.keep_fault.new.parser
     call.new.event (fault_of c.compose.new.self.fault) k.took
     (subst (λ (m : ℕ). RefusesEvent ⊥ m (composer_state c.loop-composer.composer) call.new.event

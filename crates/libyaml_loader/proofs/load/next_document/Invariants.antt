@@ -6,8 +6,8 @@ use Rattle.libyaml_loader.proofs.loads.OnTheWay.{OnTheWay}
 use Rattle.libyaml_loader.proofs.load.next_document.Given as goal
 
 abbrev pub invariant-loop-composer : goal.invariant-loop-composer
-invariant-loop-composer g l = OnTheWay g.S.yaml_token_source_t.gives g.S.yaml_token_source_t.known
-    g.S.yaml_token_source_t.may_break l.initial.composer.max_entries l.initial.parser l.parser (composer_state l.composer)
+invariant-loop-composer g l = OnTheWay g.S.yaml_token_source_t l.initial.composer.max_entries l.initial.parser
+    l.parser (composer_state l.composer)
     × IsSound l.composer × (l.composer.max_entries ≡ l.initial.composer.max_entries)
     × (events_left g.S.yaml_token_source_t.bound l.parser ≤ events_left g.S.yaml_token_source_t.bound l.initial.parser)
     × (is_over l.initial.parser ≡ true → l.parser ≡ l.initial.parser)

@@ -15,12 +15,11 @@ use Rattle.libyaml_events.proofs.lent.Histories as histories
 
 -- the composer's bound is the parser's
 loads : (g : given.Over) (c : After-next_document g)
-    → LoadsFrom g.S.yaml_token_source_t.gives g.S.yaml_token_source_t.known g.S.yaml_token_source_t.may_break
+    → LoadsFrom g.S.yaml_token_source_t
     (next_bounded (magnitude c.args.parser.now.max_entries)) left_over c.args.parser.now c.next_document.result
     c.next_document.new.parser
 loads g c =
-    let t = g.S.yaml_token_source_t in
-    subst (λ (n : ℕ). LoadsFrom t.gives t.known t.may_break (next_bounded n) left_over c.args.parser.now
+    subst (λ (n : ℕ). LoadsFrom g.S.yaml_token_source_t (next_bounded n) left_over c.args.parser.now
     c.next_document.result c.next_document.new.parser) (c.new-composer.ensures.bound ∙ c.bound_of.ensures)
     c.next_document.ensures.loads
 
@@ -40,9 +39,8 @@ returns-then-has_failed-clause-between g c = c.requires.between
 
 pub returns-clause-next_load : goal.returns-clause-next_load
 returns-clause-next_load g c =
-    let t = g.S.yaml_token_source_t in
     let call = c.next_document in
-    next_load t.gives t.known t.may_break (next_bounded (magnitude c.args.parser.now.max_entries)) left_over
+    next_load g.S.yaml_token_source_t (next_bounded (magnitude c.args.parser.now.max_entries)) left_over
     c.args.parser.now call.new.parser call.result
     call.ensures.fails (λ first. loads g (goal.at.returns-clause-next_load g c).After-next_document)
 
@@ -54,10 +52,8 @@ returns-clause-ended g c ended none = c.next_document.ensures.ended ended
 
 pub returns-clause-without_root : goal.returns-clause-without_root
 returns-clause-without_root g c =
-    let t = g.S.yaml_token_source_t in
     let call = c.next_document in
-    rootless t.gives t.known t.may_break
-    (magnitude c.args.parser.now.max_entries) c.args.parser.now call.new.parser
+    rootless g.S.yaml_token_source_t (magnitude c.args.parser.now.max_entries) c.args.parser.now call.new.parser
     call.result (loads g (goal.at.returns-clause-without_root g c).After-next_document)
 
 pub returns-then-has_failed-clause-linear : goal.returns-then-has_failed-clause-linear
@@ -65,9 +61,8 @@ returns-then-has_failed-clause-linear g c none = absurd (true≢false (sym c.if-
 
 pub returns-clause-linear : goal.returns-clause-linear
 returns-clause-linear g c none =
-    let t = g.S.yaml_token_source_t in
     let call = c.next_document in
-    linear (magnitude c.args.parser.now.max_entries) t.gives t.known t.may_break
+    linear (magnitude c.args.parser.now.max_entries) g.S.yaml_token_source_t
     c.args.parser.now call.new.parser call.result (loads g (goal.at.returns-clause-linear g c).After-next_document)
 
 pub returns-then-has_failed-clause-faultless : goal.returns-then-has_failed-clause-faultless
@@ -75,7 +70,6 @@ returns-then-has_failed-clause-faultless g c none = tt
 
 pub returns-clause-faultless : goal.returns-clause-faultless
 returns-clause-faultless g c none =
-    let t = g.S.yaml_token_source_t in
     let call = c.next_document in
-    faultless t.gives t.known t.may_break (next_bounded (magnitude c.args.parser.now.max_entries)) left_over
+    faultless g.S.yaml_token_source_t (next_bounded (magnitude c.args.parser.now.max_entries)) left_over
     c.args.parser.now call.new.parser none c.remembered.ensures call.result (loads g (goal.at.returns-clause-faultless g c).After-next_document)

@@ -12,19 +12,18 @@ use Rattle.libyaml_graphs.proofs.lent.RunLoads.{cut_tree_loads}
 pub loop-document-init : goal.loop-document-init
 loop-document-init g c =
     let parser = c.yaml_parser_initialize-parser in
-    loaded_as _ _ _ _ _ _ c.new-documents.ensures.items
-    (loaded_none _ _ _ _ parser.ensures.value parser.ensures.between parser.ensures.bound)
+    loaded_as _ _ _ _ _ c.new-documents.ensures.items
+    (loaded_none _ _ _ parser.ensures.value parser.ensures.between parser.ensures.bound)
 
 pub yaml_parser_load-requires : goal.yaml_parser_load-requires
 yaml_parser_load-requires g c = record { between = c.loop-document.invariant.between }
 
 pub returns-then-is_empty-clause-gathers : goal.returns-then-is_empty-clause-gathers
 returns-then-is_empty-clause-gathers g c =
-    let t = g.S.yaml_token_source_t in
     let call = c.yaml_parser_load in
     let no_root : c.in-Ok.document.nodes ≡ [] = sym c.nodes.ensures.all
     ∙ bare c.nodes.result.now (sym c.if-is_empty.ensures) in
-    gathers_loads t.gives t.known t.may_break c.args.source c.loop-document.parser call.new.parser call.result
+    gathers_loads g.S.yaml_token_source_t c.args.source c.loop-document.parser call.new.parser call.result
     call.ensures.loads
     c.loop-document.documents.items c.loop-document.invariant _ refl c.in-Ok.document c.in-Ok.is no_root refl
 
@@ -32,8 +31,8 @@ pub returns-then-is_empty-clause-of_list : goal.returns-then-is_empty-clause-of_
 returns-then-is_empty-clause-of_list g c l f a h k =
     let t = g.S.yaml_token_source_t in
     let s = returns-then-is_empty-clause-gathers g c in
-    loads_to t.gives t.may_break c.args.source _ s l f a h
-    (tells t.gives t.known t.may_break g.met.S.yaml_token_source_t.follows _ l f _ _ h.run k _ _ _ s.tokens)
+    loads_to t c.args.source _ s l f a h
+    (tells t g.met.S.yaml_token_source_t.follows _ l f _ _ h.run k _ _ _ s.tokens)
 
 pub returns-then-is_empty-clause-of_tree : goal.returns-then-is_empty-clause-of_tree
 returns-then-is_empty-clause-of_tree g c t f o k =
@@ -60,18 +59,16 @@ loop-document-preserved g c =
     let call = c.yaml_parser_load in
     let has_root : c.in-Ok.document.nodes ≢ [] = λ e. rooted c.nodes.result.now (sym c.if-is_empty.ensures)
     (c.nodes.ensures.all ∙ e) in
-    loaded_as t.gives t.known c.args.source call.new.parser _ _ c.in_ok-push-in-Ok.ensures.items
-    (loaded_next t.gives t.known t.may_break c.args.source c.loop-document.parser call.new.parser call.result
-    call.ensures.loads
+    loaded_as t c.args.source call.new.parser _ _ c.in_ok-push-in-Ok.ensures.items
+    (loaded_next t c.args.source c.loop-document.parser call.new.parser call.result call.ensures.loads
     c.loop-document.documents.items c.loop-document.invariant call.ensures.between call.ensures.bound
     c.in-Ok.document c.in-Ok.is has_root)
 
 pub returns-in-Err-clause-gathers : goal.returns-in-Err-clause-gathers
 returns-in-Err-clause-gathers g c =
-    let t = g.S.yaml_token_source_t in
     let call = c.yaml_parser_load in
     if_ok c.failed_load.result _ _ c.failed_load.ensures.ok
-    (λ all r. gathers_to_fault t.gives t.known t.may_break c.args.source c.loop-document.parser call.new.parser
+    (λ all r. gathers_to_fault g.S.yaml_token_source_t c.args.source c.loop-document.parser call.new.parser
     call.result call.ensures.loads
     c.loop-document.documents.items c.loop-document.invariant all (ap (λ v. v.items) r.0) c.in-Err.field-0
     c.in-Err.is _ c.prefix.ensures.kept r.1 r.2)
@@ -80,8 +77,8 @@ pub returns-in-Err-clause-of_list : goal.returns-in-Err-clause-of_list
 returns-in-Err-clause-of_list g c l f a h k =
     let t = g.S.yaml_token_source_t in
     if_ok c.failed_load.result _ _ (returns-in-Err-clause-gathers g c)
-    (λ all s. loads_to t.gives t.may_break c.args.source all s l f a h
-    (tells t.gives t.known t.may_break g.met.S.yaml_token_source_t.follows _ l f _ _ h.run k _ _ _ s.tokens))
+    (λ all s. loads_to t c.args.source all s l f a h
+    (tells t g.met.S.yaml_token_source_t.follows _ l f _ _ h.run k _ _ _ s.tokens))
 
 pub returns-in-Err-clause-roots : goal.returns-in-Err-clause-roots
 returns-in-Err-clause-roots g c

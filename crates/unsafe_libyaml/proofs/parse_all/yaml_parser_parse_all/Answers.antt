@@ -36,8 +36,7 @@ pub returns-then-is_last-clause-of_list : goal.returns-then-is_last-clause-of_li
 returns-then-is_last-clause-of_list g c l f e x run k =
     let t = g.S.yaml_token_source_t in
     let h = returns-then-is_last-clause-gathers g c in
-    runs_to t.gives t.may_break c.args.source _ h e x
-    (tells t.gives t.known t.may_break g.met.S.yaml_token_source_t.follows _ l f e x run k _ _ _ h.tokens)
+    runs_to t c.args.source _ h e x (tells t g.met.S.yaml_token_source_t.follows _ l f e x run k _ _ _ h.tokens)
 
 pub returns-then-is_last-clause-of_tree : goal.returns-then-is_last-clause-of_tree
 returns-then-is_last-clause-of_tree g c t f o k = returns-then-is_last-clause-of_list g c _ f _ _
@@ -64,8 +63,8 @@ pub returns-in-Err-clause-of_list : goal.returns-in-Err-clause-of_list
 returns-in-Err-clause-of_list g c l f e x run k =
     let t = g.S.yaml_token_source_t in
     if_ok c.failed_run.result _ _ (returns-in-Err-clause-gathers g c)
-    (λ r h. runs_to t.gives t.may_break c.args.source r h e x
-    (tells t.gives t.known t.may_break g.met.S.yaml_token_source_t.follows _ l f e x run k _ _ _ h.tokens))
+    (λ r h. runs_to t c.args.source r h e x
+    (tells t g.met.S.yaml_token_source_t.follows _ l f e x run k _ _ _ h.tokens))
 
 pub returns-in-Err-clause-of_tree : goal.returns-in-Err-clause-of_tree
 returns-in-Err-clause-of_tree g c t f o k = returns-in-Err-clause-of_list g c _ f _ _

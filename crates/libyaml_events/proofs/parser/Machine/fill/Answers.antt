@@ -44,7 +44,6 @@ loop-self-preserved g c =
     wants_more g.S.yaml_token_source_t.gives _ _ _ _ hand _ _ (rw c.in-Wants.is at c.in-Ok-step.ensures.steps)
 
 pub loop-self-smaller : goal.loop-self-smaller
-loop-self-smaller g c = takes_one g.S.yaml_token_source_t.gives g.S.yaml_token_source_t.bound
-    g.met.S.yaml_token_source_t.falls c.loop-self.self
+loop-self-smaller g c = takes_one g.S.yaml_token_source_t g.met.S.yaml_token_source_t.falls c.loop-self.self
     c.next_token.new.self c.step.new.self _ c.in_ok-next_token.ensures.fetches
     (let h = rw c.in-Wants.is at c.in-Ok-step.ensures.steps in (h.1, h.3))

@@ -5,11 +5,8 @@ use Rattle.libyaml_loader.proofs.laws.determined.one_load.Goals as goal
 
 pub returns-clause-running : goal.returns-clause-running
 returns-clause-running g c old p q r s n asked given history a b =
-    let x = g.S.yaml_token_source_t in
-    one_load_proof x.gives x.known x.may_break (next_bounded n) left_over old asked given
-    history r s p q a b
+    one_load_proof g.S.yaml_token_source_t (next_bounded n) left_over old asked given history r s p q a b
 
 pub returns-clause-one_way : goal.returns-clause-one_way
 returns-clause-one_way g c old p q r s n asked given history way a b =
-    let x = g.S.yaml_token_source_t in
-    one_way_load x.gives x.known x.may_break (next_bounded n) left_over old asked given history way r s p q a b
+    one_way_load g.S.yaml_token_source_t (next_bounded n) left_over old asked given history way r s p q a b

@@ -44,7 +44,7 @@ returns-in-Ended-clause-writes g c events ending run =
     ))
     (λ (running : is_over first ≡ false).
     let w = at.invariant.in_turn running run.asked run.given run.history in
-    all_lines t.gives t.known t.may_break g.met.S.yaml_token_source_t.follows first at.parser c.write_next.new.parser before (contents at.writer)
+    all_lines t g.met.S.yaml_token_source_t.follows first at.parser c.write_next.new.parser before (contents at.writer)
     (contents c.write_next.new.writer) after events
     ending run w
     (c.in-Ended.ensures.turn w.running (run.asked ++ w.more) (run.given ++ w.events) w.history) c.flushed.ensures.keeps))
@@ -66,7 +66,8 @@ returns-in-Failed-clause-writes g c events ending run =
     (c.in-Failed.ensures.ended (ap is_over (at.invariant.ended over).0 ∙ over)).0)
     (λ (running : is_over first ≡ false).
     let w = at.invariant.in_turn running run.asked run.given run.history in
-    lines_and_fault t.gives t.known t.may_break g.met.S.yaml_token_source_t.follows first at.parser c.write_next.new.parser before (contents at.writer)
+    lines_and_fault t g.met.S.yaml_token_source_t.follows first at.parser c.write_next.new.parser before
+    (contents at.writer)
     (contents c.write_next.new.writer) after events
     ending run w fault
     (c.in-Failed.ensures.turn w.running (run.asked ++ w.more) (run.given ++ w.events) w.history) told))

@@ -2,7 +2,7 @@ use Rattle.std.proofs.Common.{ℤ, [], ap, ◌∙◌, subst}
 use Rattle.libyaml_graphs.specs.loads.Bounds.{bounded_loads}
 use Rattle.libyaml_loader.specs.document.Ids.{magnitude}
 use Rattle.line_reading.specs.sources.LineSource.{BreaksOff, Gives, known_of}
-use Rattle.token_lines.specs.nodes.LastLoad.{LastLoad, most_entries}
+use Rattle.token_lines.specs.nodes.LastLoad.{LastLoad, line_source, most_entries}
 use Rattle.token_lines.specs.nodes.NodeRun.{WritesLoads}
 use Rattle.token_lines.proofs.lines.KnownLines.{writes_of_lines, writes_of_runs}
 use Rattle.token_lines.proofs.nodes.LargeRuns.{loaded_linear}
@@ -15,7 +15,7 @@ returns g c =
     let remaining = g.R.Read.remaining in
     let known = known_of remaining in
     let contents = g.W.Write.contents in
-    let in_turn = subst (λ (z : ℤ). LastLoad (Gives remaining) known BreaksOff contents (magnitude z) run.result
+    let in_turn = subst (λ (z : ℤ). LastLoad (line_source remaining) contents (magnitude z) run.result
     parser.result run.new.parser
     (contents c.args.writer.now) (contents run.new.writer) [] []) parser.ensures.bound
     (run.ensures.in_turn [] [] parser.ensures.begins) in

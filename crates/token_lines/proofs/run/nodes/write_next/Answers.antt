@@ -10,40 +10,36 @@ use Rattle.token_lines.proofs.run.nodes.write_next.Goals as goal
 
 pub returns-in_default-clause-turn : goal.returns-in_default-clause-turn
 returns-in_default-clause-turn g c running =
-    let t = g.S.yaml_token_source_t in
     let call = c.yaml_parser_load-loaded in
-    turn_of t.gives t.known t.may_break (magnitude c.args.parser.now.max_entries) _ c.args.parser.now
+    turn_of g.S.yaml_token_source_t (magnitude c.args.parser.now.max_entries) _ c.args.parser.now
     call.new.parser _ _ call.result (Err c.in_default.field-0)
     c.in_default.is (call.ensures.loads running) (c.prefix.ensures.kept, Keeps-same _) (failed_no_end _)
 
 pub returns-then-is_empty-clause-turn : goal.returns-then-is_empty-clause-turn
 returns-then-is_empty-clause-turn g c running =
-    let t = g.S.yaml_token_source_t in
     let call = c.yaml_parser_load-loaded in
     let none = has_none c.nodes.result.now c.in-Ok.document.nodes c.is_empty.result c.is_empty.ensures
     c.if-is_empty.true c.nodes.ensures.all in
-    turn_of t.gives t.known t.may_break (magnitude c.args.parser.now.max_entries) Ended c.args.parser.now
+    turn_of g.S.yaml_token_source_t (magnitude c.args.parser.now.max_entries) Ended c.args.parser.now
     call.new.parser _ _ call.result (Ok c.in-Ok.document)
     c.in-Ok.is (call.ensures.loads running) (none, Keeps-same _) (λ is. (rw c.in-Ok.is at call.ensures.without_root) none)
 
 pub returns-clause-turn : goal.returns-clause-turn
 returns-clause-turn g c running =
-    let t = g.S.yaml_token_source_t in
     let call = c.yaml_parser_load-loaded in
     let some = has_some c.nodes.result.now c.in-Ok.document.nodes c.is_empty.result c.is_empty.ensures
     c.if-is_empty.false c.nodes.ensures.all in
-    turn_of t.gives t.known t.may_break (magnitude c.args.parser.now.max_entries) Written c.args.parser.now
+    turn_of g.S.yaml_token_source_t (magnitude c.args.parser.now.max_entries) Written c.args.parser.now
     call.new.parser _ _ call.result
     (Ok c.in-Ok.document) c.in-Ok.is (call.ensures.loads running)
     (some, Appends-kept _ _ _ _ c.in-Ok-write_document.ensures.ok c.show.ensures) written_no_end
 
 pub returns-in-Err-Memory-clause-turn : goal.returns-in-Err-Memory-clause-turn
 returns-in-Err-Memory-clause-turn g c running =
-    let t = g.S.yaml_token_source_t in
     let call = c.yaml_parser_load-loaded in
     let some = has_some c.nodes.result.now c.in-Ok.document.nodes c.is_empty.result c.is_empty.ensures
     c.if-is_empty.false c.nodes.ensures.all in
-    turn_of t.gives t.known t.may_break (magnitude c.args.parser.now.max_entries) _ c.args.parser.now
+    turn_of g.S.yaml_token_source_t (magnitude c.args.parser.now.max_entries) _ c.args.parser.now
     call.new.parser _ _ call.result (Ok c.in-Ok.document)
     c.in-Ok.is (call.ensures.loads running) (
       refl,

@@ -16,12 +16,11 @@ output_is_no_end h = cc
 
 pub loop-writer-init : goal.loop-writer-init
 loop-writer-init g c =
-    let t = g.S.yaml_token_source_t in
     record {
       between = c.requires.between;
       bound = refl;
       kept = λ failed. (refl, refl);
-      in_turn = none_loaded t.gives t.known t.may_break (magnitude c.args.parser.now.max_entries) _ _;
+      in_turn = none_loaded g.S.yaml_token_source_t (magnitude c.args.parser.now.max_entries) _ _;
     }
 
 pub loop-writer-preserved : goal.loop-writer-preserved
@@ -37,9 +36,9 @@ loop-writer-preserved g c =
       bound = c.write_next.ensures.bound ∙ bound;
       kept = λ failed. absurd (c.in-Written.ensures.kept (ap has_failed (c.loop-writer.invariant.kept failed).0
           ∙ failed)).0;
-      in_turn = one_loaded t.gives t.known t.may_break n c.args.parser.now p q (contents c.args.writer.now)
+      in_turn = one_loaded t n c.args.parser.now p q (contents c.args.writer.now)
           (contents c.loop-writer.writer) (contents c.write_next.new.writer) c.loop-writer.invariant.in_turn
-          (turn_at t.gives t.known t.may_break step.Written p q (contents c.loop-writer.writer)
+          (turn_at t step.Written p q (contents c.loop-writer.writer)
           (contents c.write_next.new.writer) _ _ bound c.in-Written.ensures.turn
           (false_from_ne_true (has_failed p) (λ failed. (c.in-Written.ensures.kept failed).0)));
     }
@@ -72,18 +71,16 @@ returns-in-Failed-clause-kept g c failed =
 
 pub returns-in-Ended-clause-in_turn : goal.returns-in-Ended-clause-in_turn
 returns-in-Ended-clause-in_turn g c asked given history =
-    let t = g.S.yaml_token_source_t in
     let at = c.loop-writer in
-    last_load_at t.gives t.known t.may_break g.W.Write.contents c.flushed.result
+    last_load_at g.S.yaml_token_source_t g.W.Write.contents c.flushed.result
     step.Ended c.args.parser.now at.parser c.write_next.new.parser at.writer _ _ _
     asked given at.invariant.bound at.invariant.in_turn c.in-Ended.ensures.turn
     (loads_end c.flushed.result _ _ _ _ c.flushed.ensures.end c.flushed.ensures.keeps) (λ is. refl) history
 
 pub returns-in-Failed-clause-in_turn : goal.returns-in-Failed-clause-in_turn
 returns-in-Failed-clause-in_turn g c asked given history =
-    let t = g.S.yaml_token_source_t in
     let at = c.loop-writer in
-    last_load_at t.gives t.known t.may_break g.W.Write.contents c.faulted.result
+    last_load_at g.S.yaml_token_source_t g.W.Write.contents c.faulted.result
     (step.Failed c.in-Failed.fault) c.args.parser.now at.parser
     c.write_next.new.parser at.writer _ _ _ asked given at.invariant.bound
     at.invariant.in_turn c.in-Failed.ensures.turn
@@ -92,11 +89,10 @@ returns-in-Failed-clause-in_turn g c asked given history =
 
 pub returns-in-OutputFailed-clause-in_turn : goal.returns-in-OutputFailed-clause-in_turn
 returns-in-OutputFailed-clause-in_turn g c asked given history =
-    let t = g.S.yaml_token_source_t in
     let at = c.loop-writer in
     let contents = g.W.Write.contents in
     let q = c.write_next.new.parser in
-    last_load_at t.gives t.known t.may_break contents _ step.OutputFailed
+    last_load_at g.S.yaml_token_source_t contents _ step.OutputFailed
     c.args.parser.now at.parser q at.writer (contents c.args.writer.now)
     (contents c.write_next.new.writer) (contents c.write_next.new.writer) asked given at.invariant.bound
     at.invariant.in_turn
@@ -107,16 +103,14 @@ returns-in-OutputFailed-clause-in_turn g c asked given history =
 
 pub returns-in-Ended-clause-writes : goal.returns-in-Ended-clause-writes
 returns-in-Ended-clause-writes g c events ending run =
-    let t = g.S.yaml_token_source_t in
-    writes_loads_so t.gives t.known t.may_break g.met.S.yaml_token_source_t.follows g.W.Write.contents
+    writes_loads_so g.S.yaml_token_source_t g.met.S.yaml_token_source_t.follows g.W.Write.contents
     (magnitude c.args.parser.now.max_entries) c.args.parser.now c.write_next.new.parser _ _ events ending run
     c.flushed.result
     (returns-in-Ended-clause-in_turn g c run.asked run.given run.history)
 
 pub returns-in-Failed-clause-writes : goal.returns-in-Failed-clause-writes
 returns-in-Failed-clause-writes g c events ending run =
-    let t = g.S.yaml_token_source_t in
-    writes_loads_so t.gives t.known t.may_break g.met.S.yaml_token_source_t.follows g.W.Write.contents
+    writes_loads_so g.S.yaml_token_source_t g.met.S.yaml_token_source_t.follows g.W.Write.contents
     (magnitude c.args.parser.now.max_entries) c.args.parser.now c.write_next.new.parser _ _ events ending run
     c.faulted.result
     (returns-in-Failed-clause-in_turn g c run.asked run.given run.history)

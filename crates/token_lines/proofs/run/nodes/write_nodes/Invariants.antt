@@ -10,7 +10,7 @@ invariant-loop-writer g l = record {
   between : between_documents l.parser ≡ true;
   bound : l.parser.max_entries ≡ l.initial.parser.max_entries;
   kept : has_failed l.initial.parser ≡ true → (l.parser ≡ l.initial.parser) × (l.writer ≡ l.initial.writer);
-  in_turn : WrittenInTurn g.S.yaml_token_source_t.gives g.S.yaml_token_source_t.known
+  in_turn : WrittenInTurn g.S.yaml_token_source_t
       (magnitude l.initial.parser.max_entries) l.initial.parser l.parser (g.W.Write.contents l.initial.writer)
       (g.W.Write.contents l.writer);
 }
