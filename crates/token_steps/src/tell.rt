@@ -163,7 +163,8 @@ impl steps_t {
         ensures tells { (p q : Progressed) (g : yaml_mark_t) (states : List ℕ) (marks : List yaml_mark_t)
             → p ≡ q
             → Says q (span_token kind fact at.now) (outcome answer (head_of head.now start.now end.now g)
-            (span_token kind fact at.now) self.old.tag self.old.read (config_of self.old.machine states marks))
+            (span_token kind fact at.now) self.old.tag self.old.read
+            (config_of self.old.machine states marks))
             → Tells result p (span_token kind fact at.now) self.new event.new fault.new
             (config_of self.new.machine states marks) }
         ensures machine { self.new.machine ≡ self.old.machine }

@@ -4,7 +4,8 @@
 ghost use Rattle.libyaml_graphs.specs.rows.LoadRows.{RowAliasBeforeBound, RowAnchorOfDocumentBefore};
 ghost use Rattle.libyaml_graphs.specs.rows.LoadRows.{RowBoundBeforeAnchor, RowBoundOfEachDocument};
 ghost use Rattle.libyaml_graphs.specs.rows.LoadRows.{RowCollectionsInPairs, RowDirectivesLoaded};
-ghost use Rattle.libyaml_graphs.specs.rows.LoadRows.{RowEmptyDocumentsLoaded, RowEmptyStreamLoaded, RowEmptyTagLoaded};
+ghost use Rattle.libyaml_graphs.specs.rows.LoadRows.{RowEmptyDocumentsLoaded, RowEmptyStreamLoaded};
+ghost use Rattle.libyaml_graphs.specs.rows.LoadRows.{RowEmptyTagLoaded};
 ghost use Rattle.libyaml_graphs.specs.rows.LoadRows.{RowExclamationMarksOfCollections, RowExplicitEnd};
 ghost use Rattle.libyaml_graphs.specs.rows.LoadRows.{RowHoldsItself, RowItemTwice, RowItemsBeyondBound};
 ghost use Rattle.libyaml_graphs.specs.rows.LoadRows.{RowKeyBeyondBound, RowNestedHoldsItself};

@@ -28,8 +28,8 @@ pub fn one_load<S: yaml_token_source_t>()
         (given : List Event) → (h : History old asked given)
         → (a : LoadOutcome S.yaml_token_source_t (next_bounded n) left_over old r p)
         → (b : LoadOutcome S.yaml_token_source_t (next_bounded n) left_over old s q)
-        → OneLoadByAnswers S.gives (next_bounded n) old asked given (load_results_of h a) (load_results_of h b)
-        r p s q }
+        → OneLoadByAnswers S.gives (next_bounded n) old asked given (load_results_of h a)
+        (load_results_of h b) r p s q }
     // so over a source that returns in one way there is one outcome, but for memory
     ensures one_way { (old p q : Parser S) (r s : DocumentOrError) (n : ℕ) (asked : List Token)
         (given : List Event) → History old asked given → AnswersOneWay S.gives old.source
