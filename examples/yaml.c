@@ -318,7 +318,8 @@ static int say_fault(const char *name, struct text *text)
     if (sscanf((const char *)text->bytes + start, "FAULT %15s %*u:%zu:%zu %255[^\n]", finder, &line, &column, problem) != 4)
         return FAULTED;
     if (strcmp(finder, "reader") == 0 && strcmp(problem, "line too long") == 0) {
-        fprintf(stderr, "yaml: %s: line too long, after %zu tokens: a limit of this program, no fault of the YAML\n", name, line);
+        fprintf(stderr, "yaml: %s: line too long, after %zu token%s: a limit of this program, no fault of the YAML\n",
+                name, line, line == 1 ? "" : "s");
         return FAILED;
     }
     fprintf(stderr, "yaml: %s: line %zu, column %zu: %s (%s)\n", name, line + 1, column + 1, problem, finder);

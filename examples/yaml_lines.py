@@ -117,10 +117,11 @@ class Fault:
         return text.encode("utf-8", "backslashreplace")
 
     def __str__(self):
+        after = "after %d token%s" % (self.place.index, "" if self.place.index == 1 else "s")
         if self.is_limit():
-            return "%s, after %d tokens: a limit of this program, no fault of the YAML" % (self.problem, self.place.index)
+            return "%s, %s: a limit of this program, no fault of the YAML" % (self.problem, after)
         if self.is_of_lines():
-            return "%s, after %d tokens (%s)" % (self.problem, self.place.index, self.kind)
+            return "%s, %s (%s)" % (self.problem, after, self.kind)
         return "%s: %s (%s)" % (self.place, self.problem, self.kind)
 
 

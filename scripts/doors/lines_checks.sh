@@ -72,7 +72,7 @@ check_failures() {
     head -c 1100000 /dev/zero | tr '\0' a > "$work/wide.yaml"
     for mode in events nodes; do
         expect_message 3 "$yaml" $mode "$work/wide.yaml"
-        grep -q ': line too long, after 1 tokens: a limit of this program' "$work/err" || complain "a long line: $(cat "$work/err")"
+        grep -q ': line too long, after 1 token: a limit of this program' "$work/err" || complain "a long line: $(cat "$work/err")"
         [ "$(tail -n 1 "$work/out")" = 'FAULT reader 1:1:0 line too long' ] || complain "a long line: $(tail -n 1 "$work/out")"
     done
     expect 2 "$yaml" events

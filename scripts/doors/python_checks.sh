@@ -155,7 +155,7 @@ expect 3 'yaml_lines.py: ./failing failed, with status 9' "python3 $front events
 for mode in events nodes; do
     expect 3 "yaml_lines.py: ./silent ended without writing its $mode" "python3 $front $mode --program ./silent ok.yaml"
     expect 3 'yaml_lines.py: ok.yaml: too many tokens, after 5 tokens: a limit *' "python3 $front $mode --program ./limited ok.yaml"
-    expect 3 'yaml_lines.py: wide.yaml: line too long, after 1 tokens: a limit *' "python3 $front $mode --program $program wide.yaml"
+    expect 3 'yaml_lines.py: wide.yaml: line too long, after 1 token: a limit *' "python3 $front $mode --program $program wide.yaml"
     [ "$(tail -n 1 out)" = 'FAULT reader 1:1:0 line too long' ] || complain "$(tail -n 1 out)"
 done
 expect 0 '' "python3 $front nodes --program ./silent empty.yaml"
