@@ -5,7 +5,7 @@
 #
 # The programs are those that `rt ci` or `rt run` left in crates/NAME/out; the libraries for C are built here, in minutes where
 # nothing has been proved yet. With `all` the longest checks have all their cases, and each check of clients.sh is run too,
-# which says what it needs; without it everything takes some ten minutes on four cores. With `ci`, right after `rt ci` in a
+# which says what it needs; docs/GATE.md says how long everything takes without it. With `ci`, right after `rt ci` in a
 # fresh checkout, the libraries are made of what it left (build_c.sh).
 #
 # Every check is run. It is passed, failed, or skipped: where a tool, a library or a program isn't there, which is named; it
