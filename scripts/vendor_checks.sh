@@ -67,7 +67,7 @@ expect 0 "$below" 0 "$project"
 is_whole
 expect 0 1 0 "$project" yaml_path
 is_whole
-grep -l '](\.\./' "$project"/crates/*/README.md > "$work/said" && complain "a copied page links to what isn't copied"
+grep -l '](\.\./' crates/*/README.md > "$work/said" && complain "a page that may be copied links to what isn't copied"
 expect 0 0 0 "$project"
 
 # The first line of vendored.txt names the version, and the commit.
