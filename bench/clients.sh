@@ -11,7 +11,7 @@
 # Needs a C compiler, cargo, Debian's libyaml-dev, ruby and python3-yaml, and the crate unsafe-libyaml 0.2.11 in the folder
 # that CLIENT_CRATES names, /usr/share/cargo/registry where it isn't set. PYTHON and RUBY are Debian's.
 set -eu
-[ $# -ge 1 ] || { echo "usage: sh bench/clients.sh DIR [TURNS]" >&2; exit 2; }
+case ${1-} in '' | -*) echo "usage: sh bench/clients.sh DIR [TURNS]" >&2; exit 2 ;; esac
 dir=$(realpath "$1")
 turns=${2:-21}
 cd "$(dirname "$0")/.."

@@ -42,6 +42,7 @@ check python3 scripts/lent.py
 check python3 scripts/passed_on.py
 check python3 scripts/doubles.py
 check python3 scripts/doors/abi.py
+check sh scripts/wrong_words.sh
 check layout
 echo "$passed passed, $failed failed"
 [ "$failed" -eq 0 ]

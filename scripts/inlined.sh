@@ -8,7 +8,7 @@
 #
 #     sh scripts/inlined.sh crates/yamltokens/out/yamltokens crates/bench_lists/out/bench_lists
 set -eu
-[ $# -gt 0 ] || { echo "usage: inlined.sh PROGRAM.." >&2; exit 2; }
+case ${1-} in '' | -*) echo "usage: inlined.sh PROGRAM.." >&2; exit 2 ;; esac
 top=$(CDPATH='' cd -- "$(dirname -- "$0")/.." && pwd)
 work=$(mktemp -d)
 trap 'rm -rf "$work"' EXIT

@@ -4,7 +4,7 @@
 #
 #     scripts/statuses.sh crates/yamltokens/out/yamltokens
 set -u
-[ $# -eq 1 ] || { echo "usage: statuses.sh PROGRAM" >&2; exit 2; }
+[ $# -eq 1 ] && case $1 in '' | -*) false ;; esac || { echo "usage: statuses.sh PROGRAM" >&2; exit 2; }
 program=$(realpath "$1") && [ -x "$program" ] || { echo "no program" >&2; exit 2; }
 work=$(mktemp -d) || exit 2
 trap 'rm -rf "$work"' EXIT

@@ -7,8 +7,10 @@
 # the lists do not reach the rule. Then programs that are wrong in one thing, over 40 lists, a generator that draws nothing,
 # and what lacks. PROGRAM and JOBS are as for run.sh. The status is 0 where each has the status that it should have.
 set -u
+{ [ $# -le 2 ] && [ "${1:-1}" -gt 0 ] && [ "${2:-1}" -ge 0 ]; } 2> /dev/null ||
+    { echo "usage: sh scripts/differential/turned.sh [COUNT [SEED]], where COUNT is at least 1" >&2; exit 2; }
 here=$(cd "$(dirname "$0")" && pwd) || exit 2
-PROGRAM=$(realpath "${PROGRAM:-$here/../../crates/yamltokens/out/yamltokens}")
+PROGRAM=$(realpath -e "${PROGRAM:-$here/../../crates/yamltokens/out/yamltokens}") || exit 2
 export PROGRAM PYTHONDONTWRITEBYTECODE=1
 count=${1:-1000}
 seed=${2:-1}

@@ -1,0 +1,51 @@
+#!/bin/sh
+# Gives each script that takes words wrong ones, and those that need a word none: it has to say its usage in one line on standard
+# error, and nothing else, to end with status 2 at once, and to leave the folder that it is run in empty.
+#
+#     sh scripts/wrong_words.sh
+#
+# vendor_checks.sh has more wrong words of vendor.sh. The exit status is 1 where a script does something else.
+set -u
+top=$(cd "$(dirname "$0")/.." && pwd) || exit 2
+work=$(mktemp -d) || exit 2
+trap 'rm -rf "$work"' EXIT
+mkdir "$work/empty" && cd "$work/empty" || exit 2
+runs=0
+wrong=0
+
+# refuses SCRIPT WORD..: with these words
+refuses() {
+    script=$1
+    shift
+    timeout 20 sh "$top/$script" "$@" > "$work/out" 2> "$work/err" < /dev/null
+    got=$?
+    runs=$((runs + 1))
+    if [ $got -ne 2 ] || [ -s "$work/out" ] || [ "$(wc -l < "$work/err")" -ne 1 ] || ! grep -q 'usage: ' "$work/err"; then
+        echo "wrong: $script $*: status $got: $(cat "$work/out" "$work/err" | head -n 3)"
+        wrong=$((wrong + 1))
+    fi
+    if [ -n "$(ls -A)" ]; then
+        echo "wrong: $script $* leaves $(ls -A)"
+        wrong=$((wrong + 1))
+        rm -rf "$work/empty" && mkdir "$work/empty" && cd "$work/empty" || exit 2
+    fi
+}
+
+for script in bench/clients.sh scripts/build_c.sh scripts/doors/any_processor.sh scripts/doors/clients.sh scripts/inlined.sh \
+    scripts/llvm_source.sh scripts/release.sh scripts/release_checks.sh scripts/release_trees.sh scripts/row.sh \
+    scripts/statuses.sh scripts/vendor.sh; do
+    refuses $script
+    refuses $script --help
+done
+for script in bench/run.sh scripts/check_programs.sh scripts/differential/run.sh scripts/differential/turned.sh; do
+    refuses $script --help
+    refuses $script no_such_word
+done
+refuses scripts/build_c.sh ''
+refuses scripts/build_c.sh "$work/built" no_such_word
+refuses scripts/llvm_source.sh ''
+refuses scripts/llvm_source.sh one two
+refuses scripts/row.sh no_such_rows
+refuses bench/run.sh clock no_such_word
+echo "$runs runs, $wrong wrong"
+[ "$wrong" = 0 ]
