@@ -14,6 +14,9 @@ printf '%s\n' 'STREAM-START 0:0:0 0:0:0 utf8' 'SCALAR 0:0:0 1:0:1 =a plain' 'STR
 head -n 2 whole > cut
 printf '%s\n' 'STREAM-START 0:0:0 0:0:0 utf8' 'STREAM-END 0:0:0' > bad
 printf '%s\n' 'STREAM-START 0:0:0 0:0:0 utf8' 'ALIAS 0:0:0 2:0:2 =a' 'STREAM-END 2:0:2 2:0:2' > unknown
+printf 'a: b\n' > yaml
+{ printf '\357\273\277' && cat whole; } > bom
+sed 's/$/\r/' whole > crlf
 
 wrong=0
 # is WANTED INPUT OUTPUT WORD..: runs the program with these words
@@ -30,6 +33,10 @@ says() {
 }
 
 is 0 whole output events; says 5 0
+for input in yaml bom crlf; do
+    is 1 $input output events; says 1 0
+    [ "$(cat output)" = 'FAULT scanner 0:0:0 bad token line' ] || { echo "$input: $(head -n 1 output)"; wrong=1; }
+done
 is 0 whole output nodes; says 2 0
 is 1 cut output events; says 4 0
 is 1 cut output nodes; says 1 0

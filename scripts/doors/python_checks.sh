@@ -122,6 +122,10 @@ for name in surrogate beyond version; do
     expect 1 "yaml_lines.py: $name.yaml: line *(scanner)" "PYTHONPATH=pure python3 $front tokens $name.yaml"
 done
 
+# ---- Beside PyYAML and pokhvizi: no file of the folder hides a module of theirs ----
+
+expect 0 '' "PYTHONPATH=$examples:$examples/../bindings/python/src python3 -B -c 'import yaml; from pokhvizi import SafeLoader; yaml.SafeLoader'"
+
 # ---- Wrong words: status 2 ----
 
 usage='yaml_lines.py: usage: yaml_lines.py tokens|events|nodes FILE *'
