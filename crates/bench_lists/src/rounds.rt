@@ -18,7 +18,7 @@ pub enum Work {
     PlaceEvents,
     /// Nodes, each copy made in the parser's slot.
     PlaceNodes,
-    /// Events, each copy made in the parser's slot, its texts in the memory of earlier ones.
+    /// Events, each copy made in the parser's variable, its texts in the memory of earlier ones.
     ReuseEvents,
     /// Nodes, each copy made so.
     ReuseNodes,

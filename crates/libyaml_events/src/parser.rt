@@ -40,7 +40,7 @@ pub struct yaml_parser_t<S> {
     /// What a call has read of a node or of directives. It is a field so that no call has to make it.
     /// Between calls its value has no meaning.
     pub(crate) pending: Pending,
-    /// The slot into which the source puts each token. Between calls its value has no meaning.
+    /// The variable into which the source puts each token. Between calls its value has no meaning.
     pub(crate) token: yaml_token_t,
 }
 

@@ -76,7 +76,7 @@ impl yaml_push_parser_t {
         self.push_from(&mut token, events)
     }
 
-    /// Takes a token as `push` does, from a slot, so that a loop needs one token, which isn't moved.
+    /// Takes a token as `push` does, from a variable, so that a loop needs one token, which isn't moved.
     /// Afterwards the value of `token` is unspecified.
     ///
     /// # Errors
@@ -113,7 +113,7 @@ impl yaml_push_parser_t {
 }
 
 impl<S> Machine<S> {
-    /// Takes the token in its slot, and then the lookahead, until a further one is wanted.
+    /// Takes the token in its variable, and then the lookahead, until a further one is wanted.
     fn feed(
         &mut self,
         token: &mut yaml_token_t,

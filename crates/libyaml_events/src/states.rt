@@ -5,7 +5,7 @@
 //! says which function takes a token; where it is `AtState`, the parser's state does. Each module below
 //! begins with its productions; the number under a token is that of the function that takes it.
 //!
-//! The token is in a slot of the parser's. A function moves out of the slot what it keeps of the token; the
+//! The token is in a variable of the parser's. A function moves out of it what it keeps of the token; the
 //! rest is dropped when the next token is put there.
 ghost use Rattle.std.specs.Prelude.{if◌then◌else◌, ◌≡◌, Ok, Err, OnOk, OnErr, true, is_some};
 ghost use Rattle.libyaml_types.specs.Fault.{memory_fault};

@@ -72,7 +72,7 @@ fn hand_out(spare: &mut String, text: &mut String) {
     }
 }
 
-/// Puts a scalar without properties into `content`. Its text is moved out of its token, into whose slot the
+/// Puts a scalar without properties into `content`. Its text is moved out of its token, into whose place the
 /// text of an earlier event goes.
 #[inline(always)]
 pub(super) fn put_bare_scalar(
@@ -119,7 +119,7 @@ fn replace_by_scalar(
 }
 
 /// Puts a scalar after properties into `content`. Its anchor is moved out of what was read, and its text out
-/// of its token, into whose slot the text of an earlier event goes.
+/// of its token, into whose place the text of an earlier event goes.
 #[inline(always)]
 pub(super) fn put_scalar(
     spare: &mut String,
@@ -179,7 +179,7 @@ fn move_text(spare: &mut String, text: &mut Option<String>, place: &mut Option<S
 }
 
 /// Puts a scalar after an anchor alone into `content`. Its anchor is moved out of what was read, and its text
-/// out of its token, into whose slot the text of an earlier event goes.
+/// out of its token, into whose place the text of an earlier event goes.
 #[inline(always)]
 pub(super) fn put_anchored_scalar(
     spare: &mut String,
@@ -450,7 +450,7 @@ fn any_by_mapping_end(content: &mut unnamed_yaml_event_t_data)
     *content = unnamed_yaml_event_t_data::MappingEnd;
 }
 
-/// Puts an alias into `content`. Its name is moved out of its token, into whose slot the text of an earlier
+/// Puts an alias into `content`. Its name is moved out of its token, into whose place the text of an earlier
 /// event goes.
 #[inline(always)]
 pub(super) fn put_alias(

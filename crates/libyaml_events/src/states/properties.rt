@@ -9,7 +9,7 @@ use std::alloc::Global;
 use std::mem;
 
 /// Puts the anchor of a token, moved out of it, into `read`. The text that is kept goes into the token's
-/// slot.
+/// place.
 #[inline(always)]
 pub(super) fn put_anchor(
     spare: &mut String,
