@@ -1,4 +1,4 @@
-use Rattle.std.proofs.Common.{◌∙◌, sym, ap, refl, subst, rules}
+use Rattle.std.proofs.Common.{◌≡◌, ◌∙◌, sym, ap, refl, subst, rules, false}
 use Rattle.libyaml_automaton.specs.Automaton.{Progressed, step}
 use Rattle.libyaml_types.specs.Events.{zero_mark}
 use Rattle.libyaml_automaton.specs.Config.{config_of}
@@ -15,13 +15,15 @@ use Rattle.token_steps.proofs.Told.{full_in_step, same_step}
 use Rattle.token_steps.proofs.steps.steps_t.step.Goals as goal
 
 pub returns-else-is_first-clause-full_states : goal.returns-else-is_first-clause-full_states
-returns-else-is_first-clause-full_states c = λ w. (
-  λ e. full_in_step _ _ _ _ _ _ _ (sym c.settle.ensures.next)
-      (ap (λ n. is_first (stack_part_of (next_of n))) (sym (c.in-Full.ensures.undone tt).1.1.1.0)
-      ∙ (sym c.is_first.ensures ∙ c.if-is_first.false))
-      (c.in-Full.ensures.full.0 refl),
-  λ h. refl,
-)
+returns-else-is_first-clause-full_states c =
+    let enters_none : is_first (stack_part_of (next_of c.step.new.read.next)) ≡ false = search rules in
+    λ w. (
+      λ e. full_in_step _ _ _ _ _ _ _ (sym c.settle.ensures.next)
+          (ap (λ n. is_first (stack_part_of (next_of n))) (sym (c.in-Full.ensures.undone tt).1.1.1.0)
+          ∙ enters_none)
+          (c.in-Full.ensures.full.0 refl),
+      λ h. refl,
+    )
 
 pub returns-else-is_first-clause-undone : goal.returns-else-is_first-clause-undone
 returns-else-is_first-clause-undone c = λ u.
