@@ -5,6 +5,13 @@
  * so any number of threads may each parse a stream. Numbers and marks are libyaml's (yaml_token_type_t, yaml_event_type_t,
  * yaml_mark_t), so that they may be cast. examples/events.c is a whole program, with a loop of 40 lines.
  *
+ * Tokens:  1 STREAM-START, 2 STREAM-END, 3 VERSION-DIRECTIVE, 4 TAG-DIRECTIVE, 5 DOCUMENT-START, 6 DOCUMENT-END,
+ *          7 BLOCK-SEQUENCE-START, 8 BLOCK-MAPPING-START, 9 BLOCK-END, 10 FLOW-SEQUENCE-START, 11 FLOW-SEQUENCE-END,
+ *          12 FLOW-MAPPING-START, 13 FLOW-MAPPING-END, 14 BLOCK-ENTRY, 15 FLOW-ENTRY, 16 KEY, 17 VALUE, 18 ALIAS,
+ *          19 ANCHOR, 20 TAG, 21 SCALAR
+ * Events:  1 STREAM-START, 2 STREAM-END, 3 DOCUMENT-START, 4 DOCUMENT-END, 5 ALIAS, 6 SCALAR, 7 SEQUENCE-START,
+ *          8 SEQUENCE-END, 9 MAPPING-START, 10 MAPPING-END
+ *
  *     pokhvizi_steps_new(&steps);                       and the first token
  *     did = pokhvizi_step(&steps, states, states_room, marks, marks_room, kind, fact, &span, &event, &fault);
  *
