@@ -62,7 +62,17 @@ expect 1 0 0 .
 expect 1 0 0 crates
 [ ! -e crates/vendored.txt ] || complain "the repository's own crates are a project"
 refuse no_such_crate "$project" no_such_crate
-below=$(grep '^unsafe_libyaml:' crates.txt | wc -w)
+# It and all crates that stand below it.
+below=$(sed 's/#.*//; s/ staticlib//; s/:/ /' crates.txt | awk '
+    { name = $1; $1 = ""; uses[name] = $0 }
+    END {
+        todo[n = 1] = "unsafe_libyaml"
+        for (i = 1; i <= n; i++) {
+            m = split(uses[todo[i]], more)
+            for (j = 1; j <= m; j++) if ((more[j] in uses) && !seen[more[j]]++) todo[++n] = more[j]
+        }
+        print n
+    }')
 expect 0 "$below" 0 "$project"
 is_whole
 expect 0 1 0 "$project" yaml_path
