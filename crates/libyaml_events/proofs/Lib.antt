@@ -4,3 +4,4 @@ pub mod code
 pub mod lent
 pub mod pushes
 pub mod tie
+pub mod layer

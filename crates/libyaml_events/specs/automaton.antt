@@ -5,3 +5,5 @@ pub mod Answered
 pub mod Grown
 pub mod Histories
 pub mod Entering
+pub mod View
+pub mod Led

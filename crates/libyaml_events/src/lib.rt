@@ -1,20 +1,19 @@
 //! From a source of tokens to events.
 #![tactic(auto)]
 
+mod automaton;
 mod entries;
 mod event_kinds;
 mod iterate;
 pub mod laws;
 mod lookahead;
-mod next;
-mod node_head;
-mod node_place;
 mod parse;
 mod parser;
 mod pending;
+mod properties;
 mod push;
-mod slot;
 mod states;
+mod step;
 mod texts;
 
 pub use event_kinds::{is_event, is_stream_end, no_event};

@@ -12,6 +12,8 @@ pub(crate) enum Lookahead {
     FlowSequence,
     FlowMapping,
     Nothing,
+    /// The token that opens the collection that was entered. Its start is the collection's mark.
+    Entered,
     Token,
     StreamEnd,
     DocumentStart,
@@ -26,7 +28,7 @@ pub(crate) enum Lookahead {
 }
 
 /// Returns the lookahead of a token that has no fields.
-#[inline(always)]
+#[inline]
 pub(crate) fn lookahead_of(content: &unnamed_yaml_token_t_data) -> Option<Lookahead>
     ensures { IfSome result (λ k. lookahead_content k ≡ Some content.now) }
 {
@@ -50,13 +52,13 @@ pub(crate) fn lookahead_of(content: &unnamed_yaml_token_t_data) -> Option<Lookah
 }
 
 /// Returns the content of a token without fields.
-#[inline(always)]
+#[inline]
 fn content_of(lookahead: Lookahead) -> unnamed_yaml_token_t_data
     requires { is_some (lookahead_content lookahead) ≡ true }
     ensures { lookahead_content lookahead ≡ Some result }
 {
     match lookahead {
-        Lookahead::Nothing | Lookahead::Token => unreachable!(),
+        Lookahead::Nothing | Lookahead::Entered | Lookahead::Token => unreachable!(),
         Lookahead::StreamEnd => unnamed_yaml_token_t_data::StreamEnd,
         Lookahead::DocumentStart => unnamed_yaml_token_t_data::DocumentStart,
         Lookahead::DocumentEnd => unnamed_yaml_token_t_data::DocumentEnd,
@@ -75,7 +77,7 @@ fn content_of(lookahead: Lookahead) -> unnamed_yaml_token_t_data
 }
 
 /// Returns whether the content is that of this lookahead.
-#[inline(always)]
+#[inline]
 fn is_lookahead(lookahead: Lookahead, content: &unnamed_yaml_token_t_data) -> bool
     ensures { result ≡ true → lookahead_content lookahead ≡ Some content.now }
 {
@@ -86,7 +88,7 @@ fn is_lookahead(lookahead: Lookahead, content: &unnamed_yaml_token_t_data) -> bo
 }
 
 /// Puts the content of a token without fields; often it is there still.
-#[inline(always)]
+#[inline]
 pub(crate) fn put_lookahead(lookahead: Lookahead, content: &mut unnamed_yaml_token_t_data)
     requires { is_some (lookahead_content lookahead) ≡ true }
     ensures { lookahead_content lookahead ≡ Some content.new }

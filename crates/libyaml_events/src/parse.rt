@@ -1,79 +1,92 @@
 //! One call of the parser.
-ghost use Rattle.std.specs.Prelude.{◌≡◌, Ok, Err, true, false, IfErr, MatchResult};
+ghost use Rattle.std.specs.Prelude.{◌≡◌, ℤ, Ok, Err, true, false, IfErr, MatchResult};
 ghost use Rattle.libyaml_types.specs.Events.{empty_event};
-ghost use Rattle.libyaml_events.specs.machine.Config.{ended_or_failed};
+ghost use Rattle.libyaml_events.specs.machine.Config.{ended_or_failed, is_fault, parser};
 ghost use Rattle.libyaml_events.specs.parsers.Left.{Left};
 ghost use Rattle.libyaml_events.specs.sources.Calls.{Call, answered};
+ghost use Rattle.libyaml_events.specs.automaton.View.{Ready};
+ghost use Rattle.libyaml_events.specs.machine.Answers.{answer, wanted};
 ghost use Rattle.libyaml_events.specs.sources.History.{Remembers, has_failed};
 ghost use Rattle.libyaml_events.specs.sources.ParsesNext.{ParsesNext};
+ghost use Rattle.libyaml_events.specs.machine.Machine.{step};
+ghost use Rattle.libyaml_events.specs.machine.Steps.{Steps};
+ghost use Rattle.libyaml_events.specs.machine.Growth.{may_grow};
 
 use crate::event_kinds::no_event;
-use crate::next::{Next, Step};
 use crate::parser::{Machine, yaml_parser_t};
 use crate::pending::Pending;
+use crate::step::Step;
 use libyaml_types::{yaml_error_type_t, yaml_event_t, yaml_token_source_t, yaml_token_t};
 
-impl<S: yaml_token_source_t> Machine<S> {
-    /// Takes tokens until the event is given.
-    #[tactic(auto, using(crate::proofs::calls::CallLemmas::begun_alive))]
-    fn fill(
+impl Machine {
+    /// Takes a token of this source: does a step.
+    ///
+    /// It is no part of the loop in `fill`, out of which the compiler would move what each step needs. It names
+    /// the source, so that `fill` is its one caller, and it is inlined there.
+    fn take_token<S: yaml_token_source_t>(
         &mut self,
+        _: &S,
+        token: &mut yaml_token_t,
+        pending: &mut Pending,
+        event: &mut yaml_event_t,
+    ) -> Step
+        requires ready { Ready pending.old self.old }
+        ensures steps { Steps (step (wanted pending.old) self.old token.old) self.old
+            (answer result pending.new event.new self.new) self.new }
+        ensures ready { result ≡ Step.Wants → Ready pending.new self.new }
+        ensures grows { result ≡ Step.Failed → self.new.fault.error ≡ yaml_error_type_t.YAML_MEMORY_ERROR
+            → may_grow (wanted pending.old) self.old token.old.content ≡ true }
+    {
+        self.step(token, pending, event)
+    }
+
+    /// Takes tokens until the event is given.
+    fn fill<S: yaml_token_source_t>(
+        &mut self,
+        source: &mut S,
         token: &mut yaml_token_t,
         pending: &mut Pending,
         event: &mut yaml_event_t,
     ) -> Result<(), yaml_error_type_t>
-        requires { ended_or_failed self.old.config ≡ false }
-        ensures kept { IfErr result (λ e. (e ≡ self.new.config.fault.error)
-            × (ended_or_failed self.new.config ≡ true)) }
-        ensures failed { IfErr result (λ _. has_failed self.new ≡ true) }
-        ensures bound { self.new.max_entries ≡ self.old.max_entries }
-        ensures call { MatchResult result (λ _. Call S.gives self.old (Ok event.new) self.new)
-            (λ e. Call S.gives self.old (Err e) self.new) }
-        ensures left { IfErr result (λ e. Left self.old.config e self.new.config) }
+        requires { ended_or_failed self.old ≡ false }
+        ensures kept { IfErr result (λ e. (e ≡ self.new.fault.error) × (ended_or_failed self.new ≡ true)) }
+        ensures failed { IfErr result (λ _. is_fault self.new.fault.error ≡ true) }
+        ensures call { (max : ℤ) → Call S.gives (parser max source.old self.old) (answered result event.new)
+            (parser max source.new self.new) }
+        ensures left { IfErr result (λ e. Left self.old e self.new) }
     {
-        pending.next = Next::AtState;
-        match self.enter(pending) {
-            Ok(_) => {}
-            Err(error) => {
-                self.let_go();
-                return Err(error);
-            }
-        }
+        let _ = self.enter(pending);
         loop {
-            self.next_token(token)?;
-            match self.step(token, pending, event) {
-                Ok(step) => match step {
-                    Step::Given => return Ok(()),
-                    Step::Wants => {}
-                },
-                Err(error) => {
-                    self.let_go();
-                    return Err(error);
-                }
+            self.next_token(source, token)?;
+            match self.take_token(source, token, pending, event) {
+                Step::Given => return Ok(()),
+                Step::Wants => {}
+                Step::Failed => return Err(self.fail()),
             }
         }
     }
 
     /// Puts the next event into `event`; where the run is over, the empty event.
-    fn put_event(
+    fn put_event<S: yaml_token_source_t>(
         &mut self,
+        source: &mut S,
         token: &mut yaml_token_t,
         pending: &mut Pending,
         event: &mut yaml_event_t,
     ) -> Result<(), yaml_error_type_t>
-        ensures kept { IfErr (answered result event.new) (λ e. (e ≡ self.new.config.fault.error)
-            × (ended_or_failed self.new.config ≡ true)) }
-        ensures failed { IfErr (answered result event.new) (λ _. has_failed self.new ≡ true) }
-        ensures bound { self.new.max_entries ≡ self.old.max_entries }
-        ensures over { ended_or_failed self.old.config ≡ true → self.new ≡ self.old }
-        ensures call { Call S.gives self.old (answered result event.new) self.new }
-        ensures left { IfErr (answered result event.new) (λ e. Left self.old.config e self.new.config) }
+        ensures kept { IfErr (answered result event.new) (λ e. (e ≡ self.new.fault.error)
+            × (ended_or_failed self.new ≡ true)) }
+        ensures failed { IfErr (answered result event.new) (λ _. is_fault self.new.fault.error ≡ true) }
+        ensures over { ended_or_failed self.old ≡ true → (self.new ≡ self.old) × (source.new ≡ source.old) }
+        ensures call { (max : ℤ) → Call S.gives (parser max source.old self.old) (answered result event.new)
+            (parser max source.new self.new) }
+        ensures left { IfErr (answered result event.new) (λ e. Left self.old e self.new) }
     {
         if self.is_over() {
             clear(event);
             return Ok(());
         }
-        self.fill(token, pending, event)
+        self.fill(source, token, pending, event)
     }
 }
 
@@ -88,8 +101,7 @@ impl<S: yaml_token_source_t> yaml_parser_t<S> {
         ensures left { IfErr (answered result event.new) (λ e. Left self.old.config e self.new.config) }
         ensures remembers { Remembers self.old }
     {
-        self.machine
-            .put_event(&mut self.token, &mut self.pending, event)
+        self.machine.put_event(&mut self.source, &mut self.token, &mut self.pending, event)
     }
 
     /// The next event, as the machine gives it.

@@ -1,7 +1,7 @@
 //! The parser.
-ghost use Rattle.std.specs.Prelude.{◌≡◌, ◌⊎◌, [], pos, ◌≤ℤ◌, true, false, List, Option, Some};
+ghost use Rattle.std.specs.Prelude.{◌≡◌, ◌⊎◌, ◌||◌, [], pos, ◌≤ℤ◌, true, false, List, Option, Some};
 ghost use Rattle.libyaml_types.specs.Fault.{Fault, fault_of, no_fault};
-ghost use Rattle.libyaml_events.specs.machine.Config.{with_config, with_fault, marked_ended, ended_or_failed};
+ghost use Rattle.libyaml_events.specs.machine.Config.{with_fault, ended_or_failed, is_between, is_fault, start};
 ghost use Rattle.libyaml_types.specs.Source.{Coming, coming};
 ghost use Rattle.libyaml_grammar.specs.runs.Runs.{Ending, IsRun};
 ghost use Rattle.libyaml_events.specs.parsers.Stages.{is_outside, stage_of};
@@ -16,16 +16,16 @@ ghost use Rattle.libyaml_types.specs.declared.event.yaml_event_t.{yaml_event_t};
 mod entering;
 mod faults;
 mod handles;
-mod stacks;
 mod tokens;
 
+use crate::automaton::Automaton;
 use crate::entries::MaxEntries;
 use crate::lookahead::Lookahead;
 use crate::parser::tokens::no_token;
 use crate::pending::Pending;
 use libyaml_types::{
-    NO_FAULT, yaml_error_type_t, yaml_mark_t, yaml_parser_state_t, yaml_parser_t_prefix,
-    yaml_token_source_t, yaml_token_t,
+    NO_FAULT, yaml_error_type_t, yaml_parser_state_t, yaml_parser_t_prefix, yaml_token_source_t,
+    yaml_token_t,
 };
 use std::alloc::Global;
 use std::collections::BTreeMap;
@@ -36,7 +36,9 @@ use std::marker::Model;
 /// libyaml: `yaml_parser_t`.
 #[derive(Drop)]
 pub struct yaml_parser_t<S> {
-    pub(crate) machine: Machine<S>,
+    pub(crate) machine: Machine,
+    pub(crate) source: S,
+    max_entries: MaxEntries,
     /// What a call has read of a node or of directives. It is a field so that no call has to make it.
     /// Between calls its value has no meaning.
     pub(crate) pending: Pending,
@@ -53,57 +55,48 @@ impl<S> Model for yaml_parser_t<S> {
 
     ghost coded = { Prim.hlevel (codes, handles_code) };
 
-    ghost view = { λ p. p.machine };
+    ghost view = { λ p. record {
+      source = p.source;
+      config = p.machine;
+      max_entries = p.max_entries.number;
+    } };
 
-    ghost invariant = { λ p. Remembers p.machine };
+    ghost invariant = { λ p. Remembers (record {
+      source = p.source;
+      config = p.machine;
+      max_entries = p.max_entries.number;
+    }) };
 }
 
-/// What a parser keeps from one call to the next.
+/// What a parser keeps from one call to the next, beside its source.
 #[derive(Drop)]
-pub(crate) struct Machine<S> {
-    source: S,
+pub(crate) struct Machine {
     /// Which token of lookahead is in `lookahead_token`. Where there is none, its value has no meaning.
     lookahead: Lookahead,
     lookahead_token: yaml_token_t,
-    state: yaml_parser_state_t,
-    states: Vec<u8>,
-    marks: Vec<yaml_mark_t>,
+    pub(crate) automaton: Automaton,
     handles: BTreeMap<String, String>,
-    behind_document_end: bool,
     /// A text of an earlier event, whose memory a later token's text or tag in full may take. Its value has
     /// no meaning.
     pub(crate) spare: String,
     prefix: yaml_parser_t_prefix,
-    max_entries: MaxEntries,
     alloc: Global,
 }
 
-impl<S> Model for Machine<S> {
-    ghost use Rattle.std.specs.Prelude.{All, reverse};
+impl Model for Machine {
     ghost use Rattle.std.specs.Coded.{codes};
     ghost use Rattle.libyaml_types.specs.Fault.{fault_of};
-    ghost use Rattle.libyaml_events.specs.machine.State.{stack_of, IsBackByte};
-    ghost use Rattle.libyaml_events.specs.machine.Config.{Parser, handles_code, handles_of, token_ahead};
+    ghost use Rattle.libyaml_events.specs.machine.Config.{Config, handles_code, handles_of};
+    ghost use Rattle.libyaml_events.specs.automaton.View.{seen, EnteredRight};
 
-    ghost Value = { Parser S };
+    ghost Value = { Config };
 
     ghost coded = { Prim.hlevel (codes, handles_code) };
 
-    ghost view = { λ p. record {
-      source = p.source;
-      config = record {
-        lookahead = token_ahead p.lookahead p.lookahead_token;
-        state = p.state;
-        states = stack_of p.states.items;
-        marks = reverse p.marks.items;
-        handles = handles_of p.handles.entries;
-        behind_document_end = p.behind_document_end;
-        fault = fault_of p.prefix;
-      };
-      max_entries = p.max_entries.number;
-    } };
+    ghost view = { λ p. seen p.lookahead p.lookahead_token p.automaton (handles_of p.handles.entries)
+        (fault_of p.prefix) };
 
-    ghost invariant = { λ p. All IsBackByte p.states.items };
+    ghost invariant = { λ p. EnteredRight p.lookahead p.automaton };
 }
 
 /// Returns a parser at the start of this source's stream, without an allocation.
@@ -123,7 +116,9 @@ pub fn yaml_parser_initialize<S>(alloc: Global, source: S) -> yaml_parser_t<S>
         → IsRun tokens f events ending → RunToCome known result events ending }
 {
     yaml_parser_t {
-        machine: Machine::new(alloc, source),
+        source,
+        machine: Machine::new(alloc),
+        max_entries: MaxEntries::all(),
         pending: Pending::new(alloc),
         token: no_token(),
     }
@@ -137,8 +132,7 @@ pub fn yaml_parser_initialize<S>(alloc: Global, source: S) -> yaml_parser_t<S>
 pub fn yaml_parser_delete<S>(parser: yaml_parser_t<S>) -> S
     ensures { result ≡ parser.source }
 {
-    let yaml_parser_t { machine, .. } = parser;
-    let Machine { source, .. } = machine;
+    let yaml_parser_t { source, .. } = parser;
     source
 }
 
@@ -165,7 +159,7 @@ pub fn yaml_parser_set_max_entries<S>(parser: &mut yaml_parser_t<S>, n: i32)
     ensures run_to_come { (known : S → Option Coming)
         → ForRun known parser.old (RunToCome known parser.new) }
 {
-    parser.machine.max_entries = MaxEntries::new(n);
+    parser.max_entries = MaxEntries::new(n);
 }
 
 impl<S> yaml_parser_t<S> {
@@ -185,7 +179,7 @@ impl<S> yaml_parser_t<S> {
         ensures value { result ≡ self.now.max_entries }
         ensures at_least_one { pos 1 ≤ℤ result }
     {
-        self.machine.max_entries.number()
+        self.max_entries.number()
     }
 
     /// Keeps a fault of the loader for good: out of memory, or a composer error.
@@ -207,7 +201,7 @@ impl<S> yaml_parser_t<S> {
     where
         S: yaml_token_source_t,
     {
-        self.machine.source.may_wait()
+        self.source.may_wait()
     }
 
     /// Does nothing. A parser that keeps no fault has a history: some calls lead to a parser like it.
@@ -230,38 +224,35 @@ impl<S> yaml_parser_t<S> {
     }
 }
 
-impl<S> Machine<S> {
+impl Machine {
     /// Returns a machine at the start of a stream, without an allocation.
     #[inline(always)]
-    pub(crate) fn new(alloc: Global, source: S) -> Self
-        ensures { result ≡ new_parser source }
+    pub(crate) fn new(alloc: Global) -> Self
+        ensures { result ≡ start }
     {
         Machine {
-            source,
             lookahead: Lookahead::Nothing,
             lookahead_token: no_token(),
-            state: yaml_parser_state_t::YAML_PARSE_STREAM_START_STATE,
-            states: Vec::new(alloc),
-            marks: Vec::new(alloc),
+            automaton: Automaton::new(alloc),
             handles: BTreeMap::new(alloc),
-            behind_document_end: false,
             spare: String::new(alloc),
             prefix: NO_FAULT,
-            max_entries: MaxEntries::all(),
             alloc,
         }
     }
 
     /// Returns the fault that is kept, or `NO_FAULT`.
+    #[tactic(auto, using(crate::proofs::layer::Views::seen_fault))]
     pub(crate) fn kept_prefix(&self) -> &yaml_parser_t_prefix
-        ensures { fault_of result.now ≡ self.now.config.fault }
+        ensures { fault_of result.now ≡ self.now.fault }
     {
         &self.prefix
     }
 
     /// Keeps a fault.
+    #[tactic(auto, using(crate::proofs::layer::Views::seen_fault))]
     fn keep_prefix(&mut self, fault: yaml_parser_t_prefix)
-        ensures { self.new ≡ with_config self.old (with_fault self.old.config (fault_of fault)) }
+        ensures { self.new ≡ with_fault self.old (fault_of fault) }
     {
         self.prefix = fault;
     }
@@ -273,7 +264,7 @@ impl<S> Machine<S> {
 
     /// Returns the error of the fault that is kept, if one is.
     pub(crate) fn kept_error(&self) -> Result<(), yaml_error_type_t>
-        ensures { result ≡ done_by self.now.config.fault }
+        ensures { result ≡ done_by self.now.fault }
     {
         if self.has_failed() {
             return Err(self.prefix.error);
@@ -283,18 +274,19 @@ impl<S> Machine<S> {
 
     /// Returns whether a fault is kept.
     fn has_failed(&self) -> bool
-        ensures { result ≡ has_failed self.now }
+        ensures { result ≡ is_fault self.now.fault.error }
     {
         !matches!(self.prefix.error, yaml_error_type_t::YAML_NO_ERROR)
     }
 
     /// Returns whether no document is open, or a fault is kept.
+    #[tactic(auto, using(crate::proofs::layer::Views::seen_between))]
     fn stands_between_documents(&self) -> bool
-        ensures { result ≡ between_documents self.now }
+        ensures { result ≡ (is_fault self.now.fault.error || is_between self.now.state) }
     {
         self.has_failed()
             || matches!(
-                self.state,
+                self.automaton.state(),
                 yaml_parser_state_t::YAML_PARSE_STREAM_START_STATE
                     | yaml_parser_state_t::YAML_PARSE_IMPLICIT_DOCUMENT_START_STATE
                     | yaml_parser_state_t::YAML_PARSE_DOCUMENT_START_STATE
@@ -303,23 +295,14 @@ impl<S> Machine<S> {
     }
 
     /// Returns whether no more events come: the stream has ended, or a fault is kept.
+    #[tactic(auto, using(crate::proofs::layer::Views::seen_ended))]
     pub(crate) fn is_over(&self) -> bool
-        ensures { result ≡ ended_or_failed self.now.config }
+        ensures { result ≡ ended_or_failed self.now }
     {
-        self.has_failed() || matches!(self.state, yaml_parser_state_t::YAML_PARSE_END_STATE)
-    }
-
-    /// Returns whether DOCUMENT-END ended a document, and none has begun since.
-    pub(crate) fn behind_document_end(&self) -> bool
-        ensures { result ≡ self.now.config.behind_document_end }
-    {
-        self.behind_document_end
-    }
-
-    /// Sets whether DOCUMENT-END ended a document, and none has begun since.
-    pub(crate) fn set_behind_document_end(&mut self, behind_document_end: bool)
-        ensures { self.new ≡ with_config self.old (marked_ended behind_document_end self.old.config) }
-    {
-        self.behind_document_end = behind_document_end;
+        self.has_failed()
+            || matches!(
+                self.automaton.state(),
+                yaml_parser_state_t::YAML_PARSE_END_STATE
+            )
     }
 }

@@ -1,48 +1,49 @@
 //! A parser that is handed its tokens.
-ghost use Rattle.std.specs.Prelude.{◌≡◌, ◌≤◌, ◌<◌, [], None, IfErr, true, false};
+ghost use Rattle.std.specs.Prelude.{◌≡◌, ◌≤◌, ◌<◌, [], None, IfErr, IfOk, true, false};
 ghost use Rattle.std.specs.Vec.{vec_capacity, vec_len};
 ghost use Rattle.libyaml_types.specs.Fault.{fault_of, no_fault};
 ghost use Rattle.libyaml_events.specs.machine.Answers.{wanted};
 ghost use Rattle.libyaml_events.specs.machine.Config.{ended_or_failed, is_fault};
 ghost use Rattle.libyaml_events.specs.machine.StepsOnto.{StepsOnto};
+ghost use Rattle.libyaml_events.specs.automaton.View.{InStep, Ready};
 ghost use Rattle.libyaml_events.specs.sources.Pushed.{made, standing, ForPushed, Pushed, fault_in};
 ghost use Rattle.libyaml_events.specs.sources.Pushed.{RemembersPushes};
 ghost use Rattle.libyaml_events.specs.sources.Pushes.{Pushes, Takes};
 
 use crate::event_kinds::no_event;
-use crate::next::{Next, Step};
 use crate::parser::Machine;
 use crate::pending::Pending;
-use libyaml_types::{
-    yaml_error_type_t, yaml_event_t, yaml_parser_state_t, yaml_parser_t_prefix, yaml_token_t,
-};
+use crate::step::Step;
+use libyaml_types::{yaml_error_type_t, yaml_event_t, yaml_parser_t_prefix, yaml_token_t};
 use std::alloc::Global;
 use std::marker::Model;
 
 /// A parser that is handed one token after another.
 #[derive(Drop)]
 pub struct yaml_push_parser_t {
-    machine: Machine<()>,
+    machine: Machine,
     /// What was read of a node or of directives, and which function takes the next token.
     pending: Pending,
 }
 
 impl Model for yaml_push_parser_t {
-    ghost use Rattle.std.specs.Prelude.{◌≡◌, None};
+    ghost use Rattle.std.specs.Prelude.{◌≡◌, None, false};
     ghost use Rattle.std.specs.Coded.{codes};
     ghost use Rattle.libyaml_events.specs.machine.Answers.{wanted};
-    ghost use Rattle.libyaml_events.specs.machine.Config.{handles_code};
+    ghost use Rattle.libyaml_events.specs.machine.Config.{handles_code, ended_or_failed};
+    ghost use Rattle.libyaml_events.specs.automaton.View.{InStep};
     ghost use Rattle.libyaml_events.specs.sources.Pushed.{PushParser, RemembersPushes, standing};
 
     ghost Value = { PushParser };
 
     ghost coded = { Prim.hlevel (codes, handles_code) };
 
-    ghost view = { λ p. standing (wanted p.pending) p.machine.config };
+    ghost view = { λ p. standing (wanted p.pending) p.machine };
 
     // no token is held between two pushes
-    ghost invariant = { λ p. (p.machine.config.lookahead ≡ None)
-        × RemembersPushes (standing (wanted p.pending) p.machine.config) };
+    ghost invariant = { λ p. (p.machine.lookahead ≡ None)
+        × (ended_or_failed p.machine ≡ false → InStep p.pending p.machine)
+        × RemembersPushes (standing (wanted p.pending) p.machine) };
 }
 
 impl yaml_push_parser_t {
@@ -52,7 +53,7 @@ impl yaml_push_parser_t {
         ensures begins { Pushed result [] [] }
     {
         yaml_push_parser_t {
-            machine: Machine::new(alloc, ()),
+            machine: Machine::new(alloc),
             pending: Pending::new(alloc),
         }
     }
@@ -112,7 +113,7 @@ impl yaml_push_parser_t {
     }
 }
 
-impl<S> Machine<S> {
+impl Machine {
     /// Takes the token in its variable, and then the lookahead, until a further one is wanted.
     fn feed(
         &mut self,
@@ -120,25 +121,25 @@ impl<S> Machine<S> {
         pending: &mut Pending,
         events: &mut Vec<yaml_event_t>,
     ) -> Result<(), yaml_error_type_t>
-        requires running { ended_or_failed self.old.config ≡ false }
-        requires no_lookahead { self.old.config.lookahead ≡ None }
-        ensures kept { IfErr result (λ e. (e ≡ self.new.config.fault.error)
-            × (is_fault self.new.config.fault.error ≡ true)) }
-        ensures no_lookahead { self.new.config.lookahead ≡ None }
+        requires running { ended_or_failed self.old ≡ false }
+        requires no_lookahead { self.old.lookahead ≡ None }
+        requires agrees { InStep pending.old self.old }
+        ensures kept { IfErr result (λ e. (e ≡ self.new.fault.error) × (is_fault self.new.fault.error ≡ true)) }
+        ensures no_lookahead { self.new.lookahead ≡ None }
         ensures takes { Takes (vec_capacity events.old ≤ vec_len events.new)
-            (standing (wanted pending.old) self.old.config) token.old events.old.items result
-            (standing (wanted pending.new) self.new.config) events.new.items }
+            (standing (wanted pending.old) self.old) token.old events.old.items result
+            (standing (wanted pending.new) self.new) events.new.items }
+        ensures agrees { IfOk result (λ _. ended_or_failed self.new ≡ false → InStep pending.new self.new) }
     {
         loop {
             match self.step_onto(token, pending, events) {
-                Ok(Step::Wants) => return Ok(()),
-                Ok(Step::Given) => {}
-                Err(error) => {
-                    self.let_go();
-                    return Err(error);
-                }
+                Step::Wants => return Ok(()),
+                Step::Given => {}
+                Step::Failed => return Err(self.fail()),
             }
-            pending.next = Next::AtState;
+            if self.enter(pending) {
+                return Ok(());
+            }
             if !self.take_lookahead(token) || self.is_over() {
                 return Ok(());
             }
@@ -152,11 +153,12 @@ impl<S> Machine<S> {
         token: &mut yaml_token_t,
         pending: &mut Pending,
         events: &mut Vec<yaml_event_t>,
-    ) -> Result<Step, yaml_error_type_t>
-        requires { self.old.config.state ≡ yaml_parser_state_t.YAML_PARSE_END_STATE → ⊥ }
+    ) -> Step
+        requires { Ready pending.old self.old }
         ensures steps { StepsOnto (vec_capacity events.old ≤ vec_len events.new) (wanted pending.old) self.old
             token.old events.old.items result (wanted pending.new) self.new events.new.items }
         ensures capacity { vec_capacity events.old ≤ vec_capacity events.new }
+        ensures ready { result ≡ Step.Wants → Ready pending.new self.new }
     {
         if events.len() < events.capacity() {
             return self.step_in_place(token, pending, events);
@@ -171,20 +173,25 @@ impl<S> Machine<S> {
         token: &mut yaml_token_t,
         pending: &mut Pending,
         events: &mut Vec<yaml_event_t>,
-    ) -> Result<Step, yaml_error_type_t>
-        requires running { self.old.config.state ≡ yaml_parser_state_t.YAML_PARSE_END_STATE → ⊥ }
+    ) -> Step
+        requires ready { Ready pending.old self.old }
         requires room { vec_len events.old < vec_capacity events.old }
         ensures steps { StepsOnto (vec_capacity events.old ≤ vec_len events.new) (wanted pending.old) self.old
             token.old events.old.items result (wanted pending.new) self.new events.new.items }
         ensures capacity { vec_capacity events.new ≡ vec_capacity events.old }
+        ensures ready { result ≡ Step.Wants → Ready pending.new self.new }
     {
         let place = events.len();
         events.push_reserved(no_event());
         match self.step(token, pending, &mut events[place]) {
-            Ok(Step::Given) => Ok(Step::Given),
-            other => {
+            Step::Given => Step::Given,
+            Step::Wants => {
                 let _ = events.pop();
-                other
+                Step::Wants
+            }
+            Step::Failed => {
+                let _ = events.pop();
+                Step::Failed
             }
         }
     }
@@ -197,20 +204,22 @@ impl<S> Machine<S> {
         token: &mut yaml_token_t,
         pending: &mut Pending,
         events: &mut Vec<yaml_event_t>,
-    ) -> Result<Step, yaml_error_type_t>
-        requires { self.old.config.state ≡ yaml_parser_state_t.YAML_PARSE_END_STATE → ⊥ }
+    ) -> Step
+        requires { Ready pending.old self.old }
         ensures steps { StepsOnto (vec_capacity events.old ≤ vec_len events.new) (wanted pending.old) self.old
             token.old events.old.items result (wanted pending.new) self.new events.new.items }
         ensures capacity { vec_capacity events.old ≤ vec_capacity events.new }
+        ensures ready { result ≡ Step.Wants → Ready pending.new self.new }
     {
         let mut event = no_event();
-        match self.step(token, pending, &mut event)? {
-            Step::Wants => return Ok(Step::Wants),
+        match self.step(token, pending, &mut event) {
+            Step::Wants => return Step::Wants,
+            Step::Failed => return Step::Failed,
             Step::Given => {}
         }
         if events.push(event).is_err() {
-            return Err(self.out_of_memory());
+            return Step::failed(self.out_of_memory());
         }
-        Ok(Step::Given)
+        Step::Given
     }
 }

@@ -1,46 +1,48 @@
-//! The functions of the parser's states. Each takes one token, and then gives an event, asks for a further
-//! token, or fails.
+//! Events with texts, over the parser without texts (`libyaml_automaton`).
 //!
-//! A function of libyaml's reads up to three tokens; here it is several functions of one token each. `Next`
-//! says which function takes a token; where it is `AtState`, the parser's state does. Each module below
-//! begins with its productions; the number under a token is that of the function that takes it.
+//! The automaton takes each token by its kind and marks, and returns which event it led to, if any. What is
+//! left for the functions here are texts: they put them into the event, or hold those of properties and
+//! directives until the event comes.
 //!
 //! The token is in a variable of the parser's. A function moves out of it what it keeps of the token; the
 //! rest is dropped when the next token is put there.
-ghost use Rattle.std.specs.Prelude.{if◌then◌else◌, ◌≡◌, Ok, Err, OnOk, OnErr, true, is_some};
-ghost use Rattle.libyaml_types.specs.Fault.{memory_fault};
+ghost use Rattle.std.specs.Prelude.{◌≡◌, None, true};
+ghost use Rattle.libyaml_types.specs.Types.{token_type};
 ghost use Rattle.libyaml_grammar.specs.sentences.Events.{event};
-ghost use Rattle.libyaml_events.specs.machine.Config.{with_config, with_fault, at};
-ghost use Rattle.libyaml_events.specs.machine.Config.{popped, popped_mark, pushed_mark};
-ghost use Rattle.libyaml_types.specs.declared.event.unnamed_yaml_event_t_data.TheVariants.{SequenceEnd};
-ghost use Rattle.libyaml_types.specs.declared.event.unnamed_yaml_event_t_data.TheVariants.{MappingEnd};
-ghost use Rattle.libyaml_events.specs.machine.Machine.{step, at_state, at_slot, process_empty_scalar};
-ghost use Rattle.libyaml_events.specs.machine.Machine.{close_collection};
+ghost use Rattle.libyaml_automaton.specs.Numbers.{next_of};
+ghost use Rattle.libyaml_automaton.specs.Fits.{FitsStep, IsUndone, Documents};
+ghost use Rattle.libyaml_automaton.specs.Growth.{stack_part_of};
+ghost use Rattle.libyaml_events.specs.machine.Config.{keep, with_fault};
+ghost use Rattle.libyaml_events.specs.machine.Machine.{step};
 ghost use Rattle.libyaml_events.specs.machine.Steps.{Steps};
-ghost use Rattle.libyaml_events.specs.machine.Slots.{state_behind, entered, place};
-ghost use Rattle.libyaml_events.specs.machine.Machine.{parse_node};
-ghost use Rattle.libyaml_events.specs.machine.Answers.{answer, wanted};
-ghost use Rattle.libyaml_events.specs.machine.Want.{Given};
-ghost use Rattle.libyaml_events.specs.machine.Growth.{enters, may_grow, may_grow_at};
+ghost use Rattle.libyaml_events.specs.machine.Answers.{answer, held_in, wanted};
+ghost use Rattle.libyaml_events.specs.machine.Growth.{joins, may_grow};
+ghost use Rattle.libyaml_events.specs.automaton.Texts.{fault_with, held_of};
+ghost use Rattle.libyaml_events.specs.automaton.Led.{Led, Puts, IsLed, IsPut, start_of};
+ghost use Rattle.libyaml_events.specs.automaton.View.{Ready};
 
 mod behind_properties;
-mod block;
 mod contents;
 mod documents;
-mod flow;
 mod node_events;
-mod nodes;
 mod properties;
 
-use crate::next::{Next, Step};
-use crate::node_place::NodePlace;
 use crate::parser::Machine;
 use crate::pending::Pending;
-use crate::slot::Slot;
-use crate::states::contents::{put_empty_scalar, put_mapping_end, put_sequence_end};
+use crate::states::contents::{
+    put_alias, put_bare_scalar, put_empty_scalar, put_mapping_end, put_mapping_start,
+    put_sequence_end, put_sequence_start,
+};
+use crate::states::node_events::collection_start;
+use crate::step::Step;
+use libyaml_automaton::{
+    Answer, DUPLICATE_TAG, DUPLICATE_VERSION, INCOMPATIBLE_VERSION, NO_BLOCK_CONTENT,
+    NO_DOCUMENT_START, NO_FLOW_CONTENT, NO_ITEM, NO_KEY, NO_SEQUENCE_SEPARATOR, NO_STREAM_START,
+    UNDEFINED_HANDLE,
+};
 use libyaml_types::{
-    unnamed_yaml_event_t_data, yaml_error_type_t, yaml_event_t, yaml_mark_t, yaml_parser_state_t,
-    yaml_token_t,
+    unnamed_yaml_event_t_data, unnamed_yaml_token_t_data, yaml_error_type_t, yaml_event_t,
+    yaml_mapping_style_t, yaml_mark_t, yaml_sequence_style_t, yaml_token_t,
 };
 
 /// Puts an event with these marks into `out`.
@@ -58,13 +60,9 @@ fn give(
     out.content = content;
 }
 
-impl<S> Machine<S> {
-    /// Takes one token in the function that `pending.next` names, and returns what it led to. `out` gets the
-    /// event.
-    ///
-    /// # Errors
-    ///
-    /// The error of the fault, which the parser keeps.
+impl Machine {
+    /// Takes one token in the function that `pending.reading` names, and returns what it led to. `out` gets
+    /// the event. A fault is kept.
     ///
     /// libyaml: `yaml_parser_state_machine`.
     #[inline(always)]
@@ -73,277 +71,323 @@ impl<S> Machine<S> {
         token: &mut yaml_token_t,
         pending: &mut Pending,
         out: &mut yaml_event_t,
-    ) -> Result<Step, yaml_error_type_t>
-        requires { self.old.config.state ≡ yaml_parser_state_t.YAML_PARSE_END_STATE → ⊥ }
-        ensures steps { Steps (step (wanted pending.old) self.old.config token.old) self.old
-            (answer result pending.new out.new) self.new }
-        ensures grows { result ≡ Err yaml_error_type_t.YAML_MEMORY_ERROR
-            → may_grow (wanted pending.old) self.old.config token.old.content ≡ true }
+    ) -> Step
+        requires ready { Ready pending.old self.old }
+        ensures steps { Steps (step (wanted pending.old) self.old token.old) self.old
+            (answer result pending.new out.new self.new) self.new }
+        ensures ready { result ≡ Step.Wants → Ready pending.new self.new }
+        ensures grows { result ≡ Step.Failed → self.new.fault.error ≡ yaml_error_type_t.YAML_MEMORY_ERROR
+            → may_grow (wanted pending.old) self.old token.old.content ≡ true }
     {
-        match pending.next {
-            Next::AtState => self.parse_at_state(token, pending, out),
-            Next::BehindDirective => self.parse_explicit_document(token, pending, out),
-            Next::BehindProperties => self.parse_behind_properties(token, pending, out),
-            Next::BehindBlockEntry => {
-                self.parse_slot(Slot::BlockEntry, true, token, pending, out)
-            }
-            Next::BehindIndentlessEntry => {
-                self.parse_slot(Slot::IndentlessEntry, true, token, pending, out)
-            }
-            Next::BehindKey => self.parse_slot(Slot::BlockKey, true, token, pending, out),
-            Next::BehindValue => { self.parse_slot(Slot::BlockValue, true, token, pending, out) }
-            Next::BehindFlowSequenceEntry => {
-                self.parse_behind_flow_sequence_entry(token, pending, out)
-            }
-            Next::BehindFlowSequenceValue => {
-                self.parse_slot(Slot::PairValue, false, token, pending, out)
-            }
-            Next::BehindFlowMappingEntry => {
-                self.parse_behind_flow_mapping_entry(token, pending, out)
-            }
-            Next::BehindFlowMappingKey => {
-                self.parse_slot(Slot::FlowKey, false, token, pending, out)
-            }
-            Next::BehindFlowMappingValue => {
-                self.parse_slot(Slot::FlowValue, false, token, pending, out)
-            }
+        match self.lead(token, pending) {
+            Answer::Full => self.step_again(token, pending, out),
+            Answer::Document => self.step_document(token, pending, out),
+            answer => self.put(answer, token, pending, out),
         }
     }
 
-    /// Takes one token in the function of the parser's state. After the stream's end no token is taken.
-    #[inline(always)]
-    fn parse_at_state(
-        &mut self,
-        token: &mut yaml_token_t,
-        pending: &mut Pending,
-        out: &mut yaml_event_t,
-    ) -> Result<Step, yaml_error_type_t>
-        requires { self.old.config.state ≡ yaml_parser_state_t.YAML_PARSE_END_STATE → ⊥ }
-        ensures steps { Steps (at_state self.old.config.state self.old.config token.old token.old.content)
-            self.old (answer result pending.new out.new) self.new }
-        ensures grows { result ≡ Err yaml_error_type_t.YAML_MEMORY_ERROR
-            → may_grow_at self.old.config.state self.old.config token.old.content ≡ true }
-    {
-        match self.state() {
-            yaml_parser_state_t::YAML_PARSE_STREAM_START_STATE => {
-                self.parse_stream_start(token, pending, out)
-            }
-            yaml_parser_state_t::YAML_PARSE_IMPLICIT_DOCUMENT_START_STATE => {
-                self.parse_implicit_document_start(token, pending, out)
-            }
-            yaml_parser_state_t::YAML_PARSE_DOCUMENT_START_STATE => {
-                self.parse_document_start(token, pending, out)
-            }
-            yaml_parser_state_t::YAML_PARSE_DOCUMENT_CONTENT_STATE => {
-                self.parse_slot(Slot::Document, false, token, pending, out)
-            }
-            yaml_parser_state_t::YAML_PARSE_DOCUMENT_END_STATE => {
-                self.parse_document_end(token, out);
-                Ok(Step::Given)
-            }
-            yaml_parser_state_t::YAML_PARSE_BLOCK_NODE_STATE => {
-                self.parse_node(NodePlace::Block, token, pending, out)
-            }
-            yaml_parser_state_t::YAML_PARSE_BLOCK_NODE_OR_INDENTLESS_SEQUENCE_STATE => {
-                self.parse_node(NodePlace::BlockOrIndentlessSequence, token, pending, out)
-            }
-            yaml_parser_state_t::YAML_PARSE_FLOW_NODE_STATE => {
-                self.parse_node(NodePlace::Flow, token, pending, out)
-            }
-            yaml_parser_state_t::YAML_PARSE_BLOCK_SEQUENCE_FIRST_ENTRY_STATE => {
-                self.parse_first_entry(
-                    yaml_parser_state_t::YAML_PARSE_BLOCK_SEQUENCE_ENTRY_STATE,
-                    Next::AtState,
-                    token,
-                    pending,
-                )
-            }
-            yaml_parser_state_t::YAML_PARSE_BLOCK_SEQUENCE_ENTRY_STATE => {
-                self.parse_block_sequence_entry(token, pending, out)
-            }
-            yaml_parser_state_t::YAML_PARSE_INDENTLESS_SEQUENCE_ENTRY_STATE => {
-                self.parse_indentless_sequence_entry(token, pending, out)
-            }
-            yaml_parser_state_t::YAML_PARSE_BLOCK_MAPPING_FIRST_KEY_STATE => {
-                self.parse_first_entry(
-                    yaml_parser_state_t::YAML_PARSE_BLOCK_MAPPING_KEY_STATE,
-                    Next::AtState,
-                    token,
-                    pending,
-                )
-            }
-            yaml_parser_state_t::YAML_PARSE_BLOCK_MAPPING_KEY_STATE => {
-                self.parse_block_mapping_key(token, pending, out)
-            }
-            yaml_parser_state_t::YAML_PARSE_BLOCK_MAPPING_VALUE_STATE => {
-                self.parse_block_mapping_value(token, pending, out)
-            }
-            yaml_parser_state_t::YAML_PARSE_FLOW_SEQUENCE_FIRST_ENTRY_STATE => {
-                self.parse_first_entry(
-                    yaml_parser_state_t::YAML_PARSE_FLOW_SEQUENCE_ENTRY_STATE,
-                    Next::BehindFlowSequenceEntry,
-                    token,
-                    pending,
-                )
-            }
-            yaml_parser_state_t::YAML_PARSE_FLOW_SEQUENCE_ENTRY_STATE => {
-                self.parse_flow_sequence_entry(token, pending, out)
-            }
-            yaml_parser_state_t::YAML_PARSE_FLOW_SEQUENCE_ENTRY_MAPPING_KEY_STATE => {
-                self.parse_slot(Slot::PairKey, false, token, pending, out)
-            }
-            yaml_parser_state_t::YAML_PARSE_FLOW_SEQUENCE_ENTRY_MAPPING_VALUE_STATE => {
-                self.parse_flow_sequence_entry_mapping_value(token, pending, out)
-            }
-            yaml_parser_state_t::YAML_PARSE_FLOW_SEQUENCE_ENTRY_MAPPING_END_STATE => {
-                self.parse_flow_sequence_entry_mapping_end(token, out);
-                Ok(Step::Given)
-            }
-            yaml_parser_state_t::YAML_PARSE_FLOW_MAPPING_FIRST_KEY_STATE => {
-                self.parse_first_entry(
-                    yaml_parser_state_t::YAML_PARSE_FLOW_MAPPING_KEY_STATE,
-                    Next::BehindFlowMappingEntry,
-                    token,
-                    pending,
-                )
-            }
-            yaml_parser_state_t::YAML_PARSE_FLOW_MAPPING_KEY_STATE => {
-                self.parse_flow_mapping_key(token, pending, out)
-            }
-            yaml_parser_state_t::YAML_PARSE_FLOW_MAPPING_VALUE_STATE => {
-                self.parse_flow_mapping_value(token, pending, out)
-            }
-            yaml_parser_state_t::YAML_PARSE_FLOW_MAPPING_EMPTY_VALUE_STATE => {
-                self.parse_flow_mapping_empty_value(token, out);
-                Ok(Step::Given)
-            }
-            yaml_parser_state_t::YAML_PARSE_END_STATE => unreachable!(),
-        }
-    }
-
-    /// Takes the token at a place where a node may be left out. Before some tokens it is left out
-    /// (`is_nothing_before`), and its event is an empty scalar at `mark`; any other token begins the node.
-    #[inline(always)]
-    fn parse_slot(
-        &mut self,
-        slot: Slot,
-        behind: bool,
-        token: &mut yaml_token_t,
-        pending: &mut Pending,
-        out: &mut yaml_event_t,
-    ) -> Result<Step, yaml_error_type_t>
-        ensures steps { Steps (at_slot slot (if behind then pending.old.mark else token.old.start_mark)
-            self.old.config token.old token.old.content)
-            self.old (answer result pending.new out.new) self.new }
-        ensures grows { result ≡ Err yaml_error_type_t.YAML_MEMORY_ERROR
-            → enters slot token.old.content ≡ true }
-    {
-        if slot.is_nothing_before(&token.content) {
-            match slot.state_behind() {
-                Some(state) => self.set_state(state),
-                None => self.pop_state(),
-            }
-            let mark = if behind {
-                pending.mark
-            } else {
-                token.start_mark
-            };
-            self.process_empty_scalar(mark, token, out);
-            return Ok(Step::Given);
-        }
-        self.parse_node_behind(slot, token, pending, out)
-    }
-
-    /// A node at its first token, where it may be left out but isn't. The state after a document's node is on
-    /// the stack already.
-    #[inline(always)]
-    fn parse_node_behind(
-        &mut self,
-        slot: Slot,
-        token: &mut yaml_token_t,
-        pending: &mut Pending,
-        out: &mut yaml_event_t,
-    ) -> Result<Step, yaml_error_type_t>
-        ensures steps { Steps (parse_node (place slot) (entered (state_behind slot) self.old.config) token.old
-            token.old.content) self.old (answer result pending.new out.new) self.new }
-        ensures grows { result ≡ Err yaml_error_type_t.YAML_MEMORY_ERROR
-            → is_some (state_behind slot) ≡ true }
-    {
-        match slot.state_behind() {
-            Some(state) => self.parse_node_then(state, slot.place(), token, pending, out),
-            None => self.parse_node(slot.place(), token, pending, out),
-        }
-    }
-
-    /// Gives an empty scalar at `mark`, and keeps the token for the next call.
-    ///
-    /// libyaml: `yaml_parser_process_empty_scalar`.
+    /// Does a step after the stacks have grown.
+    #[cold]
     #[inline(never)]
-    fn process_empty_scalar(
+    fn step_again(
         &mut self,
-        mark: yaml_mark_t,
         token: &mut yaml_token_t,
+        pending: &mut Pending,
         out: &mut yaml_event_t,
-    )
-        ensures { Steps (process_empty_scalar mark token.old self.old.config) self.old (Ok (Given out.new))
-            self.new }
+    ) -> Step
+        requires ready { Ready pending.old self.old }
+        requires grows { may_grow (wanted pending.old) self.old token.old.content ≡ true }
+        ensures steps { Steps (step (wanted pending.old) self.old token.old) self.old
+            (answer result pending.new out.new self.new) self.new }
+        ensures ready { result ≡ Step.Wants → Ready pending.new self.new }
     {
+        if !self.automaton.grow() {
+            return Step::failed(self.out_of_memory());
+        }
+        match self.lead(token, pending) {
+            Answer::Full => Step::failed(self.out_of_memory()),
+            Answer::Document => self.step_document(token, pending, out),
+            answer => self.put(answer, token, pending, out),
+        }
+    }
+
+    /// Does a step of the parser without texts.
+    #[inline(always)]
+    fn lead(&mut self, token: &yaml_token_t, pending: &mut Pending) -> Answer
+        requires { Ready pending.old self.old }
+        ensures led { Led (step (wanted pending.old) self.old token.now) (held_of (wanted pending.old)) token.now
+            result pending.new self.new }
+        ensures fits { FitsStep result (token_type token.now.content) pending.new.reading self.new.state }
+        ensures none { self.new.lookahead ≡ None }
+        ensures texts { pending.new ≡ record pending.old { reading = pending.new.reading } }
+        ensures undone { IsUndone result → Ready pending.new self.new
+            × (wanted pending.new ≡ wanted pending.old) × (self.new ≡ self.old) }
+        ensures documents { result ≡ Answer.Document
+            → stack_part_of (next_of pending.new.reading.next) ≡ Documents }
+        ensures grows { result ≡ Answer.Full
+            → may_grow (wanted pending.old) self.old token.now.content ≡ true }
+    {
+        self.automaton.step(
+            &mut pending.reading,
+            token.type_(),
+            &token.start_mark,
+            &token.end_mark,
+        )
+    }
+
+    /// Puts the event that the step led to, with its texts.
+    #[inline(always)]
+    fn put(
+        &mut self,
+        answer: Answer,
+        token: &mut yaml_token_t,
+        pending: &mut Pending,
+        out: &mut yaml_event_t,
+    ) -> Step
+        requires none { self.old.lookahead ≡ None }
+        requires put { IsPut answer }
+        requires led { IsLed token.old answer pending.old self.old }
+        requires fits { FitsStep answer (token_type token.old.content) pending.old.reading self.old.state }
+        ensures puts { Puts answer token.old pending.old self.old result pending.new out.new self.new }
+        ensures grows { result ≡ Step.Failed → self.new.fault.error ≡ yaml_error_type_t.YAML_MEMORY_ERROR
+            → (answer ≡ Answer.AsksContent) × (joins (held_in pending.old).tag self.old.handles ≡ true) }
+    {
+        match answer {
+            Answer::Wants => Step::Wants,
+            Answer::Scalar => {
+                out.start_mark = token.start_mark;
+                out.end_mark = token.end_mark;
+                if let unnamed_yaml_token_t_data::Scalar(scalar) = &mut token.content {
+                    put_bare_scalar(&mut self.spare, scalar, &mut out.content);
+                }
+                Step::Given
+            }
+            Answer::Empty => {
+                out.start_mark = token.start_mark;
+                out.end_mark = token.start_mark;
+                self.keep(token);
+                put_empty_scalar(&mut self.spare, &mut out.content);
+                Step::Given
+            }
+            Answer::EmptyBehind => {
+                out.start_mark = pending.reading.mark;
+                out.end_mark = pending.reading.mark;
+                self.keep(token);
+                put_empty_scalar(&mut self.spare, &mut out.content);
+                Step::Given
+            }
+            Answer::SequenceEnd => {
+                out.start_mark = token.start_mark;
+                out.end_mark = token.end_mark;
+                put_sequence_end(&mut self.spare, &mut out.content);
+                Step::Given
+            }
+            Answer::MappingEnd => {
+                out.start_mark = token.start_mark;
+                out.end_mark = token.end_mark;
+                put_mapping_end(&mut self.spare, &mut out.content);
+                Step::Given
+            }
+            Answer::IndentlessEnd => {
+                out.start_mark = token.start_mark;
+                out.end_mark = token.start_mark;
+                self.keep(token);
+                put_sequence_end(&mut self.spare, &mut out.content);
+                Step::Given
+            }
+            Answer::PairEnd => {
+                out.start_mark = token.start_mark;
+                out.end_mark = token.start_mark;
+                self.keep(token);
+                put_mapping_end(&mut self.spare, &mut out.content);
+                Step::Given
+            }
+            Answer::Alias => {
+                out.start_mark = token.start_mark;
+                out.end_mark = token.end_mark;
+                if let unnamed_yaml_token_t_data::Alias(alias) = &mut token.content {
+                    put_alias(&mut self.spare, alias, &mut out.content);
+                }
+                Step::Given
+            }
+            Answer::Pair => {
+                out.start_mark = token.start_mark;
+                out.end_mark = token.end_mark;
+                put_mapping_start(
+                    yaml_mapping_style_t::YAML_FLOW_MAPPING_STYLE,
+                    &mut self.spare,
+                    &mut out.content,
+                );
+                Step::Given
+            }
+            Answer::IndentlessSequence => {
+                out.start_mark = token.start_mark;
+                out.end_mark = token.end_mark;
+                self.keep(token);
+                put_sequence_start(
+                    yaml_sequence_style_t::YAML_BLOCK_SEQUENCE_STYLE,
+                    &mut self.spare,
+                    &mut out.content,
+                );
+                Step::Given
+            }
+            Answer::BlockSequence => {
+                out.start_mark = token.start_mark;
+                out.end_mark = token.end_mark;
+                self.keep_entered(token);
+                put_sequence_start(
+                    yaml_sequence_style_t::YAML_BLOCK_SEQUENCE_STYLE,
+                    &mut self.spare,
+                    &mut out.content,
+                );
+                Step::Given
+            }
+            Answer::BlockMapping => {
+                out.start_mark = token.start_mark;
+                out.end_mark = token.end_mark;
+                self.keep_entered(token);
+                put_mapping_start(
+                    yaml_mapping_style_t::YAML_BLOCK_MAPPING_STYLE,
+                    &mut self.spare,
+                    &mut out.content,
+                );
+                Step::Given
+            }
+            Answer::FlowSequence => {
+                out.start_mark = token.start_mark;
+                out.end_mark = token.end_mark;
+                self.keep_entered(token);
+                put_sequence_start(
+                    yaml_sequence_style_t::YAML_FLOW_SEQUENCE_STYLE,
+                    &mut self.spare,
+                    &mut out.content,
+                );
+                Step::Given
+            }
+            Answer::FlowMapping => {
+                out.start_mark = token.start_mark;
+                out.end_mark = token.end_mark;
+                self.keep_entered(token);
+                put_mapping_start(
+                    yaml_mapping_style_t::YAML_FLOW_MAPPING_STYLE,
+                    &mut self.spare,
+                    &mut out.content,
+                );
+                Step::Given
+            }
+            Answer::AsksContent => {
+                if pending.reading.has_tag == 0 {
+                    return self.put_content_behind_anchor(token, pending, out);
+                }
+                self.put_content_behind(token, pending, out)
+            }
+            Answer::WantsAnchor => {
+                self.hold_anchor(token, pending);
+                Step::Wants
+            }
+            Answer::WantsTag => {
+                self.hold_tag(token, pending);
+                Step::Wants
+            }
+            Answer::Unentered => {
+                self.put_unentered(token, out);
+                Step::Given
+            }
+            Answer::Failed => {
+                self.set_problem(
+                    pending.reading.problem,
+                    &token.start_mark,
+                    &token.start_mark,
+                )
+            }
+            Answer::FailedWithin => {
+                self.set_problem(
+                    pending.reading.problem,
+                    &pending.reading.mark,
+                    &token.start_mark,
+                )
+            }
+            _ => unreachable!(),
+        }
+    }
+
+    /// Puts the start of a collection without properties for whose mark there was no room: the token stays,
+    /// and the next step makes room.
+    #[cold]
+    #[inline(never)]
+    fn put_unentered(&mut self, token: &mut yaml_token_t, out: &mut yaml_event_t)
+        requires { self.old.lookahead ≡ None }
+        ensures out { out.new ≡ event (start_of None None token.old.content) token.old.start_mark token.old.end_mark }
+        ensures kept { self.new ≡ keep token.old self.old }
+    {
+        let content = collection_start(None, None, &token.content);
+        give(out, content, token.start_mark, token.end_mark);
         self.keep(token);
-        out.start_mark = mark;
-        out.end_mark = mark;
-        put_empty_scalar(&mut self.spare, &mut out.content);
     }
 
-    /// At the token that starts a collection: its start is kept, and `state` says what comes in it.
+    /// Keeps the fault of this number, which the parser without texts gave.
+    #[cold]
     #[inline(never)]
-    fn parse_first_entry(
-        &mut self,
-        state: yaml_parser_state_t,
-        next: Next,
-        token: &yaml_token_t,
-        pending: &mut Pending,
-    ) -> Result<Step, yaml_error_type_t>
-        ensures ok { OnOk result ((result ≡ Ok Step.Wants)
-            × (pending.new ≡ record pending.old { next = next })
-            × (self.new ≡ with_config self.old (at state
-            (pushed_mark token.now.start_mark self.old.config)))) }
-        ensures err { OnErr result ((result ≡ Err yaml_error_type_t.YAML_MEMORY_ERROR)
-            × (self.new ≡ with_config self.old (with_fault self.old.config memory_fault))) }
+    fn set_problem(&mut self, problem: u8, context_mark: &yaml_mark_t, mark: &yaml_mark_t) -> Step
+        ensures failed { result ≡ Step.Failed }
+        ensures error { self.new.fault.error ≡ yaml_error_type_t.YAML_PARSER_ERROR }
+        ensures kept { self.new ≡ with_fault self.old
+            (fault_with (record { problem = problem; context_mark = context_mark.now; mark = mark.now })) }
     {
-        self.push_mark(token.start_mark)?;
-        self.set_state(state);
-        Ok(pending.want(next))
-    }
-
-    /// Takes the innermost collection off the stacks.
-    fn leave_collection(&mut self)
-        ensures { self.new ≡ with_config self.old (popped (popped_mark self.old.config)) }
-    {
-        let _ = self.pop_mark();
-        self.pop_state();
-    }
-
-    /// Gives the end event of a sequence, at the token that closes it.
-    #[inline(never)]
-    fn close_sequence(&mut self, token: &yaml_token_t, out: &mut yaml_event_t)
-        ensures { Steps (close_collection SequenceEnd token.now self.old.config) self.old (Ok (Given out.new))
-            self.new }
-    {
-        self.leave_collection();
-        out.start_mark = token.start_mark;
-        out.end_mark = token.end_mark;
-        put_sequence_end(&mut self.spare, &mut out.content);
-    }
-
-    /// Gives the end event of a mapping, at the token that closes it.
-    #[inline(never)]
-    fn close_mapping(&mut self, token: &yaml_token_t, out: &mut yaml_event_t)
-        ensures { Steps (close_collection MappingEnd token.now self.old.config) self.old (Ok (Given out.new))
-            self.new }
-    {
-        self.leave_collection();
-        out.start_mark = token.start_mark;
-        out.end_mark = token.end_mark;
-        put_mapping_end(&mut self.spare, &mut out.content);
+        Step::failed(match problem {
+            NO_STREAM_START => self.set_parser_error("did not find expected <stream-start>", *mark),
+            NO_DOCUMENT_START => self.set_parser_error(
+                "did not find expected <document start>",
+                *mark,
+            ),
+            DUPLICATE_VERSION => self.set_parser_error("found duplicate %YAML directive", *mark),
+            INCOMPATIBLE_VERSION => self.set_parser_error(
+                "found incompatible YAML document",
+                *mark,
+            ),
+            DUPLICATE_TAG => self.set_parser_error("found duplicate %TAG directive", *mark),
+            NO_BLOCK_CONTENT => self.set_parser_error_context(
+                "while parsing a block node",
+                *mark,
+                "did not find expected node content",
+                *mark,
+            ),
+            NO_FLOW_CONTENT => self.set_parser_error_context(
+                "while parsing a flow node",
+                *mark,
+                "did not find expected node content",
+                *mark,
+            ),
+            UNDEFINED_HANDLE => self.set_parser_error_context(
+                "while parsing a node",
+                *context_mark,
+                "found undefined tag handle",
+                *mark,
+            ),
+            NO_ITEM => self.set_parser_error_context(
+                "while parsing a block collection",
+                *context_mark,
+                "did not find expected '-' indicator",
+                *mark,
+            ),
+            NO_KEY => self.set_parser_error_context(
+                "while parsing a block mapping",
+                *context_mark,
+                "did not find expected key",
+                *mark,
+            ),
+            NO_SEQUENCE_SEPARATOR => self.set_parser_error_context(
+                "while parsing a flow sequence",
+                *context_mark,
+                "did not find expected ',' or ']'",
+                *mark,
+            ),
+            _ => self.set_parser_error_context(
+                "while parsing a flow mapping",
+                *context_mark,
+                "did not find expected ',' or '}'",
+                *mark,
+            ),
+        })
     }
 }

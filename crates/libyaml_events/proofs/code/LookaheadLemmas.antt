@@ -1,10 +1,10 @@
 -- The token of lookahead, by its kind and its marks.
-use Rattle.std.proofs.Common.{◌≡◌, Some, true, ap, refl, is_some}
+use Rattle.std.proofs.Common.{◌≡◌, Some, ap}
 use Rattle.libyaml_types.specs.declared.token.yaml_token_t.{yaml_token_t}
 use Rattle.libyaml_types.specs.declared.token.unnamed_yaml_token_t_data.{unnamed_yaml_token_t_data}
 use Rattle.libyaml_events.specs.declared.lookahead.Lookahead.{Lookahead}
 use Rattle.libyaml_events.specs.declared.lookahead.Lookahead.TheVariants as ahead
-use Rattle.libyaml_events.specs.machine.Config.{token_ahead, lookahead_start, lookahead_content}
+use Rattle.libyaml_events.specs.machine.Config.{token_ahead, lookahead_content}
 
 same_token : (a : unnamed_yaml_token_t_data) (h t : yaml_token_t) → Some a ≡ Some t.content
     → Some (record { content = a; start_mark = t.start_mark; end_mark = t.end_mark }) ≡ Some t
@@ -15,6 +15,7 @@ same_token a h t e = let same : a ≡ t.content = cc
 pub kept_marks : (k : Lookahead) (h t : yaml_token_t) → lookahead_content k ≡ Some t.content
     → token_ahead k (record { content = h.content; start_mark = t.start_mark; end_mark = t.end_mark }) ≡ Some t
 kept_marks ahead.Nothing h t e = cc
+kept_marks ahead.Entered h t e = cc
 kept_marks ahead.Token h t e = cc
 kept_marks ahead.BlockSequence h t e = same_token _ h t e
 kept_marks ahead.BlockMapping h t e = same_token _ h t e
@@ -30,23 +31,3 @@ kept_marks ahead.BlockEntry h t e = same_token _ h t e
 kept_marks ahead.FlowEntry h t e = same_token _ h t e
 kept_marks ahead.Key h t e = same_token _ h t e
 kept_marks ahead.Value h t e = same_token _ h t e
-
--- its start is kept
-pub kept_begins : (k : Lookahead) (h : yaml_token_t) → is_some (token_ahead k h) ≡ true
-    → lookahead_start (token_ahead k h) ≡ h.start_mark
-kept_begins ahead.Nothing h e = cc
-kept_begins ahead.Token h e = refl
-kept_begins ahead.BlockSequence h e = refl
-kept_begins ahead.BlockMapping h e = refl
-kept_begins ahead.FlowSequence h e = refl
-kept_begins ahead.FlowMapping h e = refl
-kept_begins ahead.StreamEnd h e = refl
-kept_begins ahead.DocumentStart h e = refl
-kept_begins ahead.DocumentEnd h e = refl
-kept_begins ahead.BlockEnd h e = refl
-kept_begins ahead.FlowSequenceEnd h e = refl
-kept_begins ahead.FlowMappingEnd h e = refl
-kept_begins ahead.BlockEntry h e = refl
-kept_begins ahead.FlowEntry h e = refl
-kept_begins ahead.Key h e = refl
-kept_begins ahead.Value h e = refl

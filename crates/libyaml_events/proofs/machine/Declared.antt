@@ -19,7 +19,7 @@ use Rattle.libyaml_events.specs.machine.Config.{Config, Handles}
 use Rattle.libyaml_events.specs.machine.Machine.{explicit_document, or_default, resolve, with_prefix}
 use Rattle.libyaml_events.proofs.machine.Link.{End, after, directive_ends, handles_of, waits}
 use Rattle.libyaml_grammar.proofs.lent.TextMaps.{inserted}
-use Rattle.libyaml_events.specs.declared.pending.DirectivesRead.{DirectivesRead}
+use Rattle.libyaml_events.specs.machine.Read.{DirectivesRead}
 use Rattle.libyaml_events.specs.machine.Want.{BehindDirective}
 use Rattle.libyaml_types.specs.declared.directive.yaml_tag_directive_t.{yaml_tag_directive_t}
 use Rattle.libyaml_types.specs.declared.directive.yaml_version_directive_t.{yaml_version_directive_t}

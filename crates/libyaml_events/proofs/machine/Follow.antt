@@ -50,7 +50,7 @@ use Rattle.libyaml_events.proofs.machine.Link.{End, after, config, config_of, em
 use Rattle.libyaml_events.proofs.machine.Link.{headed_config, kind}
 use Rattle.libyaml_events.proofs.machine.Link.{node_config, read_of, spends, step_ends, tag_read, waits, want_of}
 use Rattle.libyaml_grammar.proofs.lent.StepsMeet.{IsDue, IsEntry, IsMet}
-use Rattle.libyaml_events.specs.declared.node_head.NodeHead.{NodeHead}
+use Rattle.libyaml_events.specs.machine.Read.{NodeHead}
 use Rattle.libyaml_events.specs.machine.Want.{AtState, Given}
 use Rattle.libyaml_types.specs.declared.enums.yaml_parser_state_t.TheVariants as st
 

@@ -30,11 +30,11 @@ use Rattle.libyaml_events.specs.machine.Want.{BehindIndentlessEntry, BehindKey}
 use Rattle.libyaml_events.specs.machine.Want.{BehindValue, BehindFlowSequenceEntry, BehindFlowSequenceValue}
 use Rattle.libyaml_events.specs.machine.Want.{BehindFlowMappingEntry}
 use Rattle.libyaml_events.specs.machine.Want.{BehindFlowMappingKey, BehindFlowMappingValue, Given, Wants}
-use Rattle.libyaml_events.specs.declared.node_place.NodePlace.{NodePlace}
-use Rattle.libyaml_events.specs.declared.node_head.PropertiesRead.{PropertiesRead}
-use Rattle.libyaml_events.specs.declared.node_head.TagRead.{TagRead}
-use Rattle.libyaml_events.specs.declared.pending.DirectivesRead.{DirectivesRead}
-use Rattle.libyaml_events.specs.declared.node_place.NodePlace.TheVariants.{Block, BlockOrIndentlessSequence, Flow}
+use Rattle.libyaml_automaton.specs.declared.node_place.NodePlace.{NodePlace}
+use Rattle.libyaml_events.specs.machine.Read.{PropertiesRead}
+use Rattle.libyaml_events.specs.machine.Read.{TagRead}
+use Rattle.libyaml_events.specs.machine.Read.{DirectivesRead}
+use Rattle.libyaml_automaton.specs.declared.node_place.NodePlace.TheVariants.{Block, BlockOrIndentlessSequence, Flow}
 use Rattle.libyaml_types.specs.declared.enums.yaml_parser_state_t.TheVariants as st
 use Rattle.libyaml_types.specs.declared.enums.yaml_parser_state_t.{yaml_parser_state_t}
 

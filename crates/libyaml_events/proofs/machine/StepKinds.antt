@@ -29,12 +29,12 @@ use Rattle.libyaml_events.specs.machine.Want.{BehindFlowMappingKey}
 use Rattle.libyaml_events.specs.machine.Want.{BehindFlowMappingValue, BehindFlowSequenceEntry, BehindFlowSequenceValue}
 use Rattle.libyaml_events.specs.machine.Want.{BehindIndentlessEntry}
 use Rattle.libyaml_events.specs.machine.Want.{BehindKey, BehindProperties, BehindValue}
-use Rattle.libyaml_events.specs.declared.node_head.NodeHead.{NodeHead}
-use Rattle.libyaml_events.specs.declared.node_head.PropertiesRead.{PropertiesRead}
-use Rattle.libyaml_events.specs.declared.node_head.TagRead.{TagRead}
-use Rattle.libyaml_events.specs.declared.node_place.NodePlace.{NodePlace}
-use Rattle.libyaml_events.specs.declared.node_place.NodePlace.TheVariants.{Block, BlockOrIndentlessSequence, Flow}
-use Rattle.libyaml_events.specs.declared.pending.DirectivesRead.{DirectivesRead}
+use Rattle.libyaml_events.specs.machine.Read.{NodeHead}
+use Rattle.libyaml_events.specs.machine.Read.{PropertiesRead}
+use Rattle.libyaml_events.specs.machine.Read.{TagRead}
+use Rattle.libyaml_automaton.specs.declared.node_place.NodePlace.{NodePlace}
+use Rattle.libyaml_automaton.specs.declared.node_place.NodePlace.TheVariants.{Block, BlockOrIndentlessSequence, Flow}
+use Rattle.libyaml_events.specs.machine.Read.{DirectivesRead}
 use Rattle.libyaml_events.specs.machine.Config.{Config, at, with_handle, keep, popped, pushed, pushed_mark, top_mark}
 use Rattle.libyaml_events.specs.machine.Machine as mach
 use Rattle.libyaml_events.specs.machine.Machine.{Progressed, anchor_behind, at_state, begin_document, behind_properties}
@@ -45,7 +45,7 @@ use Rattle.libyaml_events.specs.machine.Machine.{no_content, node_content, parse
 use Rattle.libyaml_events.specs.machine.Machine.{parse_implicit_document_start, parse_node}
 use Rattle.libyaml_events.specs.machine.Machine.{process_empty_scalar, resolve, tag_behind, version_directive, want}
 use Rattle.libyaml_events.specs.machine.Slots.{is_nothing_before}
-use Rattle.libyaml_events.specs.declared.slot.Slot.TheVariants as slot
+use Rattle.libyaml_automaton.specs.declared.slot.Slot.TheVariants as slot
 use Rattle.libyaml_events.specs.parsers.EventsLeft.{rank}
 use Rattle.libyaml_events.specs.parsers.Pops.{raised}
 

@@ -9,7 +9,8 @@ use Rattle.libyaml_types.specs.declared.enums.yaml_parser_state_t.TheVariants.{Y
 use Rattle.libyaml_types.specs.Fault.{Fault, memory_fault}
 use Rattle.libyaml_grammar.specs.sentences.Tokens.{Token}
 use Rattle.libyaml_grammar.specs.sentences.Events.{Event}
-use Rattle.libyaml_events.specs.machine.Config.{Config, Parser, is_fault, taken, token_if, ended_or_failed}
+use Rattle.libyaml_events.specs.machine.Config.{Config, is_fault, taken, token_if, ended_or_failed}
+use Rattle.libyaml_events.specs.machine.Entering.{Enters}
 use Rattle.libyaml_events.specs.machine.Growth.{may_grow}
 use Rattle.libyaml_events.specs.machine.Machine.{Progressed, step}
 use Rattle.libyaml_events.specs.machine.Steps.{FailsAs, Steps}
@@ -69,116 +70,116 @@ taking_begins w c t before h n = record {
   fed = λ l g f. takes w c l (g ++ []) t (subst (λ (x : List Event). Fed w c None l x) (sym (append-nil g)) f) h refl;
 }
 
-module _ {S : Type 0} (Full : Type 0) (w0 : Want) (c0 : Config) (t : Token) (before : List Event) (w : Want)
-    (old : Parser S) (u : Token) (now : List Event)
-    (k : Taking w0 c0 t before w old.config u now) where
+module _ (Full : Type 0) (w0 : Want) (c0 : Config) (t : Token) (before : List Event) (w : Want)
+    (old : Config) (u : Token) (now : List Event)
+    (k : Taking w0 c0 t before w old u now) where
   -- a further token is wanted
-  pub wants_next : (w' : Want) (new : Parser S) → Steps (step w old.config u) old (Ok (Wants w')) new
-      → Takes Full (standing w0 c0) t before (Ok tt) (standing w' new.config) now
+  pub wants_next : (w' : Want) (new : Config) → Steps (step w old u) old (Ok (Wants w')) new
+      → Takes Full (standing w0 c0) t before (Ok tt) (standing w' new) now
   wants_next w' new h = record {
     added = k.added;
     appended = k.appended;
     at_most_four = k.few;
     ends_so =
-        λ l g f. wants w old.config u (k.fed l g f) h.0;
+        λ l g f. wants w old u (k.fed l g f) h.0;
   }
 
-  pub no_lookahead : (w' : Want) (new : Parser S) → Steps (step w old.config u) old (Ok (Wants w')) new
-      → new.config.lookahead ≡ None
-  no_lookahead w' new h = h.3 ∙ k.none
+  pub no_lookahead : (w' : Want) (new : Config) → Steps (step w old u) old (Ok (Wants w')) new
+      → new.lookahead ≡ None
+  no_lookahead w' new h = h.1 ∙ k.none
 
   -- the step failed
-  pub fails : (x : yaml_error_type_t) (w' : Want) (new : Parser S) → Steps (step w old.config u) old (Err x) new
-      → (x ≡ YAML_MEMORY_ERROR → may_grow w old.config u.content ≡ true)
-      → Takes Full (standing w0 c0) t before (Err x) (standing w' (let_go new.config)) now
+  pub fails : (x : yaml_error_type_t) (w' : Want) (new : Config) → Steps (step w old u) old (Err x) new
+      → (x ≡ YAML_MEMORY_ERROR → may_grow w old u.content ≡ true)
+      → Takes Full (standing w0 c0) t before (Err x) (standing w' (let_go new)) now
   fails x w' new h grows = record {
     added = k.added;
     appended = k.appended;
     at_most_four = k.few;
     ends_so =
-        λ l g f. by l g f x grows h.0;
+        λ l g f. by l g f x grows h;
   }
     where
       by : (l : List Token) (g : List Event) → Fed w0 c0 None l g → (x : yaml_error_type_t)
-          → (x ≡ YAML_MEMORY_ERROR → may_grow w old.config u.content ≡ true) → FailsAs new.config (step w old.config u) x
-          → Stops Full (l ++ t ∷ []) (g ++ k.added) new.config.fault
-      by l g f YAML_MEMORY_ERROR m i = by_memory i w old.config u (k.fed l g f) (for_step (m refl))
+          → (x ≡ YAML_MEMORY_ERROR → may_grow w old u.content ≡ true) → FailsAs new (step w old u) x
+          → Stops Full (l ++ t ∷ []) (g ++ k.added) new.fault
+      by l g f YAML_MEMORY_ERROR m i = by_memory i w old u (k.fed l g f) (for_step (m refl))
       by l g f YAML_PARSER_ERROR m i =
-          let failed = has_failed (l ++ t ∷ []) (g ++ k.added) new.config.fault
+          let failed = has_failed (l ++ t ∷ []) (g ++ k.added) new.fault
           (subst (λ (o : Progressed). Leads o (l ++ t ∷ []) (g ++ k.added)) i.0 (fed_to (k.fed l g f)).leads) in
-          by_grammar failed (λ more s. failed_run (l ++ t ∷ []) (g ++ k.added) new.config.fault more s failed)
+          by_grammar failed (λ more s. failed_run (l ++ t ∷ []) (g ++ k.added) new.fault more s failed)
       by l g f _ m i = absurd i
 
-  pub fault_kept : (x : yaml_error_type_t) (new : Parser S) → Steps (step w old.config u) old (Err x) new
-      → (x ≡ new.config.fault.error) × (is_fault new.config.fault.error ≡ true)
-  fault_kept x new h = by x h.0
+  pub fault_kept : (x : yaml_error_type_t) (new : Config) → Steps (step w old u) old (Err x) new
+      → (x ≡ new.fault.error) × (is_fault new.fault.error ≡ true)
+  fault_kept x new h = by x h
     where
-      by : (x : yaml_error_type_t) → FailsAs new.config (step w old.config u) x → (x ≡ new.config.fault.error)
-          × (is_fault new.config.fault.error ≡ true)
+      by : (x : yaml_error_type_t) → FailsAs new (step w old u) x → (x ≡ new.fault.error)
+          × (is_fault new.fault.error ≡ true)
       by YAML_MEMORY_ERROR i = (ap (λ (f : Fault). f.error) (sym i), ap (λ (f : Fault). is_fault f.error) i)
       by YAML_PARSER_ERROR i = (sym i.1, ap is_fault i.1)
       by _ i = absurd i
 
   -- an event is given that finds no room
-  pub no_room : (e : Event) (mid : Parser S) → Steps (step w old.config u) old (Ok (Given e)) mid
+  pub no_room : (e : Event) (mid : Config) → Steps (step w old u) old (Ok (Given e)) mid
       → (w' : Want) (d : Config) → d.fault ≡ memory_fault
       → Full → Takes Full (standing w0 c0) t before (Err YAML_MEMORY_ERROR) (standing w' d) now
   no_room e mid h w' d i full = record {
     added = k.added;
     appended = k.appended;
     at_most_four = k.few;
-    ends_so = λ l g f. by_memory i w old.config u (k.fed l g f) (for_event e mid.config h.0 full);
+    ends_so = λ l g f. by_memory i w old u (k.fed l g f) (for_event e mid h full);
   }
 
   -- a step failed that appends its event
   pub fails_onto : (Room : Type 0) → (Room → Full)
-      → (x : yaml_error_type_t) (w' : Want) (new : Parser S) (more : List Event) → FailsOnto Room w old u x new
-      → more ≡ now → Takes Full (standing w0 c0) t before (Err x) (standing w' (let_go new.config)) more
+      → (x : yaml_error_type_t) (w' : Want) (new : Config) (more : List Event) → FailsOnto Room w old u x new
+      → more ≡ now → Takes Full (standing w0 c0) t before (Err x) (standing w' (let_go new)) more
   fails_onto Room full x w' new more f m =
-      subst (λ (y : List Event). Takes Full (standing w0 c0) t before (Err x) (standing w' (let_go new.config)) y)
+      subst (λ (y : List Event). Takes Full (standing w0 c0) t before (Err x) (standing w' (let_go new)) y)
       (sym m) (by f)
     where
-      by : FailsOnto Room w old u x new → Takes Full (standing w0 c0) t before (Err x) (standing w' (let_go new.config)) now
+      by : FailsOnto Room w old u x new → Takes Full (standing w0 c0) t before (Err x) (standing w' (let_go new)) now
       by (by_step h grows) = fails x w' new h grows
       by (by_list e mid h i j room) =
           subst (λ (y : yaml_error_type_t). Takes Full (standing w0 c0) t before (Err y)
-          (standing w' (let_go new.config)) now) (sym i)
-          (no_room e mid h w' (let_go new.config) j (full room))
+          (standing w' (let_go new)) now) (sym i)
+          (no_room e mid h w' (let_go new) j (full room))
 
-  pub onto_kept : (Room : Type 0) (x : yaml_error_type_t) (new : Parser S) → FailsOnto Room w old u x new
-      → (x ≡ new.config.fault.error) × (is_fault new.config.fault.error ≡ true)
+  pub onto_kept : (Room : Type 0) (x : yaml_error_type_t) (new : Config) → FailsOnto Room w old u x new
+      → (x ≡ new.fault.error) × (is_fault new.fault.error ≡ true)
   onto_kept Room x new (by_step h grows) = fault_kept x new h
   onto_kept Room x new (by_list e mid h i j room) =
       (i ∙ ap (λ (f : Fault). f.error) (sym j), ap (λ (f : Fault). is_fault f.error) j)
 
   -- an event is given
-  module _ (e : Event) (mid : Parser S) (h : Steps (step w old.config u) old (Ok (Given e)) mid) (more : List Event)
+  module _ (e : Event) (mid : Config) (h : Steps (step w old u) old (Ok (Given e)) mid) (more : List Event)
       (m : more ≡ now ++ e ∷ []) where
     pub all_added : more ≡ before ++ (k.added ++ e ∷ [])
     all_added = m ∙ (ap (λ (x : List Event). x ++ e ∷ []) k.appended ∙ append_assoc before k.added (e ∷ []))
 
-    pub given_fed : (o : Option Token) → mid.config.lookahead ≡ o → (l : List Token) (g : List Event) → Fed w0 c0 None l g
-        → Fed AtState (taken mid.config) o (l ++ t ∷ []) (g ++ (k.added ++ e ∷ []))
-    given_fed o i l g f = gives w old.config u (g ++ k.added) e mid.config (k.fed l g f) h.0 refl (sym i)
+    pub given_fed : (o : Option Token) → mid.lookahead ≡ o → (l : List Token) (g : List Event) → Fed w0 c0 None l g
+        → Fed AtState (taken mid) o (l ++ t ∷ []) (g ++ (k.added ++ e ∷ []))
+    given_fed o i l g f = gives w old u (g ++ k.added) e mid (k.fed l g f) h refl (sym i)
         (sym (append_assoc g k.added (e ∷ [])))
 
     given_few : (l : List Token) (g : List Event) → Fed w0 c0 None l g → length (k.added ++ e ∷ []) ≤ 4
     given_few l g f = by (fed_to f).running
       where
-        links : Links mid.config (l ++ t ∷ []) (g ++ (k.added ++ e ∷ []))
-        links = subst (Links mid.config (l ++ t ∷ [])) (append_assoc g k.added (e ∷ []))
-            (subst (λ (o : Progressed). Leads o (l ++ t ∷ []) (g ++ k.added)) h.0 (fed_to (k.fed l g f)).leads)
+        links : Links mid (l ++ t ∷ []) (g ++ (k.added ++ e ∷ []))
+        links = subst (Links mid (l ++ t ∷ [])) (append_assoc g k.added (e ∷ []))
+            (subst (λ (o : Progressed). Leads o (l ++ t ∷ []) (g ++ k.added)) h (fed_to (k.fed l g f)).leads)
 
         by : Running w0 c0 l g → length (k.added ++ e ∷ []) ≤ 4
-        by (runs i s) = few l g w0 c0 t (k.added ++ e ∷ []) mid.config s links
+        by (runs i s) = few l g w0 c0 t (k.added ++ e ∷ []) mid s links
         by (has_ended i m) = absurd (both_ways (ended_or_failed c0) k.begun i)
 
     -- and the token stays
-    pub goes_on : (v : Token) → mid.config.lookahead ≡ Some v → ended_or_failed (taken mid.config) ≡ false
-        → Taking w0 c0 t before AtState (taken mid.config) v more
+    pub goes_on : (v : Token) → mid.lookahead ≡ Some v → ended_or_failed (taken mid) ≡ false
+        → Taking w0 c0 t before AtState (taken mid) v more
     goes_on v i r = record {
       begun = k.begun;
-      alive = begun_alive (taken mid.config) r;
+      alive = begun_alive (taken mid) r;
       none = refl;
       added = k.added ++ e ∷ [];
       appended = all_added;
@@ -186,10 +187,20 @@ module _ {S : Type 0} (Full : Type 0) (w0 : Want) (c0 : Config) (t : Token) (bef
       few = given_few;
     }
 
+    -- or the token opens a collection, which is entered
+    pub is_entered : (w' : Want) (new : Config) → Enters mid (Ok (Wants w')) new
+        → Takes Full (standing w0 c0) t before (Ok tt) (standing w' new) more
+    is_entered w' new s = record {
+      added = k.added ++ e ∷ [];
+      appended = all_added;
+      at_most_four = given_few;
+      ends_so = λ l g f. wants AtState (taken mid) s.token (given_fed (Some s.token) s.stayed l g f) s.steps.0;
+    }
+
     -- or none is held, or the stream has ended
-    pub is_done : (held : Bool) (v : Token) → mid.config.lookahead ≡ token_if held v
-        → (held ≡ true → ended_or_failed (taken mid.config) ≡ true)
-        → Takes Full (standing w0 c0) t before (Ok tt) (standing AtState (taken mid.config)) more
+    pub is_done : (held : Bool) (v : Token) → mid.lookahead ≡ token_if held v
+        → (held ≡ true → ended_or_failed (taken mid) ≡ true)
+        → Takes Full (standing w0 c0) t before (Ok tt) (standing AtState (taken mid)) more
     is_done false v i r = record {
       added = k.added ++ e ∷ [];
       appended = all_added;
@@ -201,7 +212,7 @@ module _ {S : Type 0} (Full : Type 0) (w0 : Want) (c0 : Config) (t : Token) (bef
       appended = all_added;
       at_most_four = given_few;
       ends_so = λ l g f.
-          let b : InHand AtState (taken mid.config) v (l ++ t ∷ []) (g ++ (k.added ++ e ∷ [])) =
+          let b : InHand AtState (taken mid) v (l ++ t ∷ []) (g ++ (k.added ++ e ∷ [])) =
           fed_to (given_fed (Some v) i l g f) in
-          absurd (both_ways (ended_or_failed (taken mid.config)) (running (taken mid.config) b.good.1 b.alive) (r refl));
+          absurd (both_ways (ended_or_failed (taken mid)) (running (taken mid) b.good.1 b.alive) (r refl));
     }

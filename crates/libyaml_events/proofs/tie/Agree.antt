@@ -17,8 +17,8 @@ use Rattle.libyaml_types.specs.declared.enums.yaml_token_type_t.{yaml_token_type
 use Rattle.libyaml_types.specs.declared.enums.yaml_token_type_t.TheVariants as kind
 use Rattle.libyaml_types.specs.Types.{token_type}
 use Rattle.libyaml_grammar.specs.sentences.Order.{is_accepted}
-use Rattle.libyaml_events.specs.declared.pending.DirectivesRead.{DirectivesRead}
-use Rattle.libyaml_events.specs.declared.node_head.TagRead.{TagRead}
+use Rattle.libyaml_events.specs.machine.Read.{DirectivesRead}
+use Rattle.libyaml_events.specs.machine.Read.{TagRead}
 use Rattle.libyaml_events.specs.machine.Config.{Handles}
 use Rattle.libyaml_events.specs.machine.Machine as parser
 use Rattle.libyaml_events.specs.machine.Want as parser_want
@@ -30,18 +30,18 @@ use Rattle.libyaml_automaton.specs.Numbers.{flag}
 use Rattle.libyaml_automaton.specs.Config.{Config, pushed}
 use Rattle.libyaml_automaton.specs.Want as want
 use Rattle.libyaml_automaton.specs.Automaton as automaton
-use Rattle.libyaml_events.specs.automaton.Texts.{bit, Held, nothing_held, want_of, held_of, place_of, properties_of}
+use Rattle.libyaml_events.specs.automaton.Texts.{bit, Held, nothing_held, want_of, held_of, properties_of}
 use Rattle.libyaml_events.specs.automaton.Texts.{tag_of, tag_fact, token_with}
 use Rattle.libyaml_events.specs.automaton.Agree.{Agrees, WantsAgree}
 use Rattle.libyaml_events.proofs.tie.Nodes.{directives_held, properties_held, read}
 
 -- nothing further is wanted
-abbrev IsQuiet : automaton.Progressed → Type 0
+abbrev pub IsQuiet : automaton.Progressed → Type 0
 IsQuiet (Ok (want.Given e, c)) = Unit {0}
 IsQuiet (Ok (want.Wants v, c)) = ⊥
 IsQuiet (Err f) = Unit {0}
 
-quietly : (hs : Handles) (h : Held) (t : yaml_token_t) (k : unnamed_yaml_token_t_data)
+pub quietly : (hs : Handles) (h : Held) (t : yaml_token_t) (k : unnamed_yaml_token_t_data)
     (p : automaton.Progressed) → IsQuiet p
     → Agrees hs h t k p
 quietly hs h t k (Ok (want.Given e, c)) q = tt
@@ -164,7 +164,7 @@ no_content : (p : NodePlace) (a : Bool) (g : want.TagRead) (r : want.Properties)
 no_content p false want.NoTag r c t = tt
 no_content p _ _ r c t = tt
 
-node_content : (p : NodePlace) (r : want.Properties) (c : Config) (t : want.Token) (k : yaml_token_type_t)
+pub node_content : (p : NodePlace) (r : want.Properties) (c : Config) (t : want.Token) (k : yaml_token_type_t)
     → IsQuiet (automaton.node_content p r c t k)
 node_content p r c t kind.YAML_SCALAR_TOKEN = tt
 node_content p r c t kind.YAML_FLOW_SEQUENCE_START_TOKEN = tt
@@ -176,7 +176,7 @@ node_content _ r c t kind.YAML_BLOCK_MAPPING_START_TOKEN = tt
 node_content pl.BlockOrIndentlessSequence r c t kind.YAML_BLOCK_ENTRY_TOKEN = tt
 node_content p r c t k = no_content p r.anchor r.tag r c t
 
-content_behind : (g : want.TagRead) (p : NodePlace) (r : want.Properties) (c : Config) (t : want.Token)
+pub content_behind : (g : want.TagRead) (p : NodePlace) (r : want.Properties) (c : Config) (t : want.Token)
     (k : yaml_token_type_t)
     → IsQuiet (automaton.content_behind g p r c t k)
 content_behind want.Undefined p r c t k = tt
@@ -335,7 +335,7 @@ automaton_agrees : (w : parser_want.Want) (c : Config) (hs : Handles) (t : yaml_
 automaton_agrees parser_want.AtState c hs t k = at_state c.state c hs t k
 automaton_agrees (parser_want.BehindDirective d) c hs t k = explicit_document d c hs t k
 automaton_agrees (parser_want.BehindProperties p r) c hs t k =
-    behind_properties (place_of p) r.anchor r.tag r.start_mark r.end_mark c hs t k
+    behind_properties p r.anchor r.tag r.start_mark r.end_mark c hs t k
 automaton_agrees (parser_want.BehindBlockEntry end) c hs t k = at_slot slot.BlockEntry end c hs t k
 automaton_agrees (parser_want.BehindIndentlessEntry end) c hs t k = at_slot slot.IndentlessEntry end c hs t k
 automaton_agrees (parser_want.BehindKey end) c hs t k = at_slot slot.BlockKey end c hs t k

@@ -2,31 +2,31 @@
 use Rattle.std.proofs.Common.{refl}
 use Rattle.libyaml_events.specs.automaton.Entering.{Entering, FlowSequence, FlowMapping}
 
-pub entering : (S : Type 0) → Entering S
-entering S FlowSequence p t c e b n = record {
+pub entering : Entering
+entering FlowSequence p t c e b n = record {
   gives = refl;
-  enters = λ parser. record {
+  enters = record {
     token = t;
     stayed = refl;
-    steps = (rw n refl, refl, refl, rw n refl);
+    steps = (rw n refl, rw n refl);
     grows = refl;
   };
 }
-entering S FlowMapping p t c e b n = record {
+entering FlowMapping p t c e b n = record {
   gives = refl;
-  enters = λ parser. record {
+  enters = record {
     token = t;
     stayed = refl;
-    steps = (rw n refl, refl, refl, rw n refl);
+    steps = (rw n refl, rw n refl);
     grows = refl;
   };
 }
-entering S _ p t c e b n = record {
+entering _ p t c e b n = record {
   gives = rw b refl;
-  enters = λ parser. record {
+  enters = record {
     token = t;
     stayed = refl;
-    steps = (rw n refl, refl, refl, rw n refl);
+    steps = (rw n refl, rw n refl);
     grows = refl;
   };
 }

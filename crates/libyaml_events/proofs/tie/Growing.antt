@@ -1,10 +1,10 @@
 -- The automaton asks for memory only where the parser may.
-use Rattle.std.proofs.Common.{◌≡◌, refl, ℕ, Bool, true}
+use Rattle.std.proofs.Common.{◌≡◌, refl, ℕ, Bool, true, Ok, Err}
 use Rattle.libyaml_types.specs.Types.{token_type}
 use Rattle.libyaml_types.specs.declared.token.unnamed_yaml_token_t_data.{unnamed_yaml_token_t_data}
 use Rattle.libyaml_types.specs.declared.token.unnamed_yaml_token_t_data.TheVariants as tok
-use Rattle.libyaml_events.specs.declared.slot.Slot.{Slot}
-use Rattle.libyaml_events.specs.declared.slot.Slot.TheVariants as slot
+use Rattle.libyaml_automaton.specs.declared.slot.Slot.{Slot}
+use Rattle.libyaml_automaton.specs.declared.slot.Slot.TheVariants as slot
 use Rattle.libyaml_events.specs.machine.Config.{Config}
 use Rattle.libyaml_events.specs.machine.Want as parser
 use Rattle.libyaml_events.specs.machine.Growth.{may_grow, enters, enters_sequence_entry, enters_mapping_entry}
@@ -12,15 +12,19 @@ use Rattle.libyaml_events.specs.machine.Growth.{grows_at_directive, grows_at_doc
 use Rattle.libyaml_automaton.specs.declared.next.Next.{Next}
 use Rattle.libyaml_automaton.specs.declared.next.Next.TheVariants as next
 use Rattle.libyaml_automaton.specs.declared.reading.Reading.{Reading}
-use Rattle.libyaml_automaton.specs.Fits.{First}
+use Rattle.libyaml_types.specs.declared.mark.yaml_mark_t.{yaml_mark_t}
+use Rattle.libyaml_types.specs.declared.enums.yaml_token_type_t.TheVariants as kind
+use Rattle.libyaml_automaton.specs.Automaton as automaton
+use Rattle.libyaml_automaton.specs.Want as want
+use Rattle.libyaml_automaton.specs.Fits.{First, Documents}
 use Rattle.libyaml_automaton.specs.Growth.{pushes, stack_part_of, pushes_in_documents, pushes_at_slot}
 use Rattle.libyaml_automaton.specs.Growth.{pushes_at_sequence_entry}
 use Rattle.libyaml_automaton.specs.Growth.{pushes_at_mapping_entry, pushes_at_directive, pushes_at_document}
-use Rattle.libyaml_automaton.specs.Wanted.{wanted_by, IsAt}
-use Rattle.libyaml_events.specs.automaton.Texts.{want_of, slot_of}
+use Rattle.libyaml_automaton.specs.Wanted.{wanted_by, IsAt, Facts, token}
+use Rattle.libyaml_events.specs.automaton.Texts.{config_of, want_of}
 use Rattle.libyaml_events.specs.automaton.Grown.{GrowsWhereItMay}
 
-at_slot : (s : Slot) (k : unnamed_yaml_token_t_data) → pushes_at_slot (slot_of s) (token_type k) ≡ true
+at_slot : (s : Slot) (k : unnamed_yaml_token_t_data) → pushes_at_slot s (token_type k) ≡ true
     → enters s k ≡ true
 at_slot slot.Document k p = absurd cc
 at_slot slot.BlockEntry tok.BlockEntry p = absurd cc
@@ -135,6 +139,30 @@ documents next.AtDocumentStart tag r _ c k e a p = absurd cc
 documents next.BehindDirective tag r (parser.BehindDirective d) c k e a p = at_directive k p
 documents next.BehindDirective tag r _ c k e a p = absurd cc
 documents _ tag r w c k e a p = absurd cc
+
+-- a further token is wanted
+abbrev pub IsWanting : automaton.Progressed → Type 0
+IsWanting (Ok (want.Given e, c)) = ⊥
+IsWanting (Ok (want.Wants v, c)) = Unit {0}
+IsWanting (Err f) = ⊥
+
+-- where a TAG-DIRECTIVE may be taken, it is kept
+pub handles : (n : Next) (tag : ℕ) (r : Reading) (w : parser.Want) (c : Config) (k : unnamed_yaml_token_t_data)
+    (start end : yaml_mark_t) (f : Facts) → Wanted n tag r w c → IsAt n c.state → stack_part_of n ≡ Documents
+    → token_type k ≡ kind.YAML_TAG_DIRECTIVE_TOKEN
+    → IsWanting (automaton.step (wanted_by n tag r) (config_of c) (token kind.YAML_TAG_DIRECTIVE_TOKEN start end f))
+    → may_grow w c k ≡ true
+handles next.AtImplicitDocumentStart tag r parser.AtState c (tok.TagDirective g) start end f e a d i s = rw a refl
+handles next.AtImplicitDocumentStart tag r _ c (tok.TagDirective g) start end f e a d i s = absurd cc
+handles next.AtDocumentStart tag r parser.AtState c (tok.TagDirective g) start end f e a d i s = rw a refl
+handles next.AtDocumentStart tag r _ c (tok.TagDirective g) start end f e a d i s = absurd cc
+handles next.BehindDirective tag r (parser.BehindDirective x) c (tok.TagDirective g) start end f e a d i s = refl
+handles next.BehindDirective tag r _ c (tok.TagDirective g) start end f e a d i s = absurd cc
+handles next.AtStreamStart tag r w c (tok.TagDirective g) start end f e a d i s = absurd (rw a at s)
+handles next.AtDocumentEnd tag r w c (tok.TagDirective g) start end f e a d i s = absurd (rw a at s)
+handles next.AtEnd tag r w c (tok.TagDirective g) start end f e a d i s = absurd (rw a at s)
+handles _ tag r w c (tok.TagDirective g) start end f e a d i s = absurd cc
+handles n tag r w c _ start end f e a d i s = absurd cc
 
 pub grows : GrowsWhereItMay
 grows n tag r w c k e a =

@@ -19,12 +19,12 @@ use Rattle.libyaml_types.specs.Events.{zero_mark}
 use Rattle.libyaml_types.specs.declared.enums.yaml_token_type_t.{yaml_token_type_t}
 use Rattle.libyaml_grammar.specs.sentences.Events.{is_missing, plain_flag, quoted_flag, is_plain}
 use Rattle.libyaml_grammar.specs.sentences.Order.{is_accepted}
-use Rattle.libyaml_events.specs.declared.pending.DirectivesRead.{DirectivesRead}
-use Rattle.libyaml_events.specs.declared.node_place.NodePlace.{NodePlace}
-use Rattle.libyaml_events.specs.declared.node_place.NodePlace.TheVariants as pl
-use Rattle.libyaml_events.specs.declared.node_head.TagRead.{TagRead}
-use Rattle.libyaml_events.specs.declared.node_head.NodeHead.{NodeHead}
-use Rattle.libyaml_events.specs.declared.node_head.PropertiesRead.{PropertiesRead}
+use Rattle.libyaml_events.specs.machine.Read.{DirectivesRead}
+use Rattle.libyaml_automaton.specs.declared.node_place.NodePlace.{NodePlace}
+use Rattle.libyaml_automaton.specs.declared.node_place.NodePlace.TheVariants as pl
+use Rattle.libyaml_events.specs.machine.Read.{TagRead}
+use Rattle.libyaml_events.specs.machine.Read.{NodeHead}
+use Rattle.libyaml_events.specs.machine.Read.{PropertiesRead}
 use Rattle.libyaml_events.specs.machine.Config.{Config}
 use Rattle.libyaml_events.specs.machine.Machine as parser
 use Rattle.libyaml_automaton.specs.Numbers.{flag}
@@ -32,7 +32,7 @@ use Rattle.libyaml_automaton.specs.Want as want
 use Rattle.libyaml_automaton.specs.Config as automaton_config
 use Rattle.libyaml_automaton.specs.declared.node_place.NodePlace as automaton_place
 use Rattle.libyaml_automaton.specs.Automaton as automaton
-use Rattle.libyaml_events.specs.automaton.Texts.{bit, tag_fact, config_of, token_with, place_of, nothing_held, Held}
+use Rattle.libyaml_events.specs.automaton.Texts.{bit, tag_fact, config_of, token_with, nothing_held, Held}
 use Rattle.libyaml_events.specs.automaton.Texts.{tag_in, tag_of, properties_of, only_if, with_texts}
 
 pub flag_bit : (b : Bool) → flag (bit b) ≡ b
@@ -115,7 +115,7 @@ missing_if : (b : Bool) → false ≡ automaton.is_missing (want.tag_read (if b 
 missing_if true = refl
 missing_if false = refl
 
-missing : (g : Option (List ℕ)) → is_missing g ≡ automaton.is_missing (read_of g)
+pub missing : (g : Option (List ℕ)) → is_missing g ≡ automaton.is_missing (read_of g)
 missing None = refl
 missing (Some []) = refl
 missing (Some (x ∷ xs)) = missing_if (bytes_eq (x ∷ xs) (codes "!"))
@@ -144,7 +144,7 @@ quoted None s = rw (flag_bit (is_plain s)) (negated (is_plain s))
 quoted (Some []) s = refl
 quoted (Some (x ∷ xs)) s = quoted_if (bytes_eq (x ∷ xs) (codes "!")) (flag (bit (is_plain s)))
 
-anchored : (o : Option (List ℕ)) → only_if (is_some o) o ≡ o
+pub anchored : (o : Option (List ℕ)) → only_if (is_some o) o ≡ o
 anchored None = refl
 anchored (Some x) = refl
 
@@ -152,7 +152,7 @@ has_if : (b : Bool) → automaton.has_tag (want.tag_read (if b then 2 else 3)) �
 has_if true = refl
 has_if false = refl
 
-tagged_as : (g : Option (List ℕ)) → only_if (automaton.has_tag (read_of g)) g ≡ g
+pub tagged_as : (g : Option (List ℕ)) → only_if (automaton.has_tag (read_of g)) g ≡ g
 tagged_as None = refl
 tagged_as (Some []) = refl
 tagged_as (Some (x ∷ xs)) = rw (has_if (bytes_eq (x ∷ xs) (codes "!"))) refl
@@ -185,14 +185,14 @@ no_content : (p : NodePlace) (h : Held) (a : Option (List ℕ)) (g : Option (Lis
     (start end tag : yaml_mark_t) (c : Config)
     (t : yaml_token_t) (k : unnamed_yaml_token_t_data) → h.anchor ≡ a → Tagged h c g
     → parser.no_content p a g (head h g start end) c t
-    ≡ with_texts h c t k (automaton.no_content (place_of p) (is_some a) (read_of g)
+    ≡ with_texts h c t k (automaton.no_content p (is_some a) (read_of g)
     (properties h g start end tag) (config_of c)
     (token_with c.handles t k))
 no_content pl.Flow h None None start end tag c t k i e = refl
 no_content _ h None None start end tag c t k i e = refl
 no_content p h None (Some []) start end tag c t k i e = only_properties h (Some []) start end tag c t k e
 no_content p h None (Some (x ∷ xs)) start end tag c t k i e =
-    rw (tagged (place_of p) (bytes_eq (x ∷ xs) (codes "!")) (properties h (Some (x ∷ xs)) start end tag)
+    rw (tagged p (bytes_eq (x ∷ xs) (codes "!")) (properties h (Some (x ∷ xs)) start end tag)
     (config_of c) (token_with c.handles t k))
     (only_properties h (Some (x ∷ xs)) start end tag c t k e)
 no_content p h (Some anchor) g start end tag c t k i e = only_properties h g start end tag c t k e
@@ -200,7 +200,7 @@ no_content p h (Some anchor) g start end tag c t k i e = only_properties h g sta
 content_at : (p : NodePlace) (h : Held) (g : Option (List ℕ)) (start end tag : yaml_mark_t) (c : Config)
     (t : yaml_token_t)
     (k : unnamed_yaml_token_t_data) → Tagged h c g → parser.node_content p (head h g start end) c t k
-    ≡ with_texts h c t k (automaton.node_content (place_of p) (properties h g start end tag) (config_of c)
+    ≡ with_texts h c t k (automaton.node_content p (properties h g start end tag) (config_of c)
     (token_with c.handles t k) (token_type k))
 content_at p h g start end tag c t (tok.Scalar s) e
     = rw (e, plain g s.style, quoted g s.style, anchored h.anchor, tagged_as g) refl
@@ -220,7 +220,7 @@ content_at pl.BlockOrIndentlessSequence h g start end tag c t tok.BlockEntry e
     = rw (e, missing g, anchored h.anchor, tagged_as g) refl
 content_at p h g start end tag c t k e = no_content p h h.anchor g start end tag c t k refl e
 
-known : (b : Bool) (p : automaton_place.NodePlace) (r : want.Properties) (c : automaton_config.Config)
+pub known : (b : Bool) (p : automaton_place.NodePlace) (r : want.Properties) (c : automaton_config.Config)
     (t : want.Token)
     (k : yaml_token_type_t) → automaton.content_behind
     (want.tag_read (if b then 2 else 3)) p r c t k ≡ automaton.node_content p r c t k
@@ -239,7 +239,7 @@ resolved : (p : NodePlace) (a : Option (List ℕ)) (g : TagRead) (start end : ya
     (t : yaml_token_t) (k : unnamed_yaml_token_t_data) → parser.resolve c.handles g.handle g.suffix ≡ o
     → parser.content_resolved p (read a (Some g) start end) g o c t k
     ≡ with_texts (properties_held a (Some g)) c t k
-    (automaton.content_behind (want.tag_read (tag_fact o)) (place_of p)
+    (automaton.content_behind (want.tag_read (tag_fact o)) p
     (record (properties (properties_held a (Some g)) o start end g.mark) {
       tag = want.tag_read (tag_fact o);
     }) (config_of c)
@@ -248,7 +248,7 @@ resolved p a g start end None c t k e = refl
 resolved p a g start end (Some []) c t k e = content_at p (properties_held a (Some g))
     (Some []) start end g.mark c t k e
 resolved p a g start end (Some (x ∷ xs)) c t k e =
-    rw (known (bytes_eq (x ∷ xs) (codes "!")) (place_of p)
+    rw (known (bytes_eq (x ∷ xs) (codes "!")) p
     (properties (properties_held a (Some g)) (Some (x ∷ xs)) start end g.mark)
     (config_of c) (token_with c.handles t k) (token_type k))
     (content_at p (properties_held a (Some g)) (Some (x ∷ xs)) start end g.mark c t k e)
@@ -257,7 +257,7 @@ content_behind : (p : NodePlace) (a : Option (List ℕ)) (o : Option TagRead) (s
     (c : Config)
     (t : yaml_token_t) (k : unnamed_yaml_token_t_data) → parser.content_behind p (read a o start end) o c t k
     ≡ with_texts (properties_held a o) c t k
-    (automaton.content_behind (tag_of c.handles o) (place_of p)
+    (automaton.content_behind (tag_of c.handles o) p
     (properties_of c.handles (read a o start end)) (config_of c)
     (token_with c.handles t k) (token_type k))
 content_behind p a None start end c t k = content_at p
@@ -270,7 +270,7 @@ anchor_behind : (p : NodePlace) (a : Option (List ℕ)) (o : Option TagRead) (st
     (t : yaml_token_t) (x : unnamed_yaml_token_t_data_anchor)
     → parser.anchor_behind p (read a o start end) a c t x.value
     ≡ with_texts (properties_held a o) c t (tok.Anchor x)
-    (automaton.anchor_behind (is_some a) (place_of p) (properties_of c.handles (read a o start end))
+    (automaton.anchor_behind (is_some a) p (properties_of c.handles (read a o start end))
     (config_of c)
     (token_with c.handles t (tok.Anchor x)))
 anchor_behind pl.Block None o start end c t x = refl
@@ -291,14 +291,14 @@ tag_behind : (p : NodePlace) (a : Option (List ℕ)) (o : Option TagRead) (start
     (t : yaml_token_t) (x : unnamed_yaml_token_t_data_tag)
     → parser.tag_behind p (read a o start end) o c t x.handle x.suffix
     ≡ with_texts (properties_held a o) c t (tok.Tag x)
-    (automaton.tag_behind (tag_of c.handles o) (place_of p) (properties_of c.handles (read a o start end))
+    (automaton.tag_behind (tag_of c.handles o) p (properties_of c.handles (read a o start end))
     (config_of c)
     (token_with c.handles t (tok.Tag x)))
 tag_behind pl.Block a None start end c t x = refl
 tag_behind _ a None start end c t x = refl
 tag_behind p a (Some g) start end c t x =
     let n : ℕ = tag_fact (parser.resolve c.handles g.handle g.suffix) in
-    rw (second_tag (n == 1) (n == 2) (n == 3) (place_of p)
+    rw (second_tag (n == 1) (n == 2) (n == 3) p
     (properties_of c.handles (read a (Some g) start end)) (config_of c)
     (token_with c.handles t (tok.Tag x)))
     (content_behind p a (Some g) start end c t (tok.Tag x))
@@ -306,7 +306,7 @@ tag_behind p a (Some g) start end c t x =
 behind_at : (p : NodePlace) (a : Option (List ℕ)) (o : Option TagRead) (start end : yaml_mark_t) (c : Config)
     (t : yaml_token_t) (k : unnamed_yaml_token_t_data) → parser.behind_properties p (read a o start end) c t k
     ≡ with_texts (properties_held a o) c t k
-    (automaton.behind_properties (place_of p) (properties_of c.handles (read a o start end)) (config_of c)
+    (automaton.behind_properties p (properties_of c.handles (read a o start end)) (config_of c)
     (token_with c.handles t k) (token_type k))
 behind_at p a o start end c t (tok.Anchor x) = anchor_behind p a o start end c t x
 behind_at p a o start end c t (tok.Tag x) = tag_behind p a o start end c t x
@@ -315,13 +315,13 @@ behind_at p a o start end c t k = content_behind p a o start end c t k
 pub behind_properties : (p : NodePlace) (r : PropertiesRead) (c : Config) (t : yaml_token_t)
     (k : unnamed_yaml_token_t_data)
     → parser.behind_properties p r c t k ≡ with_texts (properties_held r.anchor r.tag) c t k
-    (automaton.behind_properties (place_of p) (properties_of c.handles r) (config_of c)
+    (automaton.behind_properties p (properties_of c.handles r) (config_of c)
     (token_with c.handles t k) (token_type k))
 behind_properties p r c t k = behind_at p r.anchor r.tag r.start_mark r.end_mark c t k
 
 pub parse_node : (p : NodePlace) (c : Config) (t : yaml_token_t) (k : unnamed_yaml_token_t_data)
     → parser.parse_node p c t k
-    ≡ with_texts nothing_held c t k (automaton.parse_node (place_of p) (config_of c)
+    ≡ with_texts nothing_held c t k (automaton.parse_node p (config_of c)
     (token_with c.handles t k) (token_type k))
 parse_node p c t (tok.Alias a) = refl
 parse_node pl.Block c t (tok.Anchor x) = refl

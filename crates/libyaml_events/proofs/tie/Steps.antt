@@ -7,9 +7,9 @@ use Rattle.libyaml_types.specs.declared.token.unnamed_yaml_token_t_data.TheVaria
 use Rattle.libyaml_types.specs.declared.enums.yaml_parser_state_t.{yaml_parser_state_t}
 use Rattle.libyaml_types.specs.declared.enums.yaml_parser_state_t.TheVariants as st
 use Rattle.libyaml_types.specs.Types.{token_type}
-use Rattle.libyaml_events.specs.declared.node_place.NodePlace.TheVariants as pl
-use Rattle.libyaml_events.specs.declared.slot.Slot.{Slot}
-use Rattle.libyaml_events.specs.declared.slot.Slot.TheVariants as slot
+use Rattle.libyaml_automaton.specs.declared.node_place.NodePlace.TheVariants as pl
+use Rattle.libyaml_automaton.specs.declared.slot.Slot.{Slot}
+use Rattle.libyaml_automaton.specs.declared.slot.Slot.TheVariants as slot
 use Rattle.libyaml_events.specs.machine.Config.{Config, pushed}
 use Rattle.libyaml_events.specs.machine.Want.{Want, AtState, BehindDirective, BehindProperties}
 use Rattle.libyaml_events.specs.machine.Want.{BehindBlockEntry}
@@ -21,14 +21,14 @@ use Rattle.libyaml_events.specs.machine.Want.{BehindFlowMappingValue}
 use Rattle.libyaml_events.specs.machine.Machine as parser
 use Rattle.libyaml_automaton.specs.Automaton as automaton
 use Rattle.libyaml_events.specs.automaton.Alike.{StepsAreAlike}
-use Rattle.libyaml_events.specs.automaton.Texts.{config_of, token_with, want_of, held_of, slot_of, nothing_held}
+use Rattle.libyaml_events.specs.automaton.Texts.{config_of, token_with, want_of, held_of, nothing_held}
 use Rattle.libyaml_events.specs.automaton.Texts.{with_texts}
 use Rattle.libyaml_events.proofs.tie.States as states
 use Rattle.libyaml_events.proofs.tie.Nodes as nodes
 
 at_slot : (s : Slot) (m : yaml_mark_t) (c : Config) (t : yaml_token_t) (k : unnamed_yaml_token_t_data)
     → parser.at_slot s m c t k
-    ≡ with_texts nothing_held c t k (automaton.at_slot (slot_of s) m (config_of c) (token_with c.handles t k)
+    ≡ with_texts nothing_held c t k (automaton.at_slot s m (config_of c) (token_with c.handles t k)
     (token_type k))
 at_slot slot.BlockEntry m c t tok.BlockEntry = refl
 at_slot slot.BlockEntry m c t tok.BlockEnd = refl

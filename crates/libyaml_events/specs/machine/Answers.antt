@@ -2,44 +2,31 @@
 use Rattle.std.specs.Prelude.{Result, Ok, Err}
 use Rattle.libyaml_types.specs.declared.event.yaml_event_t.{yaml_event_t}
 use Rattle.libyaml_types.specs.declared.enums.yaml_error_type_t.{yaml_error_type_t}
-use Rattle.libyaml_events.specs.declared.next.Next.{Next}
-use Rattle.libyaml_events.specs.declared.next.Next.TheVariants as next
-use Rattle.libyaml_events.specs.declared.next.Step.{Step}
-use Rattle.libyaml_events.specs.declared.next.Step.TheVariants as led
+use Rattle.libyaml_automaton.specs.Numbers.{flag}
+use Rattle.libyaml_automaton.specs.Wanted as automaton
+use Rattle.libyaml_events.specs.declared.step.Step.{Step}
+use Rattle.libyaml_events.specs.declared.step.Step.TheVariants as led
 use Rattle.libyaml_events.specs.declared.pending.Pending.{Pending}
-use Rattle.libyaml_events.specs.machine.Want.{Want, AtState, BehindDirective, BehindProperties, BehindBlockEntry}
-use Rattle.libyaml_events.specs.machine.Want.{BehindIndentlessEntry, BehindKey}
-use Rattle.libyaml_events.specs.machine.Want.{BehindValue, BehindFlowSequenceEntry, BehindFlowSequenceValue}
-use Rattle.libyaml_events.specs.machine.Want.{BehindFlowMappingEntry}
-use Rattle.libyaml_events.specs.machine.Want.{BehindFlowMappingKey, BehindFlowMappingValue, Progress, Given, Wants}
+use Rattle.libyaml_events.specs.machine.Config.{Config}
+use Rattle.libyaml_events.specs.machine.Want.{Want, Progress, Given, Wants}
+use Rattle.libyaml_events.specs.automaton.Texts.{Held, want_with, only_if}
 
--- what the next token is wanted for
-abbrev pub wanted_by : Next → Pending → Want
-wanted_by next.AtState p = AtState
-wanted_by next.BehindDirective p = BehindDirective p.directives
-wanted_by next.BehindProperties p = BehindProperties p.place p.properties
-wanted_by next.BehindBlockEntry p = BehindBlockEntry p.mark
-wanted_by next.BehindIndentlessEntry p = BehindIndentlessEntry p.mark
-wanted_by next.BehindKey p = BehindKey p.mark
-wanted_by next.BehindValue p = BehindValue p.mark
-wanted_by next.BehindFlowSequenceEntry p = BehindFlowSequenceEntry
-wanted_by next.BehindFlowSequenceValue p = BehindFlowSequenceValue
-wanted_by next.BehindFlowMappingEntry p = BehindFlowMappingEntry
-wanted_by next.BehindFlowMappingKey p = BehindFlowMappingKey
-wanted_by next.BehindFlowMappingValue p = BehindFlowMappingValue
+-- the texts that are held; an anchor or a tag is one of this node where the automaton says so
+abbrev pub held_in : Pending → Held
+held_in p = record {
+  anchor = only_if (flag p.reading.has_anchor) p.properties.anchor;
+  tag = only_if (flag p.reading.has_tag) p.properties.tag;
+  version = p.directives.version;
+  directives = p.directives.tag_directives;
+}
 
+-- What the next token is wanted for: what the automaton wants it for, with the texts that are held. A tag is one whatever
+-- its fact.
 abbrev pub wanted : Pending → Want
-wanted p = wanted_by p.next p
+wanted p = want_with (held_in p) (automaton.wanted 0 p.reading)
 
-abbrev pub progress : Step → Pending → yaml_event_t → Progress
-progress led.Given p e = Given e
-progress led.Wants p e = Wants (wanted p)
-
-abbrev pub answer : Result Step yaml_error_type_t → Pending → yaml_event_t → Result Progress yaml_error_type_t
-answer (Ok s) p e = Ok (progress s p e)
-answer (Err x) p e = Err x
-
--- a step that wants nothing further
-abbrev pub given : {A : Type 0} → Result A yaml_error_type_t → yaml_event_t → Result Progress yaml_error_type_t
-given (Ok u) e = Ok (Given e)
-given (Err x) e = Err x
+-- a step that failed has the error of the fault that is kept
+abbrev pub answer : Step → Pending → yaml_event_t → Config → Result Progress yaml_error_type_t
+answer led.Given p e c = Ok (Given e)
+answer led.Wants p e c = Ok (Wants (wanted p))
+answer led.Failed p e c = Err c.fault.error

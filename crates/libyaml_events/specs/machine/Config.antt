@@ -65,6 +65,10 @@ start = record {
       = no_fault;
 }
 
+-- a parser of this source that stands so
+abbrev pub parser : {S : Type 0} → ℤ → S → Config → Parser S
+parser max source c = record { source = source; config = c; max_entries = max }
+
 abbrev pub with_config : {S : Type 0} → Parser S → Config → Parser S
 with_config p c = record p { config = c }
 
@@ -87,9 +91,11 @@ token_if false t = None
 abbrev pub token_at : unnamed_yaml_token_t_data → yaml_token_t → yaml_token_t
 token_at content t = record t { content = content }
 
--- The token of lookahead, where there is one. Of a token without fields the parser keeps the marks alone.
+-- The token of lookahead, where there is one that no collection was entered at. Of a token without fields the parser keeps
+-- the marks alone.
 abbrev pub token_ahead : Lookahead → yaml_token_t → Option yaml_token_t
 token_ahead ahead.Nothing t = None
+token_ahead ahead.Entered t = None
 token_ahead ahead.Token t = Some t
 token_ahead ahead.BlockSequence t = Some (token_at content_of.BlockSequenceStart t)
 token_ahead ahead.BlockMapping t = Some (token_at content_of.BlockMappingStart t)
@@ -109,6 +115,7 @@ token_ahead ahead.Value t = Some (token_at content_of.Value t)
 -- which token without fields stays, where one does
 abbrev pub lookahead_content : Lookahead → Option unnamed_yaml_token_t_data
 lookahead_content ahead.Nothing = None
+lookahead_content ahead.Entered = None
 lookahead_content ahead.Token = None
 lookahead_content ahead.BlockSequence = Some content_of.BlockSequenceStart
 lookahead_content ahead.BlockMapping = Some content_of.BlockMappingStart
@@ -124,11 +131,6 @@ lookahead_content ahead.BlockEntry = Some content_of.BlockEntry
 lookahead_content ahead.FlowEntry = Some content_of.FlowEntry
 lookahead_content ahead.Key = Some content_of.Key
 lookahead_content ahead.Value = Some content_of.Value
-
--- where the token that stays begins
-abbrev pub lookahead_start : Option yaml_token_t → yaml_mark_t
-lookahead_start None = zero_mark
-lookahead_start (Some t) = t.start_mark
 
 abbrev pub taken : Config → Config
 taken c = record c { lookahead = None }
@@ -162,9 +164,6 @@ with_handle handle prefix c = record c { handles = insert c.handles handle prefi
 
 abbrev pub without_handles : Config → Config
 without_handles c = record c { handles = no_handles }
-
-abbrev pub marked_ended : Bool → Config → Config
-marked_ended behind_document_end c = record c { behind_document_end = behind_document_end }
 
 abbrev pub is_fault : yaml_error_type_t → Bool
 is_fault YAML_NO_ERROR = false

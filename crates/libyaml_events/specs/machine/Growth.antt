@@ -10,17 +10,17 @@ use Rattle.libyaml_types.specs.declared.enums.yaml_parser_state_t.TheVariants as
 use Rattle.libyaml_events.specs.machine.Config.{Config, Handles}
 use Rattle.libyaml_events.specs.machine.Machine.{or_default}
 use Rattle.libyaml_events.specs.machine.Slots.{is_nothing_before}
-use Rattle.libyaml_events.specs.declared.node_head.PropertiesRead.{PropertiesRead}
-use Rattle.libyaml_events.specs.declared.node_head.TagRead.{TagRead}
+use Rattle.libyaml_events.specs.machine.Read.{PropertiesRead}
+use Rattle.libyaml_events.specs.machine.Read.{TagRead}
 use Rattle.libyaml_events.specs.machine.Want.{Want, AtState, BehindDirective, BehindProperties, BehindBlockEntry}
 use Rattle.libyaml_events.specs.machine.Want.{BehindIndentlessEntry, BehindKey}
 use Rattle.libyaml_events.specs.machine.Want.{BehindValue, BehindFlowSequenceEntry, BehindFlowSequenceValue}
 use Rattle.libyaml_events.specs.machine.Want.{BehindFlowMappingEntry}
 use Rattle.libyaml_events.specs.machine.Want.{BehindFlowMappingKey, BehindFlowMappingValue}
-use Rattle.libyaml_events.specs.declared.slot.Slot.{Slot}
-use Rattle.libyaml_events.specs.declared.slot.Slot.TheVariants.{BlockEntry, IndentlessEntry, BlockKey, BlockValue}
-use Rattle.libyaml_events.specs.declared.slot.Slot.TheVariants.{Document, PairKey, PairValue, FlowKey}
-use Rattle.libyaml_events.specs.declared.slot.Slot.TheVariants.{FlowValue}
+use Rattle.libyaml_automaton.specs.declared.slot.Slot.{Slot}
+use Rattle.libyaml_automaton.specs.declared.slot.Slot.TheVariants.{BlockEntry, IndentlessEntry, BlockKey, BlockValue}
+use Rattle.libyaml_automaton.specs.declared.slot.Slot.TheVariants.{Document, PairKey, PairValue, FlowKey}
+use Rattle.libyaml_automaton.specs.declared.slot.Slot.TheVariants.{FlowValue}
 
 -- a document begins, or a tag directive is kept
 abbrev pub grows_at_directive : unnamed_yaml_token_t_data → Bool

@@ -31,16 +31,16 @@ use Rattle.libyaml_grammar.specs.sentences.Events.{event, is_missing, plain_flag
 use Rattle.libyaml_grammar.specs.sentences.Order.{is_accepted}
 use Rattle.libyaml_events.specs.machine.Config.{Config, Handles, no_handles, at, keep, pushed, popped, pushed_mark}
 use Rattle.libyaml_events.specs.machine.Config.{top_mark, popped_mark, with_handle}
-use Rattle.libyaml_events.specs.declared.pending.DirectivesRead.{DirectivesRead}
-use Rattle.libyaml_events.specs.declared.node_place.NodePlace.{NodePlace}
-use Rattle.libyaml_events.specs.declared.node_place.NodePlace.TheVariants.{Block, BlockOrIndentlessSequence, Flow}
-use Rattle.libyaml_events.specs.declared.node_head.TagRead.{TagRead}
-use Rattle.libyaml_events.specs.declared.node_head.PropertiesRead.{PropertiesRead}
-use Rattle.libyaml_events.specs.declared.node_head.NodeHead.{NodeHead}
-use Rattle.libyaml_events.specs.declared.slot.Slot.{Slot}
-use Rattle.libyaml_events.specs.declared.slot.Slot.TheVariants.{BlockEntry, IndentlessEntry, BlockKey, BlockValue}
-use Rattle.libyaml_events.specs.declared.slot.Slot.TheVariants.{Document, PairKey, PairValue, FlowKey}
-use Rattle.libyaml_events.specs.declared.slot.Slot.TheVariants.{FlowValue}
+use Rattle.libyaml_events.specs.machine.Read.{DirectivesRead}
+use Rattle.libyaml_automaton.specs.declared.node_place.NodePlace.{NodePlace}
+use Rattle.libyaml_automaton.specs.declared.node_place.NodePlace.TheVariants.{Block, BlockOrIndentlessSequence, Flow}
+use Rattle.libyaml_events.specs.machine.Read.{TagRead}
+use Rattle.libyaml_events.specs.machine.Read.{PropertiesRead}
+use Rattle.libyaml_events.specs.machine.Read.{NodeHead}
+use Rattle.libyaml_automaton.specs.declared.slot.Slot.{Slot}
+use Rattle.libyaml_automaton.specs.declared.slot.Slot.TheVariants.{BlockEntry, IndentlessEntry, BlockKey, BlockValue}
+use Rattle.libyaml_automaton.specs.declared.slot.Slot.TheVariants.{Document, PairKey, PairValue, FlowKey}
+use Rattle.libyaml_automaton.specs.declared.slot.Slot.TheVariants.{FlowValue}
 use Rattle.libyaml_events.specs.machine.Slots.{is_nothing_before, state_behind, left_out, entered, place}
 use Rattle.libyaml_events.specs.machine.Want.{Want, AtState, BehindDirective, BehindProperties, BehindBlockEntry}
 use Rattle.libyaml_events.specs.machine.Want.{BehindIndentlessEntry, BehindKey}

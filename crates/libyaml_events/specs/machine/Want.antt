@@ -1,9 +1,9 @@
 -- What a token led to, and what the next one is wanted for (docs/DEFINITIONS.md, "The parser as a machine").
 use Rattle.libyaml_types.specs.declared.event.yaml_event_t.{yaml_event_t}
 use Rattle.libyaml_types.specs.declared.mark.yaml_mark_t.{yaml_mark_t}
-use Rattle.libyaml_events.specs.declared.node_head.PropertiesRead.{PropertiesRead}
-use Rattle.libyaml_events.specs.declared.node_place.NodePlace.{NodePlace}
-use Rattle.libyaml_events.specs.declared.pending.DirectivesRead.{DirectivesRead}
+use Rattle.libyaml_events.specs.machine.Read.{PropertiesRead}
+use Rattle.libyaml_automaton.specs.declared.node_place.NodePlace.{NodePlace}
+use Rattle.libyaml_events.specs.machine.Read.{DirectivesRead}
 
 -- The parser's state says it; or it comes after what is named here. A mark is the end of the token before it. A flow
 -- collection's entry comes after the collection's start too.

@@ -42,8 +42,8 @@ pub fn fed_is_stepped()
 
 /// A parser that has entered a collection at its opening token is, for its machine, one whose token stays,
 /// and entering the collection then changes nothing that is seen.
-pub fn entering<S>()
-    ensures { Entering S }
+pub fn entering()
+    ensures { Entering }
 {}
 
 /// Where a step of the automaton pushes, and so may be `Full`, the parser's step may take memory.

@@ -1,182 +1,329 @@
-//! Nodes after properties. Their productions stand in `nodes`.
-ghost use Rattle.std.specs.Prelude.{◌≡◌, Ok, Err, IfErr, None, true, option_map, string_bytes};
-ghost use Rattle.libyaml_events.specs.machine.Machine.{behind_properties, content_behind, head};
-ghost use Rattle.libyaml_events.specs.machine.Machine.{node_content, scalar_content};
-ghost use Rattle.libyaml_events.specs.machine.Growth.{joins, joins_before};
+//! The content of a node after its properties.
+ghost use Rattle.std.specs.Prelude.{◌≡◌, ℕ, None, Ok, IfErr, IfOk, OnOk, option_map, string_bytes, true};
+ghost use Rattle.libyaml_types.specs.Types.{token_type};
+ghost use Rattle.libyaml_automaton.specs.Fits.{FitsContent, is_opening};
+ghost use Rattle.libyaml_types.specs.declared.enums.yaml_token_type_t.TheVariants.{YAML_SCALAR_TOKEN};
+ghost use Rattle.libyaml_events.specs.machine.Machine.{Progressed};
+ghost use Rattle.libyaml_events.specs.machine.Answers.{answer, held_in};
 ghost use Rattle.libyaml_events.specs.machine.Steps.{Steps};
-ghost use Rattle.libyaml_events.specs.machine.Answers.{answer, given};
-ghost use Rattle.libyaml_events.specs.machine.Want.{Given};
+ghost use Rattle.libyaml_events.specs.machine.Growth.{joins};
+ghost use Rattle.libyaml_events.specs.automaton.Texts.{Held, tag_in, tag_of};
+ghost use Rattle.libyaml_events.specs.automaton.Led.{HeadSays, IsContent, IsHead, IsLed, Puts, PutsHead, RefusesTag};
+ghost use Rattle.libyaml_events.specs.automaton.Led.{IsEntering, SaysContent, read_of};
 
-use crate::next::{Next, Step};
-use crate::node_head::{NodeHead, PropertiesRead};
-use crate::node_place::NodePlace;
 use crate::parser::Machine;
 use crate::pending::Pending;
 use crate::states::contents::{put_anchored_scalar, put_scalar};
-use crate::states::properties::{put_anchor, tag_read};
+use crate::states::give;
+use crate::states::node_events::{collection_start, is_missing, plain_scalar, sequence_start};
+use crate::states::properties::{forget_earlier, take_anchor};
+use crate::step::Step;
+use libyaml_automaton::Answer;
 use libyaml_types::{
-    unnamed_yaml_token_t_data, unnamed_yaml_token_t_data_scalar, yaml_error_type_t, yaml_event_t,
-    yaml_mark_t, yaml_token_t,
+    unnamed_yaml_token_t_data, yaml_error_type_t, yaml_event_t, yaml_mark_t, yaml_sequence_style_t,
+    yaml_token_t,
 };
 
-impl<S> Machine<S> {
-    /// After properties: the other one, or what the node is.
+impl Machine {
+    /// Puts the content of a node after its properties. A handle that is not defined is found here.
     #[inline(never)]
-    pub(super) fn parse_behind_properties(
+    pub(super) fn put_content_behind(
         &mut self,
         token: &mut yaml_token_t,
         pending: &mut Pending,
         out: &mut yaml_event_t,
-    ) -> Result<Step, yaml_error_type_t>
-        ensures steps { Steps (behind_properties pending.old.place pending.old.properties self.old.config
-            token.old token.old.content) self.old (answer result pending.new out.new) self.new }
-        ensures grows { result ≡ Err yaml_error_type_t.YAML_MEMORY_ERROR
-            → joins_before pending.old.properties self.old.config.handles token.old.content ≡ true }
+    ) -> Step
+        requires none { self.old.lookahead ≡ None }
+        requires led { IsLed token.old Answer.AsksContent pending.old self.old }
+        ensures puts { Puts Answer.AsksContent token.old pending.old self.old result pending.new out.new self.new }
+        ensures grows { result ≡ Step.Failed → self.new.fault.error ≡ yaml_error_type_t.YAML_MEMORY_ERROR
+            → joins (held_in pending.old).tag self.old.handles ≡ true }
     {
-        let start_mark = token.start_mark;
-        let end_mark = token.end_mark;
-        match &mut token.content {
-            unnamed_yaml_token_t_data::Anchor(anchor) if pending.properties.anchor.is_none() => {
-                put_anchor(&mut self.spare, anchor, &mut pending.properties.anchor);
-                pending.properties.end_mark = end_mark;
-                Ok(pending.want(Next::BehindProperties))
-            }
-            unnamed_yaml_token_t_data::Tag(tag) if pending.properties.tag.is_none() => {
-                pending.properties.tag = Some(tag_read(self.allocator(), tag, start_mark));
-                pending.properties.end_mark = end_mark;
-                Ok(pending.want(Next::BehindProperties))
-            }
-            _ => {
-                self.parse_content(token, pending, out)?;
-                Ok(Step::Given)
-            }
-        }
+        let tag = match self.take_tag(pending) {
+            Ok(tag) => tag,
+            Err(error) => return Step::failed(error),
+        };
+        self.put_content(tag, token, pending, out)
     }
 
-    /// What the node is, after its properties.
+    /// Puts the content of a node after an anchor alone.
+    #[inline(never)]
+    pub(super) fn put_content_behind_anchor(
+        &mut self,
+        token: &mut yaml_token_t,
+        pending: &mut Pending,
+        out: &mut yaml_event_t,
+    ) -> Step
+        requires none { self.old.lookahead ≡ None }
+        requires led { IsLed token.old Answer.AsksContent pending.old self.old }
+        requires untagged { pending.old.reading.has_tag ≡ 0 }
+        ensures puts { Puts Answer.AsksContent token.old pending.old self.old result pending.new out.new self.new }
+        ensures error { result ≡ Step.Failed → self.new.fault.error ≡ yaml_error_type_t.YAML_PARSER_ERROR }
+    {
+        self.put_content(None, token, pending, out)
+    }
+
+    /// Puts the content of a node after its properties, with its tag in full.
     #[inline(always)]
-    fn parse_content(
+    fn put_content(
         &mut self,
+        tag: Option<String>,
         token: &mut yaml_token_t,
         pending: &mut Pending,
         out: &mut yaml_event_t,
-    ) -> Result<(), yaml_error_type_t>
-        ensures steps { Steps (content_behind pending.old.place pending.old.properties
-            pending.old.properties.tag self.old.config token.old token.old.content) self.old
-            (given result out.new) self.new }
-        ensures grows { result ≡ Err yaml_error_type_t.YAML_MEMORY_ERROR
-            → joins pending.old.properties.tag self.old.config.handles ≡ true }
+    ) -> Step
+        requires none { self.old.lookahead ≡ None }
+        requires led { (o : Progressed) × (h : Held) × (fact : ℕ)
+            × IsContent o h token.old pending.old.reading fact self.old }
+        ensures puts { (o : Progressed) (h : Held) (fact : ℕ)
+            → IsContent o h token.old pending.old.reading fact self.old → IsHead (record {
+              anchor = (held_in pending.old).anchor;
+              tag = option_map string_bytes tag;
+              start_mark = pending.old.reading.start_mark;
+              end_mark = pending.old.reading.end_mark;
+            }) h pending.old.reading fact self.old.handles → Steps o self.old
+            (answer result pending.new out.new self.new) self.new × (result ≡ Step.Wants → ⊥) }
+        ensures error { result ≡ Step.Failed → self.new.fault.error ≡ yaml_error_type_t.YAML_PARSER_ERROR }
     {
-        match &mut token.content {
-            unnamed_yaml_token_t_data::Scalar(scalar) if pending.properties.tag.is_none() => {
-                self.anchored_scalar(scalar, &token.end_mark, &mut pending.properties, out);
-                Ok(())
-            }
-            _ => self.parse_content_behind(token, pending, out),
-        }
+        forget_earlier(pending);
+        let start_mark = pending.reading.start_mark;
+        let end_mark = pending.reading.end_mark;
+        let answer = self.lead_content(token, pending);
+        self.put_head(answer, tag, &start_mark, &end_mark, token, pending, out)
     }
 
-    /// What the node is, after its properties. A handle that is not defined is found here.
-    #[inline(never)]
-    fn parse_content_behind(
-        &mut self,
-        token: &mut yaml_token_t,
-        pending: &mut Pending,
-        out: &mut yaml_event_t,
-    ) -> Result<(), yaml_error_type_t>
-        ensures steps { Steps (content_behind pending.old.place pending.old.properties
-            pending.old.properties.tag self.old.config token.old token.old.content) self.old
-            (given result out.new) self.new }
-        ensures grows { result ≡ Err yaml_error_type_t.YAML_MEMORY_ERROR
-            → joins pending.old.properties.tag self.old.config.handles ≡ true }
+    /// The tag in full of a node whose properties were read, where it has one.
+    #[inline(always)]
+    fn take_tag(&mut self, pending: &mut Pending) -> Result<Option<String>, yaml_error_type_t>
+        ensures reading { pending.new.reading ≡ pending.old.reading }
+        ensures anchor { pending.new.properties.anchor ≡ pending.old.properties.anchor }
+        ensures ok { OnOk result (self.new ≡ self.old) }
+        ensures tag { IfOk result (λ g. (tag_in self.old.handles (held_in pending.old).tag
+            ≡ option_map string_bytes g) × (tag_of self.old.handles (held_in pending.old).tag
+            ≡ read_of (option_map string_bytes g))) }
+        ensures err { IfErr result (λ e. RefusesTag (held_in pending.old).tag pending.old.reading.start_mark
+            self.old e self.new) }
     {
-        let start_mark = pending.properties.start_mark;
+        if pending.reading.has_tag == 0 {
+            return Ok(None);
+        }
+        let start_mark = pending.reading.start_mark;
         let tag = match &mut pending.properties.tag {
-            None => None,
-            Some(tag) => Some(self.resolve_tag(tag, &start_mark)?),
+            None => return Ok(None),
+            Some(read) => self.resolve_tag(read, &start_mark)?,
         };
         // Its handle and suffix are dropped here: where they stay, a list of nodes may not grow where it
         // lies.
-        if tag.is_some() {
-            pending.properties.tag = None;
-        }
-        match &mut token.content {
-            unnamed_yaml_token_t_data::Scalar(scalar) => {
-                self.scalar_behind(tag, scalar, &token.end_mark, &mut pending.properties, out);
-                Ok(())
-            }
-            _ => self.parse_other_behind(pending.place, tag, token, &mut pending.properties, out),
-        }
+        pending.properties.tag = None;
+        Ok(Some(tag))
     }
 
-    /// A scalar after an anchor alone.
-    #[inline(never)]
-    fn anchored_scalar(
-        &mut self,
-        content: &mut unnamed_yaml_token_t_data_scalar,
-        end_mark: &yaml_mark_t,
-        properties: &mut PropertiesRead,
-        out: &mut yaml_event_t,
-    )
-        ensures { Steps (scalar_content (head properties.old None) self.old.config content.old end_mark.now)
-            self.old (Ok (Given out.new)) self.new }
+    /// Does a step of the parser without texts, after a node's properties.
+    #[inline(always)]
+    fn lead_content(&mut self, token: &yaml_token_t, pending: &mut Pending) -> Answer
+        requires none { self.old.lookahead ≡ None }
+        ensures led { (out : Progressed) (h : Held) (tag : ℕ)
+            → IsContent out h token.now pending.old.reading tag self.old
+            → SaysContent out h token.now result pending.old.reading pending.new.reading tag self.new }
+        ensures fits { FitsContent result (token_type token.now.content) pending.new.reading }
+        ensures none { self.new.lookahead ≡ None }
+        ensures handles { self.new.handles ≡ self.old.handles }
+        ensures texts { pending.new ≡ record pending.old { reading = pending.new.reading } }
     {
-        self.pop_state();
-        out.start_mark = properties.start_mark;
-        out.end_mark = *end_mark;
-        put_anchored_scalar(
-            &mut self.spare,
-            &mut properties.anchor,
-            content,
-            &mut out.content,
-        );
+        self.automaton.content_behind(
+            &mut pending.reading,
+            token.type_(),
+            &token.start_mark,
+            &token.end_mark,
+        )
     }
 
-    /// A scalar after properties, with its tag in full.
-    #[inline(never)]
-    fn scalar_behind(
+    /// Puts the event that it led to.
+    #[inline(always)]
+    fn put_head(
         &mut self,
+        answer: Answer,
         tag: Option<String>,
-        content: &mut unnamed_yaml_token_t_data_scalar,
+        start_mark: &yaml_mark_t,
         end_mark: &yaml_mark_t,
-        properties: &mut PropertiesRead,
-        out: &mut yaml_event_t,
-    )
-        ensures { Steps (scalar_content (head properties.old (option_map string_bytes tag)) self.old.config
-            content.old end_mark.now) self.old (Ok (Given out.new)) self.new }
-    {
-        self.pop_state();
-        out.start_mark = properties.start_mark;
-        out.end_mark = *end_mark;
-        put_scalar(
-            &mut self.spare,
-            &mut properties.anchor,
-            tag,
-            content,
-            &mut out.content,
-        );
-    }
-
-    /// What a node is that is no scalar, after its properties.
-    #[inline(never)]
-    fn parse_other_behind(
-        &mut self,
-        place: NodePlace,
-        tag: Option<String>,
         token: &mut yaml_token_t,
-        properties: &mut PropertiesRead,
+        pending: &mut Pending,
         out: &mut yaml_event_t,
-    ) -> Result<(), yaml_error_type_t>
-        ensures steps { Steps (node_content place (head properties.old (option_map string_bytes tag))
-            self.old.config token.old token.old.content) self.old (given result out.new) self.new }
-        ensures error { IfErr result (λ e. e ≡ yaml_error_type_t.YAML_PARSER_ERROR) }
+    ) -> Step
+        requires none { self.old.lookahead ≡ None }
+        requires fits { FitsContent answer (token_type token.old.content) pending.old.reading }
+        requires led { HeadSays token.old answer pending.old.reading self.old }
+        ensures puts { PutsHead (record {
+          anchor = pending.old.properties.anchor;
+          tag = option_map string_bytes tag;
+          start_mark = start_mark.now;
+          end_mark = end_mark.now;
+        }) answer token.old pending.old.reading self.old result pending.new out.new self.new }
+        ensures error { result ≡ Step.Failed → self.new.fault.error ≡ yaml_error_type_t.YAML_PARSER_ERROR }
     {
-        let head = NodeHead {
-            anchor: properties.anchor.take(),
-            tag,
-            start_mark: properties.start_mark,
-            end_mark: properties.end_mark,
-        };
-        self.parse_node_content(place, head, token, out)
+        match answer {
+            Answer::Scalar => self.put_scalar_behind(
+                tag, start_mark, end_mark, token, pending, out,
+            ),
+            Answer::EmptyHead => self.put_empty_behind(
+                tag, start_mark, end_mark, token, pending, out,
+            ),
+            Answer::IndentlessSequence => self.put_indentless(
+                tag, start_mark, end_mark, token, pending, out,
+            ),
+            Answer::Unentered => self.put_unentered_behind(
+                tag, start_mark, end_mark, token, pending, out,
+            ),
+            Answer::Failed => {
+                return self.set_problem(
+                    pending.reading.problem,
+                    &token.start_mark,
+                    &token.start_mark,
+                );
+            }
+            _ => self.put_entered(answer, tag, start_mark, end_mark, token, pending, out),
+        }
+        Step::Given
+    }
+
+    /// Puts a scalar after properties.
+    #[inline(always)]
+    fn put_scalar_behind(
+        &mut self,
+        tag: Option<String>,
+        start_mark: &yaml_mark_t,
+        end_mark: &yaml_mark_t,
+        token: &mut yaml_token_t,
+        pending: &mut Pending,
+        out: &mut yaml_event_t,
+    )
+        requires none { self.old.lookahead ≡ None }
+        requires scalar { token_type token.old.content ≡ YAML_SCALAR_TOKEN }
+        ensures puts { PutsHead (record {
+          anchor = pending.old.properties.anchor;
+          tag = option_map string_bytes tag;
+          start_mark = start_mark.now;
+          end_mark = end_mark.now;
+        }) Answer.Scalar token.old pending.old.reading self.old Step.Given pending.new out.new self.new }
+    {
+        out.start_mark = *start_mark;
+        out.end_mark = token.end_mark;
+        if let unnamed_yaml_token_t_data::Scalar(scalar) = &mut token.content {
+            let anchor = &mut pending.properties.anchor;
+            if tag.is_none() {
+                put_anchored_scalar(&mut self.spare, anchor, scalar, &mut out.content);
+            } else {
+                put_scalar(&mut self.spare, anchor, tag, scalar, &mut out.content);
+            }
+        }
+    }
+
+    /// Puts a node of properties alone.
+    #[inline(never)]
+    fn put_empty_behind(
+        &mut self,
+        tag: Option<String>,
+        start_mark: &yaml_mark_t,
+        end_mark: &yaml_mark_t,
+        token: &mut yaml_token_t,
+        pending: &mut Pending,
+        out: &mut yaml_event_t,
+    )
+        requires none { self.old.lookahead ≡ None }
+        ensures puts { PutsHead (record {
+          anchor = pending.old.properties.anchor;
+          tag = option_map string_bytes tag;
+          start_mark = start_mark.now;
+          end_mark = end_mark.now;
+        }) Answer.EmptyHead token.old pending.old.reading self.old Step.Given pending.new out.new self.new }
+    {
+        let implicit = is_missing(&tag);
+        let text = String::new(self.allocator());
+        let anchor = take_anchor(pending);
+        let content = plain_scalar(anchor, tag, text, implicit);
+        give(out, content, *start_mark, *end_mark);
+        self.keep(token);
+    }
+
+    /// Puts the start of an indentless sequence after properties.
+    #[inline(never)]
+    fn put_indentless(
+        &mut self,
+        tag: Option<String>,
+        start_mark: &yaml_mark_t,
+        end_mark: &yaml_mark_t,
+        token: &mut yaml_token_t,
+        pending: &mut Pending,
+        out: &mut yaml_event_t,
+    )
+        requires none { self.old.lookahead ≡ None }
+        ensures puts { PutsHead (record {
+          anchor = pending.old.properties.anchor;
+          tag = option_map string_bytes tag;
+          start_mark = start_mark.now;
+          end_mark = end_mark.now;
+        }) Answer.IndentlessSequence token.old pending.old.reading self.old Step.Given pending.new out.new self.new }
+    {
+        let style = yaml_sequence_style_t::YAML_BLOCK_SEQUENCE_STYLE;
+        let anchor = take_anchor(pending);
+        let content = sequence_start(anchor, tag, style);
+        give(out, content, *start_mark, token.end_mark);
+        self.keep(token);
+    }
+
+    /// Puts the start of a collection after properties for whose mark there was no room.
+    #[cold]
+    #[inline(never)]
+    fn put_unentered_behind(
+        &mut self,
+        tag: Option<String>,
+        start_mark: &yaml_mark_t,
+        end_mark: &yaml_mark_t,
+        token: &mut yaml_token_t,
+        pending: &mut Pending,
+        out: &mut yaml_event_t,
+    )
+        requires none { self.old.lookahead ≡ None }
+        requires opening { is_opening (token_type token.old.content) ≡ true }
+        ensures puts { PutsHead (record {
+          anchor = pending.old.properties.anchor;
+          tag = option_map string_bytes tag;
+          start_mark = start_mark.now;
+          end_mark = end_mark.now;
+        }) Answer.Unentered token.old pending.old.reading self.old Step.Given pending.new out.new self.new }
+    {
+        let anchor = take_anchor(pending);
+        let content = collection_start(anchor, tag, &token.content);
+        give(out, content, *start_mark, token.end_mark);
+        self.keep(token);
+    }
+
+    /// Puts the start of a collection after properties, which was entered.
+    #[inline(never)]
+    fn put_entered(
+        &mut self,
+        answer: Answer,
+        tag: Option<String>,
+        start_mark: &yaml_mark_t,
+        end_mark: &yaml_mark_t,
+        token: &mut yaml_token_t,
+        pending: &mut Pending,
+        out: &mut yaml_event_t,
+    )
+        requires none { self.old.lookahead ≡ None }
+        requires fits { FitsContent answer (token_type token.old.content) pending.old.reading }
+        requires led { HeadSays token.old answer pending.old.reading self.old }
+        requires other { IsEntering answer }
+        ensures puts { PutsHead (record {
+          anchor = pending.old.properties.anchor;
+          tag = option_map string_bytes tag;
+          start_mark = start_mark.now;
+          end_mark = end_mark.now;
+        }) answer token.old pending.old.reading self.old Step.Given pending.new out.new self.new }
+    {
+        let anchor = take_anchor(pending);
+        let content = collection_start(anchor, tag, &token.content);
+        give(out, content, *start_mark, token.end_mark);
+        self.keep_entered(token);
     }
 }

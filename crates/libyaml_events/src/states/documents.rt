@@ -1,55 +1,43 @@
-//! Stream and documents.
-//!
-//! ```text
-//! stream            ::= STREAM-START (implicit_document | explicit_document)* STREAM-END
-//!                       1             2                   2 or 3              2 or 3
-//! implicit_document ::= block_node DOCUMENT-END*
-//!                       5          7, then 2
-//! explicit_document ::= DIRECTIVE* DOCUMENT-START block_node? DOCUMENT-END*
-//!                       4          4              6           7, then 2
-//!   1 parse_stream_start             YAML_PARSE_STREAM_START_STATE
-//!   libyaml: yaml_parser_parse_stream_start
-//!   2 parse_implicit_document_start  YAML_PARSE_IMPLICIT_DOCUMENT_START_STATE
-//!   3 parse_document_start           YAML_PARSE_DOCUMENT_START_STATE
-//!   4 parse_explicit_document        Next::BehindDirective
-//!   libyaml: yaml_parser_parse_document_start, yaml_parser_process_directives
-//!   5 parse_node(NodePlace::Block)   YAML_PARSE_BLOCK_NODE_STATE
-//!   6 parse_slot(Slot::Document)     YAML_PARSE_DOCUMENT_CONTENT_STATE
-//!   libyaml: yaml_parser_parse_node, yaml_parser_parse_document_content
-//!   7 parse_document_end             YAML_PARSE_DOCUMENT_END_STATE
-//!   libyaml: yaml_parser_parse_document_end
-//!   2 stands at the stream's start and after DOCUMENT-END, 3 after a document without one,
-//!   where the next is explicit. They take a document's first token, which stays for 5 where
-//!   the document is implicit.
-//!   At a token other than DOCUMENT-END, 7 ends the document, and the token stays for 3.
-//! ```
-ghost use Rattle.std.specs.Prelude.{◌≡◌, Ok, Err, OnOk, OnErr, IfErr, true};
-ghost use Rattle.libyaml_types.specs.Fault.{memory_fault};
-ghost use Rattle.libyaml_grammar.specs.sentences.Order.{is_accepted};
-ghost use Rattle.libyaml_events.specs.machine.Config.{with_config, with_fault};
-ghost use Rattle.libyaml_events.specs.machine.Machine.{parse_stream_start, begin_document};
-ghost use Rattle.libyaml_events.specs.machine.Machine.{implicit_document, version_directive};
-ghost use Rattle.libyaml_events.specs.machine.Machine.{tag_directive, explicit_document};
-ghost use Rattle.libyaml_events.specs.machine.Machine.{no_directives, end_stream};
-ghost use Rattle.libyaml_events.specs.machine.Machine.{parse_implicit_document_start};
-ghost use Rattle.libyaml_events.specs.machine.Machine.{parse_document_start, end_document};
-ghost use Rattle.libyaml_events.specs.machine.Machine.{parse_document_end};
-ghost use Rattle.libyaml_events.specs.machine.Growth.{grows_at_directive, grows_at_document};
-ghost use Rattle.libyaml_events.specs.machine.Steps.{Steps};
-ghost use Rattle.libyaml_events.specs.machine.Answers.{answer};
-ghost use Rattle.libyaml_events.specs.machine.Want.{Given};
+//! The stream and its documents, with their directives.
+ghost use Rattle.std.specs.Prelude.{◌≡◌, ◌++◌, ◌∷◌, [], None, Some, Err, IfOk, OnOk, OnErr, false, is_some, true};
 ghost use Rattle.std.specs.FinMap.{get};
+ghost use Rattle.libyaml_types.specs.Fault.{memory_fault};
+ghost use Rattle.libyaml_types.specs.declared.token.unnamed_yaml_token_t_data.TheVariants as tok;
+ghost use Rattle.libyaml_types.specs.declared.token.unnamed_yaml_token_t_data_stream_start.{unnamed_yaml_token_t_data_stream_start};
+ghost use Rattle.libyaml_types.specs.declared.event.unnamed_yaml_event_t_data.TheVariants as ev;
+ghost use Rattle.libyaml_types.specs.Events.{zero_mark};
+ghost use Rattle.libyaml_types.specs.declared.token.unnamed_yaml_token_t_data_version_directive.{unnamed_yaml_token_t_data_version_directive};
+ghost use Rattle.libyaml_types.specs.declared.token.unnamed_yaml_token_t_data_tag_directive.{unnamed_yaml_token_t_data_tag_directive};
+ghost use Rattle.libyaml_types.specs.Types.{token_type};
+ghost use Rattle.libyaml_types.specs.declared.enums.yaml_token_type_t.TheVariants.{YAML_VERSION_DIRECTIVE_TOKEN};
+ghost use Rattle.libyaml_types.specs.declared.enums.yaml_token_type_t.TheVariants.{YAML_TAG_DIRECTIVE_TOKEN};
+ghost use Rattle.libyaml_grammar.specs.sentences.Events.{event};
+ghost use Rattle.libyaml_grammar.specs.sentences.Order.{is_accepted};
+ghost use Rattle.libyaml_automaton.specs.Numbers.{next_of};
+ghost use Rattle.libyaml_automaton.specs.Fits.{FitsDocument, Documents};
+ghost use Rattle.libyaml_automaton.specs.Growth.{stack_part_of};
+ghost use Rattle.libyaml_events.specs.machine.Config.{with_fault, with_handle};
+ghost use Rattle.libyaml_events.specs.machine.Machine.{document_end, document_start, step};
+ghost use Rattle.libyaml_events.specs.machine.Steps.{Steps};
+ghost use Rattle.libyaml_events.specs.machine.Answers.{answer, wanted};
+ghost use Rattle.libyaml_events.specs.machine.Growth.{may_grow};
+ghost use Rattle.libyaml_events.specs.automaton.Texts.{fault_with, held_of};
+ghost use Rattle.libyaml_events.specs.automaton.Led.{IsDeclared, IsPutDocument, LedDocument, PutsDocument};
+ghost use Rattle.libyaml_events.specs.automaton.Led.{IsLedDocument};
+ghost use Rattle.libyaml_events.specs.automaton.View.{Ready};
 
-use crate::next::{Next, Step};
 use crate::parser::Machine;
-use crate::pending::{DirectivesRead, Pending};
+use crate::pending::{DirectivesHeld, Pending};
 use crate::states::give;
+use crate::step::Step;
+use libyaml_automaton::{Answer, Next};
 use libyaml_types::{
-    unnamed_yaml_event_t_data, unnamed_yaml_event_t_data_document_end,
+    ZERO_MARK, unnamed_yaml_event_t_data, unnamed_yaml_event_t_data_document_end,
     unnamed_yaml_event_t_data_document_start, unnamed_yaml_event_t_data_stream_start,
-    unnamed_yaml_token_t_data, yaml_error_type_t, yaml_event_t, yaml_mark_t, yaml_parser_state_t,
-    yaml_tag_directive_t, yaml_token_t, yaml_version_directive_t,
+    unnamed_yaml_token_t_data, yaml_error_type_t, yaml_event_t, yaml_mark_t, yaml_tag_directive_t,
+    yaml_token_t, yaml_version_directive_t,
 };
+use std::alloc::Global;
 use std::mem;
 
 /// Whether documents of this version are parsed: YAML 1.1 and 1.2.
@@ -60,306 +48,384 @@ fn is_accepted(version: &yaml_version_directive_t) -> bool
     version.major == 1 && (version.minor == 1 || version.minor == 2)
 }
 
-impl<S> Machine<S> {
+/// Returns the start of a document without directives.
+#[inline(always)]
+fn document_start(alloc: Global) -> unnamed_yaml_event_t_data
+    ensures { result ≡ document_start None [] true }
+{
+    let event = unnamed_yaml_event_t_data_document_start {
+        version_directive: None,
+        tag_directives: Vec::new(alloc),
+        implicit: true,
+    };
+    unnamed_yaml_event_t_data::DocumentStart(event)
+}
+
+/// Puts the start of a document without directives.
+#[inline(never)]
+fn put_document_start(alloc: Global, content: &mut unnamed_yaml_event_t_data)
+    ensures { content.new ≡ document_start None [] true }
+{
+    match content {
+        unnamed_yaml_event_t_data::DocumentEnd(_) => {
+            *content = document_start(alloc);
+        }
+        unnamed_yaml_event_t_data::StreamStart(_) => {
+            *content = document_start(alloc);
+        }
+        unnamed_yaml_event_t_data::NoEvent => {
+            *content = document_start(alloc);
+        }
+        _ => any_by_document_start(alloc, content),
+    }
+}
+
+/// Puts the start of a document without directives in the place of a content that is to be dropped.
+#[inline(never)]
+fn any_by_document_start(alloc: Global, content: &mut unnamed_yaml_event_t_data)
+    ensures { content.new ≡ document_start None [] true }
+{
+    *content = document_start(alloc);
+}
+
+/// Puts the end of a document.
+#[inline(never)]
+fn put_document_end(implicit: bool, content: &mut unnamed_yaml_event_t_data)
+    ensures { content.new ≡ document_end implicit }
+{
+    let event = unnamed_yaml_event_t_data_document_end { implicit };
+    *content = unnamed_yaml_event_t_data::DocumentEnd(event);
+}
+
+/// Puts the stream's start into `out`.
+#[inline(never)]
+fn put_stream_start(token: &yaml_token_t, out: &mut yaml_event_t)
+    ensures { (s : unnamed_yaml_token_t_data_stream_start) → token.now.content ≡ tok.StreamStart s
+        → out.new ≡ event (ev.StreamStart (record { encoding = s.encoding })) token.now.start_mark
+        token.now.start_mark }
+{
+    if let unnamed_yaml_token_t_data::StreamStart(start) = &token.content {
+        let event = unnamed_yaml_event_t_data_stream_start {
+            encoding: start.encoding,
+        };
+        give(
+            out,
+            unnamed_yaml_event_t_data::StreamStart(event),
+            token.start_mark,
+            token.start_mark,
+        );
+    }
+}
+
+/// Puts the stream's end into `out`.
+#[inline(never)]
+fn put_stream_end(token: &yaml_token_t, out: &mut yaml_event_t)
+    ensures { out.new ≡ event ev.StreamEnd token.now.start_mark token.now.end_mark }
+{
+    give(
+        out,
+        unnamed_yaml_event_t_data::StreamEnd,
+        token.start_mark,
+        token.end_mark,
+    );
+}
+
+/// Holds the version of a VERSION-DIRECTIVE, and returns whether documents of it are parsed.
+fn hold_version(token: &yaml_token_t, pending: &mut Pending) -> bool
+    ensures accepted { (v : unnamed_yaml_token_t_data_version_directive) → token.now.content ≡ tok.VersionDirective v
+        → result ≡ is_accepted v.major v.minor }
+    ensures held { (v : unnamed_yaml_token_t_data_version_directive) → token.now.content ≡ tok.VersionDirective v
+        → pending.new ≡ record pending.old {
+          directives = record pending.old.directives {
+            version = Some (record { major = v.major; minor = v.minor });
+          };
+        } }
+{
+    match &token.content {
+        unnamed_yaml_token_t_data::VersionDirective(version) => {
+            let version = yaml_version_directive_t {
+                major: version.major,
+                minor: version.minor,
+            };
+            let is_accepted = is_accepted(&version);
+            pending.directives.version = Some(version);
+            is_accepted
+        }
+        _ => false,
+    }
+}
+
+impl Machine {
+    /// Does a step of the stream or its documents.
     #[inline(never)]
-    pub(super) fn parse_stream_start(
+    pub(super) fn step_document(
+        &mut self,
+        token: &mut yaml_token_t,
+        pending: &mut Pending,
+        out: &mut yaml_event_t,
+    ) -> Step
+        requires ready { Ready pending.old self.old }
+        requires documents { stack_part_of (next_of pending.old.reading.next) ≡ Documents }
+        ensures steps { Steps (step (wanted pending.old) self.old token.old) self.old
+            (answer result pending.new out.new self.new) self.new }
+        ensures ready { result ≡ Step.Wants → Ready pending.new self.new }
+        ensures grows { result ≡ Step.Failed → self.new.fault.error ≡ yaml_error_type_t.YAML_MEMORY_ERROR
+            → may_grow (wanted pending.old) self.old token.old.content ≡ true }
+    {
+        self.forget_directives(pending);
+        match self.lead_document(token, pending) {
+            Answer::Full => self.step_document_again(token, pending, out),
+            answer => self.put_document(answer, token, pending, out),
+        }
+    }
+
+    /// Does such a step after the stacks have grown.
+    #[cold]
+    #[inline(never)]
+    fn step_document_again(
+        &mut self,
+        token: &mut yaml_token_t,
+        pending: &mut Pending,
+        out: &mut yaml_event_t,
+    ) -> Step
+        requires ready { Ready pending.old self.old }
+        requires documents { stack_part_of (next_of pending.old.reading.next) ≡ Documents }
+        requires declared { IsDeclared (held_of (wanted pending.old)) pending.old }
+        requires grows { may_grow (wanted pending.old) self.old token.old.content ≡ true }
+        ensures steps { Steps (step (wanted pending.old) self.old token.old) self.old
+            (answer result pending.new out.new self.new) self.new }
+        ensures ready { result ≡ Step.Wants → Ready pending.new self.new }
+    {
+        if !self.automaton.grow() {
+            return Step::failed(self.out_of_memory());
+        }
+        match self.lead_document(token, pending) {
+            Answer::Full => Step::failed(self.out_of_memory()),
+            answer => self.put_document(answer, token, pending, out),
+        }
+    }
+
+    /// Forgets the directives of an earlier document.
+    #[inline(always)]
+    fn forget_directives(&mut self, pending: &mut Pending)
+        requires { stack_part_of (next_of pending.old.reading.next) ≡ Documents }
+        ensures same { self.new ≡ self.old }
+        ensures declared { IsDeclared (held_of (wanted pending.new)) pending.new }
+        ensures reading { pending.new.reading ≡ pending.old.reading }
+        ensures wanted { wanted pending.new ≡ wanted pending.old }
+    {
+        if pending.reading.next == Next::BehindDirective.number() {
+            return;
+        }
+        if pending.directives.version.is_some() || !pending.directives.tag_directives.is_empty() {
+            pending.directives = DirectivesHeld {
+                version: None,
+                tag_directives: Vec::new(self.allocator()),
+            };
+        }
+    }
+
+    /// Does a step of the parser without texts.
+    #[inline(always)]
+    fn lead_document(&mut self, token: &yaml_token_t, pending: &mut Pending) -> Answer
+        requires ready { Ready pending.old self.old }
+        requires documents { stack_part_of (next_of pending.old.reading.next) ≡ Documents }
+        requires declared { IsDeclared (held_of (wanted pending.old)) pending.old }
+        ensures led { LedDocument (step (wanted pending.old) self.old token.now) (held_of (wanted pending.old))
+            token.now result pending.new self.new }
+        ensures fits { FitsDocument result (token_type token.now.content) pending.new.reading self.new.state }
+        ensures none { self.new.lookahead ≡ None }
+        ensures texts { pending.new ≡ record pending.old { reading = pending.new.reading } }
+        ensures undone { result ≡ Answer.Full → Ready pending.new self.new
+            × (wanted pending.new ≡ wanted pending.old) × (self.new ≡ self.old)
+            × (pending.new.reading.next ≡ pending.old.reading.next) }
+        ensures grows { result ≡ Answer.Full
+            → may_grow (wanted pending.old) self.old token.now.content ≡ true }
+        ensures handle { result ≡ Answer.AsksHandle
+            → may_grow (wanted pending.old) self.old token.now.content ≡ true }
+    {
+        self.automaton
+            .document_step(&mut pending.reading, token.type_(), &token.start_mark)
+    }
+
+    /// Puts the event that the step led to, with its texts.
+    #[inline(always)]
+    fn put_document(
+        &mut self,
+        answer: Answer,
+        token: &mut yaml_token_t,
+        pending: &mut Pending,
+        out: &mut yaml_event_t,
+    ) -> Step
+        requires none { self.old.lookahead ≡ None }
+        requires put { IsPutDocument answer }
+        requires led { IsLedDocument token.old answer pending.old self.old }
+        requires fits { FitsDocument answer (token_type token.old.content) pending.old.reading self.old.state }
+        ensures puts { PutsDocument answer token.old pending.old self.old result pending.new out.new self.new }
+        ensures grows { result ≡ Step.Failed → self.new.fault.error ≡ yaml_error_type_t.YAML_MEMORY_ERROR
+            → answer ≡ Answer.AsksHandle }
+    {
+        match answer {
+            Answer::Wants => Step::Wants,
+            Answer::StreamStart => {
+                put_stream_start(token, out);
+                Step::Given
+            }
+            Answer::StreamEnd => {
+                put_stream_end(token, out);
+                Step::Given
+            }
+            Answer::ImplicitDocument => {
+                out.start_mark = token.start_mark;
+                out.end_mark = token.start_mark;
+                self.keep(token);
+                put_document_start(self.allocator(), &mut out.content);
+                Step::Given
+            }
+            Answer::ExplicitDocument => {
+                self.put_explicit_document(token, pending, out);
+                Step::Given
+            }
+            Answer::DocumentEnd => {
+                self.forget_handles();
+                out.start_mark = token.start_mark;
+                out.end_mark = token.end_mark;
+                put_document_end(false, &mut out.content);
+                Step::Given
+            }
+            Answer::ImplicitDocumentEnd => {
+                self.forget_handles();
+                out.start_mark = token.start_mark;
+                out.end_mark = token.start_mark;
+                self.keep(token);
+                put_document_end(true, &mut out.content);
+                Step::Given
+            }
+            Answer::AsksVersion => self.take_version(token, pending),
+            Answer::AsksHandle => self.take_handle(token, pending),
+            Answer::FailedDocument => {
+                self.set_document_problem(pending.reading.problem, &token.start_mark)
+            }
+            _ => unreachable!(),
+        }
+    }
+
+    /// Puts the start of a document with its directives into `out`.
+    #[inline(always)]
+    fn put_explicit_document(
         &mut self,
         token: &yaml_token_t,
         pending: &mut Pending,
         out: &mut yaml_event_t,
-    ) -> Result<Step, yaml_error_type_t>
-        ensures steps { Steps (parse_stream_start self.old.config token.now token.now.content) self.old
-            (answer result pending.new out.new) self.new }
-        ensures error { IfErr result (λ e. e ≡ yaml_error_type_t.YAML_PARSER_ERROR) }
+    )
+        ensures out { out.new ≡ event (document_start pending.old.directives.version
+            pending.old.directives.tag_directives false) pending.old.reading.start_mark token.now.end_mark }
+        ensures same { self.new ≡ self.old }
     {
-        let mark = token.start_mark;
-        match &token.content {
-            unnamed_yaml_token_t_data::StreamStart(start) => {
-                self.set_state(yaml_parser_state_t::YAML_PARSE_IMPLICIT_DOCUMENT_START_STATE);
-                let event = unnamed_yaml_event_t_data_stream_start {
-                    encoding: start.encoding,
-                };
-                give(
-                    out,
-                    unnamed_yaml_event_t_data::StreamStart(event),
-                    mark,
-                    mark,
-                );
-                Ok(Step::Given)
-            }
-            _ => Err(self.set_parser_error("did not find expected <stream-start>", mark)),
+        out.start_mark = pending.reading.start_mark;
+        out.end_mark = token.end_mark;
+        put_document_start(self.allocator(), &mut out.content);
+        if let unnamed_yaml_event_t_data::DocumentStart(event) = &mut out.content {
+            event.implicit = false;
+            event.version_directive = pending.directives.version.take();
+            mem::swap(
+                &mut event.tag_directives,
+                &mut pending.directives.tag_directives,
+            );
         }
     }
 
-    /// The document's root comes next, in `state`, and after it the document's end.
-    fn begin_document(&mut self, state: yaml_parser_state_t) -> Result<(), yaml_error_type_t>
-        ensures ok { OnOk result (self.new ≡ with_config self.old (begin_document state self.old.config)) }
-        ensures err { OnErr result ((result ≡ Err yaml_error_type_t.YAML_MEMORY_ERROR)
-            × (self.new ≡ with_config self.old (with_fault self.old.config memory_fault))) }
+    /// Keeps the fault of this number, which has no context.
+    #[cold]
+    #[inline(never)]
+    fn set_document_problem(&mut self, problem: u8, mark: &yaml_mark_t) -> Step
+        ensures failed { result ≡ Step.Failed }
+        ensures error { self.new.fault.error ≡ yaml_error_type_t.YAML_PARSER_ERROR }
+        ensures kept { self.new ≡ with_fault self.old
+            (fault_with (record { problem = problem; context_mark = zero_mark; mark = mark.now })) }
     {
-        self.push_state(yaml_parser_state_t::YAML_PARSE_DOCUMENT_END_STATE)?;
-        self.set_state(state);
-        self.set_behind_document_end(false);
-        Ok(())
+        self.set_problem(problem, &ZERO_MARK, mark)
     }
 
-    /// A document without DOCUMENT-START, at its first token.
-    fn begin_implicit_document(
-        &mut self,
-        token: &mut yaml_token_t,
-        pending: &mut Pending,
-        out: &mut yaml_event_t,
-    ) -> Result<Step, yaml_error_type_t>
-        ensures { Steps (implicit_document self.old.config token.old) self.old
-            (answer result pending.new out.new) self.new }
+    /// Takes a VERSION-DIRECTIVE, the first of its document.
+    #[inline(never)]
+    fn take_version(&mut self, token: &yaml_token_t, pending: &mut Pending) -> Step
+        requires none { self.old.lookahead ≡ None }
+        requires version { token_type token.now.content ≡ YAML_VERSION_DIRECTIVE_TOKEN }
+        ensures puts { (out : yaml_event_t) → PutsDocument Answer.AsksVersion token.now pending.old self.old result
+            pending.new out self.new }
+        ensures error { result ≡ Step.Failed → self.new.fault.error ≡ yaml_error_type_t.YAML_PARSER_ERROR }
     {
-        self.begin_document(yaml_parser_state_t::YAML_PARSE_BLOCK_NODE_STATE)?;
-        let mark = token.start_mark;
-        self.keep(token);
-        let event = unnamed_yaml_event_t_data_document_start {
-            version_directive: None,
-            tag_directives: Vec::new(self.allocator()),
-            implicit: true,
+        let is_accepted = hold_version(token, pending);
+        match self
+            .automaton
+            .version_directive(&mut pending.reading, is_accepted)
+        {
+            Answer::Wants => Step::Wants,
+            _ => self.set_document_problem(pending.reading.problem, &token.start_mark),
+        }
+    }
+
+    /// Takes a TAG-DIRECTIVE: its handle may be declared once.
+    #[inline(never)]
+    fn take_handle(&mut self, token: &mut yaml_token_t, pending: &mut Pending) -> Step
+        requires none { self.old.lookahead ≡ None }
+        requires directive { token_type token.old.content ≡ YAML_TAG_DIRECTIVE_TOKEN }
+        ensures puts { (out : yaml_event_t) → PutsDocument Answer.AsksHandle token.old pending.old self.old result
+            pending.new out self.new }
+    {
+        let was_declared = match self.declare_handle(token) {
+            Ok(was_declared) => was_declared,
+            Err(error) => return Step::failed(error),
         };
-        give(
-            out,
-            unnamed_yaml_event_t_data::DocumentStart(event),
-            mark,
-            mark,
-        );
-        Ok(Step::Given)
+        match self
+            .automaton
+            .tag_directive(&mut pending.reading, was_declared)
+        {
+            Answer::Wants => self.hold_directive(token, pending),
+            _ => self.set_document_problem(pending.reading.problem, &token.start_mark),
+        }
     }
 
-    /// VERSION-DIRECTIVE: a second one is a duplicate, whatever its version.
-    fn process_version_directive(
-        &mut self,
-        version: yaml_version_directive_t,
-        mark: yaml_mark_t,
-        pending: &mut Pending,
-        out: &mut yaml_event_t,
-    ) -> Result<Step, yaml_error_type_t>
-        ensures steps { Steps (version_directive pending.old.directives.version pending.old.directives
-            self.old.config mark version) self.old (answer result pending.new out.new) self.new }
-        ensures error { IfErr result (λ e. e ≡ yaml_error_type_t.YAML_PARSER_ERROR) }
+    /// Declares the handle of a TAG-DIRECTIVE, and returns whether it was declared before.
+    fn declare_handle(&mut self, token: &yaml_token_t) -> Result<bool, yaml_error_type_t>
+        ensures before { (g : unnamed_yaml_token_t_data_tag_directive) → token.now.content ≡ tok.TagDirective g
+            → IfOk result (λ was_declared. was_declared ≡ is_some (get self.old.handles g.handle)) }
+        ensures ok { (g : unnamed_yaml_token_t_data_tag_directive) → token.now.content ≡ tok.TagDirective g
+            → OnOk result (self.new ≡ with_handle g.handle g.prefix self.old) }
+        ensures err { OnErr result ((result ≡ Err yaml_error_type_t.YAML_MEMORY_ERROR)
+            × (self.new ≡ with_fault self.old memory_fault)) }
     {
-        if pending.directives.version.is_some() {
-            return Err(self.set_parser_error("found duplicate %YAML directive", mark));
-        }
-        if !is_accepted(&version) {
-            return Err(self.set_parser_error("found incompatible YAML document", mark));
-        }
-        pending.directives.version = Some(version);
-        Ok(pending.want(Next::BehindDirective))
-    }
-
-    /// TAG-DIRECTIVE: its handle may be declared once.
-    fn process_tag_directive(
-        &mut self,
-        directive: yaml_tag_directive_t,
-        mark: yaml_mark_t,
-        pending: &mut Pending,
-        out: &mut yaml_event_t,
-    ) -> Result<Step, yaml_error_type_t>
-        ensures { Steps (tag_directive (get self.old.config.handles directive.handle) pending.old.directives
-            self.old.config mark directive) self.old (answer result pending.new out.new) self.new }
-    {
-        let was_declared = self.declare(&directive.handle, &directive.prefix)?;
-        if was_declared {
-            return Err(self.set_parser_error("found duplicate %TAG directive", mark));
-        }
-        if pending.directives.tag_directives.push(directive).is_err() {
-            return Err(self.out_of_memory());
-        }
-        Ok(pending.want(Next::BehindDirective))
-    }
-
-    /// A directive or DOCUMENT-START, after these directives.
-    ///
-    /// libyaml: `yaml_parser_process_directives`.
-    #[inline(never)]
-    pub(super) fn parse_explicit_document(
-        &mut self,
-        token: &mut yaml_token_t,
-        pending: &mut Pending,
-        out: &mut yaml_event_t,
-    ) -> Result<Step, yaml_error_type_t>
-        ensures steps { Steps (explicit_document pending.old.directives self.old.config token.old
-            token.old.content) self.old (answer result pending.new out.new) self.new }
-        ensures grows { result ≡ Err yaml_error_type_t.YAML_MEMORY_ERROR
-            → grows_at_directive token.old.content ≡ true }
-    {
-        let mark = token.start_mark;
-        match &mut token.content {
-            unnamed_yaml_token_t_data::VersionDirective(version) => {
-                let version = yaml_version_directive_t {
-                    major: version.major,
-                    minor: version.minor,
-                };
-                self.process_version_directive(version, mark, pending, out)
-            }
+        match &token.content {
             unnamed_yaml_token_t_data::TagDirective(directive) => {
-                let directive = yaml_tag_directive_t {
-                    handle: mem::replace(&mut directive.handle, String::new(self.allocator())),
-                    prefix: mem::replace(&mut directive.prefix, String::new(self.allocator())),
-                };
-                self.process_tag_directive(directive, mark, pending, out)
+                self.declare(&directive.handle, &directive.prefix)
             }
-            unnamed_yaml_token_t_data::DocumentStart => {
-                self.begin_document(yaml_parser_state_t::YAML_PARSE_DOCUMENT_CONTENT_STATE)?;
-                let none = Vec::new(self.allocator());
-                let event = unnamed_yaml_event_t_data_document_start {
-                    version_directive: pending.directives.version.take(),
-                    tag_directives: mem::replace(&mut pending.directives.tag_directives, none),
-                    implicit: false,
-                };
-                let start = pending.directives.start_mark;
-                give(
-                    out,
-                    unnamed_yaml_event_t_data::DocumentStart(event),
-                    start,
-                    token.end_mark,
-                );
-                Ok(Step::Given)
-            }
-            _ => Err(self.set_parser_error("did not find expected <document start>", mark)),
+            _ => Ok(false),
         }
     }
 
-    fn no_directives(&self, mark: yaml_mark_t) -> DirectivesRead
-        ensures { result ≡ no_directives mark }
+    /// Holds the texts of a TAG-DIRECTIVE.
+    fn hold_directive(&mut self, token: &mut yaml_token_t, pending: &mut Pending) -> Step
+        ensures given { result ≡ Step.Given → ⊥ }
+        ensures same { result ≡ Step.Wants → self.new ≡ self.old }
+        ensures held { (g : unnamed_yaml_token_t_data_tag_directive) → token.old.content ≡ tok.TagDirective g
+            → result ≡ Step.Wants → pending.new ≡ record pending.old {
+              directives = record pending.old.directives {
+                tag_directives = pending.old.directives.tag_directives
+                    ++ record { handle = g.handle; prefix = g.prefix } ∷ [];
+              };
+            } }
+        ensures failed { result ≡ Step.Failed → self.new ≡ with_fault self.old memory_fault }
     {
-        DirectivesRead {
-            start_mark: mark,
-            version: None,
-            tag_directives: Vec::new(self.allocator()),
-        }
-    }
-
-    /// A document with DOCUMENT-START, at its first token.
-    fn begin_explicit_document(
-        &mut self,
-        token: &mut yaml_token_t,
-        pending: &mut Pending,
-        out: &mut yaml_event_t,
-    ) -> Result<Step, yaml_error_type_t>
-        ensures steps { Steps (explicit_document (no_directives token.old.start_mark) self.old.config
-            token.old token.old.content) self.old (answer result pending.new out.new) self.new }
-        ensures grows { result ≡ Err yaml_error_type_t.YAML_MEMORY_ERROR
-            → grows_at_directive token.old.content ≡ true }
-    {
-        pending.directives = self.no_directives(token.start_mark);
-        self.parse_explicit_document(token, pending, out)
-    }
-
-    fn end_stream(&mut self, token: &yaml_token_t, out: &mut yaml_event_t)
-        ensures { Steps (end_stream self.old.config token.now) self.old (Ok (Given out.new)) self.new }
-    {
-        self.set_state(yaml_parser_state_t::YAML_PARSE_END_STATE);
-        give(
-            out,
-            unnamed_yaml_event_t_data::StreamEnd,
-            token.start_mark,
-            token.end_mark,
-        );
-    }
-
-    /// Where a document may be implicit: at the stream's start and after DOCUMENT-END. A further
-    /// DOCUMENT-END is skipped.
-    #[inline(never)]
-    pub(super) fn parse_implicit_document_start(
-        &mut self,
-        token: &mut yaml_token_t,
-        pending: &mut Pending,
-        out: &mut yaml_event_t,
-    ) -> Result<Step, yaml_error_type_t>
-        ensures steps { Steps (parse_implicit_document_start self.old.config token.old token.old.content)
-            self.old (answer result pending.new out.new) self.new }
-        ensures grows { result ≡ Err yaml_error_type_t.YAML_MEMORY_ERROR
-            → grows_at_document self.old.config.behind_document_end token.old.content ≡ true }
-    {
-        match token.content {
-            unnamed_yaml_token_t_data::StreamEnd => {
-                self.end_stream(token, out);
-                Ok(Step::Given)
-            }
-            unnamed_yaml_token_t_data::VersionDirective(_)
-            | unnamed_yaml_token_t_data::TagDirective(_)
-            | unnamed_yaml_token_t_data::DocumentStart => self.begin_explicit_document(
-                token, pending, out,
-            ),
-            unnamed_yaml_token_t_data::DocumentEnd => {
-                if self.behind_document_end() {
-                    Ok(pending.want(Next::AtState))
-                } else {
-                    self.begin_implicit_document(token, pending, out)
-                }
-            }
-            _ => self.begin_implicit_document(token, pending, out),
-        }
-    }
-
-    /// Where a document must be explicit: after one that no DOCUMENT-END ends.
-    #[inline(never)]
-    pub(super) fn parse_document_start(
-        &mut self,
-        token: &mut yaml_token_t,
-        pending: &mut Pending,
-        out: &mut yaml_event_t,
-    ) -> Result<Step, yaml_error_type_t>
-        ensures steps { Steps (parse_document_start self.old.config token.old token.old.content) self.old
-            (answer result pending.new out.new) self.new }
-        ensures grows { result ≡ Err yaml_error_type_t.YAML_MEMORY_ERROR
-            → grows_at_directive token.old.content ≡ true }
-    {
-        match token.content {
-            unnamed_yaml_token_t_data::StreamEnd => {
-                self.end_stream(token, out);
-                Ok(Step::Given)
-            }
-            _ => self.begin_explicit_document(token, pending, out),
-        }
-    }
-
-    /// The document's handles are forgotten, and `state` comes next.
-    fn end_document(&mut self, state: yaml_parser_state_t, behind_document_end: bool)
-        ensures { self.new ≡ with_config self.old (end_document state behind_document_end self.old.config) }
-    {
-        self.forget_handles();
-        self.set_state(state);
-        self.set_behind_document_end(behind_document_end);
-    }
-
-    #[inline(never)]
-    pub(super) fn parse_document_end(&mut self, token: &mut yaml_token_t, out: &mut yaml_event_t)
-        ensures { Steps (parse_document_end self.old.config token.old token.old.content) self.old
-            (Ok (Given out.new)) self.new }
-    {
-        match token.content {
-            unnamed_yaml_token_t_data::DocumentEnd => {
-                self.end_document(
-                    yaml_parser_state_t::YAML_PARSE_IMPLICIT_DOCUMENT_START_STATE,
-                    true,
-                );
-                let event = unnamed_yaml_event_t_data_document_end { implicit: false };
-                give(
-                    out,
-                    unnamed_yaml_event_t_data::DocumentEnd(event),
-                    token.start_mark,
-                    token.end_mark,
-                );
-            }
-            _ => {
-                self.end_document(yaml_parser_state_t::YAML_PARSE_DOCUMENT_START_STATE, false);
-                let mark = token.start_mark;
-                self.keep(token);
-                let event = unnamed_yaml_event_t_data_document_end { implicit: true };
-                give(
-                    out,
-                    unnamed_yaml_event_t_data::DocumentEnd(event),
-                    mark,
-                    mark,
-                );
+        if let unnamed_yaml_token_t_data::TagDirective(directive) = &mut token.content {
+            let directive = yaml_tag_directive_t {
+                handle: mem::replace(&mut directive.handle, String::new(self.allocator())),
+                prefix: mem::replace(&mut directive.prefix, String::new(self.allocator())),
+            };
+            if pending.directives.tag_directives.push(directive).is_err() {
+                return Step::failed(self.out_of_memory());
             }
         }
+        Step::Wants
     }
 }

@@ -3,12 +3,13 @@ ghost use Rattle.std.specs.Prelude.{◌≡◌, false, option_map, string_bytes};
 ghost use Rattle.libyaml_types.specs.declared.enums.yaml_scalar_style_t.TheVariants.{YAML_PLAIN_SCALAR_STYLE};
 ghost use Rattle.libyaml_grammar.specs.sentences.Events.{is_plain, plain_flag, quoted_flag, is_missing};
 ghost use Rattle.libyaml_events.specs.machine.Machine.{scalar, sequence_start, mapping_start};
+ghost use Rattle.libyaml_events.specs.automaton.Led.{start_of};
 
 use crate::texts::is_text;
 use libyaml_types::{
     unnamed_yaml_event_t_data, unnamed_yaml_event_t_data_mapping_start,
     unnamed_yaml_event_t_data_scalar, unnamed_yaml_event_t_data_sequence_start,
-    yaml_mapping_style_t, yaml_scalar_style_t, yaml_sequence_style_t,
+    unnamed_yaml_token_t_data, yaml_mapping_style_t, yaml_scalar_style_t, yaml_sequence_style_t,
 };
 
 pub(super) fn is_plain(style: yaml_scalar_style_t) -> bool
@@ -104,4 +105,30 @@ pub(super) fn mapping_start(
         implicit,
         style,
     })
+}
+
+/// The start of the collection that this token opens.
+pub(super) fn collection_start(
+    anchor: Option<String>,
+    tag: Option<String>,
+    token: &unnamed_yaml_token_t_data,
+) -> unnamed_yaml_event_t_data
+    ensures { result ≡ start_of (option_map string_bytes anchor) (option_map string_bytes tag) token.now }
+{
+    match token {
+        unnamed_yaml_token_t_data::BlockSequenceStart => {
+            sequence_start(
+                anchor,
+                tag,
+                yaml_sequence_style_t::YAML_BLOCK_SEQUENCE_STYLE,
+            )
+        }
+        unnamed_yaml_token_t_data::FlowSequenceStart => {
+            sequence_start(anchor, tag, yaml_sequence_style_t::YAML_FLOW_SEQUENCE_STYLE)
+        }
+        unnamed_yaml_token_t_data::FlowMappingStart => {
+            mapping_start(anchor, tag, yaml_mapping_style_t::YAML_FLOW_MAPPING_STYLE)
+        }
+        _ => mapping_start(anchor, tag, yaml_mapping_style_t::YAML_BLOCK_MAPPING_STYLE),
+    }
 }

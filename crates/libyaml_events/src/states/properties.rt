@@ -1,51 +1,62 @@
-//! Properties, moved out of their tokens.
+//! The texts of properties, moved out of their tokens and held until the node's event.
 ghost use Rattle.std.specs.Prelude.{◌≡◌, Some, None, option_map, string_bytes};
+ghost use Rattle.libyaml_types.specs.declared.token.unnamed_yaml_token_t_data.TheVariants as tok;
+ghost use Rattle.libyaml_types.specs.declared.token.unnamed_yaml_token_t_data_anchor.{unnamed_yaml_token_t_data_anchor};
+ghost use Rattle.libyaml_types.specs.declared.token.unnamed_yaml_token_t_data_tag.{unnamed_yaml_token_t_data_tag};
+ghost use Rattle.libyaml_events.specs.machine.Answers.{held_in};
 
-use crate::next::Next;
-use crate::node_head::TagRead;
+use crate::parser::Machine;
 use crate::pending::Pending;
-use libyaml_types::{unnamed_yaml_token_t_data_anchor, unnamed_yaml_token_t_data_tag, yaml_mark_t};
+use crate::properties::TagRead;
+use libyaml_types::{
+    unnamed_yaml_token_t_data, unnamed_yaml_token_t_data_anchor, unnamed_yaml_token_t_data_tag,
+    yaml_mark_t, yaml_token_t,
+};
 use std::alloc::Global;
 use std::mem;
 
-/// Puts the anchor of a token, moved out of it, into `read`. The text that is kept goes into the token's
+/// Puts the anchor of a token, moved out of it, into `held`. The text that is kept goes into the token's
 /// place.
 #[inline(always)]
-pub(super) fn put_anchor(
+fn put_anchor(
     spare: &mut String,
     anchor: &mut unnamed_yaml_token_t_data_anchor,
-    read: &mut Option<String>,
+    held: &mut Option<String>,
 )
-    ensures { option_map string_bytes read.new ≡ Some anchor.old.value }
+    ensures { option_map string_bytes held.new ≡ Some anchor.old.value }
 {
-    if read.is_some() {
-        forget_anchor(read);
+    if held.is_some() {
+        forget_anchor(held);
     }
     let alloc = *spare.allocator();
     mem::swap(&mut anchor.value, spare);
-    *read = Some(mem::replace(spare, String::new(alloc)));
+    *held = Some(mem::replace(spare, String::new(alloc)));
 }
 
-/// Puts the tag of a token that begins at `mark`, moved out of it, into `read`.
+/// Puts the tag of a token that begins at `mark`, moved out of it, into `held`.
 #[inline(always)]
 fn put_tag(
     alloc: Global,
     tag: &mut unnamed_yaml_token_t_data_tag,
-    mark: yaml_mark_t,
-    read: &mut Option<TagRead>,
+    mark: &yaml_mark_t,
+    held: &mut Option<TagRead>,
 )
-    ensures { read.new ≡ Some (record { handle = tag.old.handle; suffix = tag.old.suffix; mark = mark }) }
+    ensures { held.new ≡ Some (record { handle = tag.old.handle; suffix = tag.old.suffix; mark = mark.now }) }
 {
-    if read.is_some() {
-        forget_tag(read);
+    if held.is_some() {
+        forget_tag(held);
     }
-    *read = Some(tag_read(alloc, tag, mark));
+    *held = Some(TagRead {
+        handle: mem::replace(&mut tag.handle, String::new(alloc)),
+        suffix: mem::replace(&mut tag.suffix, String::new(alloc)),
+        mark: *mark,
+    });
 }
 
 /// Forgets an anchor.
 #[cold]
 fn forget_anchor(anchor: &mut Option<String>)
-    ensures { anchor.new ≡ None }
+    ensures { option_map string_bytes anchor.new ≡ None }
 {
     *anchor = None;
 }
@@ -58,75 +69,59 @@ fn forget_tag(tag: &mut Option<TagRead>)
     *tag = None;
 }
 
-/// The tag of a token that begins at `mark`, moved out of it.
-pub(super) fn tag_read(
-    alloc: Global,
-    tag: &mut unnamed_yaml_token_t_data_tag,
-    mark: yaml_mark_t,
-) -> TagRead
-    ensures { result ≡ record { handle = tag.old.handle; suffix = tag.old.suffix; mark = mark } }
+/// Forgets the anchor of an earlier node.
+#[inline(always)]
+pub(super) fn forget_earlier(pending: &mut Pending)
+    ensures anchor { pending.new.properties.anchor ≡ (held_in pending.old).anchor }
+    ensures tag { pending.new.properties.tag ≡ pending.old.properties.tag }
+    ensures reading { pending.new.reading ≡ pending.old.reading }
 {
-    TagRead {
-        handle: mem::replace(&mut tag.handle, String::new(alloc)),
-        suffix: mem::replace(&mut tag.suffix, String::new(alloc)),
-        mark,
+    if pending.reading.has_anchor == 0 && pending.properties.anchor.is_some() {
+        forget_anchor(&mut pending.properties.anchor);
     }
 }
 
-/// Reads an anchor that begins a node.
-#[inline(never)]
-pub(super) fn begin_with_anchor(
-    spare: &mut String,
-    anchor: &mut unnamed_yaml_token_t_data_anchor,
-    start_mark: &yaml_mark_t,
-    end_mark: &yaml_mark_t,
-    pending: &mut Pending,
-)
-    ensures { pending.new ≡ record pending.old {
-      next = Next.BehindProperties;
-      properties = record {
-        anchor = Some anchor.old.value;
-        tag = None;
-        start_mark = start_mark.now;
-        end_mark = end_mark.now;
-      };
-    } }
+/// Takes the anchor that is held.
+#[inline(always)]
+pub(super) fn take_anchor(pending: &mut Pending) -> Option<String>
+    ensures { option_map string_bytes result ≡ pending.old.properties.anchor }
 {
-    pending.next = Next::BehindProperties;
-    let read = &mut pending.properties;
-    put_anchor(spare, anchor, &mut read.anchor);
-    if read.tag.is_some() {
-        forget_tag(&mut read.tag);
-    }
-    read.start_mark = *start_mark;
-    read.end_mark = *end_mark;
+    pending.properties.anchor.take()
 }
 
-/// Reads a tag that begins a node.
-#[inline(never)]
-pub(super) fn begin_with_tag(
-    alloc: Global,
-    tag: &mut unnamed_yaml_token_t_data_tag,
-    start_mark: &yaml_mark_t,
-    end_mark: &yaml_mark_t,
-    pending: &mut Pending,
-)
-    ensures { pending.new ≡ record pending.old {
-      next = Next.BehindProperties;
-      properties = record {
-        anchor = None;
-        tag = Some (record { handle = tag.old.handle; suffix = tag.old.suffix; mark = start_mark.now });
-        start_mark = start_mark.now;
-        end_mark = end_mark.now;
-      };
-    } }
-{
-    pending.next = Next::BehindProperties;
-    let read = &mut pending.properties;
-    put_tag(alloc, tag, *start_mark, &mut read.tag);
-    if read.anchor.is_some() {
-        forget_anchor(&mut read.anchor);
+impl Machine {
+    /// Holds the name of an anchor.
+    #[inline(never)]
+    pub(super) fn hold_anchor(&mut self, token: &mut yaml_token_t, pending: &mut Pending)
+        ensures same { self.new ≡ self.old }
+        ensures held { (a : unnamed_yaml_token_t_data_anchor) → token.old.content ≡ tok.Anchor a
+            → pending.new ≡ record pending.old {
+              properties = record pending.old.properties { anchor = Some a.value };
+            } }
+    {
+        if let unnamed_yaml_token_t_data::Anchor(anchor) = &mut token.content {
+            put_anchor(&mut self.spare, anchor, &mut pending.properties.anchor);
+        }
     }
-    read.start_mark = *start_mark;
-    read.end_mark = *end_mark;
+
+    /// Holds the texts of a tag.
+    #[inline(never)]
+    pub(super) fn hold_tag(&mut self, token: &mut yaml_token_t, pending: &mut Pending)
+        ensures same { self.new ≡ self.old }
+        ensures held { (g : unnamed_yaml_token_t_data_tag) → token.old.content ≡ tok.Tag g
+            → pending.new ≡ record pending.old {
+              properties = record pending.old.properties {
+                tag = Some (record { handle = g.handle; suffix = g.suffix; mark = token.old.start_mark });
+              };
+            } }
+    {
+        if let unnamed_yaml_token_t_data::Tag(tag) = &mut token.content {
+            put_tag(
+                self.allocator(),
+                tag,
+                &token.start_mark,
+                &mut pending.properties.tag,
+            );
+        }
+    }
 }

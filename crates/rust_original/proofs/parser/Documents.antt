@@ -11,7 +11,7 @@ use Rattle.libyaml_types.specs.Fault.{Fault}
 use Rattle.libyaml_grammar.specs.cuts.FaultTexts.{document_start_fault}
 use Rattle.libyaml_grammar.specs.sentences.Tokens.{Content, DocumentEnd, DocumentStart, HandleDeclared, Mark, StreamEnd}
 use Rattle.libyaml_grammar.specs.sentences.Tokens.{StreamStart, TagDirective, Token, VersionAsked, VersionDirective}
-use Rattle.libyaml_events.specs.declared.pending.DirectivesRead.{DirectivesRead}
+use Rattle.libyaml_events.specs.machine.Read.{DirectivesRead}
 use Rattle.libyaml_events.specs.machine.Config.{Config, Handles, no_handles}
 use Rattle.libyaml_events.specs.machine.Machine as mach
 use Rattle.libyaml_events.specs.machine.Want.{AtState, BehindDirective}

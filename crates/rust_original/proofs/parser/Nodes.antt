@@ -12,9 +12,9 @@ use Rattle.libyaml_grammar.specs.sentences.Events.{event, is_missing}
 use Rattle.libyaml_grammar.specs.sentences.Tokens.{Alias, Anchor, AnchorName, BlockEntry, BlockMappingStart}
 use Rattle.libyaml_grammar.specs.sentences.Tokens.{BlockSequenceStart, Content, FlowMappingStart, FlowSequenceStart}
 use Rattle.libyaml_grammar.specs.sentences.Tokens.{Mark, Scalar, ScalarText, Tag, TagName, Token}
-use Rattle.libyaml_events.specs.declared.node_head.NodeHead.{NodeHead}
-use Rattle.libyaml_events.specs.declared.node_head.TagRead.{TagRead}
-use Rattle.libyaml_events.specs.declared.node_place.NodePlace.{NodePlace}
+use Rattle.libyaml_events.specs.machine.Read.{NodeHead}
+use Rattle.libyaml_events.specs.machine.Read.{TagRead}
+use Rattle.libyaml_automaton.specs.declared.node_place.NodePlace.{NodePlace}
 use Rattle.libyaml_events.specs.machine.Config.{Config, Handles}
 use Rattle.libyaml_events.specs.machine.Machine as mach
 use Rattle.libyaml_events.specs.machine.Machine.{is_block_place, may_be_indentless, or_default, with_prefix}

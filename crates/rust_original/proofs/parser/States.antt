@@ -9,8 +9,8 @@ use Rattle.libyaml_grammar.specs.sentences.Sentences.{is_end}
 use Rattle.libyaml_grammar.specs.sentences.Tokens.{BlockEnd, BlockEntry, Content, DocumentEnd, DocumentStart, FlowEntry}
 use Rattle.libyaml_grammar.specs.sentences.Tokens.{FlowMappingEnd, FlowSequenceEnd, Key, Mark, StreamEnd, TagDirective}
 use Rattle.libyaml_grammar.specs.sentences.Tokens.{Token, Value, VersionDirective}
-use Rattle.libyaml_events.specs.declared.node_place.NodePlace.TheVariants.{Block, BlockOrIndentlessSequence, Flow}
-use Rattle.libyaml_events.specs.declared.slot.Slot.TheVariants as slot
+use Rattle.libyaml_automaton.specs.declared.node_place.NodePlace.TheVariants.{Block, BlockOrIndentlessSequence, Flow}
+use Rattle.libyaml_automaton.specs.declared.slot.Slot.TheVariants as slot
 use Rattle.libyaml_events.specs.machine.Config.{Config, Handles}
 use Rattle.libyaml_events.specs.machine.Machine as mach
 use Rattle.libyaml_events.specs.machine.Want.{AtState, BehindFlowMappingEntry, BehindFlowSequenceEntry}

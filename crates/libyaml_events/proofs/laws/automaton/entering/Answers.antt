@@ -2,4 +2,4 @@ use Rattle.libyaml_events.proofs.tie.Entered as law
 use Rattle.libyaml_events.proofs.laws.automaton.entering.Goals as goal
 
 pub returns : goal.returns
-returns g c = law.entering _
+returns c = law.entering

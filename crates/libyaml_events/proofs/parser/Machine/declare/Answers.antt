@@ -1,14 +1,30 @@
 use Rattle.std.proofs.Common.{ap, ◌∙◌, is_some}
+use Rattle.libyaml_types.specs.Fault.{fault_of}
+use Rattle.libyaml_events.specs.machine.Config.{handles_of}
 use Rattle.libyaml_events.proofs.code.HandleLemmas.{is_declared, one_declared}
+use Rattle.libyaml_events.proofs.layer.Views.{seen_handles, seen_declared}
 use Rattle.libyaml_events.proofs.parser.Machine.declare.Goals as goal
 
 pub returns-in-Ok-insert-clause-before : goal.returns-in-Ok-insert-clause-before
-returns-in-Ok-insert-clause-before g c =
+returns-in-Ok-insert-clause-before c =
     let found = ap is_some c.in-Ok-insert.ensures.old ∙ is_declared c.self.inside.handles c.in-Ok.handle in
-    rw (← c.self.view_is, ← c.in-Ok.ensures.ok) (c.is_some.ensures ∙ found)
+    rw (
+      ← c.self.view_is,
+      ← c.in-Ok.ensures.ok,
+      seen_handles c.self.inside.lookahead_token c.self.inside.automaton
+          (handles_of c.self.inside.handles.entries) (fault_of c.self.inside.prefix) c.self.inside.lookahead,
+    )
+    (c.is_some.ensures ∙ found)
 
 pub returns-in-Ok-insert-clause-ok : goal.returns-in-Ok-insert-clause-ok
-returns-in-Ok-insert-clause-ok g c =
+returns-in-Ok-insert-clause-ok c =
     let made = one_declared c.self.inside.handles c.insert.new.self c.in-Ok.handle c.in-Ok-from_str.prefix
     c.in-Ok-insert.ensures.updates in
-    rw (← c.self.view_is, made, c.in-Ok.ensures.ok, c.in-Ok-from_str.ensures.ok)
+    rw (
+      ← c.self.view_is,
+      made,
+      c.in-Ok.ensures.ok,
+      c.in-Ok-from_str.ensures.ok,
+      seen_declared c.self.inside.lookahead_token c.self.inside.automaton (handles_of c.self.inside.handles.entries)
+          (fault_of c.self.inside.prefix) c.self.inside.lookahead _ _,
+    )

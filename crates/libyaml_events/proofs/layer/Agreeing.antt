@@ -1,0 +1,55 @@
+-- What is pending agrees with where the parser stands, also once a token was taken.
+use Rattle.std.proofs.Common.{◌≡◌, Option, Some, None, Ok, Err, true, refl, sym, ap, subst}
+use Rattle.libyaml_types.specs.declared.token.yaml_token_t.{yaml_token_t}
+use Rattle.libyaml_automaton.specs.Numbers.{next_of}
+use Rattle.libyaml_automaton.specs.Wanted.{IsAt, wanted as wanted_then}
+use Rattle.libyaml_types.specs.Fault.{Answer}
+use Rattle.libyaml_types.specs.declared.enums.yaml_error_type_t.{yaml_error_type_t}
+use Rattle.libyaml_events.specs.declared.pending.Pending.{Pending}
+use Rattle.libyaml_events.specs.machine.Config.{Config, Parser, ended_or_failed, is_fault}
+use Rattle.libyaml_events.specs.sources.Calls.{Fetches, FetchesFrom}
+use Rattle.libyaml_events.specs.automaton.View.{InStep, Ready}
+use Rattle.libyaml_events.specs.machine.Answers.{wanted}
+use Rattle.libyaml_events.specs.automaton.Texts.{want_of}
+
+pub agrees_at : (p : Pending) (c d : Config) → d.state ≡ c.state → d.handles ≡ c.handles → InStep p c → InStep p d
+agrees_at p c d e h a = record {
+  at = subst (λ y. IsAt (next_of p.reading.next) y) (sym e) a.at;
+  fact = a.fact;
+  same = subst (λ y. want_of y (wanted p) ≡ wanted_then a.fact p.reading) (sym h) a.same;
+}
+
+fetched_at : {S : Type 0} (gives : S → Answer → S → Type 0) (o : Option yaml_token_t) (old now : Parser S) (t : yaml_token_t) (p : Pending)
+    → FetchesFrom gives o old (Ok t) now → InStep p old.config → InStep p now.config
+fetched_at gives (Some u) old now t p h a = agrees_at p old.config now.config (ap (λ p. p.config.state) h.1) (ap (λ p. p.config.handles) h.1) a
+fetched_at gives None old now t p h a = agrees_at p old.config now.config (ap (λ (c : Config). c.state) h.1) (ap (λ (c : Config). c.handles) h.1) a
+
+pub fetched_agrees : {S : Type 0} (gives : S → Answer → S → Type 0) (p : Pending) (old now : Parser S) (t : yaml_token_t)
+    → Fetches gives old (Ok t) now → InStep p old.config → InStep p now.config
+fetched_agrees gives p old now t h a = fetched_at gives old.config.lookahead old now t p h a
+
+-- so it can be taken
+pub fetched_ready : {S : Type 0} (gives : S → Answer → S → Type 0) (p : Pending) (old now : Parser S) (t : yaml_token_t)
+    → Fetches gives old (Ok t) now → InStep p old.config → Ready p now.config
+fetched_ready gives p old now t h a = record {
+  none = none old.config.lookahead h;
+  agrees = fetched_agrees gives p old now t h a;
+}
+  where
+    none : (o : Option yaml_token_t) → FetchesFrom gives o old (Ok t) now → now.config.lookahead ≡ None
+    none (Some u) f = ap (λ (x : Parser _). x.config.lookahead) f.1
+    none None f = ap (λ (c : Config). c.lookahead) f.1
+
+-- a fault of the source is kept
+pub fetched_fault : {S : Type 0} (gives : S → Answer → S → Type 0) (old now : Parser S) (x : yaml_error_type_t)
+    → Fetches gives old (Err x) now → x ≡ now.config.fault.error
+fetched_fault gives old now x h = by old.config.lookahead h
+  where
+    by : (o : Option yaml_token_t) → FetchesFrom gives o old (Err x) now → x ≡ now.config.fault.error
+    by (Some u) f = let never : Err x ≡ Ok u = f.0 in cc
+    by None f = f.2
+
+pub kept_fault : {S : Type 0} (gives : S → Answer → S → Type 0) (old now : Parser S) (x : yaml_error_type_t)
+    → Fetches gives old (Err x) now → is_fault x ≡ true
+    → (x ≡ now.config.fault.error) × (ended_or_failed now.config ≡ true)
+kept_fault gives old now x h f = let e = fetched_fault gives old now x h in (e, rw (← e, f) refl)

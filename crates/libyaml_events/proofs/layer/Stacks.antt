@@ -1,0 +1,38 @@
+-- What the buffers of the stacks stand for.
+use Rattle.std.proofs.Common.{◌≡◌, ◌≤◌, ◌++◌, ℕ, List, ap, length, map, reverse}
+use Rattle.std.proofs.lemmas.List.{take-append-le}
+use Rattle.libyaml_types.specs.declared.mark.yaml_mark_t.{yaml_mark_t}
+pub use Rattle.libyaml_automaton.proofs.lent.Stacks.{marks_none, state_of_number, states_none}
+use Rattle.libyaml_automaton.specs.Numbers.{state_of}
+use Rattle.libyaml_automaton.specs.Config.{states_of, marks_of}
+use Rattle.libyaml_automaton.specs.declared.answer.Answer.{Answer}
+use Rattle.libyaml_automaton.specs.declared.answer.Answer.TheVariants as did
+use Rattle.libyaml_automaton.specs.declared.machine.Machine.{Machine}
+use Rattle.libyaml_automaton.specs.declared.reading.Reading.{Reading}
+use Rattle.libyaml_automaton.specs.Fits.{SameReading, Stays}
+use Rattle.libyaml_automaton.specs.Growth.{IsFull, Neither, Stack}
+use Rattle.libyaml_automaton.specs.Wanted.{wanted}
+
+-- a longer buffer stands for the same stack
+pub grown_states : (n : ℕ) (ss ys : List ℕ) → n ≤ length ss → states_of n (ss ++ ys) ≡ states_of n ss
+unfolding states_of
+grown_states n ss ys h = ap (λ (l : List ℕ). reverse (map state_of l)) (take-append-le n ss ys h)
+
+pub grown_marks : (n : ℕ) (ms ys : List yaml_mark_t) → n ≤ length ms → marks_of n (ms ++ ys) ≡ marks_of n ms
+unfolding marks_of
+grown_marks n ms ys h = ap (λ (l : List yaml_mark_t). reverse l) (take-append-le n ms ys h)
+
+-- what a step that was undone leaves is read as before
+pub same_reading : (a : Answer) (r r' : Reading) → Stays a r r' → SameReading r r'
+same_reading did.AsksContent r r' e = (ap (λ (x : Reading). x.next) e, λ tag. ap (λ x. wanted tag x) e)
+same_reading _ r r' e = e
+
+pub stays : (a : Answer) (r r' : Reading) → a ≡ did.AsksContent → Stays a r r' → r' ≡ r
+stays did.AsksContent r r' i e = e
+stays _ r r' i e = absurd cc i
+
+-- a stack without room is one of the two
+pub not_neither : (s : Stack) (m : Machine) (states : List ℕ) (marks : List yaml_mark_t) → IsFull s m states marks
+    → s ≡ Neither → ⊥
+not_neither Neither m states marks f e = f
+not_neither _ m states marks f e = absurd cc e

@@ -1,0 +1,17 @@
+use Rattle.libyaml_events.proofs.layer.Contents.{enters_some, starts_entered}
+use Rattle.libyaml_events.proofs.parser.Machine.put_entered.Goals as goal
+
+pub keep_entered-requires-clause-entered : goal.keep_entered-requires-clause-entered
+keep_entered-requires-clause-entered c = enters_some c.args.token.now c.args.answer c.args.pending.now.reading
+    c.args.self.now c.requires.fits c.requires.other c.requires.led
+
+pub returns : goal.returns
+returns c = record {
+  puts = λ out held r tag i s.
+      let y = starts_entered _ held r tag c.args.self.now c.args.token.now i out c.args.answer c.args.pending.now.reading
+      c.requires.fits c.requires.other s in (
+        rw (c.give.ensures, c.collection_start-content.ensures, c.take_anchor-anchor.ensures, c.keep_entered.ensures y.0 y.1.1)
+            y.1.0,
+        λ e. absurd cc e,
+      );
+}
