@@ -2,9 +2,8 @@
 # inlined.sh PROGRAM..: what the figures of docs/PERFORMANCE.md rest on. Names each function marked #[inline(always)] that
 # still stands in a program's symbols, as `enter` or `append_number`, and each one marked #[inline(never)], as `bare_scalar`,
 # that does not, in a program that has others of its crate. Fails where there is one, where a mark's function isn't found
-# in the code, and where a program has no symbols of the crates. `bench_lists` has the parser that is handed its tokens too,
-# whose `step` (`Machine::step::<()>`) may stand apart, since two functions call it; and two loops `for event in parser.by_ref()`: the kit's `next` by reference, which has no mark, is inlined into them, or is
-# named.
+# in the code, and where a program has no symbols of the crates. `bench_lists` has two loops `for event in parser.by_ref()`:
+# the kit's `next` by reference, which has no mark, is inlined into them, or is named.
 #
 #     sh scripts/inlined.sh crates/yamltokens/out/yamltokens crates/bench_lists/out/bench_lists
 set -eu
@@ -33,7 +32,7 @@ done > "$work/marked"
 # The same of each function of a program. A method of a trait stands under its type and the name of the trait.
 status=0
 for program; do
-    nm "$program" | sed -n 's/^[0-9a-f]* [tTwW] //p' | grep -v '::Machine::step::<()>$' | sed 's/::<.*//' | awk -F '::' 'NF > 1 { print $1, $(NF - 1), $NF }' | sort -u > "$work/symbols"
+    nm "$program" | sed -n 's/^[0-9a-f]* [tTwW] //p' | sed 's/::<.*//' | awk -F '::' 'NF > 1 { print $1, $(NF - 1), $NF }' | sort -u > "$work/symbols"
     awk -v program="$program" '
         NR == FNR { crates[$1]; symbols[$1, $3] = symbols[$1, $3] " " tolower($2); n++; next }
         # the parser that is handed its tokens, in a program without it
