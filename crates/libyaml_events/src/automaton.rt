@@ -100,8 +100,8 @@ impl Automaton {
     ) -> Answer
         requires at { IsAt (next_of read.old.next) self.old.state }
         requires documents { stack_part_of (next_of read.old.next) ≡ Documents }
-        ensures steps { (end : yaml_mark_t) (f : Facts) → Says (automaton.step (wanted f.tag read.old) self.old
-            (token kind start.now end f)) (token kind start.now end f) (outcome result
+        ensures steps { (end : yaml_mark_t) (f : Facts) → Says (automaton.step (wanted f.tag read.old)
+            self.old (token kind start.now end f)) (token kind start.now end f) (outcome result
             (automaton.no_properties (token kind start.now end f)) (token kind start.now end f) f.tag
             read.new self.new) }
         ensures fits { FitsDocument result kind read.new self.new.state }
@@ -117,8 +117,8 @@ impl Automaton {
     #[inline(always)]
     pub(crate) fn version_directive(&mut self, read: &mut Reading, is_accepted: bool) -> Answer
         ensures steps { (t : Facts → Token) (f : Facts) → Says (automaton.first_version is_accepted
-            read.old.start_mark self.old (t f)) (t f) (outcome result (automaton.no_properties (t f)) (t f) f.tag
-            read.new self.new) }
+            read.old.start_mark self.old (t f)) (t f) (outcome result (automaton.no_properties (t f)) (t f)
+            f.tag read.new self.new) }
         ensures fits { FitsDirective result read.new }
         ensures kept { self.new ≡ self.old }
     {
@@ -183,7 +183,7 @@ impl Automaton {
     /// Makes room on both stacks, and returns whether there was memory.
     #[cold]
     #[inline(never)]
-    #[tactic(auto, using(crate::proofs::layer::Stacks::grown_states, crate::proofs::layer::Stacks::grown_marks))]
+    #[tactic(auto, using(crate::proofs::layer::Stacks::grown))]
     pub(crate) fn grow(&mut self) -> bool
         ensures { self.new ≡ self.old }
     {
@@ -196,7 +196,7 @@ impl Automaton {
     /// Forgets what is on the stacks.
     #[cold]
     #[inline(never)]
-    #[tactic(auto, using(crate::proofs::layer::Stacks::states_none, crate::proofs::layer::Stacks::marks_none))]
+    #[tactic(auto, using(crate::proofs::layer::Stacks::cleared))]
     pub(crate) fn clear(&mut self)
         ensures { self.new ≡ record self.old { states = []; marks = [] } }
     {

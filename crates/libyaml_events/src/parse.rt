@@ -21,8 +21,8 @@ use libyaml_types::{yaml_error_type_t, yaml_event_t, yaml_token_source_t, yaml_t
 impl Machine {
     /// Takes a token of this source: does a step.
     ///
-    /// It is no part of the loop in `fill`, out of which the compiler would move what each step needs. It names
-    /// the source, so that `fill` is its one caller, and it is inlined there.
+    /// It is no part of the loop in `fill`, out of which the compiler would move what each step needs. It
+    /// names the source, so that `fill` is its one caller, and it is inlined there.
     fn take_token<S: yaml_token_source_t>(
         &mut self,
         _: &S,

@@ -1,7 +1,8 @@
 //! The parser.
 ghost use Rattle.std.specs.Prelude.{◌≡◌, ◌⊎◌, ◌||◌, [], pos, ◌≤ℤ◌, true, false, List, Option, Some};
 ghost use Rattle.libyaml_types.specs.Fault.{Fault, fault_of, no_fault};
-ghost use Rattle.libyaml_events.specs.machine.Config.{with_fault, ended_or_failed, is_between, is_fault, start};
+ghost use Rattle.libyaml_events.specs.machine.Config.{with_fault, ended_or_failed, is_between, is_fault};
+ghost use Rattle.libyaml_events.specs.machine.Config.{start};
 ghost use Rattle.libyaml_types.specs.Source.{Coming, coming};
 ghost use Rattle.libyaml_grammar.specs.runs.Runs.{Ending, IsRun};
 ghost use Rattle.libyaml_events.specs.parsers.Stages.{is_outside, stage_of};

@@ -124,7 +124,8 @@ impl Machine {
         requires running { ended_or_failed self.old ≡ false }
         requires no_lookahead { self.old.lookahead ≡ None }
         requires agrees { InStep pending.old self.old }
-        ensures kept { IfErr result (λ e. (e ≡ self.new.fault.error) × (is_fault self.new.fault.error ≡ true)) }
+        ensures kept { IfErr result (λ e. (e ≡ self.new.fault.error)
+            × (is_fault self.new.fault.error ≡ true)) }
         ensures no_lookahead { self.new.lookahead ≡ None }
         ensures takes { Takes (vec_capacity events.old ≤ vec_len events.new)
             (standing (wanted pending.old) self.old) token.old events.old.items result

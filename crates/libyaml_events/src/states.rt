@@ -115,8 +115,8 @@ impl Machine {
     #[inline(always)]
     fn lead(&mut self, token: &yaml_token_t, pending: &mut Pending) -> Answer
         requires { Ready pending.old self.old }
-        ensures led { Led (step (wanted pending.old) self.old token.now) (held_of (wanted pending.old)) token.now
-            result pending.new self.new }
+        ensures led { Led (step (wanted pending.old) self.old token.now) (held_of (wanted pending.old))
+            token.now result pending.new self.new }
         ensures fits { FitsStep result (token_type token.now.content) pending.new.reading self.new.state }
         ensures none { self.new.lookahead ≡ None }
         ensures texts { pending.new ≡ record pending.old { reading = pending.new.reading } }
@@ -317,7 +317,8 @@ impl Machine {
     #[inline(never)]
     fn put_unentered(&mut self, token: &mut yaml_token_t, out: &mut yaml_event_t)
         requires { self.old.lookahead ≡ None }
-        ensures out { out.new ≡ event (start_of None None token.old.content) token.old.start_mark token.old.end_mark }
+        ensures out { out.new
+            ≡ event (start_of None None token.old.content) token.old.start_mark token.old.end_mark }
         ensures kept { self.new ≡ keep token.old self.old }
     {
         let content = collection_start(None, None, &token.content);

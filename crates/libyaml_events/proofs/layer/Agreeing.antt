@@ -19,10 +19,13 @@ agrees_at p c d e h a = record {
   same = subst (λ y. want_of y (wanted p) ≡ wanted_then a.fact p.reading) (sym h) a.same;
 }
 
-fetched_at : {S : Type 0} (gives : S → Answer → S → Type 0) (o : Option yaml_token_t) (old now : Parser S) (t : yaml_token_t) (p : Pending)
+fetched_at : {S : Type 0} (gives : S → Answer → S → Type 0) (o : Option yaml_token_t) (old now : Parser S)
+    (t : yaml_token_t) (p : Pending)
     → FetchesFrom gives o old (Ok t) now → InStep p old.config → InStep p now.config
-fetched_at gives (Some u) old now t p h a = agrees_at p old.config now.config (ap (λ p. p.config.state) h.1) (ap (λ p. p.config.handles) h.1) a
-fetched_at gives None old now t p h a = agrees_at p old.config now.config (ap (λ (c : Config). c.state) h.1) (ap (λ (c : Config). c.handles) h.1) a
+fetched_at gives (Some u) old now t p h a = agrees_at p old.config now.config (ap (λ p. p.config.state) h.1)
+    (ap (λ p. p.config.handles) h.1) a
+fetched_at gives None old now t p h a = agrees_at p old.config now.config (ap (λ (c : Config). c.state) h.1)
+    (ap (λ (c : Config). c.handles) h.1) a
 
 pub fetched_agrees : {S : Type 0} (gives : S → Answer → S → Type 0) (p : Pending) (old now : Parser S) (t : yaml_token_t)
     → Fetches gives old (Ok t) now → InStep p old.config → InStep p now.config

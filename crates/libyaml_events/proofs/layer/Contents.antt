@@ -1,5 +1,6 @@
 -- The start of a collection after properties, with its texts.
-use Rattle.std.proofs.Common.{◌≡◌, ◌∙◌, ◌∷◌, [], None, codes, ℕ, Bool, true, false, List, Option, Some, Ok, refl, sym, ap, subst, is_some}
+use Rattle.std.proofs.Common.{◌≡◌, ◌∙◌, ◌∷◌, [], None, codes, ℕ, Bool, true, false, List, Option, Some, Ok, refl}
+use Rattle.std.proofs.Common.{sym, ap, subst, is_some}
 use Rattle.libyaml_types.specs.Types.{token_type}
 use Rattle.libyaml_types.specs.declared.mark.yaml_mark_t.{yaml_mark_t}
 use Rattle.libyaml_types.specs.declared.token.yaml_token_t.{yaml_token_t}
@@ -38,9 +39,16 @@ use Rattle.libyaml_events.proofs.layer.Putting.{is_tag, is_tag_if, is_some_tag, 
 use Rattle.libyaml_events.proofs.tie.Nodes.{missing, anchored, tagged_as, known as known_tag}
 
 abbrev known : NodeHead → yaml_mark_t → want.Properties
-known h m = record { anchor = is_some h.anchor; tag = read_of h.tag; start_mark = h.start_mark; end_mark = h.end_mark; tag_mark = m }
+known h m = record {
+  anchor = is_some h.anchor;
+  tag = read_of h.tag;
+  start_mark = h.start_mark;
+  end_mark = h.end_mark;
+  tag_mark = m;
+}
 
-module _ (h : NodeHead) (held : Held) (r : Reading) (tag : ℕ) (d : Config) (t : yaml_token_t) (end : yaml_mark_t) (i : IsHead h held r tag d.handles) where
+module _ (h : NodeHead) (held : Held) (r : Reading) (tag : ℕ) (d : Config) (t : yaml_token_t) (end : yaml_mark_t)
+    (i : IsHead h held r tag d.handles) where
   pub sequence_starts : (k : unnamed_yaml_token_t_data) (b : Bool) (c : config.Config) → with_texts held d t k (Ok (
     want.Given (record {
       shape = automaton.sequence_start (properties tag r) b;
@@ -50,7 +58,11 @@ module _ (h : NodeHead) (held : Held) (r : Reading) (tag : ℕ) (d : Config) (t 
     }),
     c,
   ))
-      ≡ Ok (Given (event (sequence_start h.anchor h.tag (sequence_style b)) h.start_mark end), config_with c d.handles d.fault (Some t))
+      ≡ Ok (
+        Given (event (sequence_start h.anchor h.tag (sequence_style b)) h.start_mark end),
+        config_with c
+            d.handles d.fault (Some t),
+      )
   sequence_starts k b c = subst (λ (p : want.Properties). with_texts held d t k (Ok (
     want.Given (record {
       shape = automaton.sequence_start p b;
@@ -73,7 +85,11 @@ module _ (h : NodeHead) (held : Held) (r : Reading) (tag : ℕ) (d : Config) (t 
     }),
     c,
   ))
-      ≡ Ok (Given (event (mapping_start h.anchor h.tag (mapping_style b)) h.start_mark end), config_with c d.handles d.fault (Some t))
+      ≡ Ok (
+        Given (event (mapping_start h.anchor h.tag (mapping_style b)) h.start_mark end),
+        config_with c d.handles
+            d.fault (Some t),
+      )
   mapping_starts k b c = subst (λ (p : want.Properties). with_texts held d t k (Ok (
     want.Given (record {
       shape = automaton.mapping_start p b;
@@ -88,15 +104,16 @@ module _ (h : NodeHead) (held : Held) (r : Reading) (tag : ℕ) (d : Config) (t 
   )) (sym i.2) (rw (i.0, i.1, missing h.tag, anchored h.anchor, tagged_as h.tag) refl)
 
   -- by its opening token
-  pub starts : (k : unnamed_yaml_token_t_data) (c : config.Config) → is_opening (token_type k) ≡ true → with_texts held d t k (Ok (
-    want.Given (record {
-      shape = start_by (token_type k) (properties tag r);
-      stays = true;
-      start_mark = r.start_mark;
-      end_mark = end;
-    }),
-    c,
-  ))
+  pub starts : (k : unnamed_yaml_token_t_data) (c : config.Config) → is_opening (token_type k) ≡ true
+      → with_texts held d t k (Ok (
+        want.Given (record {
+          shape = start_by (token_type k) (properties tag r);
+          stays = true;
+          start_mark = r.start_mark;
+          end_mark = end;
+        }),
+        c,
+      ))
       ≡ Ok (Given (event (start_of h.anchor h.tag k) h.start_mark end), config_with c d.handles d.fault (Some t))
   starts tok.BlockSequenceStart c o = sequence_starts tok.BlockSequenceStart false c
   starts tok.BlockMappingStart c o = mapping_starts tok.BlockMappingStart false c
@@ -108,13 +125,17 @@ abbrev pub head_at : (a g : Option (List ℕ)) → Reading → NodeHead
 head_at a g r = record { anchor = a; tag = g; start_mark = r.start_mark; end_mark = r.end_mark }
 
 -- the head of which the texts were taken
-pub head_is : (h : Held) (q q' : Pending) (hs : Handles) (tag : ℕ) (a g : Option (List ℕ)) → IsHeld h q → Noted did.AsksContent h tag q.reading hs
-    → q'.reading ≡ q.reading → q'.properties.anchor ≡ q.properties.anchor → a ≡ (held_in q').anchor → tag_in hs (held_in q).tag ≡ g
+pub head_is : (h : Held) (q q' : Pending) (hs : Handles) (tag : ℕ) (a g : Option (List ℕ)) → IsHeld h q
+    → Noted did.AsksContent h tag q.reading hs
+    → q'.reading ≡ q.reading → q'.properties.anchor ≡ q.properties.anchor → a ≡ (held_in q').anchor
+    → tag_in hs (held_in q).tag ≡ g
     → tag_of hs (held_in q).tag ≡ read_of g → IsHead (head_at a g q.reading) h q.reading tag hs
 head_is h q q' hs tag a g i e x y z u v =
     let r = q.reading in
-    let n : h.anchor ≡ a = only_held h.anchor q.properties.anchor (flag r.has_anchor) (ap (λ (p : want.Properties). p.anchor) e) i.0
-    ∙ sym (z ∙ (ap (λ (o : Reading). only_if (flag o.has_anchor) q'.properties.anchor) x ∙ ap (λ o. only_if (flag r.has_anchor) o) y)) in
+    let n : h.anchor ≡ a = only_held h.anchor q.properties.anchor (flag r.has_anchor)
+    (ap (λ (p : want.Properties). p.anchor) e) i.0
+    ∙ sym (z ∙ (ap (λ (o : Reading). only_if (flag o.has_anchor) q'.properties.anchor) x ∙ ap
+    (λ o. only_if (flag r.has_anchor) o) y)) in
     let w : h.tag ≡ (held_in q).tag = only_held h.tag q.properties.tag (flag r.has_tag)
     (is_some_tag hs h.tag ∙ (ap (λ (p : want.Properties). is_tag p.tag) e ∙ is_tag_if (flag r.has_tag) tag)) i.1 in (
       n,
@@ -128,14 +149,16 @@ head_is h q q' hs tag a g i e x y z u v =
     made : Bool → want.TagRead → Reading → yaml_mark_t → want.Properties
     made b o r m = record { anchor = b; tag = o; start_mark = r.start_mark; end_mark = r.end_mark; tag_mark = m }
 
-defined : (g : Option (List ℕ)) (p : NodePlace) (r : want.Properties) (c : config.Config) (t : want.Token) (k : yaml_token_type_t)
+defined : (g : Option (List ℕ)) (p : NodePlace) (r : want.Properties) (c : config.Config) (t : want.Token)
+    (k : yaml_token_type_t)
     → automaton.content_behind (read_of g) p r c t k ≡ automaton.node_content p r c t k
 defined None p r c t k = refl
 defined (Some []) p r c t k = refl
 defined (Some (x ∷ xs)) p r c t k = known_tag (bytes_eq (x ∷ xs) (codes "!")) p r c t k
 
 -- the head and the step, where a step asked for content
-pub asked : (out : Progressed) (h : Held) (t : yaml_token_t) (q q' : Pending) (r : Reading) (old now : Config) (a g : Option (List ℕ))
+pub asked : (out : Progressed) (h : Held) (t : yaml_token_t) (q q' : Pending) (r : Reading) (old now : Config)
+    (a g : Option (List ℕ))
     (l : Led out h t did.AsksContent q old) → r ≡ q.reading → now ≡ old → q'.reading ≡ q.reading
     → q'.properties.anchor ≡ q.properties.anchor → a ≡ (held_in q').anchor → tag_in old.handles (held_in q).tag ≡ g
     → tag_of old.handles (held_in q).tag ≡ read_of g
@@ -144,9 +167,11 @@ asked out h t q q' r old now a g l k m x y z u v =
     let d = old in
     let i = head_is h q q' d.handles l.1 a g l.0 l.3 x y z u v in
     let e : IsContent out h t q.reading l.1 d = l.2.0 ∙ ap (λ y. with_texts h d t t.content y)
-    (ap (λ (y : want.TagRead). automaton.content_behind y (place_of q.reading.place) (properties l.1 q.reading) (config_of d)
+    (ap (λ (y : want.TagRead). automaton.content_behind y (place_of q.reading.place) (properties l.1 q.reading)
+    (config_of d)
     (token_of d.handles t) (token_type t.content)) (ap (λ (p : want.Properties). p.tag) i.2)
-    ∙ defined g (place_of q.reading.place) (properties l.1 q.reading) (config_of d) (token_of d.handles t) (token_type t.content)) in
+    ∙ defined g (place_of q.reading.place) (properties l.1 q.reading) (config_of d) (token_of d.handles t)
+    (token_type t.content)) in
     subst (λ (p : Config). IsContent out h t r l.1 p × IsHead (head_at a g r) h r l.1 p.handles) (sym m)
     (subst (λ (r : Reading). IsContent out h t r l.1 d × IsHead (head_at a g r) h r l.1 d.handles) (sym k) (e, i))
 

@@ -4,7 +4,9 @@ use Rattle.std.specs.FinMap.{get, insert}
 use Rattle.libyaml_types.specs.declared.mark.yaml_mark_t.{yaml_mark_t}
 use Rattle.libyaml_types.specs.declared.token.yaml_token_t.{yaml_token_t}
 use Rattle.libyaml_types.specs.declared.token.unnamed_yaml_token_t_data.TheVariants as tok
+use Rattle.libyaml_types.specs.declared.token.unnamed_yaml_token_t_data_version_directive.{}
 use Rattle.libyaml_types.specs.declared.token.unnamed_yaml_token_t_data_version_directive.{unnamed_yaml_token_t_data_version_directive}
+use Rattle.libyaml_types.specs.declared.token.unnamed_yaml_token_t_data_tag_directive.{}
 use Rattle.libyaml_types.specs.declared.token.unnamed_yaml_token_t_data_tag_directive.{unnamed_yaml_token_t_data_tag_directive}
 use Rattle.libyaml_types.specs.declared.enums.yaml_error_type_t.TheVariants.{YAML_PARSER_ERROR}
 use Rattle.libyaml_types.specs.Events.{zero_mark}
@@ -68,24 +70,30 @@ ToldBy g k a r' k' = (t : Facts → Token) (f : Facts) → answers.Says (g k (t 
     (outcome a (automaton.no_properties (t f)) (t f) f.tag r' k')
 
 module _ (c : Config) (t : yaml_token_t) (q : Pending) (r' : Reading) (a : Answer) (out : Progressed) (held : Held)
-    (none : c.lookahead ≡ None) (fits : FitsDirective a r') (k k' : config.Config) (kept : k' ≡ k) (at : k ≡ config_of c) where
+    (none : c.lookahead ≡ None) (fits : FitsDirective a r') (k k' : config.Config) (kept : k' ≡ k)
+    (at : k ≡ config_of c) where
   tells : (g : config.Config → Token → automaton.Progressed) (tag : ℕ) → ToldBy g k a r' k'
       → SaysIn out held c t (Does (g (config_of c) (token_of c.handles t))) → SaysOf out held t a tag r' c
-  tells g tag s l = directs c t (g (config_of c) (token_of c.handles t)) (automaton.no_properties (token_of c.handles t)) tag
+  tells g tag s l = directs c t (g (config_of c) (token_of c.handles t))
+      (automaton.no_properties (token_of c.handles t)) tag
       r' a out held none fits
       (told (λ y. g y (token_of c.handles t)) k k' c t (automaton.no_properties (token_of c.handles t)) tag r' a kept at
       (s (λ f. token_of c.handles t) (record { token = 0; tag = tag }))) l
 
   pub version_says : (l : LedDocument out held t did.AsksVersion q c) (m : yaml_mark_t) (b : Bool)
-      (v : unnamed_yaml_token_t_data_version_directive) → t.content ≡ tok.VersionDirective v → b ≡ is_accepted v.major v.minor
+      (v : unnamed_yaml_token_t_data_version_directive) → t.content ≡ tok.VersionDirective v
+      → b ≡ is_accepted v.major v.minor
       → m ≡ q.reading.start_mark → ToldBy (automaton.first_version b m) k a r' k' → SaysOf out held t a l.1 r' c
   version_says l m b v e i j s = tells (automaton.first_version b m) l.1 s
-      (subst (λ (x : yaml_mark_t). SaysIn out held c t (Does (automaton.first_version b x (config_of c) (token_of c.handles t)))) (sym j)
-      (subst (λ (g : Bool). SaysIn out held c t (Does (automaton.first_version g q.reading.start_mark (config_of c) (token_of c.handles t))))
+      (subst (λ (x : yaml_mark_t). SaysIn out held c t (Does
+      (automaton.first_version b x (config_of c) (token_of c.handles t)))) (sym j)
+      (subst (λ (g : Bool). SaysIn out held c t (Does (automaton.first_version g q.reading.start_mark (config_of c)
+      (token_of c.handles t))))
       (ap (λ y. flag (fact_of c.handles y)) e ∙ (flag_bit (is_accepted v.major v.minor) ∙ sym i)) l.2))
 
   pub handle_says : (l : LedDocument out held t did.AsksHandle q c) (b : Bool)
-      (g : unnamed_yaml_token_t_data_tag_directive) → t.content ≡ tok.TagDirective g → b ≡ is_some (get c.handles g.handle)
+      (g : unnamed_yaml_token_t_data_tag_directive) → t.content ≡ tok.TagDirective g
+      → b ≡ is_some (get c.handles g.handle)
       → ToldBy (automaton.tag_directive b q.reading.start_mark (flag q.reading.has_version)) k a r' k'
       → SaysOf out held t a l.1 r' c
   handle_says l b g e i s = tells (automaton.tag_directive b q.reading.start_mark (flag q.reading.has_version)) l.1 s
@@ -97,12 +105,18 @@ module _ (c : Config) (t : yaml_token_t) (q q1 : Pending) (r' : Reading) (out : 
     (none : c.lookahead ≡ None) (fits : FitsDirective did.Wants r') where
   pub version_wants : (l : LedDocument out held t did.AsksVersion q c) (v : unnamed_yaml_token_t_data_version_directive)
       → t.content ≡ tok.VersionDirective v
-      → q1 ≡ record q { directives = record q.directives { version = Some (record { major = v.major; minor = v.minor }) } }
+      → q1 ≡ record q {
+        directives = record q.directives {
+          version = Some
+              (record { major = v.major; minor = v.minor });
+        };
+      }
       → SaysOf out held t did.Wants l.1 r' c
       → Steps out c (Ok (Wants (wanted (record q1 { reading = r' })))) c × Ready (record q1 { reading = r' }) c
   version_wants l v e i s = declares out held t (record q1 { reading = r' }) c l.1 c.handles none fits
       (ap (λ y. (held_behind held t y).version) e ∙ ap (λ (p : Pending). p.directives.version) (sym i))
-      (ap (λ y. (held_behind held t y).directives) e ∙ (l.0.1 ∙ ap (λ (p : Pending). p.directives.tag_directives) (sym i)))
+      (ap (λ y. (held_behind held t y).directives) e ∙ (l.0.1 ∙ ap (λ (p : Pending). p.directives.tag_directives)
+      (sym i)))
       (ap (λ y. declared_by c.handles y) e) s
 
   pub handle_wants : (l : LedDocument out held t did.AsksHandle q c) (g : unnamed_yaml_token_t_data_tag_directive)
@@ -115,10 +129,12 @@ module _ (c : Config) (t : yaml_token_t) (q q1 : Pending) (r' : Reading) (out : 
         };
       }
       → SaysOf out held t did.Wants l.1 r' c
-      → Steps out c (Ok (Wants (wanted q1))) (with_handle g.handle g.prefix c) × Ready q1 (with_handle g.handle g.prefix c)
+      → Steps out c (Ok (Wants (wanted q1))) (with_handle g.handle g.prefix c)
+      × Ready q1 (with_handle g.handle g.prefix c)
   handle_wants l g e i s = subst (λ (p : Pending). Steps out c (Ok (Wants (wanted p))) (with_handle g.handle g.prefix c)
       × Ready p (with_handle g.handle g.prefix c)) (sym i)
       (declares out held t _ c l.1 (insert c.handles g.handle g.prefix) none fits
       (ap (λ y. (held_behind held t y).version) e ∙ l.0.0)
-      (ap (λ y. (held_behind held t y).directives) e ∙ ap (λ (y : List _). y ++ record { handle = g.handle; prefix = g.prefix } ∷ []) l.0.1)
+      (ap (λ y. (held_behind held t y).directives) e ∙ ap (λ (y : List _). y ++ record
+      { handle = g.handle; prefix = g.prefix } ∷ []) l.0.1)
       (ap (λ y. declared_by c.handles y) e) s)

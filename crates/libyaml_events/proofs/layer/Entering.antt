@@ -20,7 +20,8 @@ use Rattle.libyaml_events.specs.automaton.Texts.{config_with, want_of, want_with
 use Rattle.libyaml_events.specs.automaton.View.{InStep, EnteredRight, seen, is_entry}
 
 -- the function of the state takes the next token
-pub agrees_at_state : (p : Pending) (c : Config) → wanted_then 0 p.reading ≡ want.AtState → IsAt (next_of p.reading.next) c.state
+pub agrees_at_state : (p : Pending) (c : Config) → wanted_then 0 p.reading ≡ want.AtState
+    → IsAt (next_of p.reading.next) c.state
     → InStep p c
 agrees_at_state p c w i = record {
   at = i;
@@ -65,7 +66,8 @@ module _ (hs : Handles) (f : Fault) (t : yaml_token_t) where
       (ap (λ y. seen y t k hs f) (sym i) ∙ e) (entered k (subst (λ y. EnteredRight y k) i v)))
 
 -- in a block collection the entry's state says what comes
-pub block_want : (s : yaml_parser_state_t) → (s ≡ st.YAML_PARSE_FLOW_SEQUENCE_ENTRY_STATE → ⊥) → (s ≡ st.YAML_PARSE_FLOW_MAPPING_KEY_STATE → ⊥)
+pub block_want : (s : yaml_parser_state_t) → (s ≡ st.YAML_PARSE_FLOW_SEQUENCE_ENTRY_STATE → ⊥)
+    → (s ≡ st.YAML_PARSE_FLOW_MAPPING_KEY_STATE → ⊥)
     → want_in s ≡ AtState
 block_want st.YAML_PARSE_FLOW_SEQUENCE_ENTRY_STATE n m = absurd (n refl)
 block_want st.YAML_PARSE_FLOW_MAPPING_KEY_STATE n m = absurd (m refl)

@@ -1,5 +1,6 @@
 -- A step, by the step of the automaton and what is put after it.
-use Rattle.std.proofs.Common.{ℕ, ◌==◌, if◌then◌else◌, is_some, Some, Option, ◌≡◌, ◌∙◌, refl, sym, ap, subst, true, false, Bool, Ok, Err, Result, None}
+use Rattle.std.proofs.Common.{ℕ, ◌==◌, if◌then◌else◌, is_some, Some, Option, ◌≡◌, ◌∙◌, refl, sym, ap, subst, true}
+use Rattle.std.proofs.Common.{false, Bool, Ok, Err, Result, None}
 use Rattle.libyaml_types.specs.declared.enums.yaml_error_type_t.{yaml_error_type_t}
 use Rattle.libyaml_types.specs.declared.token.yaml_token_t.{yaml_token_t}
 use Rattle.libyaml_events.specs.machine.Config.{Config, Handles}
@@ -17,13 +18,16 @@ use Rattle.libyaml_automaton.specs.Wanted.{wanted as wanted_then, wanted_by, tag
 use Rattle.libyaml_automaton.specs.Fits.{is_simple, IsSimple, SameReading}
 use Rattle.libyaml_events.specs.declared.pending.Pending.{Pending}
 use Rattle.libyaml_events.specs.machine.Answers.{wanted, held_in}
-use Rattle.libyaml_events.specs.automaton.Texts.{Held, config_of, config_with, handles_behind, held_behind, declared_by, only_if, tag_fact, tag_of, want_of, want_with}
+use Rattle.libyaml_events.specs.automaton.Texts.{Held, config_of, config_with, handles_behind, held_behind}
+use Rattle.libyaml_events.specs.automaton.Texts.{declared_by, only_if, tag_fact, tag_of, want_of, want_with}
 use Rattle.libyaml_events.specs.automaton.View.{Ready}
 use Rattle.libyaml_types.specs.Types.{token_type}
 use Rattle.libyaml_types.specs.declared.token.unnamed_yaml_token_t_data.TheVariants as tok
 use Rattle.libyaml_types.specs.declared.token.unnamed_yaml_token_t_data_anchor.{unnamed_yaml_token_t_data_anchor}
 use Rattle.libyaml_types.specs.declared.token.unnamed_yaml_token_t_data_tag.{unnamed_yaml_token_t_data_tag}
+use Rattle.libyaml_types.specs.declared.token.unnamed_yaml_token_t_data_version_directive.{}
 use Rattle.libyaml_types.specs.declared.token.unnamed_yaml_token_t_data_version_directive.{unnamed_yaml_token_t_data_version_directive}
+use Rattle.libyaml_types.specs.declared.token.unnamed_yaml_token_t_data_tag_directive.{}
 use Rattle.libyaml_types.specs.declared.token.unnamed_yaml_token_t_data_tag_directive.{unnamed_yaml_token_t_data_tag_directive}
 use Rattle.libyaml_types.specs.declared.enums.yaml_parser_state_t.{yaml_parser_state_t}
 use Rattle.libyaml_types.specs.declared.enums.yaml_token_type_t.TheVariants as kind
@@ -154,7 +158,8 @@ abbrev tag_in_want : want.Want → Bool
 tag_in_want (want.BehindProperties p r) = is_tag r.tag
 tag_in_want _ = false
 
-some_tag : (a b c : Bool) → is_tag (if a then want.EmptyTag else if b then want.Bang else if c then want.OtherTag else want.Undefined) ≡ true
+some_tag : (a b c : Bool) → is_tag (if a then want.EmptyTag else if b then want.Bang else if c then want.OtherTag
+    else want.Undefined) ≡ true
 some_tag true b c = refl
 some_tag false true c = refl
 some_tag false false true = refl
@@ -175,15 +180,18 @@ only_held (Some a) x true i y = y refl
 only_held (Some a) x false i y = absurd cc i
 
 -- the automaton's flags say which texts are this node's
-held_behind_properties : (n : Next) (hs : Handles) (h : Held) (q : Pending) (tag : ℕ) → n ≡ next.BehindProperties → IsHeld h q
+held_behind_properties : (n : Next) (hs : Handles) (h : Held) (q : Pending) (tag : ℕ) → n ≡ next.BehindProperties
+    → IsHeld h q
     → want_of hs (want_with h (wanted_by n tag q.reading)) ≡ wanted_by n tag q.reading
     → want_with h (wanted_by n tag q.reading) ≡ want_with (held_in q) (wanted_by n 0 q.reading)
 held_behind_properties next.BehindProperties hs h q tag e i s =
-    let a : h.anchor ≡ (held_in q).anchor = only_held h.anchor q.properties.anchor (flag q.reading.has_anchor) (ap anchor_in s) i.0 in
+    let a : h.anchor ≡ (held_in q).anchor = only_held h.anchor q.properties.anchor (flag q.reading.has_anchor)
+    (ap anchor_in s) i.0 in
     let g : h.tag ≡ (held_in q).tag = only_held h.tag q.properties.tag (flag q.reading.has_tag)
     (is_some_tag hs h.tag ∙ (ap tag_in_want s ∙ is_tag_if (flag q.reading.has_tag) tag)) i.1 in
     ap (λ x. want_with (record h { anchor = x }) (wanted_by next.BehindProperties tag q.reading)) a
-    ∙ ap (λ x. want_with (record h { anchor = (held_in q).anchor; tag = x }) (wanted_by next.BehindProperties tag q.reading)) g
+    ∙ ap (λ x. want_with (record h { anchor = (held_in q).anchor; tag = x })
+    (wanted_by next.BehindProperties tag q.reading)) g
 held_behind_properties _ hs h q tag e i s = absurd cc e
 
 -- what was read of the texts is the same where the automaton wants the same
@@ -219,7 +227,8 @@ still_ready p r c d e s g = subst (λ (y : Config). Ready (record p { reading = 
       refl,
     )
 
-declares_none_there : (n : Next) (r : Reading) (tag : ℕ) (hs : Handles) (k : unnamed_yaml_token_t_data) → n ≡ next.BehindProperties
+declares_none_there : (n : Next) (r : Reading) (tag : ℕ) (hs : Handles) (k : unnamed_yaml_token_t_data)
+    → n ≡ next.BehindProperties
     → handles_behind hs k (wanted_by n tag r) ≡ hs
 declares_none_there next.BehindProperties r tag hs k e = refl
 declares_none_there _ r tag hs k e = absurd cc e
@@ -237,20 +246,26 @@ holds out h t q old tag n e i l = goes_on out h t q old tag old.handles n (at_an
     (held_behind_properties (next_of q.reading.next) _ (held_behind h t t.content) q tag e i l.1)
     (declares_none_there (next_of q.reading.next) q.reading tag old.handles t.content e) l
 
-pub anchor_of : (k : unnamed_yaml_token_t_data) → token_type k ≡ kind.YAML_ANCHOR_TOKEN → (a : unnamed_yaml_token_t_data_anchor) × (k ≡ tok.Anchor a)
+pub anchor_of : (k : unnamed_yaml_token_t_data) → token_type k ≡ kind.YAML_ANCHOR_TOKEN
+    → (a : unnamed_yaml_token_t_data_anchor) × (k ≡ tok.Anchor a)
 anchor_of (tok.Anchor a) e = (a, refl)
 anchor_of _ e = absurd cc e
 
-pub tag_of_token : (k : unnamed_yaml_token_t_data) → token_type k ≡ kind.YAML_TAG_TOKEN → (g : unnamed_yaml_token_t_data_tag) × (k ≡ tok.Tag g)
+pub tag_of_token : (k : unnamed_yaml_token_t_data) → token_type k ≡ kind.YAML_TAG_TOKEN
+    → (g : unnamed_yaml_token_t_data_tag) × (k ≡ tok.Tag g)
 tag_of_token (tok.Tag g) e = (g, refl)
 tag_of_token _ e = absurd cc e
 
-pub anchor_held : (h : Held) (t : yaml_token_t) (k : unnamed_yaml_token_t_data) (q : Pending) (a : unnamed_yaml_token_t_data_anchor)
-    → k ≡ tok.Anchor a → IsHeld h q → IsHeld (held_behind h t k) (record q { properties = record q.properties { anchor = Some a.value } })
-anchor_held h t k q a e i = subst (λ y. IsHeld (held_behind h t y) (record q { properties = record q.properties { anchor = Some a.value } }))
+pub anchor_held : (h : Held) (t : yaml_token_t) (k : unnamed_yaml_token_t_data) (q : Pending)
+    (a : unnamed_yaml_token_t_data_anchor)
+    → k ≡ tok.Anchor a → IsHeld h q → IsHeld (held_behind h t k)
+    (record q { properties = record q.properties { anchor = Some a.value } })
+anchor_held h t k q a e i = subst (λ y. IsHeld (held_behind h t y)
+    (record q { properties = record q.properties { anchor = Some a.value } }))
     (sym e) (λ j. refl, i.1)
 
-pub tag_held : (h : Held) (t : yaml_token_t) (k : unnamed_yaml_token_t_data) (q : Pending) (g : unnamed_yaml_token_t_data_tag)
+pub tag_held : (h : Held) (t : yaml_token_t) (k : unnamed_yaml_token_t_data) (q : Pending)
+    (g : unnamed_yaml_token_t_data_tag)
     → k ≡ tok.Tag g → IsHeld h q → IsHeld (held_behind h t k) (record q {
       properties = record q.properties {
         tag =

@@ -22,6 +22,10 @@ pub grown_marks : (n : ℕ) (ms ys : List yaml_mark_t) → n ≤ length ms → m
 unfolding marks_of
 grown_marks n ms ys h = ap (λ (l : List yaml_mark_t). reverse l) (take-append-le n ms ys h)
 
+pub ruleset grown = (grown_states, grown_marks)
+
+pub ruleset cleared = (states_none, marks_none)
+
 -- what a step that was undone leaves is read as before
 pub same_reading : (a : Answer) (r r' : Reading) → Stays a r r' → SameReading r r'
 same_reading did.AsksContent r r' e = (ap (λ (x : Reading). x.next) e, λ tag. ap (λ x. wanted tag x) e)

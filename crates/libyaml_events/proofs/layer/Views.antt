@@ -11,6 +11,7 @@ use Rattle.libyaml_events.specs.declared.lookahead.Lookahead.TheVariants as ahea
 use Rattle.libyaml_events.specs.machine.Config.{Config, Handles, with_fault, with_handle}
 use Rattle.libyaml_events.specs.machine.Config.{is_between, is_end_state}
 use Rattle.libyaml_events.specs.automaton.View.{EnteredRight, first_before, is_entry, seen}
+use Rattle.libyaml_events.proofs.code.LookaheadLemmas.{kept_marks}
 
 -- a collection's first state is in a document, and so is the state of its entries
 between_at : (s : yaml_parser_state_t) → is_entry s ≡ true → is_between (first_before s) ≡ is_between s
@@ -62,3 +63,6 @@ module _ (t : yaml_token_t) (k : automaton.Config) (hs : Handles) (f : Fault) wh
   pub seen_ended : (q : Lookahead) → EnteredRight q k → is_end_state (seen q t k hs f).state ≡ is_end_state k.state
   seen_ended ahead.Entered e = end_at k.state e.0
   seen_ended _ e = refl
+
+-- a token becomes the lookahead where there was none
+pub ruleset kept = (seen_none, kept_marks)

@@ -76,7 +76,8 @@ abbrev mutual
   states_place (flow_key (open_collection p o mapping s is) k) = st.YAML_PARSE_FLOW_MAPPING_VALUE_STATE ∷ states_place p
   states_place (flow_value (open_collection p o sequence s is) k x v) =
       st.YAML_PARSE_FLOW_SEQUENCE_ENTRY_MAPPING_END_STATE ∷ states_place p
-  states_place (flow_value (open_collection p o mapping s is) k x v) = st.YAML_PARSE_FLOW_MAPPING_KEY_STATE ∷ states_place p
+  states_place (flow_value (open_collection p o mapping s is) k x v) = st.YAML_PARSE_FLOW_MAPPING_KEY_STATE ∷
+      states_place p
 
 -- the starts of the open collections
 abbrev mutual
@@ -234,7 +235,8 @@ parts_state (part ps k v x) = behind_state k
 abbrev pub member_state : Open → FlowMember → yaml_parser_state_t
 member_state (open_collection p o sequence s is) (single n) = st.YAML_PARSE_FLOW_SEQUENCE_ENTRY_STATE
 member_state (open_collection p o mapping s is) (single n) = st.YAML_PARSE_FLOW_MAPPING_EMPTY_VALUE_STATE
-member_state (open_collection p o sequence s is) (pair k x no_value) = st.YAML_PARSE_FLOW_SEQUENCE_ENTRY_MAPPING_VALUE_STATE
+member_state (open_collection p o sequence s is) (pair k x no_value) =
+    st.YAML_PARSE_FLOW_SEQUENCE_ENTRY_MAPPING_VALUE_STATE
 member_state (open_collection p o mapping s is) (pair k x no_value) = st.YAML_PARSE_FLOW_MAPPING_VALUE_STATE
 member_state (open_collection p o sequence s is) (pair k x (with_value v y)) =
     st.YAML_PARSE_FLOW_SEQUENCE_ENTRY_MAPPING_END_STATE

@@ -9,11 +9,16 @@ use Rattle.libyaml_types.specs.declared.enums.yaml_parser_state_t.TheVariants as
 use Rattle.libyaml_types.specs.declared.event.unnamed_yaml_event_t_data.{unnamed_yaml_event_t_data}
 use Rattle.libyaml_types.specs.declared.event.unnamed_yaml_event_t_data.TheVariants as ev
 use Rattle.libyaml_types.specs.declared.event.unnamed_yaml_event_t_data_alias.{unnamed_yaml_event_t_data_alias}
+use Rattle.libyaml_types.specs.declared.event.unnamed_yaml_event_t_data_document_end.{}
 use Rattle.libyaml_types.specs.declared.event.unnamed_yaml_event_t_data_document_end.{unnamed_yaml_event_t_data_document_end}
+use Rattle.libyaml_types.specs.declared.event.unnamed_yaml_event_t_data_document_start.{}
 use Rattle.libyaml_types.specs.declared.event.unnamed_yaml_event_t_data_document_start.{unnamed_yaml_event_t_data_document_start}
+use Rattle.libyaml_types.specs.declared.event.unnamed_yaml_event_t_data_mapping_start.{}
 use Rattle.libyaml_types.specs.declared.event.unnamed_yaml_event_t_data_mapping_start.{unnamed_yaml_event_t_data_mapping_start}
 use Rattle.libyaml_types.specs.declared.event.unnamed_yaml_event_t_data_scalar.{unnamed_yaml_event_t_data_scalar}
+use Rattle.libyaml_types.specs.declared.event.unnamed_yaml_event_t_data_sequence_start.{}
 use Rattle.libyaml_types.specs.declared.event.unnamed_yaml_event_t_data_sequence_start.{unnamed_yaml_event_t_data_sequence_start}
+use Rattle.libyaml_types.specs.declared.event.unnamed_yaml_event_t_data_stream_start.{}
 use Rattle.libyaml_types.specs.declared.event.unnamed_yaml_event_t_data_stream_start.{unnamed_yaml_event_t_data_stream_start}
 use Rattle.libyaml_grammar.specs.cuts.FaultTexts.{item_fault, mapping_fault, part_fault, sequence_fault}
 use Rattle.libyaml_types.specs.Fault.{Fault}
@@ -173,7 +178,8 @@ module _ (ss : List yaml_parser_state_t) (ms : List Mark) (u : Token) where
         (give (ev.DocumentStart d) a b (hold kept u (begin_document s (raised ss ms c))))
     ends_document : {a b : Mark} (d : unnamed_yaml_event_t_data_document_end) (s : yaml_parser_state_t)
         (e kept : Bool) → kind s ≡ between
-        → kept_rank kept s t < n → StepKind c n t root_end (give (ev.DocumentEnd d) a b (hold kept u (end_document s e c)))
+        → kept_rank kept s t < n → StepKind c n t root_end (give (ev.DocumentEnd d) a b
+        (hold kept u (end_document s e c)))
         (give (ev.DocumentEnd d) a b (hold kept u (end_document s e (raised ss ms c))))
     node : {o o' : Progressed} → NodeStep c n t o o' → StepKind c n t node_due o o'
     entry : {k : Kind} {o o' : Progressed} (s : yaml_parser_state_t) (m : ℕ) → n ≡ suc m → Goes k (kind s)
@@ -316,7 +322,8 @@ module _ (ss : List yaml_parser_state_t) (ms : List Mark) (u : Token) where
   slotted false s p m c n k g l h = entry s n refl g (parsed p _ n k h)
 
   rooted : (nothing : Bool) (c : Config) (k : Content)
-      → StepKind c 5 k node_due (if nothing then process_empty_scalar u.start_mark u (popped c) else parse_node Block c u k)
+      → StepKind c 5 k node_due (if nothing then process_empty_scalar u.start_mark u (popped c) else parse_node Block
+      c u k)
       (if nothing then process_empty_scalar u.start_mark u (popped (raised ss ms c)) else parse_node Block
       (raised ss ms c) u k)
   rooted true c k = node (whole true (a_scalar _) (omega arith))
@@ -349,7 +356,8 @@ module _ (ss : List yaml_parser_state_t) (ms : List Mark) (u : Token) where
   at_a_state st.YAML_PARSE_BLOCK_MAPPING_KEY_STATE c k e = fails_in (λ (m : Mark). part_fault m u.start_mark)
   at_a_state st.YAML_PARSE_BLOCK_MAPPING_VALUE_STATE c Value e = wants _ refl (omega arith)
   at_a_state st.YAML_PARSE_BLOCK_MAPPING_VALUE_STATE c k e = empty _ in_inner (omega arith)
-  at_a_state st.YAML_PARSE_FLOW_SEQUENCE_FIRST_ENTRY_STATE c k e = enters BehindFlowSequenceEntry _ refl refl (omega arith)
+  at_a_state st.YAML_PARSE_FLOW_SEQUENCE_FIRST_ENTRY_STATE c k e = enters BehindFlowSequenceEntry _ refl refl
+      (omega arith)
   at_a_state st.YAML_PARSE_FLOW_SEQUENCE_ENTRY_STATE c FlowEntry e = wants _ refl (omega arith)
   at_a_state st.YAML_PARSE_FLOW_SEQUENCE_ENTRY_STATE c FlowSequenceEnd e = closes sequence_end (omega arith)
   at_a_state st.YAML_PARSE_FLOW_SEQUENCE_ENTRY_STATE c k e = fails_in (λ (m : Mark). sequence_fault m u.start_mark)

@@ -6,7 +6,9 @@ use Rattle.libyaml_types.specs.declared.mark.yaml_mark_t.{yaml_mark_t}
 use Rattle.libyaml_types.specs.declared.token.yaml_token_t.{yaml_token_t}
 use Rattle.libyaml_types.specs.declared.token.unnamed_yaml_token_t_data.{unnamed_yaml_token_t_data}
 use Rattle.libyaml_types.specs.declared.token.unnamed_yaml_token_t_data.TheVariants as tok
+use Rattle.libyaml_types.specs.declared.token.unnamed_yaml_token_t_data_version_directive.{}
 use Rattle.libyaml_types.specs.declared.token.unnamed_yaml_token_t_data_version_directive.{unnamed_yaml_token_t_data_version_directive}
+use Rattle.libyaml_types.specs.declared.token.unnamed_yaml_token_t_data_tag_directive.{}
 use Rattle.libyaml_types.specs.declared.token.unnamed_yaml_token_t_data_tag_directive.{unnamed_yaml_token_t_data_tag_directive}
 use Rattle.libyaml_types.specs.declared.token.unnamed_yaml_token_t_data_anchor.{unnamed_yaml_token_t_data_anchor}
 use Rattle.libyaml_types.specs.declared.token.unnamed_yaml_token_t_data_tag.{unnamed_yaml_token_t_data_tag}

@@ -133,7 +133,8 @@ abbrev pub HeadSays : yaml_token_t → Answer → Reading → Config → Type 0
 HeadSays t a r' d = (out : Progressed) × (held : Held) × (r : Reading) × (tag : ℕ) × SaysContent out held t a r r' tag d
 
 -- so the content is put
-abbrev pub PutsHead : NodeHead → Answer → yaml_token_t → Reading → Config → Step → Pending → yaml_event_t → Config → Type 0
+abbrev pub PutsHead : NodeHead → Answer → yaml_token_t → Reading → Config → Step → Pending → yaml_event_t → Config
+    → Type 0
 PutsHead h a t r' old s q e new = (out : Progressed) (held : Held) (r : Reading) (tag : ℕ)
     → IsHead h held r tag old.handles → SaysContent out held t a r r' tag old
     → Steps out old (answer s q e new) new × (s ≡ led.Wants → ⊥)

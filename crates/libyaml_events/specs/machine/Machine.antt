@@ -1,6 +1,7 @@
 -- The parser as a machine that is fed one token at a time (docs/DEFINITIONS.md, "The parser as a machine"). In each
 -- function k is the content of the token t.
-use Rattle.std.specs.Prelude.{◌∷◌, ◌++◌, ℕ, List, [], Option, None, Some, Bool, true, false, Result, Ok, Err, codes, bytes_eq}
+use Rattle.std.specs.Prelude.{◌∷◌, ◌++◌, ℕ, List, [], Option, None, Some, Bool, true, false, Result, Ok, Err, codes}
+use Rattle.std.specs.Prelude.{bytes_eq}
 use Rattle.std.specs.Prelude.{cond, if◌then◌else◌}
 use Rattle.std.specs.FinMap.{get}
 use Rattle.libyaml_types.specs.declared.mark.yaml_mark_t.{yaml_mark_t}

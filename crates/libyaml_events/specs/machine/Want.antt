@@ -12,7 +12,8 @@ pub data Want : Type 0 where
   BehindDirective : DirectivesRead → Want
   BehindProperties : NodePlace → PropertiesRead → Want
   BehindBlockEntry BehindIndentlessEntry BehindKey BehindValue : yaml_mark_t → Want
-  BehindFlowSequenceEntry BehindFlowSequenceValue BehindFlowMappingEntry BehindFlowMappingKey BehindFlowMappingValue : Want
+  BehindFlowSequenceEntry BehindFlowSequenceValue BehindFlowMappingEntry BehindFlowMappingKey
+      BehindFlowMappingValue : Want
 
 -- an event, or nothing yet
 pub data Progress : Type 0 where

@@ -30,8 +30,8 @@ pub(super) fn first_before(state: yaml_parser_state_t) -> yaml_parser_state_t
 }
 
 impl Machine {
-    /// Has the function of the parser's state take the next token. Where a collection was entered, its opening
-    /// token is no longer the lookahead, and its first entry comes; returns whether one was.
+    /// Has the function of the parser's state take the next token. Where a collection was entered, its
+    /// opening token is no longer the lookahead, and its first entry comes; returns whether one was.
     #[inline(always)]
     pub(crate) fn enter(&mut self, pending: &mut Pending) -> bool
         ensures enters { MayEnter result self.old (wanted pending.new) self.new }
@@ -57,7 +57,8 @@ impl Machine {
         true
     }
 
-    /// Drops the stacks and the lookahead, since after a fault nothing asks for them. Returns the fault's error.
+    /// Drops the stacks and the lookahead, since after a fault nothing asks for them. Returns the fault's
+    /// error.
     #[cold]
     #[inline(never)]
     #[tactic(auto, using(crate::proofs::layer::Views::seen_fault))]

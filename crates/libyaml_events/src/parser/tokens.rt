@@ -4,8 +4,8 @@ ghost use Rattle.libyaml_types.specs.Errors.{IsSourceError};
 ghost use Rattle.libyaml_types.specs.declared.enums.yaml_parser_state_t.{yaml_parser_state_t};
 ghost use Rattle.libyaml_automaton.specs.Config.{below, top_mark};
 ghost use Rattle.libyaml_automaton.specs.Answers.{before_entry};
-ghost use Rattle.libyaml_events.specs.machine.Config.{lookahead_content, with_fault, keep, is_fault, parser, taken};
-ghost use Rattle.libyaml_events.specs.machine.Config.{token_if};
+ghost use Rattle.libyaml_events.specs.machine.Config.{lookahead_content, with_fault, keep, is_fault};
+ghost use Rattle.libyaml_events.specs.machine.Config.{parser, taken, token_if};
 ghost use Rattle.libyaml_events.specs.automaton.Texts.{config_of, config_with};
 ghost use Rattle.libyaml_events.specs.automaton.View.{IsEntered, first_before, opened_by};
 ghost use Rattle.libyaml_events.specs.sources.Calls.{Fetches};
@@ -88,7 +88,7 @@ impl Machine {
 
     /// A token without fields becomes the lookahead: its marks are kept.
     #[inline]
-    #[tactic(auto, using(crate::proofs::layer::Views::seen_none, crate::proofs::code::LookaheadLemmas::kept_marks))]
+    #[tactic(auto, using(crate::proofs::layer::Views::kept))]
     fn keep_marks(&mut self, lookahead: Lookahead, token: &yaml_token_t)
         requires none { self.old.lookahead ≡ None }
         requires fields { lookahead_content lookahead ≡ Some token.now.content }
@@ -195,8 +195,10 @@ impl Machine {
         token: &mut yaml_token_t,
     ) -> Result<(), yaml_error_type_t>
         ensures fetches { (max : ℤ) → MatchResult result
-            (λ _. Fetches S.gives (parser max source.old self.old) (Ok token.new) (parser max source.new self.new))
-            (λ e. Fetches S.gives (parser max source.old self.old) (Err e) (parser max source.new self.new)) }
+            (λ _. Fetches S.gives (parser max source.old self.old) (Ok token.new)
+            (parser max source.new self.new))
+            (λ e. Fetches S.gives (parser max source.old self.old) (Err e)
+            (parser max source.new self.new)) }
         ensures error { IfErr result (λ e. is_fault e ≡ true) }
     {
         match self.lookahead {

@@ -8,7 +8,8 @@ ghost use Rattle.libyaml_events.specs.machine.Answers.{answer, held_in};
 ghost use Rattle.libyaml_events.specs.machine.Steps.{Steps};
 ghost use Rattle.libyaml_events.specs.machine.Growth.{joins};
 ghost use Rattle.libyaml_events.specs.automaton.Texts.{Held, tag_in, tag_of};
-ghost use Rattle.libyaml_events.specs.automaton.Led.{HeadSays, IsContent, IsHead, IsLed, Puts, PutsHead, RefusesTag};
+ghost use Rattle.libyaml_events.specs.automaton.Led.{HeadSays, IsContent, IsHead, IsLed, Puts, PutsHead};
+ghost use Rattle.libyaml_events.specs.automaton.Led.{RefusesTag};
 ghost use Rattle.libyaml_events.specs.automaton.Led.{IsEntering, SaysContent, read_of};
 
 use crate::parser::Machine;
@@ -35,7 +36,8 @@ impl Machine {
     ) -> Step
         requires none { self.old.lookahead ≡ None }
         requires led { IsLed token.old Answer.AsksContent pending.old self.old }
-        ensures puts { Puts Answer.AsksContent token.old pending.old self.old result pending.new out.new self.new }
+        ensures puts { Puts Answer.AsksContent token.old pending.old self.old result pending.new out.new
+            self.new }
         ensures grows { result ≡ Step.Failed → self.new.fault.error ≡ yaml_error_type_t.YAML_MEMORY_ERROR
             → joins (held_in pending.old).tag self.old.handles ≡ true }
     {
@@ -57,7 +59,8 @@ impl Machine {
         requires none { self.old.lookahead ≡ None }
         requires led { IsLed token.old Answer.AsksContent pending.old self.old }
         requires untagged { pending.old.reading.has_tag ≡ 0 }
-        ensures puts { Puts Answer.AsksContent token.old pending.old self.old result pending.new out.new self.new }
+        ensures puts { Puts Answer.AsksContent token.old pending.old self.old result pending.new out.new
+            self.new }
         ensures error { result ≡ Step.Failed → self.new.fault.error ≡ yaml_error_type_t.YAML_PARSER_ERROR }
     {
         self.put_content(None, token, pending, out)
@@ -262,7 +265,8 @@ impl Machine {
           tag = option_map string_bytes tag;
           start_mark = start_mark.now;
           end_mark = end_mark.now;
-        }) Answer.IndentlessSequence token.old pending.old.reading self.old Step.Given pending.new out.new self.new }
+        }) Answer.IndentlessSequence token.old pending.old.reading self.old Step.Given pending.new out.new
+            self.new }
     {
         let style = yaml_sequence_style_t::YAML_BLOCK_SEQUENCE_STYLE;
         let anchor = take_anchor(pending);

@@ -1,16 +1,12 @@
 //! The stream and its documents, with their directives.
-ghost use Rattle.std.specs.Prelude.{◌≡◌, ◌++◌, ◌∷◌, [], None, Some, Err, IfOk, OnOk, OnErr, false, is_some, true};
+ghost use Rattle.std.specs.Prelude.{◌≡◌, ◌++◌, ◌∷◌, [], None, Some, Err, IfOk, OnOk, OnErr, is_some};
+ghost use Rattle.std.specs.Prelude.{false, true};
 ghost use Rattle.std.specs.FinMap.{get};
 ghost use Rattle.libyaml_types.specs.Fault.{memory_fault};
 ghost use Rattle.libyaml_types.specs.declared.token.unnamed_yaml_token_t_data.TheVariants as tok;
-ghost use Rattle.libyaml_types.specs.declared.token.unnamed_yaml_token_t_data_stream_start.{unnamed_yaml_token_t_data_stream_start};
 ghost use Rattle.libyaml_types.specs.declared.event.unnamed_yaml_event_t_data.TheVariants as ev;
 ghost use Rattle.libyaml_types.specs.Events.{zero_mark};
-ghost use Rattle.libyaml_types.specs.declared.token.unnamed_yaml_token_t_data_version_directive.{unnamed_yaml_token_t_data_version_directive};
-ghost use Rattle.libyaml_types.specs.declared.token.unnamed_yaml_token_t_data_tag_directive.{unnamed_yaml_token_t_data_tag_directive};
 ghost use Rattle.libyaml_types.specs.Types.{token_type};
-ghost use Rattle.libyaml_types.specs.declared.enums.yaml_token_type_t.TheVariants.{YAML_VERSION_DIRECTIVE_TOKEN};
-ghost use Rattle.libyaml_types.specs.declared.enums.yaml_token_type_t.TheVariants.{YAML_TAG_DIRECTIVE_TOKEN};
 ghost use Rattle.libyaml_grammar.specs.sentences.Events.{event};
 ghost use Rattle.libyaml_grammar.specs.sentences.Order.{is_accepted};
 ghost use Rattle.libyaml_automaton.specs.Numbers.{next_of};
@@ -34,8 +30,10 @@ use libyaml_automaton::{Answer, Next};
 use libyaml_types::{
     ZERO_MARK, unnamed_yaml_event_t_data, unnamed_yaml_event_t_data_document_end,
     unnamed_yaml_event_t_data_document_start, unnamed_yaml_event_t_data_stream_start,
-    unnamed_yaml_token_t_data, yaml_error_type_t, yaml_event_t, yaml_mark_t, yaml_tag_directive_t,
-    yaml_token_t, yaml_version_directive_t,
+    unnamed_yaml_token_t_data, unnamed_yaml_token_t_data_stream_start,
+    unnamed_yaml_token_t_data_tag_directive, unnamed_yaml_token_t_data_version_directive,
+    yaml_error_type_t, yaml_event_t, yaml_mark_t, yaml_tag_directive_t, yaml_token_t,
+    yaml_token_type_t, yaml_version_directive_t,
 };
 use std::alloc::Global;
 use std::mem;
@@ -132,10 +130,10 @@ fn put_stream_end(token: &yaml_token_t, out: &mut yaml_event_t)
 
 /// Holds the version of a VERSION-DIRECTIVE, and returns whether documents of it are parsed.
 fn hold_version(token: &yaml_token_t, pending: &mut Pending) -> bool
-    ensures accepted { (v : unnamed_yaml_token_t_data_version_directive) → token.now.content ≡ tok.VersionDirective v
-        → result ≡ is_accepted v.major v.minor }
-    ensures held { (v : unnamed_yaml_token_t_data_version_directive) → token.now.content ≡ tok.VersionDirective v
-        → pending.new ≡ record pending.old {
+    ensures accepted { (v : unnamed_yaml_token_t_data_version_directive)
+        → token.now.content ≡ tok.VersionDirective v → result ≡ is_accepted v.major v.minor }
+    ensures held { (v : unnamed_yaml_token_t_data_version_directive)
+        → token.now.content ≡ tok.VersionDirective v → pending.new ≡ record pending.old {
           directives = record pending.old.directives {
             version = Some (record { major = v.major; minor = v.minor });
           };
@@ -231,8 +229,8 @@ impl Machine {
         requires ready { Ready pending.old self.old }
         requires documents { stack_part_of (next_of pending.old.reading.next) ≡ Documents }
         requires declared { IsDeclared (held_of (wanted pending.old)) pending.old }
-        ensures led { LedDocument (step (wanted pending.old) self.old token.now) (held_of (wanted pending.old))
-            token.now result pending.new self.new }
+        ensures led { LedDocument (step (wanted pending.old) self.old token.now)
+            (held_of (wanted pending.old)) token.now result pending.new self.new }
         ensures fits { FitsDocument result (token_type token.now.content) pending.new.reading self.new.state }
         ensures none { self.new.lookahead ≡ None }
         ensures texts { pending.new ≡ record pending.old { reading = pending.new.reading } }
@@ -260,8 +258,10 @@ impl Machine {
         requires none { self.old.lookahead ≡ None }
         requires put { IsPutDocument answer }
         requires led { IsLedDocument token.old answer pending.old self.old }
-        requires fits { FitsDocument answer (token_type token.old.content) pending.old.reading self.old.state }
-        ensures puts { PutsDocument answer token.old pending.old self.old result pending.new out.new self.new }
+        requires fits { FitsDocument answer (token_type token.old.content) pending.old.reading
+            self.old.state }
+        ensures puts { PutsDocument answer token.old pending.old self.old result pending.new out.new
+            self.new }
         ensures grows { result ≡ Step.Failed → self.new.fault.error ≡ yaml_error_type_t.YAML_MEMORY_ERROR
             → answer ≡ Answer.AsksHandle }
     {
@@ -351,9 +351,9 @@ impl Machine {
     #[inline(never)]
     fn take_version(&mut self, token: &yaml_token_t, pending: &mut Pending) -> Step
         requires none { self.old.lookahead ≡ None }
-        requires version { token_type token.now.content ≡ YAML_VERSION_DIRECTIVE_TOKEN }
-        ensures puts { (out : yaml_event_t) → PutsDocument Answer.AsksVersion token.now pending.old self.old result
-            pending.new out self.new }
+        requires version { token_type token.now.content ≡ yaml_token_type_t.YAML_VERSION_DIRECTIVE_TOKEN }
+        ensures puts { (out : yaml_event_t) → PutsDocument Answer.AsksVersion token.now pending.old
+            self.old result pending.new out self.new }
         ensures error { result ≡ Step.Failed → self.new.fault.error ≡ yaml_error_type_t.YAML_PARSER_ERROR }
     {
         let is_accepted = hold_version(token, pending);
@@ -370,9 +370,9 @@ impl Machine {
     #[inline(never)]
     fn take_handle(&mut self, token: &mut yaml_token_t, pending: &mut Pending) -> Step
         requires none { self.old.lookahead ≡ None }
-        requires directive { token_type token.old.content ≡ YAML_TAG_DIRECTIVE_TOKEN }
-        ensures puts { (out : yaml_event_t) → PutsDocument Answer.AsksHandle token.old pending.old self.old result
-            pending.new out self.new }
+        requires directive { token_type token.old.content ≡ yaml_token_type_t.YAML_TAG_DIRECTIVE_TOKEN }
+        ensures puts { (out : yaml_event_t) → PutsDocument Answer.AsksHandle token.old pending.old
+            self.old result pending.new out self.new }
     {
         let was_declared = match self.declare_handle(token) {
             Ok(was_declared) => was_declared,
@@ -389,7 +389,8 @@ impl Machine {
 
     /// Declares the handle of a TAG-DIRECTIVE, and returns whether it was declared before.
     fn declare_handle(&mut self, token: &yaml_token_t) -> Result<bool, yaml_error_type_t>
-        ensures before { (g : unnamed_yaml_token_t_data_tag_directive) → token.now.content ≡ tok.TagDirective g
+        ensures before { (g : unnamed_yaml_token_t_data_tag_directive)
+            → token.now.content ≡ tok.TagDirective g
             → IfOk result (λ was_declared. was_declared ≡ is_some (get self.old.handles g.handle)) }
         ensures ok { (g : unnamed_yaml_token_t_data_tag_directive) → token.now.content ≡ tok.TagDirective g
             → OnOk result (self.new ≡ with_handle g.handle g.prefix self.old) }

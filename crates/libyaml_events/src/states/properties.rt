@@ -1,8 +1,6 @@
 //! The texts of properties, moved out of their tokens and held until the node's event.
 ghost use Rattle.std.specs.Prelude.{◌≡◌, Some, None, option_map, string_bytes};
 ghost use Rattle.libyaml_types.specs.declared.token.unnamed_yaml_token_t_data.TheVariants as tok;
-ghost use Rattle.libyaml_types.specs.declared.token.unnamed_yaml_token_t_data_anchor.{unnamed_yaml_token_t_data_anchor};
-ghost use Rattle.libyaml_types.specs.declared.token.unnamed_yaml_token_t_data_tag.{unnamed_yaml_token_t_data_tag};
 ghost use Rattle.libyaml_events.specs.machine.Answers.{held_in};
 
 use crate::parser::Machine;

@@ -7,6 +7,7 @@ use Rattle.libyaml_events.specs.machine.Answers.{wanted}
 use Rattle.libyaml_events.specs.automaton.View.{InStep}
 use Rattle.libyaml_events.proofs.layer.Agreeing.{agrees_at}
 use Rattle.libyaml_events.proofs.parser.Machine.feed.Goals.{then-not-take_lookahead-via-then-not-take_lookahead}
+use Rattle.libyaml_events.proofs.parser.Machine.feed.Goals.{}
 use Rattle.libyaml_events.proofs.parser.Machine.feed.Goals.{then-not-take_lookahead-via-else-not-take_lookahead+then-is_over}
 use Rattle.libyaml_events.proofs.parser.Machine.feed.Goals as goal
 
@@ -29,7 +30,8 @@ returns-in-Wants-clause-takes c =
 pub returns-in-Failed-clause-kept : goal.returns-in-Failed-clause-kept
 returns-in-Failed-clause-kept c =
     let s = rw c.in-Failed.is at c.step_onto.ensures.steps in
-    rw (c.fail.ensures.error, c.fail.ensures.left) (onto_kept (Unit {0}) _ _ _ _ _ _ _ _ c.loop-self.invariant.1 _ _ _ s.0)
+    rw (c.fail.ensures.error, c.fail.ensures.left) (onto_kept (Unit {0}) _ _ _ _ _ _ _ _ c.loop-self.invariant.1 _ _
+    _ s.0)
 
 pub returns-in-Failed-clause-takes : goal.returns-in-Failed-clause-takes
 returns-in-Failed-clause-takes c =

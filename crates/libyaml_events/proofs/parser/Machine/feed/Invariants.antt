@@ -8,7 +8,8 @@ use Rattle.libyaml_events.proofs.parser.Machine.feed.Given as goal
 
 abbrev pub invariant-loop-self : goal.invariant-loop-self
 invariant-loop-self l = (vec_capacity l.fn.events ≤ vec_capacity l.events)
-    × (Taking (wanted l.fn.pending) l.fn.self l.fn.token l.fn.events.items (wanted l.pending) l.self l.token l.events.items)
+    × (Taking (wanted l.fn.pending) l.fn.self l.fn.token l.fn.events.items (wanted l.pending) l.self l.token
+    l.events.items)
     × InStep l.pending l.self
 
 abbrev pub decreases-loop-self : goal.decreases-loop-self

@@ -42,7 +42,8 @@ take_token-requires g c = record {
 pub returns-in-Given-clause-call : goal.returns-in-Given-clause-call
 returns-in-Given-clause-call g c = λ max.
     gave_event g.S.yaml_token_source_t.gives _ _ _ _
-    (fetched g.S.yaml_token_source_t.gives _ _ _ (c.loop-self.invariant.0 max) _ _ (c.in_ok-next_token.ensures.fetches max))
+    (fetched g.S.yaml_token_source_t.gives _ _ _ (c.loop-self.invariant.0 max) _ _
+    (c.in_ok-next_token.ensures.fetches max))
     _ _ (rw c.in-Given.is at c.take_token.ensures.steps)
 
 pub loop-self-preserved : goal.loop-self-preserved
@@ -56,7 +57,8 @@ loop-self-preserved g c = (
 pub loop-self-smaller : goal.loop-self-smaller
 loop-self-smaller g c =
     let s = rw c.in-Wants.is at c.take_token.ensures.steps in
-    takes_one g.S.yaml_token_source_t g.met.S.yaml_token_source_t.falls (parser (pos 1) c.loop-self.source c.loop-self.self)
+    takes_one g.S.yaml_token_source_t g.met.S.yaml_token_source_t.falls
+    (parser (pos 1) c.loop-self.source c.loop-self.self)
     (parser (pos 1) c.next_token.new.source c.next_token.new.self)
     (parser (pos 1) c.next_token.new.source c.take_token.new.self) c.next_token.new.token
     (c.in_ok-next_token.ensures.fetches (pos 1)) (refl, s.1)
@@ -64,7 +66,8 @@ loop-self-smaller g c =
 pub returns-in-Failed-clause-call : goal.returns-in-Failed-clause-call
 returns-in-Failed-clause-call g c = λ max.
     rw (c.fail.ensures.error, c.fail.ensures.left) (gave_fault g.S.yaml_token_source_t.gives _ _ _ _
-    (fetched g.S.yaml_token_source_t.gives _ _ _ (c.loop-self.invariant.0 max) _ _ (c.in_ok-next_token.ensures.fetches max))
+    (fetched g.S.yaml_token_source_t.gives _ _ _ (c.loop-self.invariant.0 max) _ _
+    (c.in_ok-next_token.ensures.fetches max))
     _ _ (steps_empty _ c.next_token.new.self c.take_token.new.self c.take_token.new.self.fault.error
     (rw c.in-Failed.is at c.take_token.ensures.steps)) (λ m. c.take_token.ensures.grows c.in-Failed.is m))
 
@@ -80,6 +83,7 @@ returns-in-Failed-clause-failed g c =
 pub returns-in_err-next_token-clause-failed : goal.returns-in_err-next_token-clause-failed
 returns-in_err-next_token-clause-failed g c =
     let e : c.from_residual.result ≡ Err c.in_err-next_token.field-0.0 = search rules in
-    rw e (ap is_fault (sym (fetched_fault g.S.yaml_token_source_t.gives (parser (pos 1) c.loop-self.source c.loop-self.self)
+    rw e (ap is_fault (sym (fetched_fault g.S.yaml_token_source_t.gives
+    (parser (pos 1) c.loop-self.source c.loop-self.self)
     (parser (pos 1) c.next_token.new.source c.next_token.new.self) c.in_err-next_token.field-0.0
     (c.in_err-next_token.ensures.fetches (pos 1)))) ∙ c.in_err-next_token.ensures.error)

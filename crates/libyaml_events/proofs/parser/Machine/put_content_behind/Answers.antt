@@ -13,7 +13,8 @@ put_content-requires-clause-led c =
       h,
       l.1,
       (asked out h c.args.token.now c.args.pending.now c.take_tag.new.pending c.take_tag.new.pending.reading
-          c.args.self.now c.take_tag.new.self (held_in c.take_tag.new.pending).anchor (option_map string_bytes c.in-Ok.tag) l
+          c.args.self.now c.take_tag.new.self (held_in c.take_tag.new.pending).anchor
+          (option_map string_bytes c.in-Ok.tag) l
           c.take_tag.ensures.reading c.in-Ok.ensures.ok c.take_tag.ensures.reading c.take_tag.ensures.anchor refl
           c.in-Ok.ensures.tag.0 c.in-Ok.ensures.tag.1).0,
     )

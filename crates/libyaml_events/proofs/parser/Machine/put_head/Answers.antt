@@ -1,7 +1,8 @@
 use Rattle.libyaml_events.proofs.parser.Machine.put_head.Goals as goal
 
 pub returns-in-Scalar-clause-puts : goal.returns-in-Scalar-clause-puts
-returns-in-Scalar-clause-puts c = λ out held r tag i s. c.put_scalar_behind.ensures.puts out held r tag i (rw c.in-Scalar.is at s)
+returns-in-Scalar-clause-puts c = λ out held r tag i s. c.put_scalar_behind.ensures.puts out held r tag i
+    (rw c.in-Scalar.is at s)
 
 pub returns-in-EmptyHead-clause-puts : goal.returns-in-EmptyHead-clause-puts
 returns-in-EmptyHead-clause-puts c = λ out held r tag i s.

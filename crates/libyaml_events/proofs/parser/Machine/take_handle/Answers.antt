@@ -23,7 +23,8 @@ returns-in-Wants c = record {
       let r = c.tag_directive.new.read in
       let k = config_seen c.self.inside.lookahead c.self.inside.lookahead_token c.self.inside.automaton hs f
       c.declare_handle.new.self c.self.view_is none in
-      let s = handle_says c.args.self.now c.args.token.now c.args.pending.now r c.tag_directive.result out h c.requires.none
+      let s = handle_says c.args.self.now c.args.token.now c.args.pending.now r c.tag_directive.result out h
+      c.requires.none
       c.tag_directive.ensures.fits c.self.inside.automaton c.tag_directive.new.self c.tag_directive.ensures.kept
       (k ∙ ap config_of declared) l c.in-Ok.was_declared g.0 g.1 (c.in-Ok.ensures.before g.0 g.1)
       c.tag_directive.ensures.steps in
@@ -50,7 +51,8 @@ returns-in_default c = record {
       let r = c.tag_directive.new.read in
       let k = config_seen c.self.inside.lookahead c.self.inside.lookahead_token c.self.inside.automaton hs f
       c.declare_handle.new.self c.self.view_is none in
-      let s = handle_says c.args.self.now c.args.token.now c.args.pending.now r c.tag_directive.result out h c.requires.none
+      let s = handle_says c.args.self.now c.args.token.now c.args.pending.now r c.tag_directive.result out h
+      c.requires.none
       c.tag_directive.ensures.fits c.self.inside.automaton c.tag_directive.new.self c.tag_directive.ensures.kept
       (k ∙ ap config_of declared) l c.in-Ok.was_declared g.0 g.1 (c.in-Ok.ensures.before g.0 g.1)
       c.tag_directive.ensures.steps in
