@@ -34,7 +34,7 @@ use Rattle.libyaml_events.specs.declared.pending.Pending.{Pending}
 use Rattle.libyaml_events.specs.machine.Answers.{held_in}
 use Rattle.libyaml_events.specs.machine.Config.{Handles}
 use Rattle.libyaml_events.specs.automaton.Texts.{only_if, tag_in, tag_of, tag_mark_of, token_of}
-use Rattle.libyaml_events.specs.automaton.Led.{IsHeld, IsEntering, HeadSays, Noted, Led, IsContent, SaysContent}
+use Rattle.libyaml_events.specs.automaton.Led.{IsHeld, IsEntering, Noted, Led, IsContent, SaysContent}
 use Rattle.libyaml_events.proofs.layer.Putting.{is_tag, is_tag_if, is_some_tag, only_held}
 use Rattle.libyaml_events.proofs.tie.Nodes.{missing, anchored, tagged_as, known as known_tag}
 
@@ -222,20 +222,6 @@ module _ (h : NodeHead) (held : Held) (r : Reading) (tag : ℕ) (d : Config) (t 
   starts_entered did.IndentlessSequence r' f e s = absurd e
   starts_entered did.Unentered r' f e s = absurd e
   starts_entered _ r' f e s = absurd f
-
--- some collection was entered
-pub enters_some : (t : yaml_token_t) (a : Answer) (r' : Reading) (d : Config) → FitsContent a (token_type t.content) r'
-    → IsEntering a → HeadSays t a r' d → (first : yaml_parser_state_t) × IsEntered first t (config_of d)
-enters_some t did.BlockSequence r' d f e s = (_, s.4.1)
-enters_some t did.BlockMapping r' d f e s = (_, s.4.1)
-enters_some t did.FlowSequence r' d f e s = (_, s.4.1)
-enters_some t did.FlowMapping r' d f e s = (_, s.4.1)
-enters_some t did.Scalar r' d f e s = absurd e
-enters_some t did.Failed r' d f e s = absurd e
-enters_some t did.EmptyHead r' d f e s = absurd e
-enters_some t did.IndentlessSequence r' d f e s = absurd e
-enters_some t did.Unentered r' d f e s = absurd e
-enters_some t _ r' d f e s = absurd f
 
 -- a node without a tag
 pub untagged : (q : Pending) → q.reading.has_tag ≡ 0 → (held_in q).tag ≡ None

@@ -7,10 +7,8 @@ use Rattle.libyaml_automaton.specs.Numbers.{state_of}
 use Rattle.libyaml_automaton.specs.Config.{states_of, marks_of}
 use Rattle.libyaml_automaton.specs.declared.answer.Answer.{Answer}
 use Rattle.libyaml_automaton.specs.declared.answer.Answer.TheVariants as did
-use Rattle.libyaml_automaton.specs.declared.machine.Machine.{Machine}
 use Rattle.libyaml_automaton.specs.declared.reading.Reading.{Reading}
 use Rattle.libyaml_automaton.specs.Fits.{SameReading, Stays}
-use Rattle.libyaml_automaton.specs.Growth.{IsFull, Neither, Stack}
 use Rattle.libyaml_automaton.specs.Wanted.{wanted}
 
 -- a longer buffer stands for the same stack
@@ -34,9 +32,3 @@ same_reading _ r r' e = e
 pub stays : (a : Answer) (r r' : Reading) → a ≡ did.AsksContent → Stays a r r' → r' ≡ r
 stays did.AsksContent r r' i e = e
 stays _ r r' i e = absurd cc i
-
--- a stack without room is one of the two
-pub not_neither : (s : Stack) (m : Machine) (states : List ℕ) (marks : List yaml_mark_t) → IsFull s m states marks
-    → s ≡ Neither → ⊥
-not_neither Neither m states marks f e = f
-not_neither _ m states marks f e = absurd cc e

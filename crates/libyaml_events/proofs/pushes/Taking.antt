@@ -146,12 +146,6 @@ module _ (Full : Type 0) (w0 : Want) (c0 : Config) (t : Token) (before : List Ev
           (standing w' (let_go new)) now) (sym i)
           (no_room e mid h w' (let_go new) j (full room))
 
-  pub onto_kept : (Room : Type 0) (x : yaml_error_type_t) (new : Config) → FailsOnto Room w old u x new
-      → (x ≡ new.fault.error) × (is_fault new.fault.error ≡ true)
-  onto_kept Room x new (by_step h grows) = fault_kept x new h
-  onto_kept Room x new (by_list e mid h i j room) =
-      (i ∙ ap (λ (f : Fault). f.error) (sym j), ap (λ (f : Fault). is_fault f.error) j)
-
   -- an event is given
   module _ (e : Event) (mid : Config) (h : Steps (step w old u) old (Ok (Given e)) mid) (more : List Event)
       (m : more ≡ now ++ e ∷ []) where

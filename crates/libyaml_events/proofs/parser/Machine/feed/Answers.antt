@@ -1,7 +1,7 @@
 use Rattle.std.proofs.Common.{◌≤◌, arith, refl, rules, sym}
 use Rattle.std.specs.Vec.{vec_capacity}
 use Rattle.std.proofs.lemmas.Bool.{both_ways}
-use Rattle.libyaml_events.proofs.pushes.Taking.{taking_begins, wants_next, no_lookahead, fails_onto, onto_kept, goes_on}
+use Rattle.libyaml_events.proofs.pushes.Taking.{taking_begins, wants_next, fails_onto, goes_on}
 use Rattle.libyaml_events.proofs.pushes.Taking.{is_done, is_entered, step_falls}
 use Rattle.libyaml_events.specs.machine.Answers.{wanted}
 use Rattle.libyaml_events.specs.automaton.View.{InStep}
@@ -14,24 +14,10 @@ use Rattle.libyaml_events.proofs.parser.Machine.feed.Goals as goal
 pub loop-self-init : goal.loop-self-init
 loop-self-init c = (search rules, taking_begins _ _ _ _ c.requires.running c.requires.no_lookahead, c.requires.agrees)
 
-pub step_onto-requires : goal.step_onto-requires
-step_onto-requires c = record { none = c.loop-self.invariant.1.none; agrees = c.loop-self.invariant.2 }
-
-pub returns-in-Wants-clause-no_lookahead : goal.returns-in-Wants-clause-no_lookahead
-returns-in-Wants-clause-no_lookahead c =
-    let s = rw c.in-Wants.is at c.step_onto.ensures.steps in
-    no_lookahead (Unit {0}) _ _ _ _ _ _ _ _ c.loop-self.invariant.1 _ _ s.0
-
 pub returns-in-Wants-clause-takes : goal.returns-in-Wants-clause-takes
 returns-in-Wants-clause-takes c =
     let s = rw c.in-Wants.is at c.step_onto.ensures.steps in
     rw s.1 (wants_next _ _ _ _ _ _ _ _ _ c.loop-self.invariant.1 _ _ s.0)
-
-pub returns-in-Failed-clause-kept : goal.returns-in-Failed-clause-kept
-returns-in-Failed-clause-kept c =
-    let s = rw c.in-Failed.is at c.step_onto.ensures.steps in
-    rw (c.fail.ensures.error, c.fail.ensures.left) (onto_kept (Unit {0}) _ _ _ _ _ _ _ _ c.loop-self.invariant.1 _ _
-    _ s.0)
 
 pub returns-in-Failed-clause-takes : goal.returns-in-Failed-clause-takes
 returns-in-Failed-clause-takes c =

@@ -2,7 +2,7 @@ use Rattle.std.proofs.Common.{◌≡◌, ◌∙◌, Err, ap, pos, refl, rules, s
 use Rattle.libyaml_events.specs.machine.Config.{is_fault, parser}
 use Rattle.libyaml_events.proofs.calls.CallLemmas.{fetched, faulted, gave_event, gave_fault, may_enter}
 use Rattle.libyaml_events.proofs.calls.CallLemmas.{takes_one, wants_more}
-use Rattle.libyaml_events.proofs.calls.LetGo.{fails_fault, fault_left, steps_empty}
+use Rattle.libyaml_events.proofs.calls.LetGo.{fault_left, steps_empty}
 use Rattle.libyaml_events.proofs.layer.Agreeing.{fetched_fault, fetched_ready, kept_fault}
 use Rattle.libyaml_events.proofs.parser.Machine.fill.Goals as goal
 
@@ -70,15 +70,6 @@ returns-in-Failed-clause-call g c = λ max.
     (c.in_ok-next_token.ensures.fetches max))
     _ _ (steps_empty _ c.next_token.new.self c.take_token.new.self c.take_token.new.self.fault.error
     (rw c.in-Failed.is at c.take_token.ensures.steps)) (λ m. c.take_token.ensures.grows c.in-Failed.is m))
-
-pub returns-in-Failed-clause-kept : goal.returns-in-Failed-clause-kept
-returns-in-Failed-clause-kept g c =
-    rw (c.fail.ensures.error, c.fail.ensures.left)
-    (refl, rw (fails_fault c.take_token.new.self _ _ (rw c.in-Failed.is at c.take_token.ensures.steps)) refl)
-
-pub returns-in-Failed-clause-failed : goal.returns-in-Failed-clause-failed
-returns-in-Failed-clause-failed g c =
-    rw c.fail.ensures.left (fails_fault c.take_token.new.self _ _ (rw c.in-Failed.is at c.take_token.ensures.steps))
 
 pub returns-in_err-next_token-clause-failed : goal.returns-in_err-next_token-clause-failed
 returns-in_err-next_token-clause-failed g c =

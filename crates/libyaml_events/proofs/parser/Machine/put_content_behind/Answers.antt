@@ -4,21 +4,6 @@ use Rattle.libyaml_events.specs.machine.Steps.{Steps}
 use Rattle.libyaml_events.proofs.layer.Contents.{asked}
 use Rattle.libyaml_events.proofs.parser.Machine.put_content_behind.Goals as goal
 
-pub put_content-requires-clause-led : goal.put_content-requires-clause-led
-put_content-requires-clause-led c =
-    let out = c.requires.led.0 in
-    let h = c.requires.led.1 in
-    let l = c.requires.led.2 in (
-      out,
-      h,
-      l.1,
-      (asked out h c.args.token.now c.args.pending.now c.take_tag.new.pending c.take_tag.new.pending.reading
-          c.args.self.now c.take_tag.new.self (held_in c.take_tag.new.pending).anchor
-          (option_map string_bytes c.in-Ok.tag) l
-          c.take_tag.ensures.reading c.in-Ok.ensures.ok c.take_tag.ensures.reading c.take_tag.ensures.anchor refl
-          c.in-Ok.ensures.tag.0 c.in-Ok.ensures.tag.1).0,
-    )
-
 pub returns-clause-puts : goal.returns-clause-puts
 returns-clause-puts c = λ out h l.
     let y = asked out h c.args.token.now c.args.pending.now c.take_tag.new.pending c.take_tag.new.pending.reading

@@ -1,9 +1,5 @@
-use Rattle.libyaml_events.proofs.layer.Contents.{enters_some, starts_entered}
+use Rattle.libyaml_events.proofs.layer.Contents.{starts_entered}
 use Rattle.libyaml_events.proofs.parser.Machine.put_entered.Goals as goal
-
-pub keep_entered-requires-clause-entered : goal.keep_entered-requires-clause-entered
-keep_entered-requires-clause-entered c = enters_some c.args.token.now c.args.answer c.args.pending.now.reading
-    c.args.self.now c.requires.fits c.requires.other c.requires.led
 
 pub returns : goal.returns
 returns c = record {
