@@ -180,17 +180,18 @@ impl Automaton {
         read.at_state_of(&self.record);
     }
 
-    /// Makes room on both stacks, and returns whether there was memory.
+    /// Makes room on the stack on which the step pushes that `read` names, and returns whether there was
+    /// memory.
     #[cold]
     #[inline(never)]
     #[tactic(auto, using(crate::proofs::layer::Stacks::grown))]
-    pub(crate) fn grow(&mut self) -> bool
+    pub(crate) fn grow(&mut self, read: &Reading) -> bool
         ensures { self.new ≡ self.old }
     {
-        if self.record.states_count >= self.states.len() && !lengthen(&mut self.states, 0) {
-            return false;
+        if read.is_first() {
+            return lengthen(&mut self.marks, ZERO_MARK);
         }
-        self.record.marks_count < self.marks.len() || lengthen(&mut self.marks, ZERO_MARK)
+        lengthen(&mut self.states, 0)
     }
 
     /// Forgets what is on the stacks.

@@ -194,7 +194,7 @@ impl Machine {
             (answer result pending.new out.new self.new) self.new }
         ensures ready { result ≡ Step.Wants → Ready pending.new self.new }
     {
-        if !self.automaton.grow() {
+        if !self.automaton.grow(&pending.reading) {
             return Step::failed(self.out_of_memory());
         }
         match self.lead_document(token, pending) {
