@@ -1,0 +1,7 @@
+-- What lies on the stack of states are states to go back to.
+use Rattle.std.proofs.Common.{ℕ, List, All, set}
+use Rattle.std.proofs.lemmas.List.Elements.{All-set}
+use Rattle.libyaml_automaton.specs.Numbers.{IsBackByte}
+
+pub set_back : (bytes : List ℕ) (i byte : ℕ) → IsBackByte byte → All IsBackByte bytes → All IsBackByte (set bytes i byte)
+set_back bytes i byte h a = All-set IsBackByte bytes i byte h a
