@@ -3,5 +3,4 @@ pub mod calls
 pub mod code
 pub mod lent
 pub mod pushes
-pub mod tie
 pub mod layer

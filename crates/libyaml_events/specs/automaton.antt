@@ -1,9 +1,2 @@
-pub mod Texts
-pub mod Alike
-pub mod Agree
-pub mod Answered
-pub mod Grown
-pub mod Histories
-pub mod Entering
 pub mod View
 pub mod Led

@@ -1,10 +1,8 @@
 pub mod Read
 pub mod Config
 pub mod Want
-pub mod Slots
 pub mod Machine
 pub mod Growth
 pub mod Steps
 pub mod StepsOnto
 pub mod Answers
-pub mod Entering

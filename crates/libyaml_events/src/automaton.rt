@@ -1,13 +1,13 @@
 //! The parser without texts, with its stacks.
-ghost use Rattle.std.specs.Prelude.{◌≡◌, ◌++◌, List, [], true};
+ghost use Rattle.std.specs.Prelude.{◌≡◌, ◌++◌, All, List, ℕ, [], true};
 ghost use Rattle.libyaml_types.specs.declared.mark.yaml_mark_t.{yaml_mark_t};
-ghost use Rattle.libyaml_automaton.specs.Config.{start, top_mark, below};
-ghost use Rattle.libyaml_automaton.specs.Numbers.{next_of, place_of, flag};
-ghost use Rattle.libyaml_automaton.specs.Want.{AtState, Token};
-ghost use Rattle.libyaml_automaton.specs.Wanted.{wanted, properties, token, IsAt, Facts};
+ghost use Rattle.libyaml_automaton.specs.Config.{start};
+ghost use Rattle.libyaml_automaton.specs.Numbers.{next_of, place_of, flag, IsBackByte};
+ghost use Rattle.libyaml_automaton.specs.Wanted.{wanted, properties, token, IsAt};
 ghost use Rattle.libyaml_automaton.specs.Fits.{FitsStep, FitsContent, FitsDocument, FitsDirective};
-ghost use Rattle.libyaml_automaton.specs.Fits.{SameReading, IsUndone, Documents};
-ghost use Rattle.libyaml_automaton.specs.Growth.{stack_part_of, pushes_in_documents, stack_in_step, Neither};
+ghost use Rattle.libyaml_automaton.specs.Fits.{SameReading, IsFull, IsUndone, Documents, opens_at};
+ghost use Rattle.libyaml_automaton.specs.Growth.{opens, pushes, stack_part_of, pushes_in_documents};
+ghost use Rattle.libyaml_automaton.specs.Automaton.{AtState, Token};
 ghost use Rattle.libyaml_automaton.specs.Automaton as automaton;
 ghost use Rattle.libyaml_automaton.specs.Answers.{Says, outcome};
 
@@ -25,24 +25,41 @@ pub(crate) struct Automaton {
 }
 
 impl Model for Automaton {
+    ghost use Rattle.std.specs.Prelude.{All};
     ghost use Rattle.libyaml_automaton.specs.Config.{Config, config_of, Within};
+    ghost use Rattle.libyaml_automaton.specs.Numbers.{IsBackByte};
 
     ghost Value = { Config };
 
     ghost view = { λ a. config_of a.record a.states.items a.marks.items };
 
-    ghost invariant = { λ a. Within a.record a.states.items a.marks.items };
+    // each byte on the stack is the number of a state to which the parser goes back after a node
+    ghost invariant = { λ a. Within a.record a.states.items a.marks.items × All IsBackByte a.states.items };
 }
 
-/// Lengthens a buffer to the capacity that it has once there is room for one more, and returns whether there
-/// was memory.
-fn lengthen<T: Copy>(buffer: &mut Vec<T>, filler: T) -> bool
-    ensures { (more : List T) × (buffer.new.items ≡ buffer.old.items ++ more) }
+/// What lies where no state was put yet: the number of the state after a document's root.
+const NO_STATE: u8 = 4;
+
+/// Lengthens the stack of states to the capacity that it has once there is room for one more, and returns
+/// whether there was memory.
+fn lengthen_states(states: &mut Vec<u8>) -> bool
+    ensures { (more : List ℕ) × (states.new.items ≡ states.old.items ++ more) × All IsBackByte more }
 {
-    if buffer.push(filler).is_err() {
+    if states.push(NO_STATE).is_err() {
         return false;
     }
-    let _ = buffer.resize(buffer.capacity(), filler);
+    let _ = states.resize(states.capacity(), NO_STATE);
+    true
+}
+
+/// Likewise the stack of marks.
+fn lengthen_marks(marks: &mut Vec<yaml_mark_t>) -> bool
+    ensures { (more : List yaml_mark_t) × (marks.new.items ≡ marks.old.items ++ more) }
+{
+    if marks.push(ZERO_MARK).is_err() {
+        return false;
+    }
+    let _ = marks.resize(marks.capacity(), ZERO_MARK);
     true
 }
 
@@ -69,12 +86,12 @@ impl Automaton {
         end: &yaml_mark_t,
     ) -> Answer
         requires at { IsAt (next_of read.old.next) self.old.state }
-        ensures steps { (f : Facts) → Says (automaton.step (wanted f.tag read.old) self.old
-            (token kind start.now end.now f)) (token kind start.now end.now f) (outcome result
-            (automaton.no_properties (token kind start.now end.now f)) (token kind start.now end.now f) f.tag
-            read.new self.new) }
+        ensures steps { Says (automaton.step (wanted read.old) self.old (token kind start.now end.now) kind)
+            (outcome result (automaton.no_properties (token kind start.now end.now))
+            (token kind start.now end.now) read.new self.new) }
         ensures fits { FitsStep result kind read.new self.new.state }
-        ensures full { result ≡ Answer.Full → stack_in_step (next_of read.old.next) kind ≡ Neither → ⊥ }
+        ensures full_states { result ≡ Answer.FullStates → pushes (next_of read.old.next) kind ≡ true }
+        ensures full_marks { result ≡ Answer.FullMarks → opens (next_of read.old.next) kind ≡ true }
         ensures documents { result ≡ Answer.Document → stack_part_of (next_of read.old.next) ≡ Documents }
         ensures undone { IsUndone result → (self.new ≡ self.old) × SameReading read.old read.new }
         ensures asked { result ≡ Answer.AsksContent → read.new ≡ read.old }
@@ -100,14 +117,13 @@ impl Automaton {
     ) -> Answer
         requires at { IsAt (next_of read.old.next) self.old.state }
         requires documents { stack_part_of (next_of read.old.next) ≡ Documents }
-        ensures steps { (end : yaml_mark_t) (f : Facts) → Says (automaton.step (wanted f.tag read.old)
-            self.old (token kind start.now end f)) (token kind start.now end f) (outcome result
-            (automaton.no_properties (token kind start.now end f)) (token kind start.now end f) f.tag
-            read.new self.new) }
+        ensures steps { (end : yaml_mark_t) → Says (automaton.step (wanted read.old) self.old
+            (token kind start.now end) kind) (outcome result (automaton.no_properties
+            (token kind start.now end)) (token kind start.now end) read.new self.new) }
         ensures fits { FitsDocument result kind read.new self.new.state }
-        ensures full { result ≡ Answer.Full
+        ensures full { result ≡ Answer.FullStates
             → pushes_in_documents (next_of read.old.next) self.old.behind_document_end kind ≡ true }
-        ensures undone { result ≡ Answer.Full → (self.new ≡ self.old) × SameReading read.old read.new }
+        ensures undone { result ≡ Answer.FullStates → (self.new ≡ self.old) × SameReading read.old read.new }
     {
         self.record
             .document_step(read, self.states.as_mut_slice(), kind, start)
@@ -116,9 +132,8 @@ impl Automaton {
     /// Goes on where `document_step` returned `AsksVersion`.
     #[inline(always)]
     pub(crate) fn version_directive(&mut self, read: &mut Reading, is_accepted: bool) -> Answer
-        ensures steps { (t : Facts → Token) (f : Facts) → Says (automaton.first_version is_accepted
-            read.old.start_mark self.old (t f)) (t f) (outcome result (automaton.no_properties (t f)) (t f)
-            f.tag read.new self.new) }
+        ensures steps { (t : Token) → Says (automaton.first_version is_accepted read.old.start_mark self.old t)
+            (outcome result (automaton.no_properties t) t read.new self.new) }
         ensures fits { FitsDirective result read.new }
         ensures kept { self.new ≡ self.old }
     {
@@ -128,9 +143,9 @@ impl Automaton {
     /// Goes on where `document_step` returned `AsksHandle`.
     #[inline(always)]
     pub(crate) fn tag_directive(&mut self, read: &mut Reading, was_declared: bool) -> Answer
-        ensures steps { (t : Facts → Token) (f : Facts) → Says (automaton.tag_directive was_declared
-            read.old.start_mark (flag read.old.has_version) self.old (t f)) (t f) (outcome result
-            (automaton.no_properties (t f)) (t f) f.tag read.new self.new) }
+        ensures steps { (t : Token) → Says (automaton.tag_directive was_declared read.old.start_mark
+            (flag read.old.has_version) self.old t) (outcome result (automaton.no_properties t) t read.new
+            self.new) }
         ensures fits { FitsDirective result read.new }
         ensures kept { self.new ≡ self.old }
     {
@@ -138,6 +153,7 @@ impl Automaton {
     }
 
     /// The content after properties, where `step` returned `AsksContent` and the tag's handle is defined.
+    /// Where the stack of marks has no room, nothing changes.
     #[inline(always)]
     pub(crate) fn content_behind(
         &mut self,
@@ -146,11 +162,12 @@ impl Automaton {
         start: &yaml_mark_t,
         end: &yaml_mark_t,
     ) -> Answer
-        ensures steps { (f : Facts) → Says (automaton.node_content (place_of read.old.place)
-            (properties f.tag read.old) self.old (token kind start.now end.now f) kind)
-            (token kind start.now end.now f) (outcome result (properties f.tag read.old)
-            (token kind start.now end.now f) f.tag read.new self.new) }
+        ensures steps { Says (automaton.node_content (place_of read.old.place) (properties read.old) self.old
+            (token kind start.now end.now) kind) (outcome result (properties read.old)
+            (token kind start.now end.now) read.new self.new) }
         ensures fits { FitsContent result kind read.new }
+        ensures full { result ≡ Answer.FullMarks → opens_at (place_of read.old.place) kind ≡ true }
+        ensures undone { result ≡ Answer.FullMarks → (self.new ≡ self.old) × (read.new ≡ read.old) }
     {
         self.record.content_behind(
             read,
@@ -173,25 +190,29 @@ impl Automaton {
     /// Has the function of the state take the next token.
     #[inline(always)]
     pub(crate) fn begin(&self, read: &mut Reading)
-        ensures wanted { wanted 0 read.new ≡ AtState }
+        ensures wanted { wanted read.new ≡ AtState }
         ensures at { IsAt (next_of read.new.next) self.now.state }
         ensures kept { read.new ≡ record read.old { next = read.new.next } }
     {
         read.at_state_of(&self.record);
     }
 
-    /// Makes room on the stack on which the step pushes that `read` names, and returns whether there was
-    /// memory.
+    /// Makes room where a step returned this, and returns whether there was memory. A step that pushes a mark
+    /// may push a state as well.
     #[cold]
     #[inline(never)]
     #[tactic(auto, using(crate::proofs::layer::Stacks::grown))]
-    pub(crate) fn grow(&mut self, read: &Reading) -> bool
+    pub(crate) fn grow(&mut self, full: Answer) -> bool
         ensures { self.new ≡ self.old }
     {
-        if read.is_first() {
-            return lengthen(&mut self.marks, ZERO_MARK);
+        match full {
+            Answer::FullMarks => {
+                lengthen_marks(&mut self.marks)
+                    && (self.record.states_count < self.states.len()
+                        || lengthen_states(&mut self.states))
+            }
+            _ => lengthen_states(&mut self.states),
         }
-        lengthen(&mut self.states, 0)
     }
 
     /// Forgets what is on the stacks.
@@ -203,18 +224,5 @@ impl Automaton {
     {
         self.record.states_count = 0;
         self.record.marks_count = 0;
-    }
-
-    /// Goes back to before the entry of a collection: `state` is its first. Returns its start.
-    #[cold]
-    #[inline(never)]
-    #[tactic(auto, using(crate::proofs::layer::Stacks::state_of_number))]
-    pub(crate) fn leave_entry(&mut self, state: yaml_parser_state_t) -> yaml_mark_t
-        ensures mark { result ≡ top_mark self.old.marks }
-        ensures left { self.new ≡ record self.old { state = state; marks = below self.old.marks } }
-    {
-        let mark = self.record.pop_mark(self.marks.as_slice());
-        self.record.state = state as u8;
-        mark
     }
 }

@@ -12,8 +12,6 @@ pub(crate) enum Lookahead {
     FlowSequence,
     FlowMapping,
     Nothing,
-    /// The token that opens the collection that was entered. Its start is the collection's mark.
-    Entered,
     Token,
     StreamEnd,
     DocumentStart,
@@ -58,7 +56,7 @@ fn content_of(lookahead: Lookahead) -> unnamed_yaml_token_t_data
     ensures { lookahead_content lookahead ≡ Some result }
 {
     match lookahead {
-        Lookahead::Nothing | Lookahead::Entered | Lookahead::Token => unreachable!(),
+        Lookahead::Nothing | Lookahead::Token => unreachable!(),
         Lookahead::StreamEnd => unnamed_yaml_token_t_data::StreamEnd,
         Lookahead::DocumentStart => unnamed_yaml_token_t_data::DocumentStart,
         Lookahead::DocumentEnd => unnamed_yaml_token_t_data::DocumentEnd,

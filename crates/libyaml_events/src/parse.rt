@@ -55,7 +55,7 @@ impl Machine {
             (parser max source.new self.new) }
         ensures left { IfErr result (λ e. Left self.old e self.new) }
     {
-        let _ = self.enter(pending);
+        self.begin(pending);
         loop {
             self.next_token(source, token)?;
             match self.take_token(source, token, pending, event) {

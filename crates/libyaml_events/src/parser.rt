@@ -14,7 +14,7 @@ ghost use Rattle.libyaml_events.specs.sources.Pushes.{done_by};
 ghost use Rattle.libyaml_types.specs.declared.token.yaml_token_t.{yaml_token_t};
 ghost use Rattle.libyaml_types.specs.declared.event.yaml_event_t.{yaml_event_t};
 
-mod entering;
+mod calls;
 mod faults;
 mod handles;
 mod tokens;
@@ -88,16 +88,14 @@ impl Model for Machine {
     ghost use Rattle.std.specs.Coded.{codes};
     ghost use Rattle.libyaml_types.specs.Fault.{fault_of};
     ghost use Rattle.libyaml_events.specs.machine.Config.{Config, handles_code, handles_of};
-    ghost use Rattle.libyaml_events.specs.automaton.View.{seen, EnteredRight};
+    ghost use Rattle.libyaml_events.specs.machine.Config.{config_with, token_ahead};
 
     ghost Value = { Config };
 
     ghost coded = { Prim.hlevel (codes, handles_code) };
 
-    ghost view = { λ p. seen p.lookahead p.lookahead_token p.automaton (handles_of p.handles.entries)
-        (fault_of p.prefix) };
-
-    ghost invariant = { λ p. EnteredRight p.lookahead p.automaton };
+    ghost view = { λ p. config_with p.automaton (handles_of p.handles.entries) (fault_of p.prefix)
+        (token_ahead p.lookahead p.lookahead_token) };
 }
 
 /// Returns a parser at the start of this source's stream, without an allocation.
@@ -243,7 +241,6 @@ impl Machine {
     }
 
     /// Returns the fault that is kept, or `NO_FAULT`.
-    #[tactic(auto, using(crate::proofs::layer::Views::seen_fault))]
     pub(crate) fn kept_prefix(&self) -> &yaml_parser_t_prefix
         ensures { fault_of result.now ≡ self.now.fault }
     {
@@ -251,7 +248,6 @@ impl Machine {
     }
 
     /// Keeps a fault.
-    #[tactic(auto, using(crate::proofs::layer::Views::seen_fault))]
     fn keep_prefix(&mut self, fault: yaml_parser_t_prefix)
         ensures { self.new ≡ with_fault self.old (fault_of fault) }
     {
@@ -281,7 +277,6 @@ impl Machine {
     }
 
     /// Returns whether no document is open, or a fault is kept.
-    #[tactic(auto, using(crate::proofs::layer::Views::seen_between))]
     fn stands_between_documents(&self) -> bool
         ensures { result ≡ (is_fault self.now.fault.error || is_between self.now.state) }
     {
@@ -296,7 +291,6 @@ impl Machine {
     }
 
     /// Returns whether no more events come: the stream has ended, or a fault is kept.
-    #[tactic(auto, using(crate::proofs::layer::Views::seen_ended))]
     pub(crate) fn is_over(&self) -> bool
         ensures { result ≡ ended_or_failed self.now }
     {

@@ -1,12 +1,13 @@
 //! What the parser has of a document or node within a call.
-ghost use Rattle.std.specs.Prelude.{◌≡◌, ℕ};
-ghost use Rattle.libyaml_automaton.specs.Numbers.{next_of};
-ghost use Rattle.libyaml_automaton.specs.Want.{AtState};
-ghost use Rattle.libyaml_automaton.specs.Wanted as automaton;
+ghost use Rattle.std.specs.Prelude.{◌≡◌};
+ghost use Rattle.libyaml_events.specs.machine.Answers.{wanted};
+ghost use Rattle.libyaml_events.specs.machine.Config.{start};
+ghost use Rattle.libyaml_events.specs.machine.Want.{AtState};
+ghost use Rattle.libyaml_events.specs.automaton.View.{InStep};
 
 use crate::properties::PropertiesHeld;
 use libyaml_automaton::Reading;
-use libyaml_types::{yaml_parser_state_t, yaml_tag_directive_t, yaml_version_directive_t};
+use libyaml_types::{yaml_tag_directive_t, yaml_version_directive_t};
 use std::alloc::Global;
 use std::marker::Model;
 
@@ -43,9 +44,8 @@ impl Pending {
     /// Returns what a parser has before it read anything.
     #[inline(always)]
     pub(crate) fn new(alloc: Global) -> Self
-        ensures wanted { (tag : ℕ) → automaton.wanted tag result.reading ≡ AtState }
-        ensures at { automaton.IsAt (next_of result.reading.next)
-            yaml_parser_state_t.YAML_PARSE_STREAM_START_STATE }
+        ensures wanted { wanted result ≡ AtState }
+        ensures at { InStep result start }
     {
         Pending {
             reading: Reading::new(),

@@ -138,9 +138,7 @@ impl Machine {
                 Step::Given => {}
                 Step::Failed => return Err(self.fail()),
             }
-            if self.enter(pending) {
-                return Ok(());
-            }
+            self.begin(pending);
             if !self.take_lookahead(token) || self.is_over() {
                 return Ok(());
             }

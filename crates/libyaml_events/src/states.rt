@@ -10,15 +10,14 @@ ghost use Rattle.std.specs.Prelude.{◌≡◌, None, true};
 ghost use Rattle.libyaml_types.specs.Types.{token_type};
 ghost use Rattle.libyaml_grammar.specs.sentences.Events.{event};
 ghost use Rattle.libyaml_automaton.specs.Numbers.{next_of};
-ghost use Rattle.libyaml_automaton.specs.Fits.{FitsStep, IsUndone, Documents};
+ghost use Rattle.libyaml_automaton.specs.Fits.{FitsStep, IsFull, IsUndone, Documents};
 ghost use Rattle.libyaml_automaton.specs.Growth.{stack_part_of};
-ghost use Rattle.libyaml_events.specs.machine.Config.{keep, with_fault};
-ghost use Rattle.libyaml_events.specs.machine.Machine.{step};
+ghost use Rattle.libyaml_events.specs.machine.Config.{with_fault};
+ghost use Rattle.libyaml_events.specs.machine.Machine.{fault_with, step};
 ghost use Rattle.libyaml_events.specs.machine.Steps.{Steps};
-ghost use Rattle.libyaml_events.specs.machine.Answers.{answer, held_in, wanted};
-ghost use Rattle.libyaml_events.specs.machine.Growth.{joins, may_grow};
-ghost use Rattle.libyaml_events.specs.automaton.Texts.{fault_with, held_of};
-ghost use Rattle.libyaml_events.specs.automaton.Led.{Led, Puts, IsLed, IsPut, start_of};
+ghost use Rattle.libyaml_events.specs.machine.Answers.{answer, wanted};
+ghost use Rattle.libyaml_events.specs.machine.Growth.{may_grow};
+ghost use Rattle.libyaml_events.specs.automaton.Led.{GrowsBehind, IsPut, Led, Puts};
 ghost use Rattle.libyaml_events.specs.automaton.View.{Ready};
 
 mod behind_properties;
@@ -33,7 +32,6 @@ use crate::states::contents::{
     put_alias, put_bare_scalar, put_empty_scalar, put_mapping_end, put_mapping_start,
     put_sequence_end, put_sequence_start,
 };
-use crate::states::node_events::collection_start;
 use crate::step::Step;
 use libyaml_automaton::{
     Answer, DUPLICATE_TAG, DUPLICATE_VERSION, INCOMPATIBLE_VERSION, NO_BLOCK_CONTENT,
@@ -80,17 +78,19 @@ impl Machine {
             → may_grow (wanted pending.old) self.old token.old.content ≡ true }
     {
         match self.lead(token, pending) {
-            Answer::Full => self.step_again(token, pending, out),
+            Answer::FullStates => self.step_again(Answer::FullStates, token, pending, out),
+            Answer::FullMarks => self.step_again(Answer::FullMarks, token, pending, out),
             Answer::Document => self.step_document(token, pending, out),
             answer => self.put(answer, token, pending, out),
         }
     }
 
-    /// Does a step after the stacks have grown.
+    /// Does a step for which this stack had no room, once it has grown.
     #[cold]
     #[inline(never)]
     fn step_again(
         &mut self,
+        full: Answer,
         token: &mut yaml_token_t,
         pending: &mut Pending,
         out: &mut yaml_event_t,
@@ -101,11 +101,12 @@ impl Machine {
             (answer result pending.new out.new self.new) self.new }
         ensures ready { result ≡ Step.Wants → Ready pending.new self.new }
     {
-        if !self.automaton.grow(&pending.reading) {
+        if !self.automaton.grow(full) {
             return Step::failed(self.out_of_memory());
         }
         match self.lead(token, pending) {
-            Answer::Full => Step::failed(self.out_of_memory()),
+            Answer::FullStates => Step::failed(self.out_of_memory()),
+            Answer::FullMarks => Step::failed(self.out_of_memory()),
             Answer::Document => self.step_document(token, pending, out),
             answer => self.put(answer, token, pending, out),
         }
@@ -115,8 +116,8 @@ impl Machine {
     #[inline(always)]
     fn lead(&mut self, token: &yaml_token_t, pending: &mut Pending) -> Answer
         requires { Ready pending.old self.old }
-        ensures led { Led (step (wanted pending.old) self.old token.now) (held_of (wanted pending.old))
-            token.now result pending.new self.new }
+        ensures led { Led (step (wanted pending.old) self.old token.now) (wanted pending.old).texts token.now
+            result pending.new self.new }
         ensures fits { FitsStep result (token_type token.now.content) pending.new.reading self.new.state }
         ensures none { self.new.lookahead ≡ None }
         ensures texts { pending.new ≡ record pending.old { reading = pending.new.reading } }
@@ -124,7 +125,8 @@ impl Machine {
             × (wanted pending.new ≡ wanted pending.old) × (self.new ≡ self.old) }
         ensures documents { result ≡ Answer.Document
             → stack_part_of (next_of pending.new.reading.next) ≡ Documents }
-        ensures grows { result ≡ Answer.Full
+        ensures grows { IsFull result → may_grow (wanted pending.old) self.old token.now.content ≡ true }
+        ensures content { result ≡ Answer.AsksContent → GrowsBehind pending.new self.new token.now
             → may_grow (wanted pending.old) self.old token.now.content ≡ true }
     {
         self.automaton.step(
@@ -146,11 +148,10 @@ impl Machine {
     ) -> Step
         requires none { self.old.lookahead ≡ None }
         requires put { IsPut answer }
-        requires led { IsLed token.old answer pending.old self.old }
         requires fits { FitsStep answer (token_type token.old.content) pending.old.reading self.old.state }
         ensures puts { Puts answer token.old pending.old self.old result pending.new out.new self.new }
         ensures grows { result ≡ Step.Failed → self.new.fault.error ≡ yaml_error_type_t.YAML_MEMORY_ERROR
-            → (answer ≡ Answer.AsksContent) × (joins (held_in pending.old).tag self.old.handles ≡ true) }
+            → (answer ≡ Answer.AsksContent) × GrowsBehind pending.old self.old token.old }
     {
         match answer {
             Answer::Wants => Step::Wants,
@@ -234,7 +235,6 @@ impl Machine {
             Answer::BlockSequence => {
                 out.start_mark = token.start_mark;
                 out.end_mark = token.end_mark;
-                self.keep_entered(token);
                 put_sequence_start(
                     yaml_sequence_style_t::YAML_BLOCK_SEQUENCE_STYLE,
                     &mut self.spare,
@@ -245,7 +245,6 @@ impl Machine {
             Answer::BlockMapping => {
                 out.start_mark = token.start_mark;
                 out.end_mark = token.end_mark;
-                self.keep_entered(token);
                 put_mapping_start(
                     yaml_mapping_style_t::YAML_BLOCK_MAPPING_STYLE,
                     &mut self.spare,
@@ -256,7 +255,6 @@ impl Machine {
             Answer::FlowSequence => {
                 out.start_mark = token.start_mark;
                 out.end_mark = token.end_mark;
-                self.keep_entered(token);
                 put_sequence_start(
                     yaml_sequence_style_t::YAML_FLOW_SEQUENCE_STYLE,
                     &mut self.spare,
@@ -267,7 +265,6 @@ impl Machine {
             Answer::FlowMapping => {
                 out.start_mark = token.start_mark;
                 out.end_mark = token.end_mark;
-                self.keep_entered(token);
                 put_mapping_start(
                     yaml_mapping_style_t::YAML_FLOW_MAPPING_STYLE,
                     &mut self.spare,
@@ -289,10 +286,6 @@ impl Machine {
                 self.hold_tag(token, pending);
                 Step::Wants
             }
-            Answer::Unentered => {
-                self.put_unentered(token, out);
-                Step::Given
-            }
             Answer::Failed => {
                 self.set_problem(
                     pending.reading.problem,
@@ -309,21 +302,6 @@ impl Machine {
             }
             _ => unreachable!(),
         }
-    }
-
-    /// Puts the start of a collection without properties for whose mark there was no room: the token stays,
-    /// and the next step makes room.
-    #[cold]
-    #[inline(never)]
-    fn put_unentered(&mut self, token: &mut yaml_token_t, out: &mut yaml_event_t)
-        requires { self.old.lookahead ≡ None }
-        ensures out { out.new
-            ≡ event (start_of None None token.old.content) token.old.start_mark token.old.end_mark }
-        ensures kept { self.new ≡ keep token.old self.old }
-    {
-        let content = collection_start(None, None, &token.content);
-        give(out, content, token.start_mark, token.end_mark);
-        self.keep(token);
     }
 
     /// Keeps the fault of this number, which the parser without texts gave.

@@ -15,7 +15,6 @@ same_token a h t e = let same : a ≡ t.content = cc
 pub kept_marks : (k : Lookahead) (h t : yaml_token_t) → lookahead_content k ≡ Some t.content
     → token_ahead k (record { content = h.content; start_mark = t.start_mark; end_mark = t.end_mark }) ≡ Some t
 kept_marks ahead.Nothing h t e = cc
-kept_marks ahead.Entered h t e = cc
 kept_marks ahead.Token h t e = cc
 kept_marks ahead.BlockSequence h t e = same_token _ h t e
 kept_marks ahead.BlockMapping h t e = same_token _ h t e

@@ -2,30 +2,21 @@
 use Rattle.std.proofs.Common.{◌≡◌, Option, Some, None, Ok, Err, true, refl, sym, ap, subst}
 use Rattle.libyaml_types.specs.declared.token.yaml_token_t.{yaml_token_t}
 use Rattle.libyaml_automaton.specs.Numbers.{next_of}
-use Rattle.libyaml_automaton.specs.Wanted.{IsAt, wanted as wanted_then}
+use Rattle.libyaml_automaton.specs.Wanted.{IsAt}
 use Rattle.libyaml_types.specs.Fault.{Answer}
 use Rattle.libyaml_types.specs.declared.enums.yaml_error_type_t.{yaml_error_type_t}
 use Rattle.libyaml_events.specs.declared.pending.Pending.{Pending}
 use Rattle.libyaml_events.specs.machine.Config.{Config, Parser, ended_or_failed, is_fault}
 use Rattle.libyaml_events.specs.sources.Calls.{Fetches, FetchesFrom}
 use Rattle.libyaml_events.specs.automaton.View.{InStep, Ready}
-use Rattle.libyaml_events.specs.machine.Answers.{wanted}
-use Rattle.libyaml_events.specs.automaton.Texts.{want_of}
-
-pub agrees_at : (p : Pending) (c d : Config) → d.state ≡ c.state → d.handles ≡ c.handles → InStep p c → InStep p d
-agrees_at p c d e h a = record {
-  at = subst (λ y. IsAt (next_of p.reading.next) y) (sym e) a.at;
-  fact = a.fact;
-  same = subst (λ y. want_of y (wanted p) ≡ wanted_then a.fact p.reading) (sym h) a.same;
-}
 
 fetched_at : {S : Type 0} (gives : S → Answer → S → Type 0) (o : Option yaml_token_t) (old now : Parser S)
     (t : yaml_token_t) (p : Pending)
     → FetchesFrom gives o old (Ok t) now → InStep p old.config → InStep p now.config
-fetched_at gives (Some u) old now t p h a = agrees_at p old.config now.config (ap (λ p. p.config.state) h.1)
-    (ap (λ p. p.config.handles) h.1) a
-fetched_at gives None old now t p h a = agrees_at p old.config now.config (ap (λ (c : Config). c.state) h.1)
-    (ap (λ (c : Config). c.handles) h.1) a
+fetched_at gives (Some u) old now t p h a
+    = subst (λ y. IsAt (next_of p.reading.next) y) (sym (ap (λ (x : Parser _). x.config.state) h.1)) a
+fetched_at gives None old now t p h a
+    = subst (λ y. IsAt (next_of p.reading.next) y) (sym (ap (λ (c : Config). c.state) h.1)) a
 
 pub fetched_agrees : {S : Type 0} (gives : S → Answer → S → Type 0) (p : Pending) (old now : Parser S) (t : yaml_token_t)
     → Fetches gives old (Ok t) now → InStep p old.config → InStep p now.config

@@ -1,408 +1,261 @@
--- What a step of the automaton says of the machine's.
-use Rattle.std.proofs.Common.{◌≡◌, ◌∙◌, ℕ, List, refl, sym, ap, subst, false, true, Bool, Ok, Err, None, Some, Option}
+-- What the automaton's step says of the parser's.
+use Rattle.std.proofs.Common.{◌≡◌, ◌⊎◌, inl, inr, ◌∙◌, ◌||◌, ℕ, List, Option, Some, None, Bool, true, false, refl, sym, ap}
+use Rattle.std.proofs.Common.{subst}
+use Rattle.libyaml_types.specs.Fault.{Fault}
 use Rattle.libyaml_types.specs.Types.{token_type}
+use Rattle.libyaml_types.specs.declared.enums.yaml_token_type_t.{yaml_token_type_t}
+use Rattle.libyaml_types.specs.declared.enums.yaml_token_type_t.TheVariants as kinds
+use Rattle.libyaml_types.specs.declared.enums.yaml_parser_state_t.{yaml_parser_state_t}
+use Rattle.libyaml_types.specs.declared.enums.yaml_parser_state_t.TheVariants as st
 use Rattle.libyaml_types.specs.declared.token.yaml_token_t.{yaml_token_t}
 use Rattle.libyaml_types.specs.declared.token.unnamed_yaml_token_t_data.{unnamed_yaml_token_t_data}
 use Rattle.libyaml_types.specs.declared.token.unnamed_yaml_token_t_data.TheVariants as tok
-use Rattle.libyaml_types.specs.declared.enums.yaml_token_type_t.{yaml_token_type_t}
-use Rattle.libyaml_types.specs.declared.enums.yaml_token_type_t.TheVariants as kind
-use Rattle.libyaml_types.specs.declared.enums.yaml_parser_state_t.{yaml_parser_state_t}
-use Rattle.libyaml_types.specs.declared.enums.yaml_parser_state_t.TheVariants as st
-use Rattle.libyaml_types.specs.Fault.{Fault}
+use Rattle.libyaml_types.specs.declared.token.unnamed_yaml_token_t_data_tag.{unnamed_yaml_token_t_data_tag}
 use Rattle.libyaml_automaton.specs.declared.answer.Answer.{Answer}
 use Rattle.libyaml_automaton.specs.declared.answer.Answer.TheVariants as did
 use Rattle.libyaml_automaton.specs.declared.next.Next.{Next}
 use Rattle.libyaml_automaton.specs.declared.next.Next.TheVariants as next
-use Rattle.libyaml_automaton.specs.declared.reading.Reading.{Reading}
-use Rattle.libyaml_automaton.specs.Numbers.{flag, next_of, place_of}
-use Rattle.libyaml_automaton.specs.Want as want
-use Rattle.libyaml_automaton.specs.Config as config
-use Rattle.libyaml_automaton.specs.Wanted.{Facts, token, properties, wanted as wanted_then, wanted_by}
-use Rattle.libyaml_automaton.specs.Fits.{FitsStep, FitsContent, FitsDocument, FitsDirective}
-use Rattle.libyaml_automaton.specs.Automaton as automaton
-use Rattle.libyaml_automaton.specs.Answers.{Outcome, Undone, Does, Enters, outcome, before_entry}
-use Rattle.libyaml_automaton.specs.Answers as answers
-use Rattle.libyaml_events.specs.declared.lookahead.Lookahead.{Lookahead}
-use Rattle.libyaml_events.specs.declared.lookahead.Lookahead.TheVariants as ahead
-use Rattle.libyaml_events.specs.declared.pending.Pending.{Pending}
-use Rattle.libyaml_events.specs.machine.Config.{Config, Handles}
-use Rattle.libyaml_events.specs.machine.Want.{Want, Given, Wants}
-use Rattle.libyaml_events.specs.machine.Machine as parser
-use Rattle.libyaml_events.specs.machine.Answers.{wanted, held_in}
-use Rattle.libyaml_events.specs.automaton.Texts.{Held, config_of, config_with, fact_of, held_of, only_if, token_of}
-use Rattle.libyaml_events.specs.automaton.Texts.{want_of, want_with, with_texts}
-use Rattle.libyaml_events.specs.automaton.Agree as agree
-use Rattle.libyaml_events.specs.automaton.Led.{SaysIn, SaysOf, Is, IsHeld, IsDeclared, Noted, Led, LedDocument}
-use Rattle.libyaml_events.specs.automaton.Led.{IsContent, SaysContent}
-use Rattle.libyaml_events.specs.automaton.View.{Ready, IsEntered, seen, opened_by, first_before, is_entry}
-use Rattle.libyaml_events.proofs.layer.Views.{seen_none}
-use Rattle.libyaml_events.proofs.tie.Steps.{steps}
-use Rattle.libyaml_events.proofs.tie.Agree.{wants, quietly, node_content, IsQuiet}
-use Rattle.libyaml_events.proofs.tie.Agree.{content_behind as quiet_content}
-use Rattle.libyaml_events.proofs.tie.Growing.{grows, handles, IsWanting}
-use Rattle.libyaml_events.specs.machine.Growth.{may_grow, joins, joins_before, joins_behind_anchor}
-use Rattle.libyaml_events.specs.machine.Read.{PropertiesRead}
 use Rattle.libyaml_automaton.specs.declared.node_place.NodePlace.{NodePlace}
-use Rattle.libyaml_automaton.specs.Fits.{Part, Nodes, First, Documents}
-use Rattle.libyaml_automaton.specs.Growth.{stack_part_of, pushes, pushes_in_documents, stack_in_step, stack_of_part}
-use Rattle.libyaml_automaton.specs.Growth.{Neither}
+use Rattle.libyaml_automaton.specs.declared.reading.Reading.{Reading}
+use Rattle.libyaml_automaton.specs.Answers.{Outcome, Undone, Does, Says, outcome}
+use Rattle.libyaml_automaton.specs.Automaton as automaton
+use Rattle.libyaml_automaton.specs.Config as automaton_config
+use Rattle.libyaml_automaton.specs.Fits.{FitsStep, IsFull, is_simple, SameReading, opens_at}
+use Rattle.libyaml_automaton.specs.Growth.{opens, pushes}
+use Rattle.libyaml_automaton.specs.Numbers.{next_of, place_of}
+use Rattle.libyaml_automaton.specs.Wanted.{IsAt, next_at, next_for, properties, token, wanted_by}
+use Rattle.libyaml_automaton.specs.Wanted as automaton_want
+use Rattle.libyaml_events.specs.declared.pending.Pending.{Pending}
+use Rattle.libyaml_events.specs.machine.Answers.{only_if, property_texts, texts_for, wanted}
+use Rattle.libyaml_events.specs.machine.Config.{Config, Handles, config_of, config_with}
+use Rattle.libyaml_events.specs.machine.Growth.{grows_for, joins, joins_before, joins_behind_anchor, may_grow}
+use Rattle.libyaml_events.specs.machine.Machine.{Progressed, content_behind, content_resolved, put, resolve, seen, step, with_texts}
+use Rattle.libyaml_events.specs.machine.Read.{PropertyTexts, DirectiveTexts}
+use Rattle.libyaml_events.specs.machine.Want.{Texts}
+use Rattle.libyaml_events.specs.automaton.Led.{GrowsBehind, IsHeld, IsPlain, Led, SaysIn}
+use Rattle.libyaml_events.specs.automaton.View.{Ready}
 
--- openings
+-- What a step does with texts hangs on the handles, the fault and the lookahead, which the automaton leaves alone.
+module _ (hs : Handles) (f : Fault) (o : Option yaml_token_t) (a b : automaton_config.Config) (h : Texts) (t : yaml_token_t)
+    (k : unnamed_yaml_token_t_data) where
+  put_same : (anchor tag : Option (List ℕ)) (x : automaton.Step)
+      → put h anchor tag (config_with a hs f o) t k x ≡ put h anchor tag (config_with b hs f o) t k x
+  put_same anchor tag (automaton.Gives e y) = refl
+  put_same anchor tag _ = refl
 
-sequence_starts : (k : unnamed_yaml_token_t_data) → token_type k ≡ kind.YAML_BLOCK_SEQUENCE_START_TOKEN
-    → k ≡ tok.BlockSequenceStart
-sequence_starts tok.BlockSequenceStart e = refl
-sequence_starts _ e = absurd cc e
+  resolved_same : (p : NodePlace) (r : automaton.Properties) (y : automaton_config.Config) (g : Option (List ℕ))
+      → content_resolved g p r y h (config_with a hs f o) t k ≡ content_resolved g p r y h (config_with b hs f o) t k
+  resolved_same p r y None = refl
+  resolved_same p r y (Some g) = put_same _ _ _
 
-mapping_starts : (k : unnamed_yaml_token_t_data) → token_type k ≡ kind.YAML_BLOCK_MAPPING_START_TOKEN
-    → k ≡ tok.BlockMappingStart
-mapping_starts tok.BlockMappingStart e = refl
-mapping_starts _ e = absurd cc e
+  content_same : (p : NodePlace) (r : automaton.Properties) (y : automaton_config.Config)
+      (g : Option unnamed_yaml_token_t_data_tag)
+      → content_behind g p r y h (config_with a hs f o) t k ≡ content_behind g p r y h (config_with b hs f o) t k
+  content_same p r y None = put_same _ _ _
+  content_same p r y (Some g) = resolved_same p r y (resolve hs g.handle g.suffix)
 
-flow_sequence_starts : (k : unnamed_yaml_token_t_data) → token_type k ≡ kind.YAML_FLOW_SEQUENCE_START_TOKEN
-    → k ≡ tok.FlowSequenceStart
-flow_sequence_starts tok.FlowSequenceStart e = refl
-flow_sequence_starts _ e = absurd cc e
+  with_same : (x : automaton.Step)
+      → with_texts h (config_with a hs f o) t k x ≡ with_texts h (config_with b hs f o) t k x
+  with_same (automaton.AsksVersion start y) = put_same _ _ _
+  with_same (automaton.AsksHandle start has_version y) = put_same _ _ _
+  with_same (automaton.AsksContent p r y) = content_same p r y h.tag
+  with_same (automaton.Gives e y) = refl
+  with_same _ = refl
 
-flow_mapping_starts : (k : unnamed_yaml_token_t_data) → token_type k ≡ kind.YAML_FLOW_MAPPING_START_TOKEN
-    → k ≡ tok.FlowMappingStart
-flow_mapping_starts tok.FlowMappingStart e = refl
-flow_mapping_starts _ e = absurd cc e
+-- so for what is said of it
+pub says_texts : (hs : Handles) (f : Fault) (o : Option yaml_token_t) (a b : automaton_config.Config) (h : Texts)
+    (t : yaml_token_t) (s : automaton.Step) (x : Outcome) → Says s x
+    → SaysIn (with_texts h (config_with a hs f o) t t.content s) h (config_with b hs f o) t x
+says_texts hs f o a b h t s Undone e = tt
+says_texts hs f o a b h t s (Does x) e
+    = ap (λ (y : automaton.Step). with_texts h (config_with a hs f o) t t.content y) e ∙ with_same hs f o a b h t t.content x
 
-abbrev config_in : automaton.Progressed → config.Config
-config_in (Ok (x, c)) = c
-config_in (Err f) = config.start
+-- A property is read: it is held with the other one, where that is this node's.
+abbrev AnchorIn : PropertyTexts → DirectiveTexts → List ℕ → Texts → automaton.Step → Type 0
+AnchorIn p d a h (automaton.Wants v x) = texts_for v (record p { anchor = Some a }) d ≡ record h { anchor = Some a }
+AnchorIn p d a h _ = Unit {0}
 
--- what the step at the first state says
-entered_by : (state first : yaml_parser_state_t) (t : yaml_token_t) (k : config.Config) → is_entry state ≡ true
-    → first ≡ first_before state
-    → t.content ≡ opened_by state → config.at state (config.pushed_mark t.start_mark (before_entry first k)) ≡ k
-    → IsEntered first t k
-entered_by state first t k i j o e =
-    let s : state ≡ k.state = ap (λ (c : config.Config). c.state) e in
-    record {
-      entry = ap is_entry (sym s) ∙ i;
-      first_is = j ∙ ap first_before s;
-      opens = o ∙ ap opened_by s;
-      mark =
-          sym (ap (λ (c : config.Config). c.marks) e);
-    }
+abbrev TagIn : PropertyTexts → DirectiveTexts → unnamed_yaml_token_t_data_tag → Texts → automaton.Step → Type 0
+TagIn p d g h (automaton.Wants v x) = texts_for v (record p { tag = Some g }) d ≡ record h { tag = Some g }
+TagIn p d g h _ = Unit {0}
 
-abbrev Entered : yaml_token_t → Outcome → Type 0
-Entered t (Enters e first v k) = IsEntered first t k
-Entered t _ = Unit {0}
+module _ (p : PropertyTexts) (d : DirectiveTexts) (c : automaton_config.Config) (t : automaton.Token) where
+  anchor_behind : (a : List ℕ) (n : NodePlace) (r : automaton.Properties) (b : Bool)
+      → AnchorIn p d a (property_texts r p) (automaton.anchor_behind b n r c t)
+  anchor_behind a n r false = refl
+  anchor_behind a n r true = tt
 
--- a result that enters comes at the token that opens
-abbrev Opens : Answer → yaml_token_type_t → Type 0
-Opens did.BlockSequence k = k ≡ kind.YAML_BLOCK_SEQUENCE_START_TOKEN
-Opens did.BlockMapping k = k ≡ kind.YAML_BLOCK_MAPPING_START_TOKEN
-Opens did.FlowSequence k = k ≡ kind.YAML_FLOW_SEQUENCE_START_TOKEN
-Opens did.FlowMapping k = k ≡ kind.YAML_FLOW_MAPPING_START_TOKEN
-Opens _ k = Unit {0}
+  anchor_at : (a : List ℕ) (s : yaml_parser_state_t)
+      → AnchorIn p d a (texts_for automaton.AtState p d) (automaton.at_state s c t kinds.YAML_ANCHOR_TOKEN)
+  anchor_at a st.YAML_PARSE_DOCUMENT_CONTENT_STATE = refl
+  anchor_at a st.YAML_PARSE_BLOCK_NODE_STATE = refl
+  anchor_at a st.YAML_PARSE_BLOCK_NODE_OR_INDENTLESS_SEQUENCE_STATE = refl
+  anchor_at a st.YAML_PARSE_FLOW_NODE_STATE = refl
+  anchor_at a st.YAML_PARSE_FLOW_SEQUENCE_FIRST_ENTRY_STATE = refl
+  anchor_at a st.YAML_PARSE_FLOW_SEQUENCE_ENTRY_MAPPING_KEY_STATE = refl
+  anchor_at a st.YAML_PARSE_FLOW_MAPPING_FIRST_KEY_STATE = refl
+  anchor_at a _ = tt
 
-step_opens : (a : Answer) (k : yaml_token_type_t) (r : Reading) (s : yaml_parser_state_t) → FitsStep a k r s → Opens a k
-step_opens did.BlockSequence k r s f = f
-step_opens did.BlockMapping k r s f = f
-step_opens did.FlowSequence k r s f = f
-step_opens did.FlowMapping k r s f = f
-step_opens _ k r s f = tt
+  anchor_in : (a : List ℕ) (w : automaton.Want)
+      → AnchorIn p d a (texts_for w p d) (automaton.step w c t kinds.YAML_ANCHOR_TOKEN)
+  anchor_in a automaton.AtState = anchor_at a c.state
+  anchor_in a (automaton.BehindDirective start has_version) = tt
+  anchor_in a (automaton.BehindProperties n r) = anchor_behind a n r r.anchor
+  anchor_in a _ = refl
 
-document_opens : (a : Answer) (k : yaml_token_type_t) (r : Reading) (s : yaml_parser_state_t) → FitsDocument a k r s
-    → Opens a k
-document_opens did.BlockSequence k r s f = absurd f
-document_opens did.BlockMapping k r s f = absurd f
-document_opens did.FlowSequence k r s f = absurd f
-document_opens did.FlowMapping k r s f = absurd f
-document_opens _ k r s f = tt
+  tag_behind : (g : unnamed_yaml_token_t_data_tag) (n : NodePlace) (r : automaton.Properties) (b : Bool)
+      → TagIn p d g (property_texts r p) (automaton.tag_behind b n r c t)
+  tag_behind g n r false = refl
+  tag_behind g n r true = tt
 
-directive_opens : (a : Answer) (k : yaml_token_type_t) (r : Reading) → FitsDirective a r → Opens a k
-directive_opens did.BlockSequence k r f = absurd f
-directive_opens did.BlockMapping k r f = absurd f
-directive_opens did.FlowSequence k r f = absurd f
-directive_opens did.FlowMapping k r f = absurd f
-directive_opens _ k r f = tt
+  tag_at : (g : unnamed_yaml_token_t_data_tag) (s : yaml_parser_state_t)
+      → TagIn p d g (texts_for automaton.AtState p d) (automaton.at_state s c t kinds.YAML_TAG_TOKEN)
+  tag_at g st.YAML_PARSE_DOCUMENT_CONTENT_STATE = refl
+  tag_at g st.YAML_PARSE_BLOCK_NODE_STATE = refl
+  tag_at g st.YAML_PARSE_BLOCK_NODE_OR_INDENTLESS_SEQUENCE_STATE = refl
+  tag_at g st.YAML_PARSE_FLOW_NODE_STATE = refl
+  tag_at g st.YAML_PARSE_FLOW_SEQUENCE_FIRST_ENTRY_STATE = refl
+  tag_at g st.YAML_PARSE_FLOW_SEQUENCE_ENTRY_MAPPING_KEY_STATE = refl
+  tag_at g st.YAML_PARSE_FLOW_MAPPING_FIRST_KEY_STATE = refl
+  tag_at g _ = tt
 
-content_opens : (a : Answer) (k : yaml_token_type_t) (r : Reading) → FitsContent a k r → Opens a k
-content_opens did.BlockSequence k r f = f
-content_opens did.BlockMapping k r f = f
-content_opens did.FlowSequence k r f = f
-content_opens did.FlowMapping k r f = f
-content_opens _ k r f = tt
+  tag_in : (g : unnamed_yaml_token_t_data_tag) (w : automaton.Want)
+      → TagIn p d g (texts_for w p d) (automaton.step w c t kinds.YAML_TAG_TOKEN)
+  tag_in g automaton.AtState = tag_at g c.state
+  tag_in g (automaton.BehindDirective start has_version) = tt
+  tag_in g (automaton.BehindProperties n r) = tag_behind g n r r.tag
+  tag_in g _ = refl
 
-entered : (a : Answer) (t : yaml_token_t) (hs : Handles) (h : want.Properties) (tag : ℕ) (r : Reading) (k : config.Config)
-    (p : automaton.Progressed) → Opens a (token_type t.content)
-    → answers.Says p (token_of hs t) (outcome a h (token_of hs t) tag r k)
-    → Entered t (outcome a h (token_of hs t) tag r k)
-entered did.BlockSequence t hs h tag r k p f y =
-    entered_by st.YAML_PARSE_BLOCK_SEQUENCE_ENTRY_STATE _ t k refl refl (sequence_starts t.content f) (ap config_in y.1)
-entered did.BlockMapping t hs h tag r k p f y =
-    entered_by st.YAML_PARSE_BLOCK_MAPPING_KEY_STATE _ t k refl refl (mapping_starts t.content f) (ap config_in y.1)
-entered did.FlowSequence t hs h tag r k p f y =
-    entered_by st.YAML_PARSE_FLOW_SEQUENCE_ENTRY_STATE _ t k refl refl (flow_sequence_starts t.content f)
-    (ap config_in y.1)
-entered did.FlowMapping t hs h tag r k p f y =
-    entered_by st.YAML_PARSE_FLOW_MAPPING_KEY_STATE _ t k refl refl (flow_mapping_starts t.content f) (ap config_in y.1)
-entered _ t hs h tag r k p f y = tt
+-- a token is wanted for what has no texts
+plain : (n : Next) (r : Reading) → is_simple n ≡ true → IsPlain (wanted_by n r)
+plain next.BehindDirective r e = absurd cc
+plain next.BehindProperties r e = absurd cc
+plain _ r e = tt
 
--- texts
+asked : (n : Next) (r : Reading) (p : PropertyTexts) (d : DirectiveTexts) → n ≡ next.BehindProperties
+    → texts_for (wanted_by n r) p d ≡ property_texts (properties r) p
+asked n r p d e = rw e refl
 
-only_is : {A : Type 0} (b : Bool) (o : Option A) → Is (only_if b o) o
-only_is true o i = refl
-only_is false o i = absurd cc i
+-- what the texts that were held have to do with those that are held now
+held : (q : Pending) (r' : Reading) (a : Answer) (c : automaton_config.Config) (t : automaton.Token)
+    (k : yaml_token_type_t) (s : yaml_parser_state_t) (x : automaton_config.Config) → FitsStep a k r' s
+    → (a ≡ did.AsksContent → r' ≡ q.reading)
+    → Says (automaton.step (automaton_want.wanted q.reading) c t k) (outcome a (automaton.no_properties t) t r' x)
+    → IsHeld a (wanted q).texts (record q { reading = r' })
+held q r' did.Wants c t k s x f u e = plain (next_of r'.next) r' f.0
+held q r' did.WantsAnchor c t k s x f u e = λ a.
+    subst (λ (y : automaton.Step). AnchorIn q.properties q.directives a (wanted q).texts y) e
+    (subst (λ (z : yaml_token_type_t). AnchorIn q.properties q.directives a (wanted q).texts
+    (automaton.step (automaton_want.wanted q.reading) c t z)) (sym f.0)
+    (anchor_in q.properties q.directives c t a (automaton_want.wanted q.reading)))
+held q r' did.WantsTag c t k s x f u e = λ g.
+    subst (λ (y : automaton.Step). TagIn q.properties q.directives g (wanted q).texts y) e
+    (subst (λ (z : yaml_token_type_t). TagIn q.properties q.directives g (wanted q).texts
+    (automaton.step (automaton_want.wanted q.reading) c t z)) (sym f.0)
+    (tag_in q.properties q.directives c t g (automaton_want.wanted q.reading)))
+held q r' did.AsksContent c t k s x f u e =
+    let i : r' ≡ q.reading = u refl in
+    subst (λ (y : Reading). texts_for (automaton_want.wanted q.reading) q.properties q.directives
+    ≡ property_texts (properties y) q.properties) (sym i)
+    (asked (next_of q.reading.next) q.reading q.properties q.directives (ap (λ (y : Reading). next_of y.next) (sym i) ∙ f))
+held q r' _ c t k s x f u e = tt
 
-held_by : (n : Next) (p : Pending) → IsHeld (held_of (want_with (held_in p) (wanted_by n 0 p.reading))) p
-held_by next.BehindProperties p = (
-  only_is (flag p.reading.has_anchor) p.properties.anchor,
-  only_is
-      (flag p.reading.has_tag) p.properties.tag,
+-- a step of the automaton is a step of the parser
+pub leads : (hs : Handles) (f : Fault) (o : Option yaml_token_t) (a b : automaton_config.Config) (c : Config)
+    (t : yaml_token_t) (q : Pending) (r' : Reading) (x : Answer) (k : yaml_token_type_t) → config_with a hs f o ≡ c
+    → k ≡ token_type t.content → FitsStep x k r' b.state → (x ≡ did.AsksContent → r' ≡ q.reading)
+    → Says (automaton.step (automaton_want.wanted q.reading) a (token k t.start_mark t.end_mark) k)
+    (outcome x (automaton.no_properties (token k t.start_mark t.end_mark)) (token k t.start_mark t.end_mark) r' b)
+    → Led (step (wanted q) c t) (wanted q).texts t x (record q { reading = r' }) (config_with b hs f o)
+leads hs f o a b c t q r' x k ec ek fits u s =
+    subst (λ (y : Config). Led (step (wanted q) y t) (wanted q).texts t x (record q { reading = r' }) (config_with b hs f o))
+    ec (
+      held q r' x a (token k t.start_mark t.end_mark) k b.state b fits u s,
+      says_texts hs f o a b (wanted q).texts t _ _ (rw ek at s),
+    )
+
+-- a step that was undone leaves the parser ready
+pub still_ready : (q : Pending) (r' : Reading) (c d : Config) → d ≡ c → SameReading q.reading r' → Ready q c
+    → Ready (record q { reading = r' }) d × (wanted (record q { reading = r' }) ≡ wanted q) × (d ≡ c)
+still_ready q r' c d e s y = (
+  record {
+    none = ap (λ (x : Config). x.lookahead) e ∙ y.none;
+    agrees = rw (e, s.0) y.agrees;
+  },
+  ap (λ (v : automaton.Want). record { next = v; texts = texts_for v q.properties q.directives }) s.1,
+  e,
 )
-held_by _ p = (λ i. absurd cc i, λ i. absurd cc i)
 
-moved : (h : Held) (k k' : config.Config) (hs : Handles) (f : Fault) (t : yaml_token_t)
-    (c : unnamed_yaml_token_t_data) (x : automaton.Progressed)
-    → with_texts h (config_with k hs f None) t c x ≡ with_texts h (config_with k' hs f None) t c x
-moved h k k' hs f t c (Ok (want.Given e, a)) = refl
-moved h k k' hs f t c (Ok (want.Wants w, a)) = refl
-moved h k k' hs f t c (Err g) = refl
+-- where the automaton pushes, the parser may take memory
+grows_there : (n : Next) (r : Reading) (h : Texts) (c : Config) (k : unnamed_yaml_token_t_data) → IsAt n c.state
+    → pushes n (token_type k) || opens n (token_type k) ≡ true → grows_for (wanted_by n r) h c k ≡ true
+grows_there next.AtStreamStart r h c k i e = rw i e
+grows_there next.AtImplicitDocumentStart r h c k i e = absurd cc
+grows_there next.AtDocumentStart r h c k i e = absurd cc
+grows_there next.BehindDirective r h c k i e = absurd cc
+grows_there next.BehindProperties r h c k i e = absurd cc
+grows_there next.BehindBlockEntry r h c k i e = e
+grows_there next.BehindIndentlessEntry r h c k i e = e
+grows_there next.BehindKey r h c k i e = e
+grows_there next.BehindValue r h c k i e = e
+grows_there next.BehindFlowSequenceValue r h c k i e = e
+grows_there next.BehindFlowMappingKey r h c k i e = e
+grows_there next.BehindFlowMappingValue r h c k i e = e
+grows_there _ r h c k i e = rw i e
 
--- where the automaton does what an outcome says, the machine does it with texts
-so : (out : parser.Progressed) (h : Held) (k k' : config.Config) (hs : Handles) (f : Fault) (t : yaml_token_t)
-    (x : automaton.Progressed)
-    → out ≡ with_texts h (config_with k hs f None) t t.content x → agree.Agrees hs h t t.content x → (o : Outcome)
-    → answers.Says x (token_of hs t) o → Entered t o → SaysIn out h (config_with k' hs f None) t o
-so out h k k' hs f t x e g Undone s i = tt
-so out h k k' hs f t x e g (Does q) s i = (
-  e ∙ (moved h k k' hs f t t.content x ∙ ap (with_texts h (config_with k' hs f None) t t.content) s),
-  subst
-      (agree.Agrees hs h t t.content) s g,
-)
-so out h k k' hs f t x e g (Enters y first v c) s i =
-    (e ∙ (moved h k k' hs f t t.content x ∙ ap (with_texts h (config_with k' hs f None) t t.content) s.0), i)
+either : (b d : Bool) → (b ≡ true) ⊎ (d ≡ true) → b || d ≡ true
+either true d e = refl
+either false d (inl e) = absurd cc
+either false d (inr e) = e
 
--- the automaton's step, as its contract says it
-abbrev pub Did : Pending → config.Config → yaml_token_type_t → yaml_token_t → Answer → Reading → config.Config → Type 0
-Did p k u t a r k' = (f : Facts) → answers.Says (automaton.step (wanted_then f.tag p.reading) k
-    (token u t.start_mark t.end_mark f))
-    (token u t.start_mark t.end_mark f) (outcome a (automaton.no_properties (token u t.start_mark t.end_mark f))
-    (token u t.start_mark t.end_mark f) f.tag r k')
+pub grows_full : (q : Pending) (c : Config) (k : unnamed_yaml_token_t_data) (kind : yaml_token_type_t) → Ready q c
+    → kind ≡ token_type k → (pushes (next_of q.reading.next) kind ≡ true) ⊎ (opens (next_of q.reading.next) kind ≡ true)
+    → may_grow (wanted q) c k ≡ true
+grows_full q c k kind y e o = grows_there (next_of q.reading.next) q.reading (wanted q).texts c k y.agrees
+    (either _ _ (rw e at o))
 
-abbrev properties_in : want.Properties → want.Want → want.Properties
-properties_in d (want.BehindProperties p r) = r
-properties_in d _ = d
+-- at an ANCHOR the content comes after another
+joins_where : (hs : Handles) (g : Option unnamed_yaml_token_t_data_tag) (n m : NodePlace) (r r' : automaton.Properties)
+    (c x : automaton_config.Config) (t : automaton.Token) (b : Bool)
+    → automaton.anchor_behind b n r c t ≡ automaton.AsksContent m r' x → joins g hs ≡ true
+    → joins_behind_anchor b g hs ≡ true
+joins_where hs g n m r r' c x t false e j = absurd cc
+joins_where hs g n m r r' c x t true e j = j
 
-noted_by : (m : Next) (hs : Handles) (h : Held) (r : Reading) (tag : ℕ) → m ≡ next.BehindProperties
-    → want_of hs (want_with h (wanted_by m 0 r)) ≡ wanted_by m tag r
-    → Noted did.AsksContent (held_of (want_with h (wanted_by m 0 r))) tag r hs
-noted_by next.BehindProperties hs h r tag i e = ap (properties_in (properties tag r)) e
-noted_by _ hs h r tag i e = absurd cc i
+joins_asked : (hs : Handles) (h : Texts) (n m : NodePlace) (r r' : automaton.Properties) (c x : automaton_config.Config)
+    (t : automaton.Token) (k : unnamed_yaml_token_t_data)
+    → automaton.behind_properties n r c t (token_type k) ≡ automaton.AsksContent m r' x → joins h.tag hs ≡ true
+    → joins_before r h hs k ≡ true
+joins_asked hs h n m r r' c x t (tok.Anchor a) e j = joins_where hs h.tag n m r r' c x t r.anchor e j
+joins_asked hs h n m r r' c x t _ e j = j
 
--- the step asks for content
-abbrev pub IsAsked : Answer → (old new : Reading) → Type 0
-IsAsked a r r' = a ≡ did.AsksContent → (next_of r.next ≡ next.BehindProperties) × (r' ≡ r)
+-- content after properties may take memory
+content_grows : (n : Next) (r : Reading) (p : PropertyTexts) (d : DirectiveTexts) (c : Config) (t : automaton.Token)
+    (m : NodePlace) (r' : automaton.Properties) (x : automaton_config.Config) (k : unnamed_yaml_token_t_data)
+    → n ≡ next.BehindProperties
+    → automaton.step (wanted_by n r) (config_of c) t (token_type k) ≡ automaton.AsksContent m r' x
+    → (joins (property_texts (properties r) p).tag c.handles ≡ true) ⊎ (opens_at (place_of r.place) (token_type k) ≡ true)
+    → grows_for (wanted_by n r) (texts_for (wanted_by n r) p d) c k ≡ true
+content_grows n r p d c t m r' x k i e (inl j) = rw i (either _ _ (inl (joins_asked c.handles
+    (property_texts (properties r) p) (place_of r.place) m (properties r) r' (config_of c) x t k (rw i at e) j)))
+content_grows n r p d c t m r' x k i e (inr j) = rw i (either _ _ (inr j))
 
-pub asked_by : (a : Answer) (k : yaml_token_type_t) (r r' : Reading) (s : yaml_parser_state_t) → FitsStep a k r' s
-    → (a ≡ did.AsksContent → r' ≡ r) → IsAsked a r r'
-asked_by did.AsksContent k r r' s f u e = (
-  subst (λ (x : Reading). next_of x.next ≡ next.BehindProperties) (u refl)
-      f,
-  u refl,
-)
-asked_by _ k r r' s f u e = absurd cc e
+pub grows_asked : (hs : Handles) (f : Fault) (o : Option yaml_token_t) (a b : automaton_config.Config) (c : Config)
+    (t : yaml_token_t) (q : Pending) (r' : Reading) (x : Answer) (k : yaml_token_type_t) → config_with a hs f o ≡ c
+    → k ≡ token_type t.content → FitsStep x k r' b.state → (x ≡ did.AsksContent → r' ≡ q.reading)
+    → Says (automaton.step (automaton_want.wanted q.reading) a (token k t.start_mark t.end_mark) k)
+    (outcome x (automaton.no_properties (token k t.start_mark t.end_mark)) (token k t.start_mark t.end_mark) r' b)
+    → x ≡ did.AsksContent → GrowsBehind (record q { reading = r' }) (config_with b hs f o) t
+    → may_grow (wanted q) c t.content ≡ true
+grows_asked hs f o a b c t q r' x k ec ek fits u s i g =
+    let e : r' ≡ q.reading = u i in
+    subst (λ (y : Config). may_grow (wanted q) y t.content ≡ true) ec
+    (content_grows (next_of q.reading.next) q.reading q.properties q.directives (config_with a hs f o)
+    (token (token_type t.content) t.start_mark t.end_mark) (place_of r'.place) (properties r') b t.content
+    (ap (λ (y : Reading). next_of y.next) (sym e) ∙ (rw i at fits)) (rw (i, ek) at s) (rw e at g))
 
-noted : (a : Answer) (hs : Handles) (p q : Pending) (tag : ℕ) → IsAsked a p.reading q.reading
-    → want_of hs (wanted p) ≡ wanted_then tag p.reading → Noted a (held_of (wanted p)) tag q.reading hs
-noted did.AsksContent hs p q tag i e = subst (λ r. Noted did.AsksContent (held_of (wanted p)) tag r hs) (sym (i refl).1)
-    (noted_by (next_of p.reading.next) hs (held_in p) p.reading tag (i refl).0 e)
-noted _ hs p q tag i e = tt
-
--- what the automaton's contract says, with texts
-says : (k k' : config.Config) (hs : Handles) (f : Fault) (t : yaml_token_t) (p q : Pending) (a : Answer)
-    → Opens a (token_type t.content) → (g : Ready p (config_with k hs f None))
-    → Did p k (token_type t.content) t a q.reading k'
-    → SaysOf (parser.step (wanted p) (config_with k hs f None) t) (held_of (wanted p)) t a g.agrees.fact q.reading
-    (config_with k' hs f None)
-says k k' hs f t p q a y g d =
-    let n : ℕ = g.agrees.fact in
-    let s = subst (λ v. answers.Says (automaton.step v k (token_of hs t)) (token_of hs t)
-    (outcome a (automaton.no_properties (token_of hs t)) (token_of hs t) n q.reading k')) (sym g.agrees.same)
-    (d (record { token = fact_of hs t.content; tag = n })) in
-    so _ (held_of (wanted p)) k k' hs f t (automaton.step (want_of hs (wanted p)) k (token_of hs t))
-    (steps (wanted p) (config_with k hs f None) t) (wants (wanted p) k hs t) _ s (entered a t hs _ n q.reading k' _ y s)
-
--- of a parser by what is seen of it
-pub of_view : (o : Lookahead) (h : yaml_token_t) (k k' : config.Config) (hs : Handles) (f : Fault) (c : Config)
-    (P : Config → Config → Type 0) → seen o h k hs f ≡ c → c.lookahead ≡ None
-    → P (config_with k hs f None) (config_with k' hs f None) → P c (seen o h k' hs f)
-of_view o h k k' hs f c P e n x =
-    let i : o ≡ ahead.Nothing = seen_none h k hs f o (ap (λ (y : Config). y.lookahead) e ∙ n) in
-    let w : config_with k hs f None ≡ c = ap (λ y. seen y h k hs f) (sym i) ∙ e in
-    subst (λ v. P c (seen v h k' hs f)) (sym i) (subst (λ v. P v (config_with k' hs f None)) w x)
-
--- a step
-pub leads : (o : Lookahead) (h : yaml_token_t) (k k' : config.Config) (hs : Handles) (f : Fault) (c : Config)
-    (t : yaml_token_t)
-    (p q : Pending) (a : Answer) (u : yaml_token_type_t) → seen o h k hs f ≡ c → Ready p c → u ≡ token_type t.content
-    → q ≡ record p { reading = q.reading } → FitsStep a u q.reading k'.state → IsAsked a p.reading q.reading
-    → Did p k u t a q.reading k' → Led (parser.step (wanted p) c t) (held_of (wanted p)) t a q (seen o h k' hs f)
-leads o h k k' hs f c t p q a u e g z x y j d = of_view o h k k' hs f c
-    (λ v w. Ready p v → Led (parser.step (wanted p) v t) (held_of (wanted p)) t a q w) e g.none
-    (λ r. (
-      subst (λ (z : Pending). IsHeld (held_of (wanted p)) z) (sym x) (held_by (next_of p.reading.next) p),
-      r.agrees.fact,
-      says k k' hs f t p q a (subst (Opens a) z (step_opens a u q.reading k'.state y)) r
-          (subst (λ v. Did p k v t a q.reading k') z d),
-      noted a hs p q r.agrees.fact j r.agrees.same,
-    )) g
-
--- a step of the stream or its documents
-pub document_leads : (o : Lookahead) (h : yaml_token_t) (k k' : config.Config) (hs : Handles) (f : Fault) (c : Config)
-    (t : yaml_token_t) (p q : Pending) (a : Answer) (u : yaml_token_type_t) → seen o h k hs f ≡ c → Ready p c
-    → u ≡ token_type t.content → q ≡ record p { reading = q.reading } → IsDeclared (held_of (wanted p)) p
-    → FitsDocument a u q.reading k'.state → Did p k u t a q.reading k'
-    → LedDocument (parser.step (wanted p) c t) (held_of (wanted p)) t a q (seen o h k' hs f)
-document_leads o h k k' hs f c t p q a u e g z x i y d = of_view o h k k' hs f c
-    (λ v w. Ready p v → LedDocument (parser.step (wanted p) v t) (held_of (wanted p)) t a q w) e g.none
-    (λ r. (
-      subst (λ (z : Pending). IsDeclared (held_of (wanted p)) z) (sym x) i,
-      r.agrees.fact,
-      says k k' hs f t p q a (subst (Opens a) z (document_opens a u q.reading k'.state y)) r
-          (subst (λ v. Did p k v t a q.reading k') z d),
-    )) g
-
--- a step that finds no room may take memory
-grows_by : (d : Part) (b : Bool) (x : Bool) → (stack_of_part d b ≡ Neither → ⊥) → (b ≡ true → x ≡ true)
-    → (d ≡ First → x ≡ true) → x ≡ true
-grows_by First b x n s m = m refl
-grows_by Nodes true x n s m = s refl
-grows_by Nodes false x n s m = absurd (n refl)
-grows_by Documents true x n s m = absurd (n refl)
-grows_by Documents false x n s m = absurd (n refl)
-
-pub grows_there : (p : Pending) (c : Config) (k : unnamed_yaml_token_t_data) (u : yaml_token_type_t) → Ready p c
-    → u ≡ token_type k
-    → (stack_in_step (next_of p.reading.next) u ≡ Neither → ⊥) → may_grow (wanted p) c k ≡ true
-grows_there p c k u g z n =
-    let y = grows (next_of p.reading.next) g.agrees.fact p.reading (wanted p) c k (sym g.agrees.same) g.agrees.at in
-    grows_by (stack_part_of (next_of p.reading.next)) (pushes (next_of p.reading.next) (token_type k))
-    (may_grow (wanted p) c k)
-    (subst (λ v. stack_in_step (next_of p.reading.next) v ≡ Neither → ⊥) z n) y.states y.marks
-
-pub document_grows : (p : Pending) (c : Config) (k : unnamed_yaml_token_t_data) (u : yaml_token_type_t) → Ready p c
-    → u ≡ token_type k → pushes_in_documents (next_of p.reading.next) c.behind_document_end u ≡ true
-    → may_grow (wanted p) c k ≡ true
-document_grows p c k u g z n = (grows (next_of p.reading.next) g.agrees.fact p.reading (wanted p) c k (sym g.agrees.same)
-    g.agrees.at).documents (subst (λ v. pushes_in_documents (next_of p.reading.next) c.behind_document_end v ≡ true) z n)
-
--- and so may one that keeps a tag directive
-pub handle_grows : (o : Lookahead) (h : yaml_token_t) (k k' : config.Config) (hs : Handles) (f : Fault) (c : Config)
-    (t : yaml_token_t) (p q : Pending) (a : Answer) (u : yaml_token_type_t) → seen o h k hs f ≡ c → Ready p c
-    → u ≡ token_type t.content → FitsDocument a u q.reading k'.state
-    → stack_part_of (next_of p.reading.next) ≡ Documents → Did p k u t a q.reading k' → a ≡ did.AsksHandle
-    → may_grow (wanted p) c t.content ≡ true
-handle_grows o h k k' hs f c t p q did.AsksHandle u e g z y d s i = of_view o h k k' hs f c
-    (λ v w. Ready p v → may_grow (wanted p) v t.content ≡ true) e g.none (λ r.
-    let x : Facts = record { token = 0; tag = r.agrees.fact } in
-    handles (next_of p.reading.next) r.agrees.fact p.reading (wanted p) (config_with k hs f None) t.content t.start_mark
-    t.end_mark x (sym r.agrees.same) r.agrees.at d (sym z ∙ y) (subst IsWanting
-    (sym (subst (λ v. answers.Says (automaton.step (wanted_then r.agrees.fact p.reading) k
-    (token v t.start_mark t.end_mark x))
-    (token v t.start_mark t.end_mark x) (Does (automaton.tag_directive false q.reading.start_mark
-    (flag q.reading.has_version) k' (token v t.start_mark t.end_mark x)))) y (s x))) tt)) g
-handle_grows o h k k' hs f c t p q _ u e g z y d s i = absurd cc i
-
--- content after properties
-abbrev pub DidContent : Reading → config.Config → yaml_token_type_t → yaml_token_t → Answer → Reading → config.Config
-    → Type 0
-DidContent r k u t a r' k' = (f : Facts) → answers.Says (automaton.node_content (place_of r.place) (properties f.tag r) k
-    (token u t.start_mark t.end_mark f) u) (token u t.start_mark t.end_mark f) (outcome a (properties f.tag r)
-    (token u t.start_mark t.end_mark f) f.tag r' k')
-
-content : (k k' : config.Config) (hs : Handles) (f : Fault) (t : yaml_token_t) (r r' : Reading) (a : Answer)
-    (out : parser.Progressed) (h : Held)
-    (tag : ℕ) → FitsContent a (token_type t.content) r' → DidContent r k (token_type t.content) t a r' k'
-    → IsContent out h t r tag (config_with k hs f None) → SaysContent out h t a r r' tag (config_with k' hs f None)
-content k k' hs f t r r' a out h tag y d e =
-    let s = d (record { token = fact_of hs t.content; tag = tag }) in
-    so out h k k' hs f t _ e (quietly hs h t t.content _ (node_content (place_of r.place) (properties tag r) k
-    (token_of hs t) (token_type t.content)))
-    _ s (entered a t hs _ tag r' k' _ (content_opens a _ r' y) s)
-
-pub contents : (o : Lookahead) (z : yaml_token_t) (k k' : config.Config) (hs : Handles) (f : Fault) (c : Config)
-    (t : yaml_token_t)
-    (r r' : Reading) (a : Answer) (u : yaml_token_type_t) → seen o z k hs f ≡ c → c.lookahead ≡ None
-    → u ≡ token_type t.content → FitsContent a u r' → DidContent r k u t a r' k'
-    → (out : parser.Progressed) (h : Held) (tag : ℕ) → IsContent out h t r tag c
-    → SaysContent out h t a r r' tag (seen o z k' hs f)
-contents o z k k' hs f c t r r' a u e n j y d out h tag q = of_view o z k k' hs f c
-    (λ v w. IsContent out h t r tag v → SaysContent out h t a r r' tag w) e n
-    (content k k' hs f t r r' a out h tag (subst (λ v. FitsContent a v r') j y)
-    (subst (λ v. DidContent r k v t a r' k') j d)) q
-
--- the automaton below a parser without lookahead
-pub config_seen : (o : Lookahead) (z : yaml_token_t) (k : config.Config) (hs : Handles) (f : Fault) (c : Config)
-    → seen o z k hs f ≡ c → c.lookahead ≡ None → k ≡ config_of c
-config_seen o z k hs f c e n = of_view o z k k hs f c (λ v w. k ≡ config_of v) e n refl
-
--- a directive: where the automaton was told what it had asked for
-pub directs : (c : Config) (t : yaml_token_t) (x : automaton.Progressed) (h : want.Properties) (tag : ℕ) (r : Reading)
-    (a : Answer) (out : parser.Progressed) (held : Held) → c.lookahead ≡ None → FitsDirective a r
-    → answers.Says x (token_of c.handles t) (outcome a h (token_of c.handles t) tag r (config_of c))
-    → SaysIn out held c t (Does x) → SaysIn out held c t (outcome a h (token_of c.handles t) tag r (config_of c))
-directs c t x h tag r a out held n y s e =
-    subst (λ (o : Option yaml_token_t). SaysIn out held (config_with (config_of c) c.handles c.fault o) t
-    (outcome a h (token_of c.handles t) tag r (config_of c))) (sym n)
-    (so out held (config_of c) (config_of c) c.handles c.fault t x
-    (subst (λ (o : Option yaml_token_t). out ≡ with_texts held (config_with (config_of c) c.handles c.fault o) t
-    t.content x)
-    n e.0) e.1 _ s (entered a t c.handles h tag r (config_of c) x (directive_opens a _ r y) s))
-
--- which it does where the parser stands
-pub told : (g : config.Config → automaton.Progressed) (k k' : config.Config) (c : Config) (t : yaml_token_t)
-    (h : want.Properties) (tag : ℕ) (r : Reading) (a : Answer) → k' ≡ k → k ≡ config_of c
-    → answers.Says (g k) (token_of c.handles t) (outcome a h (token_of c.handles t) tag r k')
-    → answers.Says (g (config_of c)) (token_of c.handles t) (outcome a h (token_of c.handles t) tag r (config_of c))
-told g k k' c t h tag r a i j s =
-    subst (λ y. answers.Says (g y) (token_of c.handles t) (outcome a h (token_of c.handles t) tag r y)) j
-    (subst (λ y. answers.Says (g k) (token_of c.handles t) (outcome a h (token_of c.handles t) tag r y)) i s)
-
--- content after properties asks for nothing further, nor does the parser's step then
-abbrev IsSettled : parser.Progressed → Type 0
-IsSettled (Ok (Given e, c)) = Unit {0}
-IsSettled (Ok (Wants w, c)) = ⊥
-IsSettled (Err f) = Unit {0}
-
-settled : (h : Held) (c : Config) (t : yaml_token_t) (k : unnamed_yaml_token_t_data) (x : automaton.Progressed)
-    → IsQuiet x
-    → IsSettled (with_texts h c t k x)
-settled h c t k (Ok (want.Given e, a)) q = tt
-settled h c t k (Ok (want.Wants w, a)) q = absurd q
-settled h c t k (Err f) q = tt
-
-joins_all : (p : NodePlace) (r : PropertiesRead) (c : Config) (t : yaml_token_t) (k : unnamed_yaml_token_t_data)
-    → IsSettled (parser.behind_properties p r c t k) → joins_before r c.handles k ≡ joins r.tag c.handles
-joins_all p r c t (tok.Anchor a) s = go r.anchor s
-  where
-    go : (o : Option (List ℕ)) → IsSettled (parser.anchor_behind p r o c t a.value)
-        → joins_behind_anchor o r.tag c.handles ≡ joins r.tag c.handles
-    go None s = absurd s
-    go (Some x) s = refl
-joins_all p r c t _ s = refl
-
-asks_at : (n : Next) (q : Pending) (c : Config) (t : yaml_token_t) → n ≡ next.BehindProperties
-    → IsSettled (parser.step (want_with (held_in q) (wanted_by n 0 q.reading)) c t)
-    → joins (held_in q).tag c.handles ≡ true
-    → may_grow (want_with (held_in q) (wanted_by n 0 q.reading)) c t.content ≡ true
-asks_at next.BehindProperties q c t e s j = joins_all (place_of q.reading.place) _ c t t.content s ∙ j
-asks_at _ q c t e s j = absurd cc e
-
--- a tag that is joined may take memory
-pub grows_asked : (w : Want) (c : Config) (q : Pending) (d : Config) (t : yaml_token_t) (h : Held) → wanted q ≡ w → d ≡ c
-    → next_of q.reading.next ≡ next.BehindProperties → Led (parser.step w c t) h t did.AsksContent q d
-    → joins (held_in q).tag d.handles ≡ true → may_grow w c t.content ≡ true
-grows_asked w c q d t h i e n l j =
-    let s : IsSettled (parser.step w c t) = subst IsSettled (sym l.2.0) (settled h d t t.content _ (quiet_content
-    (properties l.1 q.reading).tag (place_of q.reading.place) (properties l.1 q.reading) (config_of d)
-    (token_of d.handles t) (token_type t.content))) in
-    subst (λ y. may_grow w y t.content ≡ true) e (subst (λ v. may_grow v d t.content ≡ true) i
-    (asks_at (next_of q.reading.next) q d t n (subst (λ v. IsSettled (parser.step v d t)) (sym i)
-    (subst (λ y. IsSettled (parser.step w y t)) (sym e) s)) j))
+pub pushes_full : (x : Answer) (p o : Bool) → (x ≡ did.FullStates → p ≡ true) → (x ≡ did.FullMarks → o ≡ true) → IsFull x
+    → (p ≡ true) ⊎ (o ≡ true)
+pushes_full did.FullStates p o s m f = inl (s refl)
+pushes_full did.FullMarks p o s m f = inr (m refl)
+pushes_full _ p o s m f = absurd f

@@ -26,7 +26,7 @@ pub ruleset cleared = (states_none, marks_none)
 
 -- what a step that was undone leaves is read as before
 pub same_reading : (a : Answer) (r r' : Reading) → Stays a r r' → SameReading r r'
-same_reading did.AsksContent r r' e = (ap (λ (x : Reading). x.next) e, λ tag. ap (λ x. wanted tag x) e)
+same_reading did.AsksContent r r' e = (ap (λ (x : Reading). x.next) e, ap wanted e)
 same_reading _ r r' e = e
 
 pub stays : (a : Answer) (r r' : Reading) → a ≡ did.AsksContent → Stays a r r' → r' ≡ r

@@ -1,7 +1,7 @@
 -- What the machine makes of directives and handles is what the grammar says of them.
 use Rattle.std.specs.Prelude.{◌||◌, not, bytes_eq}
 use Rattle.std.proofs.Common.{◌≡◌, ℕ, ◌++◌, List, [], ◌∷◌, Option, Some, None, refl, sym, ap, ◌∙◌, Bool, true, false}
-use Rattle.std.proofs.Common.{cond, codes}
+use Rattle.std.proofs.Common.{cond, codes, is_some}
 use Rattle.std.proofs.Common.{append_assoc}
 use Rattle.std.specs.Cmp.Lexicographic.{nat_list_eq_equiv, nat_list_cmp_total}
 use Rattle.std.specs.FinMap.{get, insert, get-from_entries}
@@ -16,11 +16,12 @@ use Rattle.libyaml_grammar.specs.sentences.Events.{tag_from, version_of}
 use Rattle.libyaml_grammar.specs.sentences.Order.{declares, is_known, is_accepted, no_version}
 use Rattle.libyaml_grammar.proofs.lent.Reading.{keeps_order}
 use Rattle.libyaml_events.specs.machine.Config.{Config, Handles}
-use Rattle.libyaml_events.specs.machine.Machine.{explicit_document, or_default, resolve, with_prefix}
-use Rattle.libyaml_events.proofs.machine.Link.{End, after, directive_ends, handles_of, waits}
+use Rattle.libyaml_events.specs.machine.Machine.{put, machine, or_default, resolve, seen, with_prefix}
+use Rattle.libyaml_events.specs.machine.Config.{config_of}
+use Rattle.libyaml_events.proofs.machine.Link.{End, after, behind_directives, directive_ends, directive_texts, handles_of, waits}
 use Rattle.libyaml_grammar.proofs.lent.TextMaps.{inserted}
-use Rattle.libyaml_events.specs.machine.Read.{DirectivesRead}
-use Rattle.libyaml_events.specs.machine.Want.{BehindDirective}
+use Rattle.libyaml_automaton.specs.Automaton.{BehindDirective}
+use Rattle.libyaml_automaton.specs.Automaton as automaton
 use Rattle.libyaml_types.specs.declared.directive.yaml_tag_directive_t.{yaml_tag_directive_t}
 use Rattle.libyaml_types.specs.declared.directive.yaml_version_directive_t.{yaml_version_directive_t}
 
@@ -126,9 +127,6 @@ resolve_not ds t e = go t.handle e
     go (x ∷ h) e = ap (λ (o : Option (List ℕ)). with_prefix o t.suffix) (not_found ds (x ∷ h) e)
 
 -- directives
-abbrev pub read_so_far : Mark → Directives → DirectivesRead
-read_so_far s ds = record { start_mark = s; version = version_of ds; tag_directives = tag_directives_of ds }
-
 version_found : (ds : Directives) → no_version ds ≡ true → version_of ds ≡ None
 version_found no_directives e = refl
 version_found (directive ds (version v m)) e = absurd cc
@@ -141,20 +139,20 @@ version_there (directive ds (tag_directive d m)) e = version_there ds e
 
 pub version_after : (s : Mark) (ds : Directives) (c : Config) (v : VersionAsked) (m : Marks)
     (f : Config → Token → List Event × End) (r : List Event)
-    → after (explicit_document (read_so_far s ds) c (tok (VersionDirective v) m) (VersionDirective v)) f r
+    → after (machine (behind_directives s ds) c (tok (VersionDirective v) m) (VersionDirective v)) f r
     ≡ (
       r,
       directive_ends (keeps_order ds no_directives (VersionDirective v)) ds (VersionDirective v) m
-          (waits (BehindDirective (read_so_far s (directive ds (version v m)))) c),
+          (waits (behind_directives s (directive ds (version v m))) c),
     )
 version_after s ds c v m f r = go (no_version ds) refl (is_accepted v.major v.minor) refl
   where
     go : (n : Bool) → no_version ds ≡ n → (u : Bool) → is_accepted v.major v.minor ≡ u
-        → after (explicit_document (read_so_far s ds) c (tok (VersionDirective v) m) (VersionDirective v)) f r
+        → after (machine (behind_directives s ds) c (tok (VersionDirective v) m) (VersionDirective v)) f r
         ≡ (
           r,
           directive_ends (keeps_order ds no_directives (VersionDirective v)) ds (VersionDirective v) m
-              (waits (BehindDirective (read_so_far s (directive ds (version v m)))) c),
+              (waits (behind_directives s (directive ds (version v m))) c),
         )
     go true e true g = rw (version_found ds e, e, g) refl
     go true e false g = rw (version_found ds e, e, g) (rw (e, directive_fault) refl)
@@ -171,31 +169,37 @@ directives_then (directive ds (tag_directive d m)) r = directives_then ds (decla
 pub tag_after : (s : Mark) (ds : Directives) (c : Config) (d : HandleDeclared) (m : Marks)
     (f : Config → Token → List Event × End) (r : List Event)
     → c.handles ≡ handles_of ds
-    → after (explicit_document (read_so_far s ds) c (tok (TagDirective d) m) (TagDirective d)) f r
+    → after (machine (behind_directives s ds) c (tok (TagDirective d) m) (TagDirective d)) f r
     ≡ (
       r,
       directive_ends (keeps_order ds no_directives (TagDirective d)) ds (TagDirective d) m
-          (waits (BehindDirective (read_so_far s (directive ds (tag_directive d m))))
+          (waits (behind_directives s (directive ds (tag_directive d m)))
           (record c { handles = insert c.handles d.handle d.prefix })),
     )
 tag_after s ds c d m f r h = go (declares ds d.handle) refl
   where
-    after_it : Option (List ℕ) → List Event × End
-    after_it o = after (mach.tag_directive o (read_so_far s ds) c m.start (declaration d)) f r
+    after_it : Bool → List Event × End
+    after_it u = after (put (directive_texts ds) None None c (tok (TagDirective d) m) (TagDirective d)
+        (automaton.tag_directive u s (is_some (version_of ds)) (config_of c) (seen (tok (TagDirective d) m) (TagDirective d)))) f r
 
     goes_on : End
-    goes_on = waits (BehindDirective (read_so_far s (directive ds (tag_directive d m))))
+    goes_on = waits (behind_directives s (directive ds (tag_directive d m)))
         (record c { handles = insert c.handles d.handle d.prefix })
 
-    new : waits (BehindDirective
-        (record (read_so_far s ds) { tag_directives = tag_directives_of ds ++ declaration d ∷ [] }))
+    new : waits (record {
+      next = BehindDirective s (is_some (version_of ds));
+      texts = record (directive_texts ds) { tag_directives = tag_directives_of ds ++ declaration d ∷ [] };
+    })
         (record c { handles = insert c.handles d.handle d.prefix }) ≡ goes_on
     new = ap (λ (x : List yaml_tag_directive_t). waits
-        (BehindDirective (record { start_mark = s; version = version_of ds; tag_directives = x }))
+        (record {
+          next = BehindDirective s (is_some (version_of ds));
+          texts = record (directive_texts ds) { tag_directives = x };
+        })
         (record c { handles = insert c.handles d.handle d.prefix })) (sym (directives_then ds (declaration d ∷ [])))
 
     go : (u : Bool) → declares ds d.handle ≡ u
-        → after_it (get c.handles d.handle)
+        → after_it (is_some (get c.handles d.handle))
         ≡ (r, directive_ends (not (declares ds d.handle)) ds (TagDirective d) m goes_on)
     go true e = rw (ap (λ (x : Handles). get x d.handle) h ∙ (already_declared ds d.handle e).1, e) refl
     go false e = rw (ap (λ (x : Handles). get x d.handle) h ∙ undeclared ds d.handle e, e) (ap (λ (x : End). (r, x)) new)

@@ -1,8 +1,12 @@
 -- The machine follows the grammar: all that one token makes it do at a position is what the grammar says of it.
 use Rattle.std.proofs.Common.{◌≡◌, ℕ, suc, List, [], ◌∷◌, Option, Some, None, refl, ap, ◌∙◌, Bool, true, false, Ok}
 use Rattle.std.proofs.lemmas.Bool.{and_parts}
-use Rattle.libyaml_events.specs.machine.Machine.{Progressed, parse_node, node_content, no_content, content_behind}
-use Rattle.libyaml_events.specs.machine.Machine.{content_resolved, implicit_document}
+use Rattle.libyaml_events.specs.machine.Machine.{Progressed, content_behind, content_resolved, put, machine}
+use Rattle.libyaml_events.specs.machine.Want.{Given, AtState, no_texts}
+use Rattle.libyaml_events.specs.machine.Machine.{seen, with_texts}
+use Rattle.libyaml_events.specs.machine.Config.{config_of as without_texts}
+use Rattle.libyaml_automaton.specs.Automaton as automaton
+use Rattle.libyaml_types.specs.Types.{token_type}
 use Rattle.libyaml_grammar.specs.cuts.CutTrees.{declared, open_collection}
 use Rattle.libyaml_grammar.specs.sentences.Tokens.{Alias, Anchor, BlockEnd, BlockEntry, BlockMappingStart}
 use Rattle.libyaml_grammar.specs.sentences.Tokens.{BlockSequenceStart, Content, DocumentEnd}
@@ -48,10 +52,8 @@ use Rattle.libyaml_events.specs.machine.Config.{Config, keep, no_handles, popped
 use Rattle.libyaml_events.proofs.machine.Declared.{resolve_is, tag_after, version_after}
 use Rattle.libyaml_events.proofs.machine.Link.{End, after, config, config_of, emit, ends, free_config, handles_of}
 use Rattle.libyaml_events.proofs.machine.Link.{headed_config, kind}
-use Rattle.libyaml_events.proofs.machine.Link.{node_config, read_of, spends, step_ends, tag_read, waits, want_of}
+use Rattle.libyaml_events.proofs.machine.Link.{behind_directives, node_config, properties_of, spends, step_ends, texts_of, waits, want_of}
 use Rattle.libyaml_grammar.proofs.lent.StepsMeet.{IsDue, IsEntry, IsMet}
-use Rattle.libyaml_events.specs.machine.Read.{NodeHead}
-use Rattle.libyaml_events.specs.machine.Want.{AtState, Given}
 use Rattle.libyaml_types.specs.declared.enums.yaml_parser_state_t.TheVariants as st
 
 abbrev pub IsProperty : Content → Type 0
@@ -190,8 +192,12 @@ scalar_follows : (p : Place) (o : Option Properties) (v : ScalarText) (m : Marks
 scalar_follows p o v m r = ap (λ (x : End). (scalar_of (declared p) o v m ∷ r, x)) (flow_waits p (scalar o v m))
 
 -- a node with nothing in hand
+abbrev parsed : Place → Content → Marks → Progressed
+parsed p k m = with_texts no_texts (node_config p) (tok k m) k
+    (automaton.parse_node (kind p) (without_texts (node_config p)) (seen (tok k m) k) (token_type k))
+
 abbrev Node : ℕ → Place → Content → Marks → List Event → Type 0
-Node n p k m r = after (parse_node (kind p) (node_config p) (tok k m) k) (more (suc n) r) r ≡ (
+Node n p k m r = after (parsed p k m) (more (suc n) r) r ≡ (
   given_on_due p None k m r,
   step_ends (on_due p None k m) no_directives k m,
 )
@@ -261,43 +267,45 @@ nothing_follows n (flow_value c e y v) k m r w = assumption (
 )
 
 -- the machine's content after properties
-abbrev head_of : Place → Properties → NodeHead
-head_of p ps = record {
-  anchor = anchor_of (Some ps);
-  tag = tag_of (declared p) (Some ps);
-  start_mark = first_of_properties ps;
-  end_mark
-      = last_of_properties ps;
-}
-
 abbrev with_tag : Place → Properties → Content → Marks → Progressed
-with_tag p ps k m = node_content (kind p) (head_of p ps) (node_config p) (tok k m) k
+with_tag p ps k m = put (texts_of ps) (texts_of ps).anchor (tag_of (declared p) (Some ps)) (node_config p) (tok k m) k
+    (automaton.node_content (kind p) (properties_of ps) (without_texts (node_config p)) (seen (tok k m) k) (token_type k))
+
+-- where none comes
+abbrev with_none : Place → Properties → Content → Marks → Progressed
+with_none p ps k m = put (texts_of ps) (texts_of ps).anchor (tag_of (declared p) (Some ps)) (node_config p) (tok k m) k
+    (automaton.no_content (kind p) (properties_of ps).anchor (properties_of ps).tag (properties_of ps)
+    (without_texts (node_config p)) (seen (tok k m) k))
+
+abbrev at_content : Place → Properties → Content → Marks → Progressed
+at_content p ps k m = content_behind (texts_of ps).tag (kind p) (properties_of ps) (without_texts (node_config p))
+    (texts_of ps) (node_config p) (tok k m) k
+
+abbrev resolved_as : Place → Properties → Content → Marks → Option (List ℕ) → Progressed
+resolved_as p ps k m o = content_resolved o (kind p) (properties_of ps) (without_texts (node_config p)) (texts_of ps)
+    (node_config p) (tok k m) k
 
 abbrev alone_given : Place → Properties → Content → Marks → Progressed
 alone_given p ps k m = Ok (Given (alone_of (declared p) ps), keep (tok k m) (popped (node_config p)))
 
 only_is : (p : Place) (ps : Properties) (k : Content) (m : Marks)
-    → no_content (kind p) (anchor_of (Some ps)) (tag_of (declared p) (Some ps)) (head_of p ps) (node_config p)
-    (tok k m) ≡ alone_given p ps k m
+    → with_none p ps k m ≡ alone_given p ps k m
 only_is p (anchor a x) k m = refl
 only_is p (tag h x) k m = refl
 only_is p (anchor_tag a x h y) k m = refl
 only_is p (tag_anchor h x a y) k m = refl
 
 content_is : (p : Place) (ps : Properties) (k : Content) (m : Marks) → properties_in_order (declared p) ps true ≡ true
-    → content_behind (kind p) (read_of ps) (read_of ps).tag (node_config p) (tok k m) k ≡ with_tag p ps k m
+    → at_content p ps k m ≡ with_tag p ps k m
 content_is p (anchor a x) k m e = refl
 content_is p (tag h x) k m e =
-    ap (λ (o : Option (List ℕ)). content_resolved (kind p) (read_of (tag h x)) (tag_read h x.start) o
-    (node_config p) (tok k m) k)
+    ap (resolved_as p (tag h x) k m)
     (resolve_is (declared p) h (and_parts (is_known (declared p) h.handle) true e).0)
 content_is p (anchor_tag a x h y) k m e
-    = ap (λ (o : Option (List ℕ)). content_resolved (kind p) (read_of (anchor_tag a x h y)) (tag_read h y.start) o
-    (node_config p) (tok k m) k)
+    = ap (resolved_as p (anchor_tag a x h y) k m)
     (resolve_is (declared p) h (and_parts (is_known (declared p) h.handle) true e).0)
 content_is p (tag_anchor h x a y) k m e
-    = ap (λ (o : Option (List ℕ)). content_resolved (kind p) (read_of (tag_anchor h x a y)) (tag_read h x.start) o
-    (node_config p) (tok k m) k)
+    = ap (resolved_as p (tag_anchor h x a y) k m)
     (resolve_is (declared p) h (and_parts (is_known (declared p) h.handle) true e).0)
 
 abbrev Behind : ℕ → Place → Properties → Content → Marks → List Event → Progressed → Step → List Event → Type 0
@@ -311,9 +319,7 @@ only_follow n p ps k m r = ap (emit (alone_of (declared p) ps))
     ∙ whole_follows n p (alone ps) k m r)
 
 none_follow : (n : ℕ) (p : Place) (ps : Properties) (k : Content) (m : Marks) (r : List Event)
-    → Behind n p ps k m r (no_content (kind p) (anchor_of (Some ps)) (tag_of (declared p) (Some ps)) (head_of p ps)
-    (node_config p) (tok k m))
-    (without p (Some ps) k m) (given_without p (Some ps) k m r)
+    → Behind n p ps k m r (with_none p ps k m) (without p (Some ps) k m) (given_without p (Some ps) k m r)
 none_follow n p ps k m r = ap (λ (x : Progressed). after x (more (suc (suc (suc n))) r) r) (only_is p ps k m)
     ∙ only_follow n p ps k m r
 
@@ -355,7 +361,7 @@ Behaves n p ps k m r = spends (suc (suc (suc (suc n)))) (want_of (due p (Some ps
     ≡ (given_on_due p (Some ps) k m r, step_ends (on_due p (Some ps) k m) no_directives k m)
 
 again : (n : ℕ) (p : Place) (ps : Properties) (k : Content) (m : Marks) (r : List Event) (o : Progressed)
-    → o ≡ content_behind (kind p) (read_of ps) (read_of ps).tag (node_config p) (tok k m) k
+    → o ≡ at_content p ps k m
     → properties_in_order (declared p) ps true ≡ true
     → with_tag p ps k m ≡ alone_given p ps k m
     → after o (more (suc (suc (suc n))) r) r
@@ -392,7 +398,8 @@ flow_follows n (open_collection p o mapping s is) k m r
 
 -- at a document's place
 begins_follow : (n : ℕ) (f : Free) (k : Content) (m : Marks) (r : List Event)
-    → after (implicit_document (free_config f no_handles) (tok k m)) (more (suc (suc n)) r) r
+    → after (put no_texts None None (free_config f no_handles) (tok k m) k
+    (automaton.implicit_document (without_texts (free_config f no_handles)) (seen (tok k m) k))) (more (suc (suc n)) r) r
     ≡ (
       document_start_at no_directives true m.start m.start ∷ given_on_due (block (root (implicit_root f))) None k m r,
       step_ends (on_due (block (root (implicit_root f))) None k m) no_directives k m,

@@ -1,5 +1,5 @@
 -- What the parser keeps at each position, once the tokens before it are consumed; and all that one token makes it do.
-use Rattle.std.proofs.Common.{ℕ, zero, suc, List, [], ◌∷◌, Option, Some, None, Ok, Err, Bool, true, false}
+use Rattle.std.proofs.Common.{ℕ, zero, suc, List, [], ◌∷◌, Option, Some, None, Ok, Err, Bool, true, false, is_some}
 use Rattle.std.specs.FinMap.{insert}
 use Rattle.libyaml_grammar.specs.cuts.CutTrees.{declared, open_collection}
 use Rattle.libyaml_types.specs.Fault.{no_fault, Fault}
@@ -14,6 +14,7 @@ use Rattle.libyaml_grammar.specs.sentences.Trees.{no_value, opened, pair, part, 
 use Rattle.libyaml_grammar.specs.sentences.Trees.{tag_directive, value, version, whole}
 use Rattle.libyaml_grammar.specs.sentences.Trees.{with_value}
 use Rattle.libyaml_grammar.specs.sentences.Events.{Event, directive_start, first_directive, tag_directives_of, version_of}
+use Rattle.libyaml_grammar.specs.sentences.Events.{anchor_of, first_of_properties, last_of_properties}
 use Rattle.libyaml_grammar.specs.cuts.CutTrees.{BlockPlace, Open, PartPlace, Place, Root, block, declared_block}
 use Rattle.libyaml_grammar.specs.cuts.CutTrees.{declared_open, declared_part, entry}
 use Rattle.libyaml_grammar.specs.cuts.CutTrees.{explicit_root, flow_entry, flow_key, flow_value, implicit_root}
@@ -25,15 +26,14 @@ use Rattle.libyaml_grammar.proofs.lent.Positions.{in_sequence, unopened}
 use Rattle.libyaml_grammar.proofs.lent.Reading.{Step, bad, goes, keeps_order, over, pending, step}
 use Rattle.libyaml_events.specs.machine.Config.{Config, Handles, no_handles, taken}
 use Rattle.libyaml_events.specs.machine.Machine.{Progressed, machine}
-use Rattle.libyaml_events.specs.machine.Want.{Want, AtState, BehindDirective, BehindProperties, BehindBlockEntry}
-use Rattle.libyaml_events.specs.machine.Want.{BehindIndentlessEntry, BehindKey}
-use Rattle.libyaml_events.specs.machine.Want.{BehindValue, BehindFlowSequenceEntry, BehindFlowSequenceValue}
-use Rattle.libyaml_events.specs.machine.Want.{BehindFlowMappingEntry}
-use Rattle.libyaml_events.specs.machine.Want.{BehindFlowMappingKey, BehindFlowMappingValue, Given, Wants}
+use Rattle.libyaml_events.specs.machine.Want.{Want, Texts, no_texts, AtState, Given, Wants}
+use Rattle.libyaml_automaton.specs.Automaton.{BehindDirective, BehindProperties, BehindBlockEntry}
+use Rattle.libyaml_automaton.specs.Automaton.{BehindIndentlessEntry, BehindKey, BehindValue}
+use Rattle.libyaml_automaton.specs.Automaton.{BehindFlowSequenceValue, BehindFlowMappingKey}
+use Rattle.libyaml_automaton.specs.Automaton.{BehindFlowMappingValue}
+use Rattle.libyaml_automaton.specs.Automaton as automaton
+use Rattle.libyaml_types.specs.Events.{zero_mark}
 use Rattle.libyaml_automaton.specs.declared.node_place.NodePlace.{NodePlace}
-use Rattle.libyaml_events.specs.machine.Read.{PropertiesRead}
-use Rattle.libyaml_events.specs.machine.Read.{TagRead}
-use Rattle.libyaml_events.specs.machine.Read.{DirectivesRead}
 use Rattle.libyaml_automaton.specs.declared.node_place.NodePlace.TheVariants.{Block, BlockOrIndentlessSequence, Flow}
 use Rattle.libyaml_types.specs.declared.enums.yaml_parser_state_t.TheVariants as st
 use Rattle.libyaml_types.specs.declared.enums.yaml_parser_state_t.{yaml_parser_state_t}
@@ -119,10 +119,10 @@ state_block (indentless_entry c o is e) = st.YAML_PARSE_INDENTLESS_SEQUENCE_ENTR
 
 abbrev pub state_place : Place → yaml_parser_state_t
 state_place (block c) = state_block c
-state_place (flow_entry (open_collection p o sequence s is)) = st.YAML_PARSE_FLOW_SEQUENCE_ENTRY_STATE
-state_place (flow_entry (open_collection p o mapping s is)) = st.YAML_PARSE_FLOW_MAPPING_KEY_STATE
+state_place (flow_entry (open_collection p o sequence s is)) = st.YAML_PARSE_FLOW_SEQUENCE_FIRST_ENTRY_STATE
+state_place (flow_entry (open_collection p o mapping s is)) = st.YAML_PARSE_FLOW_MAPPING_FIRST_KEY_STATE
 state_place (flow_key (open_collection p o sequence s is) k) = st.YAML_PARSE_FLOW_SEQUENCE_ENTRY_MAPPING_KEY_STATE
-state_place (flow_key (open_collection p o mapping s is) k) = st.YAML_PARSE_FLOW_MAPPING_KEY_STATE
+state_place (flow_key (open_collection p o mapping s is) k) = st.YAML_PARSE_FLOW_MAPPING_FIRST_KEY_STATE
 state_place (flow_value (open_collection p o sequence s is) k x v) = st.YAML_PARSE_FLOW_SEQUENCE_ENTRY_MAPPING_VALUE_STATE
 state_place (flow_value (open_collection p o mapping s is) k x v) = st.YAML_PARSE_FLOW_MAPPING_VALUE_STATE
 
@@ -142,24 +142,20 @@ unpushed_place (flow_entry c) = around c
 unpushed_place (flow_key c k) = around c
 unpushed_place (flow_value c k x v) = around c
 
-abbrev pub want_part : PartPlace → Want
+abbrev pub want_part : PartPlace → automaton.Want
 want_part (part_place c o m ps key v) = BehindKey v.end
 want_part (part_place c o m ps value v) = BehindValue v.end
 
-abbrev pub want_block : BlockPlace → Want
-want_block (root t) = AtState
+abbrev pub want_block : BlockPlace → automaton.Want
+want_block (root t) = automaton.AtState
 want_block (entry c o m is e) = BehindBlockEntry e.end
 want_block (slot c) = want_part c
 want_block (indentless_entry c o is e) = BehindIndentlessEntry e.end
 
-abbrev pub want_entry : Open → Want
-want_entry (open_collection p o sequence s is) = BehindFlowSequenceEntry
-want_entry (open_collection p o mapping s is) = BehindFlowMappingEntry
-
-abbrev pub want_place : Place → Want
+abbrev pub want_place : Place → automaton.Want
 want_place (block c) = want_block c
-want_place (flow_entry c) = want_entry c
-want_place (flow_key (open_collection p o sequence s is) k) = AtState
+want_place (flow_entry c) = automaton.AtState
+want_place (flow_key (open_collection p o sequence s is) k) = automaton.AtState
 want_place (flow_key (open_collection p o mapping s is) k) = BehindFlowMappingKey
 want_place (flow_value (open_collection p o sequence s is) k x v) = BehindFlowSequenceValue
 want_place (flow_value (open_collection p o mapping s is) k x v) = BehindFlowMappingValue
@@ -177,16 +173,37 @@ kind (flow_entry c) = Flow
 kind (flow_key c k) = Flow
 kind (flow_value c k x v) = Flow
 
-abbrev pub tag_read : TagName → Mark → TagRead
-tag_read h m = record { handle = h.handle; suffix = h.suffix; mark = m }
+abbrev pub has_anchor : Properties → Bool
+has_anchor (tag h m) = false
+has_anchor _ = true
 
-abbrev pub read_of : Properties → PropertiesRead
-read_of (anchor a m) = record { anchor = Some a.value; tag = None; start_mark = m.start; end_mark = m.end }
-read_of (tag h m) = record { anchor = None; tag = Some (tag_read h m.start); start_mark = m.start; end_mark = m.end }
-read_of (anchor_tag a m h n) =
-    record { anchor = Some a.value; tag = Some (tag_read h n.start); start_mark = m.start; end_mark = n.end }
-read_of (tag_anchor h m a n) =
-    record { anchor = Some a.value; tag = Some (tag_read h m.start); start_mark = m.start; end_mark = n.end }
+abbrev pub has_tag : Properties → Bool
+has_tag (anchor a m) = false
+has_tag _ = true
+
+abbrev pub tag_mark_of : Properties → Mark
+tag_mark_of (anchor a m) = zero_mark
+tag_mark_of (tag h m) = m.start
+tag_mark_of (anchor_tag a m h n) = n.start
+tag_mark_of (tag_anchor h m a n) = m.start
+
+abbrev pub properties_of : Properties → automaton.Properties
+properties_of ps = record {
+  anchor = has_anchor ps;
+  tag = has_tag ps;
+  start_mark = first_of_properties ps;
+  end_mark = last_of_properties ps;
+  tag_mark = tag_mark_of ps;
+}
+
+abbrev pub tag_name : Properties → Option TagName
+tag_name (anchor a m) = None
+tag_name (tag h m) = Some h
+tag_name (anchor_tag a m h n) = Some h
+tag_name (tag_anchor h m a n) = Some h
+
+abbrev pub texts_of : Properties → Texts
+texts_of ps = record no_texts { anchor = anchor_of (Some ps); tag = tag_name ps }
 
 abbrev pub config : yaml_parser_state_t → List yaml_parser_state_t → List Mark → Handles → Config
 config s ss ms hs = record {
@@ -245,19 +262,20 @@ member_state (open_collection p o mapping s is) (pair k x (with_value v y)) = st
 abbrev pub done_config : Stream → Config
 done_config (whole b m) = record (headed_config b no_handles) { state = st.YAML_PARSE_END_STATE }
 
-abbrev pub directives_read : Directives → Directive → DirectivesRead
-directives_read ds d = record {
-  start_mark = first_directive ds (directive_start d);
-  version = version_of (directive ds d);
-  tag_directives
-      = tag_directives_of (directive ds d);
-}
+abbrev pub directive_texts : Directives → Texts
+directive_texts ds = record no_texts { version = version_of ds; tag_directives = tag_directives_of ds }
+
+abbrev pub behind_directives : Mark → Directives → Want
+behind_directives start ds
+    = record { next = BehindDirective start (is_some (version_of ds)); texts = directive_texts ds }
+
+abbrev pub wants : automaton.Want → Want
+wants n = record { next = n; texts = no_texts }
 
 abbrev pub want_of : Position → Want
-want_of (headed b ds d) = BehindDirective (directives_read ds d)
-want_of (due p None) = want_place p
-want_of (due p (Some ps)) = BehindProperties (kind p) (read_of ps)
-want_of (flow_due c) = want_entry c
+want_of (headed b ds d) = behind_directives (first_directive ds (directive_start d)) (directive ds d)
+want_of (due p None) = wants (want_place p)
+want_of (due p (Some ps)) = record { next = BehindProperties (kind p) (properties_of ps); texts = texts_of ps }
 want_of _ = AtState
 
 abbrev pub config_of : Position → Config

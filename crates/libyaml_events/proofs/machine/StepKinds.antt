@@ -1,14 +1,10 @@
 -- What a step of the machine does: its outcome, and beside it the outcome over further states and marks below the stacks.
 use Rattle.std.proofs.Common.{◌≡◌, ◌<◌, ◌≤◌, ◌⊎◌, if◌then◌else◌, ◌++◌, ℕ, suc, arith, inl, inr, List, Option, Some}
 use Rattle.std.proofs.Common.{None, Bool, true, false, Err, refl}
-use Rattle.std.specs.FinMap.{get}
-use Rattle.libyaml_types.specs.declared.directive.yaml_tag_directive_t.{yaml_tag_directive_t}
-use Rattle.libyaml_types.specs.declared.directive.yaml_version_directive_t.{yaml_version_directive_t}
 use Rattle.libyaml_types.specs.declared.enums.yaml_parser_state_t.{yaml_parser_state_t}
 use Rattle.libyaml_types.specs.declared.enums.yaml_parser_state_t.TheVariants as st
 use Rattle.libyaml_types.specs.declared.event.unnamed_yaml_event_t_data.{unnamed_yaml_event_t_data}
 use Rattle.libyaml_types.specs.declared.event.unnamed_yaml_event_t_data.TheVariants as ev
-use Rattle.libyaml_types.specs.declared.event.unnamed_yaml_event_t_data_alias.{unnamed_yaml_event_t_data_alias}
 use Rattle.libyaml_types.specs.declared.event.unnamed_yaml_event_t_data_document_end.{}
 use Rattle.libyaml_types.specs.declared.event.unnamed_yaml_event_t_data_document_end.{unnamed_yaml_event_t_data_document_end}
 use Rattle.libyaml_types.specs.declared.event.unnamed_yaml_event_t_data_document_start.{}
@@ -22,43 +18,41 @@ use Rattle.libyaml_types.specs.declared.event.unnamed_yaml_event_t_data_stream_s
 use Rattle.libyaml_types.specs.declared.event.unnamed_yaml_event_t_data_stream_start.{unnamed_yaml_event_t_data_stream_start}
 use Rattle.libyaml_grammar.specs.cuts.FaultTexts.{item_fault, mapping_fault, part_fault, sequence_fault}
 use Rattle.libyaml_types.specs.Fault.{Fault}
-use Rattle.libyaml_grammar.specs.sentences.Order.{is_accepted}
 use Rattle.libyaml_grammar.specs.sentences.Tokens.{Alias, Anchor, AnchorName, BlockEnd, BlockEntry, BlockMappingStart}
 use Rattle.libyaml_grammar.specs.sentences.Tokens.{BlockSequenceStart, Content, DocumentEnd}
 use Rattle.libyaml_grammar.specs.sentences.Tokens.{DocumentStart, FlowEntry, FlowMappingEnd, FlowMappingStart}
 use Rattle.libyaml_grammar.specs.sentences.Tokens.{FlowSequenceEnd, FlowSequenceStart, Key, Mark}
 use Rattle.libyaml_grammar.specs.sentences.Tokens.{Scalar, StreamEnd, StreamStart, Tag, TagDirective, TagName, Token}
 use Rattle.libyaml_grammar.specs.sentences.Tokens.{Value, VersionDirective}
-use Rattle.libyaml_events.specs.machine.Want.{Want, AtState, BehindBlockEntry, BehindDirective, BehindFlowMappingEntry}
-use Rattle.libyaml_events.specs.machine.Want.{BehindFlowMappingKey}
-use Rattle.libyaml_events.specs.machine.Want.{BehindFlowMappingValue, BehindFlowSequenceEntry, BehindFlowSequenceValue}
-use Rattle.libyaml_events.specs.machine.Want.{BehindIndentlessEntry}
-use Rattle.libyaml_events.specs.machine.Want.{BehindKey, BehindProperties, BehindValue}
-use Rattle.libyaml_events.specs.machine.Read.{NodeHead}
-use Rattle.libyaml_events.specs.machine.Read.{PropertiesRead}
-use Rattle.libyaml_events.specs.machine.Read.{TagRead}
 use Rattle.libyaml_automaton.specs.declared.node_place.NodePlace.{NodePlace}
-use Rattle.libyaml_automaton.specs.declared.node_place.NodePlace.TheVariants.{Block, BlockOrIndentlessSequence, Flow}
-use Rattle.libyaml_events.specs.machine.Read.{DirectivesRead}
-use Rattle.libyaml_events.specs.machine.Config.{Config, at, with_handle, keep, popped, pushed, pushed_mark, top_mark}
-use Rattle.libyaml_events.specs.machine.Machine as mach
-use Rattle.libyaml_events.specs.machine.Machine.{Progressed, anchor_behind, at_state, begin_document, behind_properties}
-use Rattle.libyaml_events.specs.machine.Machine.{close_collection, content_behind}
-use Rattle.libyaml_events.specs.machine.Machine.{content_resolved, end_document, explicit_document, first_version}
-use Rattle.libyaml_events.specs.machine.Machine.{further_document_end, give, machine, may_open}
-use Rattle.libyaml_events.specs.machine.Machine.{no_content, node_content, parse_document_start}
-use Rattle.libyaml_events.specs.machine.Machine.{parse_implicit_document_start, parse_node}
-use Rattle.libyaml_events.specs.machine.Machine.{process_empty_scalar, resolve, tag_behind, version_directive, want}
-use Rattle.libyaml_events.specs.machine.Slots.{is_nothing_before}
-use Rattle.libyaml_automaton.specs.declared.slot.Slot.TheVariants as slot
 use Rattle.libyaml_events.specs.parsers.EventsLeft.{rank}
 use Rattle.libyaml_events.specs.parsers.Pops.{raised}
+use Rattle.std.specs.FinMap.{get}
+use Rattle.libyaml_types.specs.declared.token.unnamed_yaml_token_t_data_tag_directive.{unnamed_yaml_token_t_data_tag_directive}
+use Rattle.std.proofs.Common.{is_some, ◌∷◌, Ok, subst}
+use Rattle.libyaml_types.specs.Types.{token_type}
+use Rattle.libyaml_types.specs.declared.event.unnamed_yaml_event_t_data_alias.{unnamed_yaml_event_t_data_alias}
+use Rattle.libyaml_grammar.specs.sentences.Events.{event}
+use Rattle.libyaml_grammar.specs.sentences.Order.{is_accepted}
+use Rattle.libyaml_automaton.specs.declared.node_place.NodePlace.TheVariants.{Block, BlockOrIndentlessSequence, Flow}
+use Rattle.libyaml_automaton.specs.declared.slot.Slot.TheVariants as slot
+use Rattle.libyaml_automaton.specs.Slots.{is_nothing_before}
+use Rattle.libyaml_automaton.specs.Config as automaton_config
+use Rattle.libyaml_automaton.specs.Automaton as automaton
+use Rattle.libyaml_automaton.specs.Automaton.{BehindBlockEntry, BehindDirective, BehindFlowMappingKey, BehindFlowMappingValue}
+use Rattle.libyaml_automaton.specs.Automaton.{BehindFlowSequenceValue, BehindIndentlessEntry, BehindKey, BehindProperties}
+use Rattle.libyaml_automaton.specs.Automaton.{BehindValue}
+use Rattle.libyaml_events.specs.machine.Config.{Config, at, config_of, config_with, keep, no_handles, popped, popped_mark}
+use Rattle.libyaml_events.specs.machine.Config.{pushed, pushed_mark, top_mark, with_handle}
+use Rattle.libyaml_events.specs.machine.Machine.{Progressed, content_behind, content_resolved, empty_scalar, machine, put}
+use Rattle.libyaml_events.specs.machine.Machine.{is_accepted_in, resolve, seen, with_texts}
+use Rattle.libyaml_events.specs.machine.Want.{Want, Given, Texts, Wants}
 
 -- The kinds of places that states stand for: before the stream, between documents, where a node is due that the
--- stack goes on after, after a document's root, at a collection's first entry, in an indentless sequence, in
--- another collection, at the key of a flow sequence's pair or further on in it, and after the stream.
+-- stack goes on after, after a document's root, in an indentless sequence, in another collection, at the key of a flow
+-- sequence's pair or further on in it, and after the stream.
 pub data Kind : Type 0 where
-  stream_start between node_due root_end first_entry indentless inner pair_key pair stream_end : Kind
+  stream_start between node_due root_end indentless inner pair_key pair stream_end : Kind
 
 abbrev pub kind : yaml_parser_state_t → Kind
 kind st.YAML_PARSE_STREAM_START_STATE = stream_start
@@ -69,25 +63,24 @@ kind st.YAML_PARSE_DOCUMENT_END_STATE = root_end
 kind st.YAML_PARSE_BLOCK_NODE_STATE = node_due
 kind st.YAML_PARSE_BLOCK_NODE_OR_INDENTLESS_SEQUENCE_STATE = node_due
 kind st.YAML_PARSE_FLOW_NODE_STATE = node_due
-kind st.YAML_PARSE_BLOCK_SEQUENCE_FIRST_ENTRY_STATE = first_entry
 kind st.YAML_PARSE_INDENTLESS_SEQUENCE_ENTRY_STATE = indentless
-kind st.YAML_PARSE_BLOCK_MAPPING_FIRST_KEY_STATE = first_entry
-kind st.YAML_PARSE_FLOW_SEQUENCE_FIRST_ENTRY_STATE = first_entry
 kind st.YAML_PARSE_FLOW_SEQUENCE_ENTRY_MAPPING_KEY_STATE = pair_key
 kind st.YAML_PARSE_FLOW_SEQUENCE_ENTRY_MAPPING_VALUE_STATE = pair
 kind st.YAML_PARSE_FLOW_SEQUENCE_ENTRY_MAPPING_END_STATE = pair
-kind st.YAML_PARSE_FLOW_MAPPING_FIRST_KEY_STATE = first_entry
 kind st.YAML_PARSE_END_STATE = stream_end
 kind _ = inner
 
 -- that of what the next token is wanted for
+abbrev pub kind_for : automaton.Want → yaml_parser_state_t → Kind
+kind_for automaton.AtState s = kind s
+kind_for (BehindDirective start has_version) s = between
+kind_for (BehindProperties p r) s = node_due
+kind_for (BehindIndentlessEntry m) s = indentless
+kind_for BehindFlowSequenceValue s = pair
+kind_for _ s = inner
+
 abbrev pub kind_of : Want → Config → Kind
-kind_of AtState c = kind c.state
-kind_of (BehindDirective d) c = between
-kind_of (BehindProperties p r) c = node_due
-kind_of (BehindIndentlessEntry m) c = indentless
-kind_of BehindFlowSequenceValue c = pair
-kind_of _ c = inner
+kind_of w c = kind_for w.next c.state
 
 -- where a collection goes on
 pub data Goes : Kind → Kind → Type 0 where
@@ -95,11 +88,6 @@ pub data Goes : Kind → Kind → Type 0 where
   in_inner : Goes inner inner
   from_key : Goes pair_key pair
   in_pair : Goes pair pair
-
--- where one begins
-pub data Begins : Kind → Type 0 where
-  at_first : Begins first_entry
-  at_indentless : Begins indentless
 
 -- the events of nodes
 pub data IsLeaf : unnamed_yaml_event_t_data → Type 0 where
@@ -114,10 +102,33 @@ pub data IsEnd : unnamed_yaml_event_t_data → Type 0 where
   sequence_end : IsEnd ev.SequenceEnd
   mapping_end : IsEnd ev.MappingEnd
 
+-- a token is wanted, or an event is given
+abbrev pub want : Want → Config → Progressed
+want w c = Ok (Wants w, c)
+
+abbrev pub give : unnamed_yaml_event_t_data → Mark → Mark → Config → Progressed
+give content start end c = Ok (Given (event content start end), c)
+
 -- a token that is kept, or spent
 abbrev pub hold : Bool → Token → Config → Config
 hold true u c = keep u c
 hold false u c = c
+
+-- the end of a collection, at its closing token
+abbrev pub close_collection : unnamed_yaml_event_t_data → Token → Config → Progressed
+close_collection content u c = give content u.start_mark u.end_mark (popped (popped_mark c))
+
+-- a document's root comes next, and its end after it; or the document has ended
+abbrev pub begin_document : yaml_parser_state_t → Config → Config
+begin_document state c = record c {
+  state = state;
+  states = st.YAML_PARSE_DOCUMENT_END_STATE ∷ c.states;
+  behind_document_end = false;
+}
+
+abbrev pub end_document : yaml_parser_state_t → (behind_document_end : Bool) → Config → Config
+end_document state behind_document_end c =
+    record c { state = state; handles = no_handles; behind_document_end = behind_document_end }
 
 -- What the rank of an event's state may add to the number of states on the stack: that of the token, if it is kept, and
 -- where the parser goes back to a state from the stack, at most 4 less than that.
@@ -130,9 +141,12 @@ back_rank true = 4
 back_rank false = 0
 
 -- how much a token may do where it is taken
+abbrev pub room_for : automaton.Want → yaml_parser_state_t → Content → ℕ
+room_for automaton.AtState s k = rank s k
+room_for _ s k = 6
+
 abbrev pub room : Want → Config → Content → ℕ
-room AtState c k = rank c.state k
-room _ c k = 6
+room w c k = room_for w.next c.state k
 
 -- a rank is small
 pub rank_small : (s : yaml_parser_state_t) (k : Content) → rank s k ≤ 5
@@ -141,31 +155,71 @@ rank_small st.YAML_PARSE_BLOCK_MAPPING_KEY_STATE Value = omega arith
 rank_small st.YAML_PARSE_BLOCK_MAPPING_VALUE_STATE Value = omega arith
 rank_small _ k = omega arith
 
-abbrev Bare : NodeHead → Type 0
-Bare h = (h.anchor ≡ None) × (h.tag ≡ None)
+-- the same parser, with the automaton's part changed
+abbrev with_automaton : Config → automaton_config.Config → Config
+with_automaton c x = config_with x c.handles c.fault c.lookahead
+
+-- it asks nothing
+abbrev IsAnswered : automaton.Step → Type 0
+IsAnswered (automaton.AsksVersion start x) = ⊥
+IsAnswered (automaton.AsksHandle start has_version x) = ⊥
+IsAnswered (automaton.AsksContent p r x) = ⊥
+IsAnswered _ = Unit {0}
+
+no_content_answered : (p : NodePlace) (a b : Bool) (r : automaton.Properties) (x : automaton_config.Config)
+    (t : automaton.Token) → IsAnswered (automaton.no_content p a b r x t)
+no_content_answered p false false r x t = tt
+no_content_answered p true b r x t = tt
+no_content_answered p false true r x t = tt
+
+allowed_answered : (allowed : Bool) (s : automaton.Step) (p : NodePlace) (r : automaton.Properties)
+    (x : automaton_config.Config) (t : automaton.Token) → IsAnswered s → IsAnswered (automaton.if_allowed allowed s p r x t)
+allowed_answered true s p r x t h = h
+allowed_answered false s p r x t h = no_content_answered p r.anchor r.tag r x t
+
+content_answered : (p : NodePlace) (r : automaton.Properties) (x : automaton_config.Config) (t : automaton.Token)
+    (k : Content) → IsAnswered (automaton.node_content p r x t (token_type k))
+content_answered p r x t (Scalar s) = tt
+content_answered p r x t FlowSequenceStart = tt
+content_answered p r x t FlowMappingStart = tt
+content_answered p r x t BlockSequenceStart = allowed_answered (automaton.is_block_place p) _ p r x t tt
+content_answered p r x t BlockMappingStart = allowed_answered (automaton.is_block_place p) _ p r x t tt
+content_answered p r x t BlockEntry = allowed_answered (automaton.may_be_indentless p) _ p r x t tt
+content_answered p r x t k = no_content_answered p r.anchor r.tag r x t
+
+answered_put : (h : Texts) (c : Config) (u : Token) (k : Content) (s : automaton.Step) → IsAnswered s
+    → put h None None c u k s ≡ with_texts h c u k s
+answered_put h c u k (automaton.AsksVersion start x) i = absurd i
+answered_put h c u k (automaton.AsksHandle start has_version x) i = absurd i
+answered_put h c u k (automaton.AsksContent p r x) i = absurd i
+answered_put h c u k _ i = refl
 
 module _ (ss : List yaml_parser_state_t) (ms : List Mark) (u : Token) where
+  abbrev lower : automaton_config.Config → automaton_config.Config
+  lower x = record x { states = x.states ++ ss; marks = x.marks ++ ms }
+
   -- where a node is due: it fails, wants the token after a property, gives a whole node, or opens a collection
   pub data NodeStep (d : Config) (n : ℕ) (t : Content) : Progressed → Progressed → Type 0 where
     no_node : {f : Fault} → NodeStep d n t (Err f) (Err f)
-    property : {p : NodePlace} {r : PropertiesRead} → 0 < n
-        → NodeStep d n t (want (BehindProperties p r) d) (want (BehindProperties p r) (raised ss ms d))
+    property : (w : Want) → kind_of w d ≡ node_due → 0 < n
+        → NodeStep d n t (want w d) (want w (raised ss ms d))
     whole : {e : unnamed_yaml_event_t_data} {a b : Mark} (kept : Bool) → IsLeaf e → back_rank kept < n
         → NodeStep d n t (give e a b (hold kept u (popped d))) (give e a b (hold kept u (popped (raised ss ms d))))
-    opens : {e : unnamed_yaml_event_t_data} {a b : Mark} (s : yaml_parser_state_t) → IsStart e → Begins (kind s)
-        → rank s t < n
-        → NodeStep d n t (give e a b (keep u (at s d))) (give e a b (keep u (at s (raised ss ms d))))
+    opens : {e : unnamed_yaml_event_t_data} {a b m : Mark} (s : yaml_parser_state_t) → IsStart e → kind s ≡ inner → 0 < n
+        → NodeStep d n t (give e a b (at s (pushed_mark m d))) (give e a b (at s (pushed_mark m (raised ss ms d))))
+    opens_indentless : {e : unnamed_yaml_event_t_data} {a b : Mark} → IsStart e
+        → rank st.YAML_PARSE_INDENTLESS_SEQUENCE_ENTRY_STATE t < n
+        → NodeStep d n t (give e a b (keep u (at st.YAML_PARSE_INDENTLESS_SEQUENCE_ENTRY_STATE d)))
+        (give e a b (keep u (at st.YAML_PARSE_INDENTLESS_SEQUENCE_ENTRY_STATE (raised ss ms d))))
 
   pub data StepKind (c : Config) (n : ℕ) (t : Content) : Kind → Progressed → Progressed → Type 0 where
     fails : {k : Kind} {f : Fault} → StepKind c n t k (Err f) (Err f)
     fails_in : (f : Mark → Fault) → StepKind c n t inner (Err (f (top_mark c.marks))) (Err (f (top_mark (c.marks ++ ms))))
     wants : {k : Kind} (w : Want) → kind_of w c ≡ k → 0 < n → StepKind c n t k (want w c) (want w (raised ss ms c))
-    declares : (d : DirectivesRead) (h p : List ℕ) → 0 < n
-        → StepKind c n t between (want (BehindDirective d) (with_handle h p c))
-        (want (BehindDirective d) (with_handle h p (raised ss ms c)))
-    enters : {m : Mark} (w : Want) (s : yaml_parser_state_t) → kind s ≡ inner
-        → kind_of w (at s (pushed_mark m c)) ≡ inner → 0 < n
-        → StepKind c n t first_entry (want w (at s (pushed_mark m c))) (want w (at s (pushed_mark m (raised ss ms c))))
+    wants_entry : (w : Want) (s : yaml_parser_state_t) → kind s ≡ inner → kind_of w (at s c) ≡ inner → 0 < n
+        → StepKind c n t inner (want w (at s c)) (want w (at s (raised ss ms c)))
+    declares : (w : Want) (h p : List ℕ) → kind_of w c ≡ between → 0 < n
+        → StepKind c n t between (want w (with_handle h p c)) (want w (with_handle h p (raised ss ms c)))
     begins_stream : {a b : Mark} (s : unnamed_yaml_event_t_data_stream_start) → 0 < n
         → StepKind c n t stream_start (give (ev.StreamStart s) a b (at st.YAML_PARSE_IMPLICIT_DOCUMENT_START_STATE c))
         (give (ev.StreamStart s) a b (at st.YAML_PARSE_IMPLICIT_DOCUMENT_START_STATE (raised ss ms c)))
@@ -186,7 +240,7 @@ module _ (ss : List yaml_parser_state_t) (ms : List Mark) (u : Token) where
         → NodeStep (pushed s c) m t o o'
         → StepKind c n t k o o'
     empty : {k : Kind} {m : Mark} (s : yaml_parser_state_t) → Goes k (kind s) → rank s t < n
-        → StepKind c n t k (process_empty_scalar m u (at s c)) (process_empty_scalar m u (at s (raised ss ms c)))
+        → StepKind c n t k (give empty_scalar m m (keep u (at s c))) (give empty_scalar m m (keep u (at s (raised ss ms c))))
     begins_pair : {a b : Mark} (s : unnamed_yaml_event_t_data_mapping_start) → 0 < n
         → StepKind c n t inner (give (ev.MappingStart s) a b (at st.YAML_PARSE_FLOW_SEQUENCE_ENTRY_MAPPING_KEY_STATE c))
         (give (ev.MappingStart s) a b (at st.YAML_PARSE_FLOW_SEQUENCE_ENTRY_MAPPING_KEY_STATE (raised ss ms c)))
@@ -198,214 +252,292 @@ module _ (ss : List yaml_parser_state_t) (ms : List Mark) (u : Token) where
     ends_indentless : {a b : Mark} → 4 < n → StepKind c n t indentless (give ev.SequenceEnd a b (keep u (popped c)))
         (give ev.SequenceEnd a b (keep u (popped (raised ss ms c))))
 
-  -- nodes
-  none : (p : NodePlace) (a t : Option (List ℕ)) (h : NodeHead) (d : Config) (n : ℕ) (k : Content)
-      → ((a ≡ None) × (t ≡ None)) ⊎ (4 < n)
-      → NodeStep d n k (no_content p a t h d u) (no_content p a t h (raised ss ms d) u)
-  none p None None h d n k b = no_node
-  none p None (Some x) h d n k (inl b) = absurd cc
-  none p None (Some x) h d n k (inr b) = whole true (a_scalar _) b
-  none p (Some x) t h d n k (inl b) = absurd cc
-  none p (Some x) t h d n k (inr b) = whole true (a_scalar _) b
+  module _ (h : Texts) (c : Config) where
+    -- nodes
+    module _ (a g : Option (List ℕ)) where
+      none : (p : NodePlace) (b d : Bool) (r : automaton.Properties) (x : automaton_config.Config) (n : ℕ) (k : Content)
+          → ((b ≡ false) × (d ≡ false)) ⊎ (4 < n)
+          → NodeStep (with_automaton c x) n k (put h a g c u k (automaton.no_content p b d r x (seen u k)))
+          (put h a g (raised ss ms c) u k (automaton.no_content p b d r (lower x) (seen u k)))
+      none p false false r x n k l = no_node
+      none p false true r x n k (inl l) = absurd cc
+      none p false true r x n k (inr l) = whole true (a_scalar _) l
+      none p true d r x n k (inl l) = absurd cc
+      none p true d r x n k (inr l) = whole true (a_scalar _) l
 
-  opened : (b : Bool) (e : unnamed_yaml_event_t_data) (s : yaml_parser_state_t) (p : NodePlace) (h : NodeHead)
-      (d : Config) (n : ℕ) (k : Content) → IsStart e
-      → Begins (kind s) → rank s k < n → Bare h ⊎ (4 < n)
-      → NodeStep d n k (may_open b e s p h d u) (may_open b e s p h (raised ss ms d) u)
-  opened true e s p h d n k i b l m = opens s i b l
-  opened false e s p h d n k i b l m = none p h.anchor h.tag h d n k m
+      sequence_opened : (allowed : Bool) (p : NodePlace) (r : automaton.Properties) (x : automaton_config.Config) (n : ℕ)
+          (k : Content) → 0 < n → ((r.anchor ≡ false) × (r.tag ≡ false)) ⊎ (4 < n)
+          → NodeStep (with_automaton c x) n k
+          (put h a g c u k (automaton.if_allowed allowed (automaton.open_collection (automaton.sequence_start r false) st.YAML_PARSE_BLOCK_SEQUENCE_ENTRY_STATE r x (seen u k)) p r x (seen u k)))
+          (put h a g (raised ss ms c) u k (automaton.if_allowed allowed (automaton.open_collection (automaton.sequence_start r false) st.YAML_PARSE_BLOCK_SEQUENCE_ENTRY_STATE r (lower x) (seen u k)) p r (lower x)
+          (seen u k)))
+      sequence_opened true p r x n k l m = opens _ (a_sequence _) refl l
+      sequence_opened false p r x n k l m = none p r.anchor r.tag r x n k m
 
-  content : (p : NodePlace) (h : NodeHead) (d : Config) (n : ℕ) (k : Content) → 1 < n → Bare h ⊎ (4 < n)
-      → NodeStep d n k (node_content p h d u k) (node_content p h (raised ss ms d) u k)
-  content p h d n (Scalar s) l m = whole false (a_scalar _) (omega arith)
-  content p h d n FlowSequenceStart l m = opens _ (a_sequence _) at_first l
-  content p h d n FlowMappingStart l m = opens _ (a_mapping _) at_first l
-  content p h d n BlockSequenceStart l m = opened (mach.is_block_place p) _ _ p h d n _ (a_sequence _) at_first l m
-  content p h d n BlockMappingStart l m = opened (mach.is_block_place p) _ _ p h d n _ (a_mapping _) at_first l m
-  content p h d n BlockEntry l m = opened (mach.may_be_indentless p) _ _ p h d n _ (a_sequence _) at_indentless l m
-  content p h d n k l m = none p h.anchor h.tag h d n k m
+      mapping_opened : (allowed : Bool) (p : NodePlace) (r : automaton.Properties) (x : automaton_config.Config) (n : ℕ)
+          (k : Content) → 0 < n → ((r.anchor ≡ false) × (r.tag ≡ false)) ⊎ (4 < n)
+          → NodeStep (with_automaton c x) n k
+          (put h a g c u k (automaton.if_allowed allowed (automaton.open_collection (automaton.mapping_start r false) st.YAML_PARSE_BLOCK_MAPPING_KEY_STATE r x (seen u k)) p r x (seen u k)))
+          (put h a g (raised ss ms c) u k (automaton.if_allowed allowed (automaton.open_collection (automaton.mapping_start r false) st.YAML_PARSE_BLOCK_MAPPING_KEY_STATE r (lower x) (seen u k)) p r (lower x)
+          (seen u k)))
+      mapping_opened true p r x n k l m = opens _ (a_mapping _) refl l
+      mapping_opened false p r x n k l m = none p r.anchor r.tag r x n k m
 
-  parsed : (p : NodePlace) (d : Config) (n : ℕ) (k : Content) → 1 < n
-      → NodeStep d n k (parse_node p d u k) (parse_node p (raised ss ms d) u k)
-  parsed p d n (Alias a) l = whole false (an_alias _) (omega arith)
-  parsed p d n (Anchor a) l = property (omega arith)
-  parsed p d n (Tag g) l = property (omega arith)
-  parsed p d n k l = content p (mach.head (mach.no_properties u) None) d n k l (inl (refl, refl))
+      indentless_opened : (allowed : Bool) (p : NodePlace) (r : automaton.Properties) (x : automaton_config.Config) (n : ℕ)
+          (k : Content) → rank st.YAML_PARSE_INDENTLESS_SEQUENCE_ENTRY_STATE k < n → ((r.anchor ≡ false) × (r.tag ≡ false)) ⊎ (4 < n)
+          → NodeStep (with_automaton c x) n k
+          (put h a g c u k (automaton.if_allowed allowed (automaton.open_indentless r x (seen u k)) p r x (seen u k)))
+          (put h a g (raised ss ms c) u k (automaton.if_allowed allowed (automaton.open_indentless r (lower x) (seen u k)) p r (lower x)
+          (seen u k)))
+      indentless_opened true p r x n k l m = opens_indentless (a_sequence _) l
+      indentless_opened false p r x n k l m = none p r.anchor r.tag r x n k m
 
-  resolves : (p : NodePlace) (r : PropertiesRead) (g : TagRead) (o : Option (List ℕ)) (c : Config) (n : ℕ)
-      (k : Content) → 4 < n
-      → NodeStep c n k (content_resolved p r g o c u k) (content_resolved p r g o (raised ss ms c) u k)
-  resolves p r g None c n k l = no_node
-  resolves p r g (Some x) c n k l = content p (mach.head r (Some x)) c n k (omega arith) (inr l)
+      content : (p : NodePlace) (r : automaton.Properties) (x : automaton_config.Config) (n : ℕ) (k : Content) → 1 < n
+          → ((r.anchor ≡ false) × (r.tag ≡ false)) ⊎ (4 < n)
+          → NodeStep (with_automaton c x) n k (put h a g c u k (automaton.node_content p r x (seen u k) (token_type k)))
+          (put h a g (raised ss ms c) u k (automaton.node_content p r (lower x) (seen u k) (token_type k)))
+      content p r x n (Scalar s) l m = whole false (a_scalar _) (omega arith)
+      content p r x n FlowSequenceStart l m = opens _ (a_sequence _) refl (omega arith)
+      content p r x n FlowMappingStart l m = opens _ (a_mapping _) refl (omega arith)
+      content p r x n BlockSequenceStart l m = sequence_opened (automaton.is_block_place p) p r x n _ (omega arith) m
+      content p r x n BlockMappingStart l m = mapping_opened (automaton.is_block_place p) p r x n _ (omega arith) m
+      content p r x n BlockEntry l m = indentless_opened (automaton.may_be_indentless p) p r x n _ l m
+      content p r x n k l m = none p r.anchor r.tag r x n k m
 
-  behind : (p : NodePlace) (r : PropertiesRead) (o : Option TagRead) (c : Config) (n : ℕ) (k : Content) → 4 < n
-      → NodeStep c n k (content_behind p r o c u k) (content_behind p r o (raised ss ms c) u k)
-  behind p r None c n k l = content p (mach.head r None) c n k (omega arith) (inr l)
-  behind p r (Some g) c n k l = resolves p r g (resolve c.handles g.handle g.suffix) c n k l
+    bare : (p : NodePlace) (x : automaton_config.Config) (n : ℕ) (k : Content) → 1 < n
+        → NodeStep (with_automaton c x) n k
+        (with_texts h c u k (automaton.node_content p (automaton.no_properties (seen u k)) x (seen u k) (token_type k)))
+        (with_texts h (raised ss ms c) u k
+        (automaton.node_content p (automaton.no_properties (seen u k)) (lower x) (seen u k) (token_type k)))
+    bare p x n k l =
+        let r = automaton.no_properties (seen u k) in
+        subst (λ (o : Progressed). NodeStep (with_automaton c x) n k o (with_texts h (raised ss ms c) u k
+        (automaton.node_content p r (lower x) (seen u k) (token_type k))))
+        (answered_put h c u k _ (content_answered p r x (seen u k) k))
+        (subst (λ (o : Progressed). NodeStep (with_automaton c x) n k
+        (put h None None c u k (automaton.node_content p r x (seen u k) (token_type k))) o)
+        (answered_put h (raised ss ms c) u k _ (content_answered p r (lower x) (seen u k) k))
+        (content None None p r x n k l (inl (refl, refl))))
 
-  anchored : (p : NodePlace) (r : PropertiesRead) (o : Option (List ℕ)) (c : Config) (n : ℕ) (a : AnchorName) → 4 < n
-      → NodeStep c n (Anchor a) (anchor_behind p r o c u a.value) (anchor_behind p r o (raised ss ms c) u a.value)
-  anchored p r None c n a l = property (omega arith)
-  anchored p r (Some x) c n a l = behind p r r.tag c n (Anchor a) l
+    parsed : (p : NodePlace) (x : automaton_config.Config) (n : ℕ) (k : Content) → 1 < n
+        → NodeStep (with_automaton c x) n k (with_texts h c u k (automaton.parse_node p x (seen u k) (token_type k)))
+        (with_texts h (raised ss ms c) u k (automaton.parse_node p (lower x) (seen u k) (token_type k)))
+    parsed p x n (Alias a) l = whole false (an_alias _) (omega arith)
+    parsed p x n (Anchor a) l = property _ refl (omega arith)
+    parsed p x n (Tag g) l = property _ refl (omega arith)
+    parsed p x n k l = bare p x n k l
 
-  with_tag : (p : NodePlace) (r : PropertiesRead) (o : Option TagRead) (c : Config) (n : ℕ) (g : TagName) → 4 < n
-      → NodeStep c n (Tag g) (tag_behind p r o c u g.handle g.suffix)
-      (tag_behind p r o (raised ss ms c) u g.handle g.suffix)
-  with_tag p r None c n g l = property (omega arith)
-  with_tag p r (Some x) c n g l = behind p r (Some x) c n (Tag g) l
+    resolves : (p : NodePlace) (r : automaton.Properties) (x : automaton_config.Config) (o : Option (List ℕ)) (n : ℕ)
+        (k : Content) → 4 < n
+        → NodeStep (with_automaton c x) n k (content_resolved o p r x h c u k)
+        (content_resolved o p r (lower x) h (raised ss ms c) u k)
+    resolves p r x None n k l = no_node
+    resolves p r x (Some g) n k l = content h.anchor (Some g) p r x n k (omega arith) (inr l)
 
-  properties : (p : NodePlace) (r : PropertiesRead) (c : Config) (n : ℕ) (k : Content) → 4 < n
-      → NodeStep c n k (behind_properties p r c u k) (behind_properties p r (raised ss ms c) u k)
-  properties p r c n (Anchor a) l = anchored p r r.anchor c n a l
-  properties p r c n (Tag g) l = with_tag p r r.tag c n g l
-  properties p r c n k l = behind p r r.tag c n k l
+    behind : (p : NodePlace) (r : automaton.Properties) (x : automaton_config.Config)
+        (o : Option TagName) (n : ℕ) (k : Content) → 4 < n
+        → NodeStep (with_automaton c x) n k (content_behind o p r x h c u k)
+        (content_behind o p r (lower x) h (raised ss ms c) u k)
+    behind p r x None n k l = content h.anchor None p r x n k (omega arith) (inr l)
+    behind p r x (Some g) n k l = resolves p r x (resolve c.handles g.handle g.suffix) n k l
 
-  -- documents
-  versioned : (b : Bool) (d : DirectivesRead) (c : Config) (m : Mark) (v : yaml_version_directive_t) (n : ℕ)
-      (k : Content) → 0 < n
-      → StepKind c n k between (first_version b d c m v) (first_version b d (raised ss ms c) m v)
-  versioned true d c m v n k l = wants _ refl l
-  versioned false d c m v n k l = fails
+    anchored : (b : Bool) (p : NodePlace) (r : automaton.Properties) (x : automaton_config.Config) (n : ℕ)
+        (s : AnchorName) → 4 < n
+        → NodeStep (with_automaton c x) n (Anchor s)
+        (with_texts h c u (Anchor s) (automaton.anchor_behind b p r x (seen u (Anchor s))))
+        (with_texts h (raised ss ms c) u (Anchor s) (automaton.anchor_behind b p r (lower x) (seen u (Anchor s))))
+    anchored false p r x n s l = property _ refl (omega arith)
+    anchored true p r x n s l = behind p r x h.tag n (Anchor s) l
 
-  version_read : (o : Option yaml_version_directive_t) (d : DirectivesRead) (c : Config) (m : Mark)
-      (v : yaml_version_directive_t) (n : ℕ) (k : Content) → 0 < n
-      → StepKind c n k between (version_directive o d c m v) (version_directive o d (raised ss ms c) m v)
-  version_read (Some x) d c m v n k l = fails
-  version_read None d c m v n k l = versioned (is_accepted v.major v.minor) d c m v n k l
+    with_tag : (b : Bool) (p : NodePlace) (r : automaton.Properties) (x : automaton_config.Config) (n : ℕ)
+        (s : TagName) → 4 < n
+        → NodeStep (with_automaton c x) n (Tag s)
+        (with_texts h c u (Tag s) (automaton.tag_behind b p r x (seen u (Tag s))))
+        (with_texts h (raised ss ms c) u (Tag s) (automaton.tag_behind b p r (lower x) (seen u (Tag s))))
+    with_tag false p r x n s l = property _ refl (omega arith)
+    with_tag true p r x n s l = behind p r x h.tag n (Tag s) l
 
-  tag_read : (o : Option (List ℕ)) (d : DirectivesRead) (c : Config) (m : Mark) (g : yaml_tag_directive_t) (n : ℕ)
-      (k : Content) → 0 < n
-      → StepKind c n k between (mach.tag_directive o d c m g) (mach.tag_directive o d (raised ss ms c) m g)
-  tag_read (Some x) d c m g n k l = fails
-  tag_read None d c m g n k l = declares _ g.handle g.prefix l
+    properties : (p : NodePlace) (r : automaton.Properties) (x : automaton_config.Config) (n : ℕ) (k : Content) → 4 < n
+        → NodeStep (with_automaton c x) n k
+        (with_texts h c u k (automaton.behind_properties p r x (seen u k) (token_type k)))
+        (with_texts h (raised ss ms c) u k (automaton.behind_properties p r (lower x) (seen u k) (token_type k)))
+    properties p r x n (Anchor a) l = anchored r.anchor p r x n a l
+    properties p r x n (Tag g) l = with_tag r.tag p r x n g l
+    properties p r x n k l = behind p r x h.tag n k l
 
-  explicit : (d : DirectivesRead) (c : Config) (n : ℕ) (k : Content) → 1 < n
-      → StepKind c n k between (explicit_document d c u k) (explicit_document d (raised ss ms c) u k)
-  explicit d c n (VersionDirective v) l = version_read d.version d c u.start_mark
-      (record { major = v.major; minor = v.minor }) n _ (omega arith)
-  explicit d c n (TagDirective g) l = tag_read (get c.handles g.handle) d c u.start_mark
-      (record { handle = g.handle; prefix = g.prefix }) n _ (omega arith)
-  explicit d c n DocumentStart l = begins_document _ st.YAML_PARSE_DOCUMENT_CONTENT_STATE false refl l
-  explicit d c n k l = fails
+    -- documents
+    versioned : (b : Bool) (start : Mark) (n : ℕ) (k : Content) → 0 < n
+        → StepKind c n k between (put h None None c u k (automaton.first_version b start (config_of c) (seen u k)))
+        (put h None None (raised ss ms c) u k (automaton.first_version b start (config_of (raised ss ms c)) (seen u k)))
+    versioned true start n (VersionDirective v) l = wants _ refl l
+    versioned true start n (TagDirective v) l = declares _ v.handle v.prefix refl l
+    versioned true start n k l = wants _ refl l
+    versioned false start n k l = fails
 
-  implicit : (c : Config) (n : ℕ) (k : Content) → 3 < n
-      → StepKind c n k between (mach.implicit_document c u) (mach.implicit_document (raised ss ms c) u)
-  implicit c n k l = begins_document _ st.YAML_PARSE_BLOCK_NODE_STATE true refl l
+    version_read : (b : Bool) (start : Mark) (n : ℕ) (k : Content) → 0 < n
+        → StepKind c n k between (with_texts h c u k (automaton.version_directive b start (config_of c) (seen u k)))
+        (with_texts h (raised ss ms c) u k (automaton.version_directive b start (config_of (raised ss ms c)) (seen u k)))
+    version_read true start n k l = fails
+    version_read false start n k l = versioned (is_accepted_in k) start n k l
 
-  further : (b : Bool) (c : Config) (n : ℕ) (k : Content) → kind c.state ≡ between → 3 < n
-      → StepKind c n k between (further_document_end b c u) (further_document_end b (raised ss ms c) u)
-  further true c n k e l = wants AtState e (omega arith)
-  further false c n k e l = implicit c n k l
+    tag_read : (b : Bool) (start : Mark) (has_version : Bool) (n : ℕ) (d : unnamed_yaml_token_t_data_tag_directive) → 0 < n
+        → StepKind c n (TagDirective d) between
+        (put h None None c u (TagDirective d)
+        (automaton.tag_directive b start has_version (config_of c) (seen u (TagDirective d))))
+        (put h None None (raised ss ms c) u (TagDirective d)
+        (automaton.tag_directive b start has_version (config_of (raised ss ms c)) (seen u (TagDirective d))))
+    tag_read true start has_version n d l = fails
+    tag_read false start has_version n d l = declares _ d.handle d.prefix refl l
 
-  implicit_start : (c : Config) (n : ℕ) (k : Content) → kind c.state ≡ between → 3 < n
-      → StepKind c n k between (parse_implicit_document_start c u k) (parse_implicit_document_start (raised ss ms c) u k)
-  implicit_start c n StreamEnd e l = ends_stream (omega arith)
-  implicit_start c n (VersionDirective v) e l = explicit (mach.no_directives u.start_mark) c n (VersionDirective v)
-      (omega arith)
-  implicit_start c n (TagDirective g) e l = explicit (mach.no_directives u.start_mark) c n (TagDirective g) (omega arith)
-  implicit_start c n DocumentStart e l = explicit (mach.no_directives u.start_mark) c n DocumentStart (omega arith)
-  implicit_start c n DocumentEnd e l = further c.behind_document_end c n _ e l
-  implicit_start c n k e l = implicit c n k l
+    explicit : (start : Mark) (has_version : Bool) (n : ℕ) (k : Content) → 1 < n
+        → StepKind c n k between
+        (with_texts h c u k (automaton.explicit_document start has_version (config_of c) (seen u k) (token_type k)))
+        (with_texts h (raised ss ms c) u k
+        (automaton.explicit_document start has_version (config_of (raised ss ms c)) (seen u k) (token_type k)))
+    explicit start b n (VersionDirective v) l = version_read b start n (VersionDirective v) (omega arith)
+    explicit start b n (TagDirective g) l = tag_read (is_some (get c.handles g.handle)) start b n g (omega arith)
+    explicit start b n DocumentStart l = begins_document _ st.YAML_PARSE_DOCUMENT_CONTENT_STATE false refl l
+    explicit start b n k l = fails
 
-  explicit_start : (c : Config) (n : ℕ) (k : Content) → 1 < n
-      → StepKind c n k between (parse_document_start c u k) (parse_document_start (raised ss ms c) u k)
-  explicit_start c n StreamEnd l = ends_stream (omega arith)
-  explicit_start c n k l = explicit (mach.no_directives u.start_mark) c n k l
+    implicit : (n : ℕ) (k : Content) → 3 < n
+        → StepKind c n k between (with_texts h c u k (automaton.implicit_document (config_of c) (seen u k)))
+        (with_texts h (raised ss ms c) u k (automaton.implicit_document (config_of (raised ss ms c)) (seen u k)))
+    implicit n k l = begins_document _ st.YAML_PARSE_BLOCK_NODE_STATE true refl l
 
-  -- where a node may be nothing: in a collection, and as a document's content
-  slotted : (nothing : Bool) (s : yaml_parser_state_t) (p : NodePlace) (m : Mark) (c : Config) (n : ℕ)
-      (k : Content) {i : Kind} → Goes i (kind s) → rank s k ≤ n
-      → 1 < n → StepKind c (suc n) k i
-      (if nothing then process_empty_scalar m u (at s c) else parse_node p (pushed s c) u k)
-      (if nothing then process_empty_scalar m u (at s (raised ss ms c)) else parse_node p (pushed s (raised ss ms c)) u k)
-  slotted true s p m c n k g l h = empty s g (omega arith)
-  slotted false s p m c n k g l h = entry s n refl g (parsed p _ n k h)
+    further : (b : Bool) (n : ℕ) (k : Content) → kind c.state ≡ between → 3 < n
+        → StepKind c n k between (with_texts h c u k (automaton.further_document_end b (config_of c) (seen u k)))
+        (with_texts h (raised ss ms c) u k
+        (automaton.further_document_end b (config_of (raised ss ms c)) (seen u k)))
+    further true n k e l = wants _ e (omega arith)
+    further false n k e l = implicit n k l
 
-  rooted : (nothing : Bool) (c : Config) (k : Content)
-      → StepKind c 5 k node_due (if nothing then process_empty_scalar u.start_mark u (popped c) else parse_node Block
-      c u k)
-      (if nothing then process_empty_scalar u.start_mark u (popped (raised ss ms c)) else parse_node Block
-      (raised ss ms c) u k)
-  rooted true c k = node (whole true (a_scalar _) (omega arith))
-  rooted false c k = node (parsed Block c _ k (omega arith))
+    implicit_start : (n : ℕ) (k : Content) → kind c.state ≡ between → 3 < n
+        → StepKind c n k between
+        (with_texts h c u k (automaton.parse_implicit_document_start (config_of c) (seen u k) (token_type k)))
+        (with_texts h (raised ss ms c) u k
+        (automaton.parse_implicit_document_start (config_of (raised ss ms c)) (seen u k) (token_type k)))
+    implicit_start n StreamEnd e l = ends_stream (omega arith)
+    implicit_start n (VersionDirective v) e l = explicit u.start_mark false n (VersionDirective v) (omega arith)
+    implicit_start n (TagDirective g) e l = explicit u.start_mark false n (TagDirective g) (omega arith)
+    implicit_start n DocumentStart e l = explicit u.start_mark false n DocumentStart (omega arith)
+    implicit_start n DocumentEnd e l = further c.behind_document_end n _ e l
+    implicit_start n k e l = implicit n k l
 
-  -- after an event the state says what comes
-  at_a_state : (s : yaml_parser_state_t) (c : Config) (k : Content) → kind c.state ≡ kind s
-      → StepKind c (rank s k) k (kind s) (at_state s c u k) (at_state s (raised ss ms c) u k)
-  at_a_state st.YAML_PARSE_STREAM_START_STATE c (StreamStart x) e = begins_stream _ (omega arith)
-  at_a_state st.YAML_PARSE_STREAM_START_STATE c k e = fails
-  at_a_state st.YAML_PARSE_IMPLICIT_DOCUMENT_START_STATE c k e = implicit_start c _ k e (omega arith)
-  at_a_state st.YAML_PARSE_DOCUMENT_START_STATE c k e = explicit_start c _ k (omega arith)
-  at_a_state st.YAML_PARSE_DOCUMENT_CONTENT_STATE c k e = rooted (is_nothing_before slot.Document k) c k
-  at_a_state st.YAML_PARSE_DOCUMENT_END_STATE c DocumentEnd e = ends_document _ _ _ false refl (omega arith)
-  at_a_state st.YAML_PARSE_DOCUMENT_END_STATE c k e = ends_document _ _ _ true refl (omega arith)
-  at_a_state st.YAML_PARSE_BLOCK_NODE_STATE c k e = node (parsed Block c _ k (omega arith))
-  at_a_state st.YAML_PARSE_BLOCK_NODE_OR_INDENTLESS_SEQUENCE_STATE c k e =
-      node (parsed BlockOrIndentlessSequence c _ k (omega arith))
-  at_a_state st.YAML_PARSE_FLOW_NODE_STATE c k e = node (parsed Flow c _ k (omega arith))
-  at_a_state st.YAML_PARSE_BLOCK_SEQUENCE_FIRST_ENTRY_STATE c k e = enters AtState _ refl refl (omega arith)
-  at_a_state st.YAML_PARSE_BLOCK_SEQUENCE_ENTRY_STATE c BlockEntry e = wants _ refl (omega arith)
-  at_a_state st.YAML_PARSE_BLOCK_SEQUENCE_ENTRY_STATE c BlockEnd e = closes sequence_end (omega arith)
-  at_a_state st.YAML_PARSE_BLOCK_SEQUENCE_ENTRY_STATE c k e = fails_in (λ (m : Mark). item_fault m u.start_mark)
-  at_a_state st.YAML_PARSE_INDENTLESS_SEQUENCE_ENTRY_STATE c BlockEntry e = wants _ refl (omega arith)
-  at_a_state st.YAML_PARSE_INDENTLESS_SEQUENCE_ENTRY_STATE c k e = ends_indentless (omega arith)
-  at_a_state st.YAML_PARSE_BLOCK_MAPPING_FIRST_KEY_STATE c k e = enters AtState _ refl refl (omega arith)
-  at_a_state st.YAML_PARSE_BLOCK_MAPPING_KEY_STATE c Key e = wants _ refl (omega arith)
-  at_a_state st.YAML_PARSE_BLOCK_MAPPING_KEY_STATE c Value e = empty _ in_inner (omega arith)
-  at_a_state st.YAML_PARSE_BLOCK_MAPPING_KEY_STATE c BlockEnd e = closes mapping_end (omega arith)
-  at_a_state st.YAML_PARSE_BLOCK_MAPPING_KEY_STATE c k e = fails_in (λ (m : Mark). part_fault m u.start_mark)
-  at_a_state st.YAML_PARSE_BLOCK_MAPPING_VALUE_STATE c Value e = wants _ refl (omega arith)
-  at_a_state st.YAML_PARSE_BLOCK_MAPPING_VALUE_STATE c k e = empty _ in_inner (omega arith)
-  at_a_state st.YAML_PARSE_FLOW_SEQUENCE_FIRST_ENTRY_STATE c k e = enters BehindFlowSequenceEntry _ refl refl
-      (omega arith)
-  at_a_state st.YAML_PARSE_FLOW_SEQUENCE_ENTRY_STATE c FlowEntry e = wants _ refl (omega arith)
-  at_a_state st.YAML_PARSE_FLOW_SEQUENCE_ENTRY_STATE c FlowSequenceEnd e = closes sequence_end (omega arith)
-  at_a_state st.YAML_PARSE_FLOW_SEQUENCE_ENTRY_STATE c k e = fails_in (λ (m : Mark). sequence_fault m u.start_mark)
-  at_a_state st.YAML_PARSE_FLOW_SEQUENCE_ENTRY_MAPPING_KEY_STATE c k e =
-      slotted (is_nothing_before slot.PairKey k) _ Flow u.start_mark c 3 k from_key (omega arith) (omega arith)
-  at_a_state st.YAML_PARSE_FLOW_SEQUENCE_ENTRY_MAPPING_VALUE_STATE c Value e = wants _ refl (omega arith)
-  at_a_state st.YAML_PARSE_FLOW_SEQUENCE_ENTRY_MAPPING_VALUE_STATE c k e = empty _ in_pair (omega arith)
-  at_a_state st.YAML_PARSE_FLOW_SEQUENCE_ENTRY_MAPPING_END_STATE c k e = ends_pair (omega arith)
-  at_a_state st.YAML_PARSE_FLOW_MAPPING_FIRST_KEY_STATE c k e = enters BehindFlowMappingEntry _ refl refl (omega arith)
-  at_a_state st.YAML_PARSE_FLOW_MAPPING_KEY_STATE c FlowEntry e = wants _ refl (omega arith)
-  at_a_state st.YAML_PARSE_FLOW_MAPPING_KEY_STATE c FlowMappingEnd e = closes mapping_end (omega arith)
-  at_a_state st.YAML_PARSE_FLOW_MAPPING_KEY_STATE c k e = fails_in (λ (m : Mark). mapping_fault m u.start_mark)
-  at_a_state st.YAML_PARSE_FLOW_MAPPING_VALUE_STATE c Value e = wants _ refl (omega arith)
-  at_a_state st.YAML_PARSE_FLOW_MAPPING_VALUE_STATE c k e = empty _ in_inner (omega arith)
-  at_a_state st.YAML_PARSE_FLOW_MAPPING_EMPTY_VALUE_STATE c k e = empty _ in_inner (omega arith)
-  at_a_state st.YAML_PARSE_END_STATE c k e = fails
+    explicit_start : (n : ℕ) (k : Content) → 1 < n
+        → StepKind c n k between
+        (with_texts h c u k (automaton.parse_document_start (config_of c) (seen u k) (token_type k)))
+        (with_texts h (raised ss ms c) u k
+        (automaton.parse_document_start (config_of (raised ss ms c)) (seen u k) (token_type k)))
+    explicit_start n StreamEnd l = ends_stream (omega arith)
+    explicit_start n k l = explicit u.start_mark false n k l
+
+    -- where a node may be nothing: in a collection, and as a document's content
+    slotted : (nothing : Bool) (s : yaml_parser_state_t) (p : NodePlace) (m : Mark) (n : ℕ) (k : Content) {i : Kind}
+        → Goes i (kind s) → rank s k ≤ n → 1 < n
+        → StepKind c (suc n) k i
+        (with_texts h c u k (if nothing then automaton.process_empty_scalar m (automaton_config.at s (config_of c))
+        else automaton.parse_node p (automaton_config.pushed s (config_of c)) (seen u k) (token_type k)))
+        (with_texts h (raised ss ms c) u k (if nothing
+        then automaton.process_empty_scalar m (automaton_config.at s (config_of (raised ss ms c)))
+        else automaton.parse_node p (automaton_config.pushed s (config_of (raised ss ms c))) (seen u k) (token_type k)))
+    slotted true s p m n k g l i = empty s g (omega arith)
+    slotted false s p m n k g l i = entry s n refl g (parsed p (automaton_config.pushed s (config_of c)) n k i)
+
+    rooted : (nothing : Bool) (k : Content)
+        → StepKind c 5 k node_due
+        (with_texts h c u k (if nothing
+        then automaton.process_empty_scalar u.start_mark (automaton_config.popped (config_of c))
+        else automaton.parse_node Block (config_of c) (seen u k) (token_type k)))
+        (with_texts h (raised ss ms c) u k (if nothing
+        then automaton.process_empty_scalar u.start_mark (automaton_config.popped (config_of (raised ss ms c)))
+        else automaton.parse_node Block (config_of (raised ss ms c)) (seen u k) (token_type k)))
+    rooted true k = node (whole true (a_scalar _) (omega arith))
+    rooted false k = node (parsed Block (config_of c) _ k (omega arith))
+
+    -- after an event the state says what comes
+    at_a_state : (s : yaml_parser_state_t) (k : Content) → kind c.state ≡ kind s
+        → StepKind c (rank s k) k (kind s)
+        (with_texts h c u k (automaton.at_state s (config_of c) (seen u k) (token_type k)))
+        (with_texts h (raised ss ms c) u k (automaton.at_state s (config_of (raised ss ms c)) (seen u k) (token_type k)))
+    at_a_state st.YAML_PARSE_STREAM_START_STATE (StreamStart x) e = begins_stream _ (omega arith)
+    at_a_state st.YAML_PARSE_STREAM_START_STATE k e = fails
+    at_a_state st.YAML_PARSE_IMPLICIT_DOCUMENT_START_STATE k e = implicit_start _ k e (omega arith)
+    at_a_state st.YAML_PARSE_DOCUMENT_START_STATE k e = explicit_start _ k (omega arith)
+    at_a_state st.YAML_PARSE_DOCUMENT_CONTENT_STATE k e = rooted (is_nothing_before slot.Document (token_type k)) k
+    at_a_state st.YAML_PARSE_DOCUMENT_END_STATE DocumentEnd e = ends_document _ _ _ false refl (omega arith)
+    at_a_state st.YAML_PARSE_DOCUMENT_END_STATE k e = ends_document _ _ _ true refl (omega arith)
+    at_a_state st.YAML_PARSE_BLOCK_NODE_STATE k e = node (parsed Block (config_of c) _ k (omega arith))
+    at_a_state st.YAML_PARSE_BLOCK_NODE_OR_INDENTLESS_SEQUENCE_STATE k e
+        = node (parsed BlockOrIndentlessSequence (config_of c) _ k (omega arith))
+    at_a_state st.YAML_PARSE_FLOW_NODE_STATE k e = node (parsed Flow (config_of c) _ k (omega arith))
+    at_a_state st.YAML_PARSE_BLOCK_SEQUENCE_ENTRY_STATE BlockEntry e = wants _ refl (omega arith)
+    at_a_state st.YAML_PARSE_BLOCK_SEQUENCE_ENTRY_STATE BlockEnd e = closes sequence_end (omega arith)
+    at_a_state st.YAML_PARSE_BLOCK_SEQUENCE_ENTRY_STATE k e = fails_in (λ (m : Mark). item_fault m u.start_mark)
+    at_a_state st.YAML_PARSE_INDENTLESS_SEQUENCE_ENTRY_STATE BlockEntry e = wants _ refl (omega arith)
+    at_a_state st.YAML_PARSE_INDENTLESS_SEQUENCE_ENTRY_STATE k e = ends_indentless (omega arith)
+    at_a_state st.YAML_PARSE_BLOCK_MAPPING_KEY_STATE Key e = wants _ refl (omega arith)
+    at_a_state st.YAML_PARSE_BLOCK_MAPPING_KEY_STATE Value e = empty _ in_inner (omega arith)
+    at_a_state st.YAML_PARSE_BLOCK_MAPPING_KEY_STATE BlockEnd e = closes mapping_end (omega arith)
+    at_a_state st.YAML_PARSE_BLOCK_MAPPING_KEY_STATE k e = fails_in (λ (m : Mark). part_fault m u.start_mark)
+    at_a_state st.YAML_PARSE_BLOCK_MAPPING_VALUE_STATE Value e = wants _ refl (omega arith)
+    at_a_state st.YAML_PARSE_BLOCK_MAPPING_VALUE_STATE k e = empty _ in_inner (omega arith)
+    at_a_state st.YAML_PARSE_FLOW_SEQUENCE_FIRST_ENTRY_STATE FlowSequenceEnd e = closes sequence_end (omega arith)
+    at_a_state st.YAML_PARSE_FLOW_SEQUENCE_FIRST_ENTRY_STATE Key e = begins_pair _ (omega arith)
+    at_a_state st.YAML_PARSE_FLOW_SEQUENCE_FIRST_ENTRY_STATE k e
+        = entry st.YAML_PARSE_FLOW_SEQUENCE_ENTRY_STATE 2 refl in_inner
+        (parsed Flow (automaton_config.pushed st.YAML_PARSE_FLOW_SEQUENCE_ENTRY_STATE (config_of c)) 2 k (omega arith))
+    at_a_state st.YAML_PARSE_FLOW_SEQUENCE_ENTRY_STATE FlowEntry e
+        = wants_entry _ st.YAML_PARSE_FLOW_SEQUENCE_FIRST_ENTRY_STATE refl refl (omega arith)
+    at_a_state st.YAML_PARSE_FLOW_SEQUENCE_ENTRY_STATE FlowSequenceEnd e = closes sequence_end (omega arith)
+    at_a_state st.YAML_PARSE_FLOW_SEQUENCE_ENTRY_STATE k e = fails_in (λ (m : Mark). sequence_fault m u.start_mark)
+    at_a_state st.YAML_PARSE_FLOW_SEQUENCE_ENTRY_MAPPING_KEY_STATE k e
+        = slotted (is_nothing_before slot.PairKey (token_type k)) _ Flow u.start_mark 3 k from_key (omega arith)
+        (omega arith)
+    at_a_state st.YAML_PARSE_FLOW_SEQUENCE_ENTRY_MAPPING_VALUE_STATE Value e = wants _ refl (omega arith)
+    at_a_state st.YAML_PARSE_FLOW_SEQUENCE_ENTRY_MAPPING_VALUE_STATE k e = empty _ in_pair (omega arith)
+    at_a_state st.YAML_PARSE_FLOW_SEQUENCE_ENTRY_MAPPING_END_STATE k e = ends_pair (omega arith)
+    at_a_state st.YAML_PARSE_FLOW_MAPPING_FIRST_KEY_STATE FlowMappingEnd e = closes mapping_end (omega arith)
+    at_a_state st.YAML_PARSE_FLOW_MAPPING_FIRST_KEY_STATE Key e = wants _ refl (omega arith)
+    at_a_state st.YAML_PARSE_FLOW_MAPPING_FIRST_KEY_STATE k e
+        = entry st.YAML_PARSE_FLOW_MAPPING_EMPTY_VALUE_STATE 2 refl in_inner
+        (parsed Flow (automaton_config.pushed st.YAML_PARSE_FLOW_MAPPING_EMPTY_VALUE_STATE (config_of c)) 2 k (omega arith))
+    at_a_state st.YAML_PARSE_FLOW_MAPPING_KEY_STATE FlowEntry e
+        = wants_entry _ st.YAML_PARSE_FLOW_MAPPING_FIRST_KEY_STATE refl refl (omega arith)
+    at_a_state st.YAML_PARSE_FLOW_MAPPING_KEY_STATE FlowMappingEnd e = closes mapping_end (omega arith)
+    at_a_state st.YAML_PARSE_FLOW_MAPPING_KEY_STATE k e = fails_in (λ (m : Mark). mapping_fault m u.start_mark)
+    at_a_state st.YAML_PARSE_FLOW_MAPPING_VALUE_STATE Value e = wants _ refl (omega arith)
+    at_a_state st.YAML_PARSE_FLOW_MAPPING_VALUE_STATE k e = empty _ in_inner (omega arith)
+    at_a_state st.YAML_PARSE_FLOW_MAPPING_EMPTY_VALUE_STATE k e = empty _ in_inner (omega arith)
+    at_a_state _ k e = fails
+
+    at_want : (w : automaton.Want) (k : Content) → StepKind c (room_for w c.state k) k (kind_for w c.state)
+        (with_texts h c u k (automaton.step w (config_of c) (seen u k) (token_type k)))
+        (with_texts h (raised ss ms c) u k (automaton.step w (config_of (raised ss ms c)) (seen u k) (token_type k)))
+    at_want automaton.AtState k = at_a_state c.state k refl
+    at_want (BehindDirective start has_version) k = explicit start has_version _ k (omega arith)
+    at_want (BehindProperties p r) k = node (properties p r (config_of c) _ k (omega arith))
+    at_want (BehindBlockEntry m) k = slotted (is_nothing_before slot.BlockEntry (token_type k)) _ Block m 5 k in_inner
+        (rank_small st.YAML_PARSE_BLOCK_SEQUENCE_ENTRY_STATE k) (omega arith)
+    at_want (BehindIndentlessEntry m) k
+        = slotted (is_nothing_before slot.IndentlessEntry (token_type k)) _ Block m 5 k in_indentless
+        (rank_small st.YAML_PARSE_INDENTLESS_SEQUENCE_ENTRY_STATE k) (omega arith)
+    at_want (BehindKey m) k
+        = slotted (is_nothing_before slot.BlockKey (token_type k)) _ BlockOrIndentlessSequence m 5 k in_inner
+        (rank_small st.YAML_PARSE_BLOCK_MAPPING_VALUE_STATE k) (omega arith)
+    at_want (BehindValue m) k
+        = slotted (is_nothing_before slot.BlockValue (token_type k)) _ BlockOrIndentlessSequence m 5 k in_inner
+        (rank_small st.YAML_PARSE_BLOCK_MAPPING_KEY_STATE k) (omega arith)
+    at_want BehindFlowSequenceValue k
+        = slotted (is_nothing_before slot.PairValue (token_type k)) _ Flow u.start_mark 5 k in_pair
+        (rank_small st.YAML_PARSE_FLOW_SEQUENCE_ENTRY_MAPPING_END_STATE k) (omega arith)
+    at_want BehindFlowMappingKey k
+        = slotted (is_nothing_before slot.FlowKey (token_type k)) _ Flow u.start_mark 5 k in_inner
+        (rank_small st.YAML_PARSE_FLOW_MAPPING_VALUE_STATE k) (omega arith)
+    at_want BehindFlowMappingValue k
+        = slotted (is_nothing_before slot.FlowValue (token_type k)) _ Flow u.start_mark 5 k in_inner
+        (rank_small st.YAML_PARSE_FLOW_MAPPING_KEY_STATE k) (omega arith)
 
   -- a step of the machine
   pub step_kind : (w : Want) (c : Config) (k : Content) → StepKind c (room w c k) k (kind_of w c) (machine w c u k)
       (machine w (raised ss ms c) u k)
-  step_kind AtState c k = at_a_state c.state c k refl
-  step_kind (BehindDirective d) c k = explicit d c _ k (omega arith)
-  step_kind (BehindProperties p r) c k = node (properties p r c _ k (omega arith))
-  step_kind (BehindBlockEntry m) c k =
-      slotted (is_nothing_before slot.BlockEntry k) _ Block m c 5 k in_inner
-      (rank_small st.YAML_PARSE_BLOCK_SEQUENCE_ENTRY_STATE k) (omega arith)
-  step_kind (BehindIndentlessEntry m) c k =
-      slotted (is_nothing_before slot.IndentlessEntry k) _ Block m c 5 k in_indentless
-      (rank_small st.YAML_PARSE_INDENTLESS_SEQUENCE_ENTRY_STATE k) (omega arith)
-  step_kind (BehindKey m) c k = slotted (is_nothing_before slot.BlockKey k) _ BlockOrIndentlessSequence m c 5 k
-      in_inner (rank_small st.YAML_PARSE_BLOCK_MAPPING_VALUE_STATE k) (omega arith)
-  step_kind (BehindValue m) c k =
-      slotted (is_nothing_before slot.BlockValue k) _ BlockOrIndentlessSequence m c 5 k in_inner
-      (rank_small st.YAML_PARSE_BLOCK_MAPPING_KEY_STATE k) (omega arith)
-  step_kind BehindFlowSequenceEntry c FlowSequenceEnd = closes sequence_end (omega arith)
-  step_kind BehindFlowSequenceEntry c Key = begins_pair _ (omega arith)
-  step_kind BehindFlowSequenceEntry c k = entry st.YAML_PARSE_FLOW_SEQUENCE_ENTRY_STATE 5 refl in_inner
-      (parsed Flow _ 5 k (omega arith))
-  step_kind BehindFlowSequenceValue c k =
-      slotted (is_nothing_before slot.PairValue k) _ Flow u.start_mark c 5 k in_pair
-      (rank_small st.YAML_PARSE_FLOW_SEQUENCE_ENTRY_MAPPING_END_STATE k) (omega arith)
-  step_kind BehindFlowMappingEntry c FlowMappingEnd = closes mapping_end (omega arith)
-  step_kind BehindFlowMappingEntry c Key = wants _ refl (omega arith)
-  step_kind BehindFlowMappingEntry c k = entry st.YAML_PARSE_FLOW_MAPPING_EMPTY_VALUE_STATE 5 refl in_inner
-      (parsed Flow _ 5 k (omega arith))
-  step_kind BehindFlowMappingKey c k =
-      slotted (is_nothing_before slot.FlowKey k) _ Flow u.start_mark c 5 k in_inner
-      (rank_small st.YAML_PARSE_FLOW_MAPPING_VALUE_STATE k) (omega arith)
-  step_kind BehindFlowMappingValue c k =
-      slotted (is_nothing_before slot.FlowValue k) _ Flow u.start_mark c 5 k in_inner
-      (rank_small st.YAML_PARSE_FLOW_MAPPING_KEY_STATE k) (omega arith)
+  step_kind w c k = at_want w.texts c w.next k

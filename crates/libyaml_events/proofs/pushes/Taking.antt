@@ -10,7 +10,6 @@ use Rattle.libyaml_types.specs.Fault.{Fault, memory_fault}
 use Rattle.libyaml_grammar.specs.sentences.Tokens.{Token}
 use Rattle.libyaml_grammar.specs.sentences.Events.{Event}
 use Rattle.libyaml_events.specs.machine.Config.{Config, is_fault, taken, token_if, ended_or_failed}
-use Rattle.libyaml_events.specs.machine.Entering.{Enters}
 use Rattle.libyaml_events.specs.machine.Growth.{may_grow}
 use Rattle.libyaml_events.specs.machine.Machine.{Progressed, step}
 use Rattle.libyaml_events.specs.machine.Steps.{FailsAs, Steps}
@@ -179,16 +178,6 @@ module _ (Full : Type 0) (w0 : Want) (c0 : Config) (t : Token) (before : List Ev
       appended = all_added;
       fed = given_fed (Some v) i;
       few = given_few;
-    }
-
-    -- or the token opens a collection, which is entered
-    pub is_entered : (w' : Want) (new : Config) → Enters mid (Ok (Wants w')) new
-        → Takes Full (standing w0 c0) t before (Ok tt) (standing w' new) more
-    is_entered w' new s = record {
-      added = k.added ++ e ∷ [];
-      appended = all_added;
-      at_most_four = given_few;
-      ends_so = λ l g f. wants AtState (taken mid) s.token (given_fed (Some s.token) s.stayed l g f) s.steps.0;
     }
 
     -- or none is held, or the stream has ended

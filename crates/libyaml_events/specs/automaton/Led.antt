@@ -1,5 +1,5 @@
 -- What a result of the automaton's step says of the parser's: the outcome, with texts.
-use Rattle.std.specs.Prelude.{◌≡◌, ℕ, List, Option, None, Some, is_some, true, Ok}
+use Rattle.std.specs.Prelude.{◌≡◌, ◌⊎◌, ℕ, List, Option, None, Some, true}
 use Rattle.libyaml_types.specs.declared.enums.yaml_error_type_t.{yaml_error_type_t}
 use Rattle.libyaml_types.specs.declared.enums.yaml_error_type_t.TheVariants.{YAML_MEMORY_ERROR, YAML_PARSER_ERROR}
 use Rattle.libyaml_types.specs.declared.event.yaml_event_t.{yaml_event_t}
@@ -7,6 +7,7 @@ use Rattle.libyaml_types.specs.declared.event.unnamed_yaml_event_t_data.{unnamed
 use Rattle.libyaml_types.specs.declared.token.yaml_token_t.{yaml_token_t}
 use Rattle.libyaml_types.specs.declared.token.unnamed_yaml_token_t_data.{unnamed_yaml_token_t_data}
 use Rattle.libyaml_types.specs.declared.token.unnamed_yaml_token_t_data.TheVariants as tok
+use Rattle.libyaml_types.specs.declared.token.unnamed_yaml_token_t_data_tag.{unnamed_yaml_token_t_data_tag}
 use Rattle.libyaml_types.specs.declared.enums.yaml_sequence_style_t.TheVariants.{YAML_BLOCK_SEQUENCE_STYLE}
 use Rattle.libyaml_types.specs.declared.enums.yaml_sequence_style_t.TheVariants.{YAML_FLOW_SEQUENCE_STYLE}
 use Rattle.libyaml_types.specs.declared.enums.yaml_mapping_style_t.TheVariants.{YAML_BLOCK_MAPPING_STYLE}
@@ -19,83 +20,82 @@ use Rattle.libyaml_automaton.specs.declared.answer.Answer.{Answer}
 use Rattle.libyaml_automaton.specs.declared.answer.Answer.TheVariants as did
 use Rattle.libyaml_automaton.specs.declared.reading.Reading.{Reading}
 use Rattle.libyaml_automaton.specs.Numbers.{place_of}
-use Rattle.libyaml_automaton.specs.Want as want
+use Rattle.libyaml_automaton.specs.Wanted as automaton_want
 use Rattle.libyaml_automaton.specs.Wanted.{properties}
-use Rattle.libyaml_automaton.specs.Automaton.{no_properties, node_content}
-use Rattle.libyaml_automaton.specs.Answers.{Outcome, Undone, Does, Enters, outcome, before_entry}
+use Rattle.libyaml_automaton.specs.Automaton as automaton
+use Rattle.libyaml_automaton.specs.Answers.{Outcome, Undone, Does, outcome}
+use Rattle.libyaml_automaton.specs.Fits.{opens_at}
 use Rattle.libyaml_events.specs.declared.step.Step.{Step}
 use Rattle.libyaml_events.specs.declared.step.Step.TheVariants as led
 use Rattle.libyaml_events.specs.declared.pending.Pending.{Pending}
-use Rattle.libyaml_events.specs.machine.Read.{NodeHead, TagRead}
-use Rattle.libyaml_events.specs.machine.Config.{Config, Handles, with_fault}
-use Rattle.libyaml_events.specs.machine.Machine.{Progressed, resolve, sequence_start, mapping_start}
+use Rattle.libyaml_events.specs.machine.Config.{Config, config_of, with_fault}
+use Rattle.libyaml_events.specs.machine.Want.{Texts}
+use Rattle.libyaml_events.specs.machine.Machine.{Progressed, put, resolve, seen, sequence_start, mapping_start, with_texts}
 use Rattle.libyaml_events.specs.machine.Growth.{joins}
-use Rattle.libyaml_events.specs.machine.Answers.{answer}
+use Rattle.libyaml_events.specs.machine.Answers.{answer, directive_texts, property_texts, texts_for}
 use Rattle.libyaml_events.specs.machine.Steps.{Steps}
-use Rattle.libyaml_events.specs.automaton.Texts.{Held, config_of, properties_of, tag_fact, tag_in, token_of, with_texts}
-use Rattle.libyaml_events.specs.automaton.Agree as agree
-use Rattle.libyaml_events.specs.automaton.View.{Ready, IsEntered}
+use Rattle.libyaml_events.specs.automaton.View.{Ready}
 
 -- out is the parser's step at the token t, h the texts that were held, and d where the parser stands now, without lookahead
-abbrev pub SaysIn : Progressed → Held → Config → yaml_token_t → Outcome → Type 0
+abbrev pub SaysIn : Progressed → Texts → Config → yaml_token_t → Outcome → Type 0
 SaysIn out h d t Undone = Unit {0}
-SaysIn out h d t (Does x) = (out ≡ with_texts h d t t.content x) × agree.Agrees d.handles h t t.content x
-SaysIn out h d t (Enters e first v k) = (out ≡ with_texts h d t t.content (Ok (want.Given e, before_entry first k)))
-    × IsEntered first t k
+SaysIn out h d t (Does x) = out ≡ with_texts h d t t.content x
 
--- a text, where it is there, is this one
-abbrev pub Is : {A : Type 0} → Option A → Option A → Type 0
-Is o x = is_some o ≡ true → o ≡ x
+abbrev pub Says : Progressed → Texts → yaml_token_t → Answer → Reading → Config → Type 0
+Says out h t a r d
+    = SaysIn out h d t (outcome a (automaton.no_properties (seen t t.content)) (seen t t.content) r (config_of d))
 
--- the texts of properties that were held are what is kept of them
-abbrev pub IsHeld : Held → Pending → Type 0
-IsHeld h q = Is h.anchor q.properties.anchor × Is h.tag q.properties.tag
+-- the texts of a parser that took a property
+abbrev pub with_anchor : List ℕ → Pending → Pending
+with_anchor anchor q = record q { properties = record q.properties { anchor = Some anchor } }
 
--- and where the content after properties comes, the automaton's properties are these
-abbrev pub Noted : Answer → Held → (tag : ℕ) → Reading → Handles → Type 0
-Noted did.AsksContent h tag r hs = properties_of hs
-    (record { anchor = h.anchor; tag = h.tag; start_mark = r.start_mark; end_mark = r.end_mark }) ≡ properties tag r
-Noted _ h tag r hs = Unit {0}
+abbrev pub with_tag : unnamed_yaml_token_t_data_tag → Pending → Pending
+with_tag tag q = record q { properties = record q.properties { tag = Some tag } }
 
--- the result a of a step, by some fact of the tag that was read
-abbrev pub SaysOf : Progressed → Held → yaml_token_t → Answer → (tag : ℕ) → Reading → Config → Type 0
-SaysOf out h t a tag r d =
-    SaysIn out h d t (outcome a (no_properties (token_of d.handles t)) (token_of d.handles t) tag r (config_of d))
+-- a token is wanted for what has no texts
+abbrev pub IsPlain : automaton.Want → Type 0
+IsPlain (automaton.BehindDirective start has_version) = ⊥
+IsPlain (automaton.BehindProperties place r) = ⊥
+IsPlain _ = Unit {0}
 
-abbrev pub Led : Progressed → Held → yaml_token_t → Answer → Pending → Config → Type 0
-Led out h t a q d = IsHeld h q × (tag : ℕ) × SaysOf out h t a tag q.reading d × Noted a h tag q.reading d.handles
+-- what the texts h that were held have to do with those that are held now
+abbrev pub IsHeld : Answer → Texts → Pending → Type 0
+IsHeld did.Wants h q = IsPlain (automaton_want.wanted q.reading)
+IsHeld did.WantsAnchor h q = (anchor : List ℕ)
+    → texts_for (automaton_want.wanted q.reading) (record q.properties { anchor = Some anchor }) q.directives
+    ≡ record h { anchor = Some anchor }
+IsHeld did.WantsTag h q = (tag : unnamed_yaml_token_t_data_tag)
+    → texts_for (automaton_want.wanted q.reading) (record q.properties { tag = Some tag }) q.directives
+    ≡ record h { tag = Some tag }
+IsHeld did.AsksContent h q = h ≡ property_texts (properties q.reading) q.properties
+IsHeld _ h q = Unit {0}
+
+-- the result a of a step
+abbrev pub Led : Progressed → Texts → yaml_token_t → Answer → Pending → Config → Type 0
+Led out h t a q d = IsHeld a h q × Says out h t a q.reading d
 
 -- so each step of the parser that the result says is done
 abbrev pub Puts : Answer → yaml_token_t → Pending → Config → Step → Pending → yaml_event_t → Config → Type 0
-Puts a t q old s q' e new = (out : Progressed) (h : Held) → Led out h t a q old
+Puts a t q old s q' e new = (out : Progressed) (h : Texts) → Led out h t a q old
     → Steps out old (answer s q' e new) new × (s ≡ led.Wants → Ready q' new)
-
--- some step of the parser is what this result says
-abbrev pub IsLed : yaml_token_t → Answer → Pending → Config → Type 0
-IsLed t a q d = (out : Progressed) × (h : Held) × Led out h t a q d
 
 -- the result is put
 abbrev pub IsPut : Answer → Type 0
 IsPut did.Document = ⊥
-IsPut did.Full = ⊥
+IsPut did.FullStates = ⊥
+IsPut did.FullMarks = ⊥
 IsPut _ = Unit {0}
 
 -- directives: those that were held are those that are kept
-abbrev pub IsDeclared : Held → Pending → Type 0
-IsDeclared h q = (h.version ≡ q.directives.version) × (h.directives ≡ q.directives.tag_directives)
-
-abbrev pub LedDocument : Progressed → Held → yaml_token_t → Answer → Pending → Config → Type 0
-LedDocument out h t a q d = IsDeclared h q × (tag : ℕ) × SaysOf out h t a tag q.reading d
+abbrev pub LedDocument : Progressed → Texts → yaml_token_t → Answer → Pending → Config → Type 0
+LedDocument out h t a q d = (h ≡ directive_texts q.directives) × Says out h t a q.reading d
 
 abbrev pub PutsDocument : Answer → yaml_token_t → Pending → Config → Step → Pending → yaml_event_t → Config → Type 0
-PutsDocument a t q old s q' e new = (out : Progressed) (h : Held) → LedDocument out h t a q old
+PutsDocument a t q old s q' e new = (out : Progressed) (h : Texts) → LedDocument out h t a q old
     → Steps out old (answer s q' e new) new × (s ≡ led.Wants → Ready q' new)
 
-abbrev pub IsLedDocument : yaml_token_t → Answer → Pending → Config → Type 0
-IsLedDocument t a q d = (out : Progressed) × (h : Held) × LedDocument out h t a q d
-
 abbrev pub IsPutDocument : Answer → Type 0
-IsPutDocument did.Full = ⊥
+IsPutDocument did.FullStates = ⊥
 IsPutDocument _ = Unit {0}
 
 -- the start of the collection that this token opens
@@ -105,53 +105,51 @@ start_of a g tok.FlowSequenceStart = sequence_start a g YAML_FLOW_SEQUENCE_STYLE
 start_of a g tok.FlowMappingStart = mapping_start a g YAML_FLOW_MAPPING_STYLE
 start_of a g _ = mapping_start a g YAML_BLOCK_MAPPING_STYLE
 
--- content after properties: out is the parser's step, whose tag's handle is defined
-abbrev pub IsContent : Progressed → Held → yaml_token_t → Reading → (tag : ℕ) → Config → Type 0
-IsContent out h t r tag c = out ≡ with_texts h c t t.content (node_content (place_of r.place) (properties tag r)
-    (config_of c) (token_of c.handles t) (token_type t.content))
+-- content after properties: out is the parser's step, where the node has this anchor and this tag in full
+abbrev pub IsContent : Progressed → Texts → (anchor tag : Option (List ℕ)) → yaml_token_t → Reading → Config → Type 0
+IsContent out h a g t r c = out ≡ put h a g c t t.content (automaton.node_content (place_of r.place) (properties r)
+    (config_of c) (seen t t.content) (token_type t.content))
 
--- what a result of `content_behind` says of it
-abbrev pub SaysContent : Progressed → Held → yaml_token_t → Answer → (old new : Reading) → (tag : ℕ) → Config → Type 0
-SaysContent out h t a r r' tag d =
-    SaysIn out h d t (outcome a (properties tag r) (token_of d.handles t) tag r' (config_of d))
+abbrev pub PutIn : Progressed → Texts → (anchor tag : Option (List ℕ)) → Config → yaml_token_t → Outcome → Type 0
+PutIn out h a g d t Undone = Unit {0}
+PutIn out h a g d t (Does x) = out ≡ put h a g d t t.content x
 
--- what stands before the content, as the automaton knows it
-abbrev pub read_of : Option (List ℕ) → want.TagRead
-read_of None = want.NoTag
-read_of (Some tag) = want.tag_read (tag_fact (Some tag))
+-- what a result of `content_behind` says of it, where the properties are those of the reading r
+abbrev pub SaysContent : Progressed → Texts → (anchor tag : Option (List ℕ)) → yaml_token_t → Answer → (r r' : Reading)
+    → Config → Type 0
+SaysContent out h a g t x r r' d = PutIn out h a g d t (outcome x (properties r) (seen t t.content) r' (config_of d))
 
-abbrev pub IsHead : NodeHead → Held → Reading → (tag : ℕ) → Handles → Type 0
-IsHead h held r tag hs = (held.anchor ≡ h.anchor) × (tag_in hs held.tag ≡ h.tag) × (properties tag r ≡ record {
-  anchor = is_some h.anchor;
-  tag = read_of h.tag;
-  start_mark = h.start_mark;
-  end_mark = h.end_mark;
-  tag_mark = r.tag_mark;
-})
-
-abbrev pub HeadSays : yaml_token_t → Answer → Reading → Config → Type 0
-HeadSays t a r' d = (out : Progressed) × (held : Held) × (r : Reading) × (tag : ℕ) × SaysContent out held t a r r' tag d
-
--- so the content is put
-abbrev pub PutsHead : NodeHead → Answer → yaml_token_t → Reading → Config → Step → Pending → yaml_event_t → Config
-    → Type 0
-PutsHead h a t r' old s q e new = (out : Progressed) (held : Held) (r : Reading) (tag : ℕ)
-    → IsHead h held r tag old.handles → SaysContent out held t a r r' tag old
+-- so the content is put, of a node with this anchor and this tag in full, whose properties have these marks
+abbrev pub PutsContent : (anchor tag : Option (List ℕ)) → (start end : yaml_mark_t) → Answer → yaml_token_t → Reading
+    → Config → Step → Pending → yaml_event_t → Config → Type 0
+PutsContent a g start end x t r' old s q e new = (out : Progressed) (h : Texts) (r : Reading) → r.start_mark ≡ start
+    → r.end_mark ≡ end → SaysContent out h a g t x r r' old
     → Steps out old (answer s q e new) new × (s ≡ led.Wants → ⊥)
 
--- none of those that enter no collection
-abbrev pub IsEntering : Answer → Type 0
-IsEntering did.Scalar = ⊥
-IsEntering did.EmptyHead = ⊥
-IsEntering did.IndentlessSequence = ⊥
-IsEntering did.Unentered = ⊥
-IsEntering did.Failed = ⊥
-IsEntering _ = Unit {0}
+-- a collection whose start is kept
+abbrev pub IsOpening : Answer → Type 0
+IsOpening did.BlockSequence = Unit {0}
+IsOpening did.BlockMapping = Unit {0}
+IsOpening did.FlowSequence = Unit {0}
+IsOpening did.FlowMapping = Unit {0}
+IsOpening _ = ⊥
+
+-- the content after properties may take memory: the tag is joined, or a collection's start is pushed
+abbrev pub GrowsBehind : Pending → Config → yaml_token_t → Type 0
+GrowsBehind q d t = (joins (property_texts (properties q.reading) q.properties).tag d.handles ≡ true)
+    ⊎ (opens_at (place_of q.reading.place) (token_type t.content) ≡ true)
 
 -- the tag in full can't be had: out of memory, or its handle isn't defined
-abbrev pub RefusesTag : Option TagRead → (start : yaml_mark_t) → Config → yaml_error_type_t → Config → Type 0
-RefusesTag g start old YAML_MEMORY_ERROR new = (joins g old.handles ≡ true) × (new ≡ with_fault old memory_fault)
-RefusesTag None start old YAML_PARSER_ERROR new = ⊥
-RefusesTag (Some g) start old YAML_PARSER_ERROR new = (resolve old.handles g.handle g.suffix ≡ None)
-    × (new ≡ with_fault old (tag_fault start g.mark))
-RefusesTag g start old _ new = ⊥
+abbrev pub RefusesTag : Option unnamed_yaml_token_t_data_tag → (start mark : yaml_mark_t) → Config → yaml_error_type_t
+    → Config → Type 0
+RefusesTag g start mark old YAML_MEMORY_ERROR new = (joins g old.handles ≡ true) × (new ≡ with_fault old memory_fault)
+RefusesTag None start mark old YAML_PARSER_ERROR new = ⊥
+RefusesTag (Some g) start mark old YAML_PARSER_ERROR new = (resolve old.handles g.handle g.suffix ≡ None)
+    × (new ≡ with_fault old (tag_fault start mark))
+RefusesTag g start mark old _ new = ⊥
+
+-- the tag in full, where there is a tag
+abbrev pub ReadsTag : Option unnamed_yaml_token_t_data_tag → Config → Option (List ℕ) → Type 0
+ReadsTag None c g = g ≡ None
+ReadsTag (Some tag) c None = ⊥
+ReadsTag (Some tag) c (Some g) = resolve c.handles tag.handle tag.suffix ≡ Some g

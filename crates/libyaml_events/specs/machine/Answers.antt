@@ -1,29 +1,42 @@
 -- What a step returned, and the event and the rest that it left, as the machine's result.
-use Rattle.std.specs.Prelude.{Result, Ok, Err}
+use Rattle.std.specs.Prelude.{Bool, true, false, Option, None, Result, Ok, Err}
 use Rattle.libyaml_types.specs.declared.event.yaml_event_t.{yaml_event_t}
 use Rattle.libyaml_types.specs.declared.enums.yaml_error_type_t.{yaml_error_type_t}
-use Rattle.libyaml_automaton.specs.Numbers.{flag}
-use Rattle.libyaml_automaton.specs.Wanted as automaton
+use Rattle.libyaml_automaton.specs.Automaton.{BehindDirective, BehindProperties}
+use Rattle.libyaml_automaton.specs.Automaton as automaton
+use Rattle.libyaml_automaton.specs.Wanted as automaton_want
 use Rattle.libyaml_events.specs.declared.step.Step.{Step}
 use Rattle.libyaml_events.specs.declared.step.Step.TheVariants as led
 use Rattle.libyaml_events.specs.declared.pending.Pending.{Pending}
 use Rattle.libyaml_events.specs.machine.Config.{Config}
-use Rattle.libyaml_events.specs.machine.Want.{Want, Progress, Given, Wants}
-use Rattle.libyaml_events.specs.automaton.Texts.{Held, want_with, only_if}
+use Rattle.libyaml_events.specs.machine.Read.{PropertyTexts, DirectiveTexts}
+use Rattle.libyaml_events.specs.machine.Want.{Texts, no_texts, Want, Progress, Given, Wants}
 
--- the texts that are held; an anchor or a tag is one of this node where the automaton says so
-abbrev pub held_in : Pending → Held
-held_in p = record {
-  anchor = only_if (flag p.reading.has_anchor) p.properties.anchor;
-  tag = only_if (flag p.reading.has_tag) p.properties.tag;
-  version = p.directives.version;
-  directives = p.directives.tag_directives;
-}
+-- a text that is there
+abbrev pub only_if : {A : Type 0} → Bool → Option A → Option A
+only_if true o = o
+only_if false o = None
 
--- What the next token is wanted for: what the automaton wants it for, with the texts that are held. A tag is one whatever
--- its fact.
+-- of a node's properties; an anchor or a tag is one of this node where the automaton says so
+abbrev pub property_texts : automaton.Properties → PropertyTexts → Texts
+property_texts r p = record no_texts { anchor = only_if r.anchor p.anchor; tag = only_if r.tag p.tag }
+
+-- of a document's directives
+abbrev pub directive_texts : DirectiveTexts → Texts
+directive_texts d = record no_texts { version = d.version; tag_directives = d.tag_directives }
+
+-- the texts that are held
+abbrev pub texts_for : automaton.Want → PropertyTexts → DirectiveTexts → Texts
+texts_for (BehindProperties place r) p d = property_texts r p
+texts_for (BehindDirective start has_version) p d = directive_texts d
+texts_for _ p d = no_texts
+
+-- what the next token is wanted for
 abbrev pub wanted : Pending → Want
-wanted p = want_with (held_in p) (automaton.wanted 0 p.reading)
+wanted p = record {
+  next = automaton_want.wanted p.reading;
+  texts = texts_for (automaton_want.wanted p.reading) p.properties p.directives;
+}
 
 -- a step that failed has the error of the fault that is kept
 abbrev pub answer : Step → Pending → yaml_event_t → Config → Result Progress yaml_error_type_t

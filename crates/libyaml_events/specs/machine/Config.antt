@@ -15,6 +15,7 @@ use Rattle.libyaml_types.specs.declared.enums.yaml_parser_state_t.{yaml_parser_s
 use Rattle.libyaml_types.specs.declared.enums.yaml_parser_state_t.TheVariants as st
 use Rattle.libyaml_types.specs.declared.token.unnamed_yaml_token_t_data.{unnamed_yaml_token_t_data}
 use Rattle.libyaml_types.specs.declared.token.unnamed_yaml_token_t_data.TheVariants as content_of
+use Rattle.libyaml_automaton.specs.Config as automaton
 use Rattle.libyaml_events.specs.declared.lookahead.Lookahead.{Lookahead}
 use Rattle.libyaml_events.specs.declared.lookahead.Lookahead.TheVariants as ahead
 use Rattle.libyaml_types.specs.Fault.{Fault, no_fault}
@@ -91,11 +92,9 @@ token_if false t = None
 abbrev pub token_at : unnamed_yaml_token_t_data → yaml_token_t → yaml_token_t
 token_at content t = record t { content = content }
 
--- The token of lookahead, where there is one that no collection was entered at. Of a token without fields the parser keeps
--- the marks alone.
+-- The token of lookahead, where there is one. Of a token without fields the parser keeps the marks alone.
 abbrev pub token_ahead : Lookahead → yaml_token_t → Option yaml_token_t
 token_ahead ahead.Nothing t = None
-token_ahead ahead.Entered t = None
 token_ahead ahead.Token t = Some t
 token_ahead ahead.BlockSequence t = Some (token_at content_of.BlockSequenceStart t)
 token_ahead ahead.BlockMapping t = Some (token_at content_of.BlockMappingStart t)
@@ -115,7 +114,6 @@ token_ahead ahead.Value t = Some (token_at content_of.Value t)
 -- which token without fields stays, where one does
 abbrev pub lookahead_content : Lookahead → Option unnamed_yaml_token_t_data
 lookahead_content ahead.Nothing = None
-lookahead_content ahead.Entered = None
 lookahead_content ahead.Token = None
 lookahead_content ahead.BlockSequence = Some content_of.BlockSequenceStart
 lookahead_content ahead.BlockMapping = Some content_of.BlockMappingStart
@@ -158,6 +156,27 @@ top_mark (m ∷ ms) = m
 
 abbrev pub popped_mark : Config → Config
 popped_mark c = record c { marks = below c.marks }
+
+-- the parser without its texts
+abbrev pub config_of : Config → automaton.Config
+config_of c = record {
+  state = c.state;
+  states = c.states;
+  marks = c.marks;
+  behind_document_end = c.behind_document_end;
+}
+
+-- and with them
+abbrev pub config_with : automaton.Config → Handles → Fault → Option yaml_token_t → Config
+config_with x hs f o = record {
+  lookahead = o;
+  state = x.state;
+  states = x.states;
+  marks = x.marks;
+  handles = hs;
+  behind_document_end = x.behind_document_end;
+  fault = f;
+}
 
 abbrev pub with_handle : List ℕ → List ℕ → Config → Config
 with_handle handle prefix c = record c { handles = insert c.handles handle prefix }

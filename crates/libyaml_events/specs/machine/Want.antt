@@ -1,21 +1,50 @@
 -- What a token led to, and what the next one is wanted for (docs/DEFINITIONS.md, "The parser as a machine").
+use Rattle.std.specs.Prelude.{◌∷◌, ◌++◌, ℕ, List, [], Option, None, Some}
+use Rattle.libyaml_types.specs.declared.directive.yaml_version_directive_t.{yaml_version_directive_t}
+use Rattle.libyaml_types.specs.declared.directive.yaml_tag_directive_t.{yaml_tag_directive_t}
 use Rattle.libyaml_types.specs.declared.event.yaml_event_t.{yaml_event_t}
-use Rattle.libyaml_types.specs.declared.mark.yaml_mark_t.{yaml_mark_t}
-use Rattle.libyaml_events.specs.machine.Read.{PropertiesRead}
-use Rattle.libyaml_automaton.specs.declared.node_place.NodePlace.{NodePlace}
-use Rattle.libyaml_events.specs.machine.Read.{DirectivesRead}
+use Rattle.libyaml_types.specs.declared.token.unnamed_yaml_token_t_data.{unnamed_yaml_token_t_data}
+use Rattle.libyaml_types.specs.declared.token.unnamed_yaml_token_t_data.TheVariants as tok
+use Rattle.libyaml_types.specs.declared.token.unnamed_yaml_token_t_data_tag.{unnamed_yaml_token_t_data_tag}
+use Rattle.libyaml_automaton.specs.Automaton as automaton
 
--- The parser's state says it; or it comes after what is named here. A mark is the end of the token before it. A flow
--- collection's entry comes after the collection's start too.
-pub data Want : Type 0 where
-  AtState : Want
-  BehindDirective : DirectivesRead → Want
-  BehindProperties : NodePlace → PropertiesRead → Want
-  BehindBlockEntry BehindIndentlessEntry BehindKey BehindValue : yaml_mark_t → Want
-  BehindFlowSequenceEntry BehindFlowSequenceValue BehindFlowMappingEntry BehindFlowMappingKey
-      BehindFlowMappingValue : Want
+-- The texts that the parser holds: those of a node's properties, or of a document's directives.
+pub record Texts : Type 0 where
+  pub anchor : Option (List ℕ)
+  pub tag : Option unnamed_yaml_token_t_data_tag
+  pub version : Option yaml_version_directive_t
+  pub tag_directives : List yaml_tag_directive_t
+
+abbrev pub no_texts : Texts
+no_texts = record { anchor = None; tag = None; version = None; tag_directives = [] }
+
+-- what the automaton wants the next token for, with the texts that are held
+pub record Want : Type 0 where
+  pub next : automaton.Want
+  pub texts : Texts
+
+-- the parser's state says it
+abbrev pub AtState : Want
+AtState = record { next = automaton.AtState; texts = no_texts }
 
 -- an event, or nothing yet
 pub data Progress : Type 0 where
   Given : yaml_event_t → Progress
   Wants : Want → Progress
+
+-- what is held once a token was taken: a property or a directive is added
+abbrev pub with_property : Texts → unnamed_yaml_token_t_data → Texts
+with_property h (tok.Anchor a) = record h { anchor = Some a.value }
+with_property h (tok.Tag g) = record h { tag = Some g }
+with_property h _ = h
+
+abbrev pub with_directive : Texts → unnamed_yaml_token_t_data → Texts
+with_directive h (tok.VersionDirective v) = record h { version = Some (record { major = v.major; minor = v.minor }) }
+with_directive h (tok.TagDirective g)
+    = record h { tag_directives = h.tag_directives ++ record { handle = g.handle; prefix = g.prefix } ∷ [] }
+with_directive h _ = h
+
+abbrev pub texts_behind : Texts → unnamed_yaml_token_t_data → automaton.Want → Texts
+texts_behind h k (automaton.BehindProperties p r) = with_property h k
+texts_behind h k (automaton.BehindDirective start has_version) = with_directive h k
+texts_behind h k _ = no_texts

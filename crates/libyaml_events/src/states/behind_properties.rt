@@ -1,16 +1,17 @@
 //! The content of a node after its properties.
-ghost use Rattle.std.specs.Prelude.{◌≡◌, ℕ, None, Ok, IfErr, IfOk, OnOk, option_map, string_bytes, true};
+ghost use Rattle.std.specs.Prelude.{◌≡◌, ◌⊎◌, ℕ, None, Ok, IfErr, IfOk, List, Option, OnOk, option_map};
+ghost use Rattle.std.specs.Prelude.{string_bytes, true};
 ghost use Rattle.libyaml_types.specs.Types.{token_type};
-ghost use Rattle.libyaml_automaton.specs.Fits.{FitsContent, is_opening};
 ghost use Rattle.libyaml_types.specs.declared.enums.yaml_token_type_t.TheVariants.{YAML_SCALAR_TOKEN};
-ghost use Rattle.libyaml_events.specs.machine.Machine.{Progressed};
-ghost use Rattle.libyaml_events.specs.machine.Answers.{answer, held_in};
-ghost use Rattle.libyaml_events.specs.machine.Steps.{Steps};
+ghost use Rattle.libyaml_automaton.specs.Numbers.{flag, place_of};
+ghost use Rattle.libyaml_automaton.specs.Fits.{FitsContent, IsFull, opens_at};
+ghost use Rattle.libyaml_events.specs.machine.Answers.{answer, only_if};
 ghost use Rattle.libyaml_events.specs.machine.Growth.{joins};
-ghost use Rattle.libyaml_events.specs.automaton.Texts.{Held, tag_in, tag_of};
-ghost use Rattle.libyaml_events.specs.automaton.Led.{HeadSays, IsContent, IsHead, IsLed, Puts, PutsHead};
-ghost use Rattle.libyaml_events.specs.automaton.Led.{RefusesTag};
-ghost use Rattle.libyaml_events.specs.automaton.Led.{IsEntering, SaysContent, read_of};
+ghost use Rattle.libyaml_events.specs.machine.Machine.{Progressed};
+ghost use Rattle.libyaml_events.specs.machine.Steps.{Steps};
+ghost use Rattle.libyaml_events.specs.machine.Want.{Texts};
+ghost use Rattle.libyaml_events.specs.automaton.Led.{GrowsBehind, IsContent, IsOpening, Puts, PutsContent};
+ghost use Rattle.libyaml_events.specs.automaton.Led.{ReadsTag, RefusesTag, SaysContent};
 
 use crate::parser::Machine;
 use crate::pending::Pending;
@@ -35,11 +36,10 @@ impl Machine {
         out: &mut yaml_event_t,
     ) -> Step
         requires none { self.old.lookahead ≡ None }
-        requires led { IsLed token.old Answer.AsksContent pending.old self.old }
         ensures puts { Puts Answer.AsksContent token.old pending.old self.old result pending.new out.new
             self.new }
         ensures grows { result ≡ Step.Failed → self.new.fault.error ≡ yaml_error_type_t.YAML_MEMORY_ERROR
-            → joins (held_in pending.old).tag self.old.handles ≡ true }
+            → GrowsBehind pending.old self.old token.old }
     {
         let tag = match self.take_tag(pending) {
             Ok(tag) => tag,
@@ -57,11 +57,11 @@ impl Machine {
         out: &mut yaml_event_t,
     ) -> Step
         requires none { self.old.lookahead ≡ None }
-        requires led { IsLed token.old Answer.AsksContent pending.old self.old }
         requires untagged { pending.old.reading.has_tag ≡ 0 }
         ensures puts { Puts Answer.AsksContent token.old pending.old self.old result pending.new out.new
             self.new }
-        ensures error { result ≡ Step.Failed → self.new.fault.error ≡ yaml_error_type_t.YAML_PARSER_ERROR }
+        ensures grows { result ≡ Step.Failed → self.new.fault.error ≡ yaml_error_type_t.YAML_MEMORY_ERROR
+            → GrowsBehind pending.old self.old token.old }
     {
         self.put_content(None, token, pending, out)
     }
@@ -76,23 +76,55 @@ impl Machine {
         out: &mut yaml_event_t,
     ) -> Step
         requires none { self.old.lookahead ≡ None }
-        requires led { (o : Progressed) × (h : Held) × (fact : ℕ)
-            × IsContent o h token.old pending.old.reading fact self.old }
-        ensures puts { (o : Progressed) (h : Held) (fact : ℕ)
-            → IsContent o h token.old pending.old.reading fact self.old → IsHead (record {
-              anchor = (held_in pending.old).anchor;
-              tag = option_map string_bytes tag;
-              start_mark = pending.old.reading.start_mark;
-              end_mark = pending.old.reading.end_mark;
-            }) h pending.old.reading fact self.old.handles → Steps o self.old
-            (answer result pending.new out.new self.new) self.new × (result ≡ Step.Wants → ⊥) }
-        ensures error { result ≡ Step.Failed → self.new.fault.error ≡ yaml_error_type_t.YAML_PARSER_ERROR }
+        ensures puts { (o : Progressed) (h : Texts) → IsContent o h
+            (only_if (flag pending.old.reading.has_anchor) pending.old.properties.anchor)
+            (option_map string_bytes tag) token.old pending.old.reading self.old
+            → Steps o self.old (answer result pending.new out.new self.new) self.new × (result ≡ Step.Wants → ⊥) }
+        ensures grows { result ≡ Step.Failed → self.new.fault.error ≡ yaml_error_type_t.YAML_MEMORY_ERROR
+            → opens_at (place_of pending.old.reading.place) (token_type token.old.content) ≡ true }
     {
         forget_earlier(pending);
         let start_mark = pending.reading.start_mark;
         let end_mark = pending.reading.end_mark;
-        let answer = self.lead_content(token, pending);
-        self.put_head(answer, tag, &start_mark, &end_mark, token, pending, out)
+        match self.lead_content(token, pending) {
+            Answer::FullMarks => self.put_content_again(
+                tag,
+                &start_mark,
+                &end_mark,
+                token,
+                pending,
+                out,
+            ),
+            answer => self.put_head(answer, tag, &start_mark, &end_mark, token, pending, out),
+        }
+    }
+
+    /// Puts the content of a node for which the stack of marks had no room, once it has grown.
+    #[cold]
+    #[inline(never)]
+    fn put_content_again(
+        &mut self,
+        tag: Option<String>,
+        start_mark: &yaml_mark_t,
+        end_mark: &yaml_mark_t,
+        token: &mut yaml_token_t,
+        pending: &mut Pending,
+        out: &mut yaml_event_t,
+    ) -> Step
+        requires none { self.old.lookahead ≡ None }
+        requires start { start_mark.now ≡ pending.old.reading.start_mark }
+        requires end { end_mark.now ≡ pending.old.reading.end_mark }
+        ensures puts { (o : Progressed) (h : Texts) → IsContent o h pending.old.properties.anchor
+            (option_map string_bytes tag) token.old pending.old.reading self.old
+            → Steps o self.old (answer result pending.new out.new self.new) self.new × (result ≡ Step.Wants → ⊥) }
+    {
+        if !self.automaton.grow(Answer::FullMarks) {
+            return Step::failed(self.out_of_memory());
+        }
+        match self.lead_content(token, pending) {
+            Answer::FullMarks => Step::failed(self.out_of_memory()),
+            answer => self.put_head(answer, tag, start_mark, end_mark, token, pending, out),
+        }
     }
 
     /// The tag in full of a node whose properties were read, where it has one.
@@ -101,19 +133,21 @@ impl Machine {
         ensures reading { pending.new.reading ≡ pending.old.reading }
         ensures anchor { pending.new.properties.anchor ≡ pending.old.properties.anchor }
         ensures ok { OnOk result (self.new ≡ self.old) }
-        ensures tag { IfOk result (λ g. (tag_in self.old.handles (held_in pending.old).tag
-            ≡ option_map string_bytes g) × (tag_of self.old.handles (held_in pending.old).tag
-            ≡ read_of (option_map string_bytes g))) }
-        ensures err { IfErr result (λ e. RefusesTag (held_in pending.old).tag pending.old.reading.start_mark
-            self.old e self.new) }
+        ensures tag { IfOk result (λ g. ReadsTag
+            (only_if (flag pending.old.reading.has_tag) pending.old.properties.tag) self.old
+            (option_map string_bytes g)) }
+        ensures err { IfErr result (λ e. RefusesTag
+            (only_if (flag pending.old.reading.has_tag) pending.old.properties.tag)
+            pending.old.reading.start_mark pending.old.reading.tag_mark self.old e self.new) }
     {
         if pending.reading.has_tag == 0 {
             return Ok(None);
         }
         let start_mark = pending.reading.start_mark;
+        let tag_mark = pending.reading.tag_mark;
         let tag = match &mut pending.properties.tag {
             None => return Ok(None),
-            Some(read) => self.resolve_tag(read, &start_mark)?,
+            Some(read) => self.resolve_tag(read, &start_mark, &tag_mark)?,
         };
         // Its handle and suffix are dropped here: where they stay, a list of nodes may not grow where it
         // lies.
@@ -125,13 +159,15 @@ impl Machine {
     #[inline(always)]
     fn lead_content(&mut self, token: &yaml_token_t, pending: &mut Pending) -> Answer
         requires none { self.old.lookahead ≡ None }
-        ensures led { (out : Progressed) (h : Held) (tag : ℕ)
-            → IsContent out h token.now pending.old.reading tag self.old
-            → SaysContent out h token.now result pending.old.reading pending.new.reading tag self.new }
+        ensures led { (o : Progressed) (h : Texts) (a g : Option (List ℕ))
+            → IsContent o h a g token.now pending.old.reading self.old
+            → SaysContent o h a g token.now result pending.old.reading pending.new.reading self.new }
         ensures fits { FitsContent result (token_type token.now.content) pending.new.reading }
         ensures none { self.new.lookahead ≡ None }
-        ensures handles { self.new.handles ≡ self.old.handles }
         ensures texts { pending.new ≡ record pending.old { reading = pending.new.reading } }
+        ensures full { result ≡ Answer.FullMarks
+            → opens_at (place_of pending.old.reading.place) (token_type token.now.content) ≡ true }
+        ensures undone { result ≡ Answer.FullMarks → (self.new ≡ self.old) × (pending.new ≡ pending.old) }
     {
         self.automaton.content_behind(
             &mut pending.reading,
@@ -155,13 +191,9 @@ impl Machine {
     ) -> Step
         requires none { self.old.lookahead ≡ None }
         requires fits { FitsContent answer (token_type token.old.content) pending.old.reading }
-        requires led { HeadSays token.old answer pending.old.reading self.old }
-        ensures puts { PutsHead (record {
-          anchor = pending.old.properties.anchor;
-          tag = option_map string_bytes tag;
-          start_mark = start_mark.now;
-          end_mark = end_mark.now;
-        }) answer token.old pending.old.reading self.old result pending.new out.new self.new }
+        requires done { IsFull answer → ⊥ }
+        ensures puts { PutsContent pending.old.properties.anchor (option_map string_bytes tag) start_mark.now
+            end_mark.now answer token.old pending.old.reading self.old result pending.new out.new self.new }
         ensures error { result ≡ Step.Failed → self.new.fault.error ≡ yaml_error_type_t.YAML_PARSER_ERROR }
     {
         match answer {
@@ -174,9 +206,6 @@ impl Machine {
             Answer::IndentlessSequence => self.put_indentless(
                 tag, start_mark, end_mark, token, pending, out,
             ),
-            Answer::Unentered => self.put_unentered_behind(
-                tag, start_mark, end_mark, token, pending, out,
-            ),
             Answer::Failed => {
                 return self.set_problem(
                     pending.reading.problem,
@@ -184,7 +213,7 @@ impl Machine {
                     &token.start_mark,
                 );
             }
-            _ => self.put_entered(answer, tag, start_mark, end_mark, token, pending, out),
+            _ => self.put_opening(answer, tag, start_mark, end_mark, token, pending, out),
         }
         Step::Given
     }
@@ -202,12 +231,8 @@ impl Machine {
     )
         requires none { self.old.lookahead ≡ None }
         requires scalar { token_type token.old.content ≡ YAML_SCALAR_TOKEN }
-        ensures puts { PutsHead (record {
-          anchor = pending.old.properties.anchor;
-          tag = option_map string_bytes tag;
-          start_mark = start_mark.now;
-          end_mark = end_mark.now;
-        }) Answer.Scalar token.old pending.old.reading self.old Step.Given pending.new out.new self.new }
+        ensures puts { PutsContent pending.old.properties.anchor (option_map string_bytes tag) start_mark.now
+            end_mark.now Answer.Scalar token.old pending.old.reading self.old Step.Given pending.new out.new self.new }
     {
         out.start_mark = *start_mark;
         out.end_mark = token.end_mark;
@@ -233,12 +258,8 @@ impl Machine {
         out: &mut yaml_event_t,
     )
         requires none { self.old.lookahead ≡ None }
-        ensures puts { PutsHead (record {
-          anchor = pending.old.properties.anchor;
-          tag = option_map string_bytes tag;
-          start_mark = start_mark.now;
-          end_mark = end_mark.now;
-        }) Answer.EmptyHead token.old pending.old.reading self.old Step.Given pending.new out.new self.new }
+        ensures puts { PutsContent pending.old.properties.anchor (option_map string_bytes tag) start_mark.now
+            end_mark.now Answer.EmptyHead token.old pending.old.reading self.old Step.Given pending.new out.new self.new }
     {
         let implicit = is_missing(&tag);
         let text = String::new(self.allocator());
@@ -260,13 +281,8 @@ impl Machine {
         out: &mut yaml_event_t,
     )
         requires none { self.old.lookahead ≡ None }
-        ensures puts { PutsHead (record {
-          anchor = pending.old.properties.anchor;
-          tag = option_map string_bytes tag;
-          start_mark = start_mark.now;
-          end_mark = end_mark.now;
-        }) Answer.IndentlessSequence token.old pending.old.reading self.old Step.Given pending.new out.new
-            self.new }
+        ensures puts { PutsContent pending.old.properties.anchor (option_map string_bytes tag) start_mark.now
+            end_mark.now Answer.IndentlessSequence token.old pending.old.reading self.old Step.Given pending.new out.new self.new }
     {
         let style = yaml_sequence_style_t::YAML_BLOCK_SEQUENCE_STYLE;
         let anchor = take_anchor(pending);
@@ -275,59 +291,26 @@ impl Machine {
         self.keep(token);
     }
 
-    /// Puts the start of a collection after properties for whose mark there was no room.
-    #[cold]
+    /// Puts the start of a collection after properties.
     #[inline(never)]
-    fn put_unentered_behind(
-        &mut self,
-        tag: Option<String>,
-        start_mark: &yaml_mark_t,
-        end_mark: &yaml_mark_t,
-        token: &mut yaml_token_t,
-        pending: &mut Pending,
-        out: &mut yaml_event_t,
-    )
-        requires none { self.old.lookahead ≡ None }
-        requires opening { is_opening (token_type token.old.content) ≡ true }
-        ensures puts { PutsHead (record {
-          anchor = pending.old.properties.anchor;
-          tag = option_map string_bytes tag;
-          start_mark = start_mark.now;
-          end_mark = end_mark.now;
-        }) Answer.Unentered token.old pending.old.reading self.old Step.Given pending.new out.new self.new }
-    {
-        let anchor = take_anchor(pending);
-        let content = collection_start(anchor, tag, &token.content);
-        give(out, content, *start_mark, token.end_mark);
-        self.keep(token);
-    }
-
-    /// Puts the start of a collection after properties, which was entered.
-    #[inline(never)]
-    fn put_entered(
+    fn put_opening(
         &mut self,
         answer: Answer,
         tag: Option<String>,
         start_mark: &yaml_mark_t,
         end_mark: &yaml_mark_t,
-        token: &mut yaml_token_t,
+        token: &yaml_token_t,
         pending: &mut Pending,
         out: &mut yaml_event_t,
     )
         requires none { self.old.lookahead ≡ None }
-        requires fits { FitsContent answer (token_type token.old.content) pending.old.reading }
-        requires led { HeadSays token.old answer pending.old.reading self.old }
-        requires other { IsEntering answer }
-        ensures puts { PutsHead (record {
-          anchor = pending.old.properties.anchor;
-          tag = option_map string_bytes tag;
-          start_mark = start_mark.now;
-          end_mark = end_mark.now;
-        }) answer token.old pending.old.reading self.old Step.Given pending.new out.new self.new }
+        requires fits { FitsContent answer (token_type token.now.content) pending.old.reading }
+        requires opening { IsOpening answer }
+        ensures puts { PutsContent pending.old.properties.anchor (option_map string_bytes tag) start_mark.now
+            end_mark.now answer token.now pending.old.reading self.old Step.Given pending.new out.new self.new }
     {
         let anchor = take_anchor(pending);
         let content = collection_start(anchor, tag, &token.content);
         give(out, content, *start_mark, token.end_mark);
-        self.keep_entered(token);
     }
 }

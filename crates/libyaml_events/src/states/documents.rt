@@ -1,7 +1,6 @@
 //! The stream and its documents, with their directives.
-ghost use Rattle.std.specs.Prelude.{◌≡◌, ◌++◌, ◌∷◌, [], None, Some, Err, IfOk, OnOk, OnErr, is_some};
+ghost use Rattle.std.specs.Prelude.{◌≡◌, ◌++◌, ◌∷◌, [], None, Some, Err, IfOk, OnOk, OnErr};
 ghost use Rattle.std.specs.Prelude.{false, true};
-ghost use Rattle.std.specs.FinMap.{get};
 ghost use Rattle.libyaml_types.specs.Fault.{memory_fault};
 ghost use Rattle.libyaml_types.specs.declared.token.unnamed_yaml_token_t_data.TheVariants as tok;
 ghost use Rattle.libyaml_types.specs.declared.event.unnamed_yaml_event_t_data.TheVariants as ev;
@@ -12,14 +11,13 @@ ghost use Rattle.libyaml_grammar.specs.sentences.Order.{is_accepted};
 ghost use Rattle.libyaml_automaton.specs.Numbers.{next_of};
 ghost use Rattle.libyaml_automaton.specs.Fits.{FitsDocument, Documents};
 ghost use Rattle.libyaml_automaton.specs.Growth.{stack_part_of};
-ghost use Rattle.libyaml_events.specs.machine.Config.{with_fault, with_handle};
-ghost use Rattle.libyaml_events.specs.machine.Machine.{document_end, document_start, step};
+ghost use Rattle.libyaml_events.specs.machine.Config.{with_fault};
+ghost use Rattle.libyaml_events.specs.machine.Machine.{declared_by, document_end, document_start, fault_with};
+ghost use Rattle.libyaml_events.specs.machine.Machine.{is_accepted_in, step, was_declared};
 ghost use Rattle.libyaml_events.specs.machine.Steps.{Steps};
-ghost use Rattle.libyaml_events.specs.machine.Answers.{answer, wanted};
+ghost use Rattle.libyaml_events.specs.machine.Answers.{answer, directive_texts, wanted};
 ghost use Rattle.libyaml_events.specs.machine.Growth.{may_grow};
-ghost use Rattle.libyaml_events.specs.automaton.Texts.{fault_with, held_of};
-ghost use Rattle.libyaml_events.specs.automaton.Led.{IsDeclared, IsPutDocument, LedDocument, PutsDocument};
-ghost use Rattle.libyaml_events.specs.automaton.Led.{IsLedDocument};
+ghost use Rattle.libyaml_events.specs.automaton.Led.{IsPutDocument, LedDocument, PutsDocument};
 ghost use Rattle.libyaml_events.specs.automaton.View.{Ready};
 
 use crate::parser::Machine;
@@ -130,8 +128,8 @@ fn put_stream_end(token: &yaml_token_t, out: &mut yaml_event_t)
 
 /// Holds the version of a VERSION-DIRECTIVE, and returns whether documents of it are parsed.
 fn hold_version(token: &yaml_token_t, pending: &mut Pending) -> bool
-    ensures accepted { (v : unnamed_yaml_token_t_data_version_directive)
-        → token.now.content ≡ tok.VersionDirective v → result ≡ is_accepted v.major v.minor }
+    ensures accepted { result ≡ is_accepted_in token.now.content }
+    ensures reading { pending.new.reading ≡ pending.old.reading }
     ensures held { (v : unnamed_yaml_token_t_data_version_directive)
         → token.now.content ≡ tok.VersionDirective v → pending.new ≡ record pending.old {
           directives = record pending.old.directives {
@@ -172,7 +170,7 @@ impl Machine {
     {
         self.forget_directives(pending);
         match self.lead_document(token, pending) {
-            Answer::Full => self.step_document_again(token, pending, out),
+            Answer::FullStates => self.step_document_again(token, pending, out),
             answer => self.put_document(answer, token, pending, out),
         }
     }
@@ -188,17 +186,17 @@ impl Machine {
     ) -> Step
         requires ready { Ready pending.old self.old }
         requires documents { stack_part_of (next_of pending.old.reading.next) ≡ Documents }
-        requires declared { IsDeclared (held_of (wanted pending.old)) pending.old }
+        requires declared { (wanted pending.old).texts ≡ directive_texts pending.old.directives }
         requires grows { may_grow (wanted pending.old) self.old token.old.content ≡ true }
         ensures steps { Steps (step (wanted pending.old) self.old token.old) self.old
             (answer result pending.new out.new self.new) self.new }
         ensures ready { result ≡ Step.Wants → Ready pending.new self.new }
     {
-        if !self.automaton.grow(&pending.reading) {
+        if !self.automaton.grow(Answer::FullStates) {
             return Step::failed(self.out_of_memory());
         }
         match self.lead_document(token, pending) {
-            Answer::Full => Step::failed(self.out_of_memory()),
+            Answer::FullStates => Step::failed(self.out_of_memory()),
             answer => self.put_document(answer, token, pending, out),
         }
     }
@@ -208,7 +206,7 @@ impl Machine {
     fn forget_directives(&mut self, pending: &mut Pending)
         requires { stack_part_of (next_of pending.old.reading.next) ≡ Documents }
         ensures same { self.new ≡ self.old }
-        ensures declared { IsDeclared (held_of (wanted pending.new)) pending.new }
+        ensures declared { (wanted pending.new).texts ≡ directive_texts pending.new.directives }
         ensures reading { pending.new.reading ≡ pending.old.reading }
         ensures wanted { wanted pending.new ≡ wanted pending.old }
     {
@@ -228,16 +226,16 @@ impl Machine {
     fn lead_document(&mut self, token: &yaml_token_t, pending: &mut Pending) -> Answer
         requires ready { Ready pending.old self.old }
         requires documents { stack_part_of (next_of pending.old.reading.next) ≡ Documents }
-        requires declared { IsDeclared (held_of (wanted pending.old)) pending.old }
+        requires declared { (wanted pending.old).texts ≡ directive_texts pending.old.directives }
         ensures led { LedDocument (step (wanted pending.old) self.old token.now)
-            (held_of (wanted pending.old)) token.now result pending.new self.new }
+            (wanted pending.old).texts token.now result pending.new self.new }
         ensures fits { FitsDocument result (token_type token.now.content) pending.new.reading self.new.state }
         ensures none { self.new.lookahead ≡ None }
         ensures texts { pending.new ≡ record pending.old { reading = pending.new.reading } }
-        ensures undone { result ≡ Answer.Full → Ready pending.new self.new
+        ensures undone { result ≡ Answer.FullStates → Ready pending.new self.new
             × (wanted pending.new ≡ wanted pending.old) × (self.new ≡ self.old)
             × (pending.new.reading.next ≡ pending.old.reading.next) }
-        ensures grows { result ≡ Answer.Full
+        ensures grows { result ≡ Answer.FullStates
             → may_grow (wanted pending.old) self.old token.now.content ≡ true }
         ensures handle { result ≡ Answer.AsksHandle
             → may_grow (wanted pending.old) self.old token.now.content ≡ true }
@@ -257,7 +255,6 @@ impl Machine {
     ) -> Step
         requires none { self.old.lookahead ≡ None }
         requires put { IsPutDocument answer }
-        requires led { IsLedDocument token.old answer pending.old self.old }
         requires fits { FitsDocument answer (token_type token.old.content) pending.old.reading
             self.old.state }
         ensures puts { PutsDocument answer token.old pending.old self.old result pending.new out.new
@@ -389,11 +386,10 @@ impl Machine {
 
     /// Declares the handle of a TAG-DIRECTIVE, and returns whether it was declared before.
     fn declare_handle(&mut self, token: &yaml_token_t) -> Result<bool, yaml_error_type_t>
-        ensures before { (g : unnamed_yaml_token_t_data_tag_directive)
-            → token.now.content ≡ tok.TagDirective g
-            → IfOk result (λ was_declared. was_declared ≡ is_some (get self.old.handles g.handle)) }
-        ensures ok { (g : unnamed_yaml_token_t_data_tag_directive) → token.now.content ≡ tok.TagDirective g
-            → OnOk result (self.new ≡ with_handle g.handle g.prefix self.old) }
+        ensures before { IfOk result (λ b. b ≡ was_declared self.old.handles token.now.content) }
+        ensures ok { OnOk result (self.new ≡ record self.old {
+          handles = declared_by self.old.handles token.now.content;
+        }) }
         ensures err { OnErr result ((result ≡ Err yaml_error_type_t.YAML_MEMORY_ERROR)
             × (self.new ≡ with_fault self.old memory_fault)) }
     {

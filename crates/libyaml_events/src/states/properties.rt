@@ -1,14 +1,15 @@
 //! The texts of properties, moved out of their tokens and held until the node's event.
 ghost use Rattle.std.specs.Prelude.{◌≡◌, Some, None, option_map, string_bytes};
 ghost use Rattle.libyaml_types.specs.declared.token.unnamed_yaml_token_t_data.TheVariants as tok;
-ghost use Rattle.libyaml_events.specs.machine.Answers.{held_in};
+ghost use Rattle.libyaml_automaton.specs.Numbers.{flag};
+ghost use Rattle.libyaml_events.specs.machine.Answers.{only_if};
+ghost use Rattle.libyaml_events.specs.automaton.Led.{with_anchor, with_tag};
 
 use crate::parser::Machine;
 use crate::pending::Pending;
-use crate::properties::TagRead;
 use libyaml_types::{
     unnamed_yaml_token_t_data, unnamed_yaml_token_t_data_anchor, unnamed_yaml_token_t_data_tag,
-    yaml_mark_t, yaml_token_t,
+    yaml_token_t,
 };
 use std::alloc::Global;
 use std::mem;
@@ -31,23 +32,21 @@ fn put_anchor(
     *held = Some(mem::replace(spare, String::new(alloc)));
 }
 
-/// Puts the tag of a token that begins at `mark`, moved out of it, into `held`.
+/// Puts the tag of a token, moved out of it, into `held`.
 #[inline(always)]
 fn put_tag(
     alloc: Global,
     tag: &mut unnamed_yaml_token_t_data_tag,
-    mark: &yaml_mark_t,
-    held: &mut Option<TagRead>,
+    held: &mut Option<unnamed_yaml_token_t_data_tag>,
 )
-    ensures { held.new ≡ Some (record { handle = tag.old.handle; suffix = tag.old.suffix; mark = mark.now }) }
+    ensures { held.new ≡ Some tag.old }
 {
     if held.is_some() {
         forget_tag(held);
     }
-    *held = Some(TagRead {
+    *held = Some(unnamed_yaml_token_t_data_tag {
         handle: mem::replace(&mut tag.handle, String::new(alloc)),
         suffix: mem::replace(&mut tag.suffix, String::new(alloc)),
-        mark: *mark,
     });
 }
 
@@ -61,7 +60,7 @@ fn forget_anchor(anchor: &mut Option<String>)
 
 /// Forgets a tag.
 #[cold]
-fn forget_tag(tag: &mut Option<TagRead>)
+fn forget_tag(tag: &mut Option<unnamed_yaml_token_t_data_tag>)
     ensures { tag.new ≡ None }
 {
     *tag = None;
@@ -70,7 +69,8 @@ fn forget_tag(tag: &mut Option<TagRead>)
 /// Forgets the anchor of an earlier node.
 #[inline(always)]
 pub(super) fn forget_earlier(pending: &mut Pending)
-    ensures anchor { pending.new.properties.anchor ≡ (held_in pending.old).anchor }
+    ensures anchor { pending.new.properties.anchor
+        ≡ only_if (flag pending.old.reading.has_anchor) pending.old.properties.anchor }
     ensures tag { pending.new.properties.tag ≡ pending.old.properties.tag }
     ensures reading { pending.new.reading ≡ pending.old.reading }
 {
@@ -93,9 +93,7 @@ impl Machine {
     pub(super) fn hold_anchor(&mut self, token: &mut yaml_token_t, pending: &mut Pending)
         ensures same { self.new ≡ self.old }
         ensures held { (a : unnamed_yaml_token_t_data_anchor) → token.old.content ≡ tok.Anchor a
-            → pending.new ≡ record pending.old {
-              properties = record pending.old.properties { anchor = Some a.value };
-            } }
+            → pending.new ≡ with_anchor a.value pending.old }
     {
         if let unnamed_yaml_token_t_data::Anchor(anchor) = &mut token.content {
             put_anchor(&mut self.spare, anchor, &mut pending.properties.anchor);
@@ -107,19 +105,10 @@ impl Machine {
     pub(super) fn hold_tag(&mut self, token: &mut yaml_token_t, pending: &mut Pending)
         ensures same { self.new ≡ self.old }
         ensures held { (g : unnamed_yaml_token_t_data_tag) → token.old.content ≡ tok.Tag g
-            → pending.new ≡ record pending.old {
-              properties = record pending.old.properties {
-                tag = Some (record { handle = g.handle; suffix = g.suffix; mark = token.old.start_mark });
-              };
-            } }
+            → pending.new ≡ with_tag g pending.old }
     {
         if let unnamed_yaml_token_t_data::Tag(tag) = &mut token.content {
-            put_tag(
-                self.allocator(),
-                tag,
-                &token.start_mark,
-                &mut pending.properties.tag,
-            );
+            put_tag(self.allocator(), tag, &mut pending.properties.tag);
         }
     }
 }

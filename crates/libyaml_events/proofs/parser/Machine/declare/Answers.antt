@@ -1,8 +1,5 @@
 use Rattle.std.proofs.Common.{ap, ◌∙◌, is_some}
-use Rattle.libyaml_types.specs.Fault.{fault_of}
-use Rattle.libyaml_events.specs.machine.Config.{handles_of}
 use Rattle.libyaml_events.proofs.code.HandleLemmas.{is_declared, one_declared}
-use Rattle.libyaml_events.proofs.layer.Views.{seen_handles, seen_declared}
 use Rattle.libyaml_events.proofs.parser.Machine.declare.Goals as goal
 
 pub returns-in-Ok-insert-clause-before : goal.returns-in-Ok-insert-clause-before
@@ -11,8 +8,6 @@ returns-in-Ok-insert-clause-before c =
     rw (
       ← c.self.view_is,
       ← c.in-Ok.ensures.ok,
-      seen_handles c.self.inside.lookahead_token c.self.inside.automaton
-          (handles_of c.self.inside.handles.entries) (fault_of c.self.inside.prefix) c.self.inside.lookahead,
     )
     (c.is_some.ensures ∙ found)
 
@@ -25,6 +20,4 @@ returns-in-Ok-insert-clause-ok c =
       made,
       c.in-Ok.ensures.ok,
       c.in-Ok-from_str.ensures.ok,
-      seen_declared c.self.inside.lookahead_token c.self.inside.automaton (handles_of c.self.inside.handles.entries)
-          (fault_of c.self.inside.prefix) c.self.inside.lookahead _ _,
     )

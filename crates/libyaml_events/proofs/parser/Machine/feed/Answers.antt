@@ -1,11 +1,10 @@
-use Rattle.std.proofs.Common.{◌≤◌, arith, refl, rules, sym}
+use Rattle.std.proofs.Common.{◌≤◌, ap, arith, rules, sym}
 use Rattle.std.specs.Vec.{vec_capacity}
 use Rattle.std.proofs.lemmas.Bool.{both_ways}
 use Rattle.libyaml_events.proofs.pushes.Taking.{taking_begins, wants_next, fails_onto, goes_on}
-use Rattle.libyaml_events.proofs.pushes.Taking.{is_done, is_entered, step_falls}
+use Rattle.libyaml_events.proofs.pushes.Taking.{is_done, step_falls}
 use Rattle.libyaml_events.specs.machine.Answers.{wanted}
-use Rattle.libyaml_events.specs.automaton.View.{InStep}
-use Rattle.libyaml_events.proofs.layer.Agreeing.{agrees_at}
+use Rattle.libyaml_events.specs.machine.Want.{Want}
 use Rattle.libyaml_events.proofs.parser.Machine.feed.Goals.{then-not-take_lookahead-via-then-not-take_lookahead}
 use Rattle.libyaml_events.proofs.parser.Machine.feed.Goals.{}
 use Rattle.libyaml_events.proofs.parser.Machine.feed.Goals.{then-not-take_lookahead-via-else-not-take_lookahead+then-is_over}
@@ -26,49 +25,37 @@ returns-in-Failed-clause-takes c =
     rw (c.fail.ensures.error, c.fail.ensures.left)
     (fails_onto _ _ _ _ _ _ _ _ _ c.loop-self.invariant.1 _ (λ full. omega (arith, room, full)) _ _ _ _ s.0 s.1)
 
-pub returns-then-enter-clause-takes : goal.returns-then-enter-clause-takes
-returns-then-enter-clause-takes c =
-    let s = rw c.in-Given.is at c.step_onto.ensures.steps in
-    is_entered _ _ _ _ _ _ _ _ _ c.loop-self.invariant.1 _ c.step_onto.new.self s.1 _ s.2 _ c.enter.new.self
-    c.if-enter.ensures.enters
-
 pub returns-then-not-take_lookahead-clause-takes : goal.returns-then-not-take_lookahead-clause-takes
 returns-then-not-take_lookahead-clause-takes c =
     let s = rw c.in-Given.is at c.step_onto.ensures.steps in
-    let m = c.if-enter.ensures.enters in
-    rw (c.take_lookahead.ensures.taken, m.1, m.0)
+    rw (c.take_lookahead.ensures.taken, c.begin.ensures.wanted)
     (is_done _ _ _ _ _ _ _ _ _ c.loop-self.invariant.1 _ c.step_onto.new.self s.1 _ s.2 _ _
-    (rw m.0 at c.take_lookahead.ensures.token)
+    c.take_lookahead.ensures.token
     (λ h. elim c.then-not-take_lookahead.branch [
       | then-not-take_lookahead-via-then-not-take_lookahead w ↦ absurd (both_ways _ w.if-not-take_lookahead.true h)
       | then-not-take_lookahead-via-else-not-take_lookahead+then-is_over w ↦
-          rw (c.take_lookahead.ensures.taken, m.0) at (sym w.if-is_over.ensures)
+          rw c.take_lookahead.ensures.taken at (sym w.if-is_over.ensures)
     ]))
 
 pub returns-then-not-take_lookahead-clause-agrees : goal.returns-then-not-take_lookahead-clause-agrees
 returns-then-not-take_lookahead-clause-agrees c =
-    let m = c.if-enter.ensures.enters in
-    let a : InStep c.enter.new.pending c.step_onto.new.self = rw m.0 at c.enter.ensures.agrees in
-    λ h. rw (c.take_lookahead.ensures.taken, m.0) (agrees_at c.enter.new.pending c.step_onto.new.self _ refl refl a)
+    λ h. rw c.take_lookahead.ensures.taken c.begin.ensures.agrees
 
 pub loop-self-smaller : goal.loop-self-smaller
 loop-self-smaller c =
     let s = rw c.in-Given.is at c.step_onto.ensures.steps in
-    let m = c.if-enter.ensures.enters in
-    rw (c.take_lookahead.ensures.taken, m.1, m.0)
+    rw (c.take_lookahead.ensures.taken, ap (λ (w : Want). w.next) c.begin.ensures.wanted)
     (step_falls (wanted c.loop-self.pending) c.loop-self.self c.loop-self.token s.0 c.step_onto.new.self
-    c.take_lookahead.new.token c.loop-self.invariant.1.none s.1 (rw m.0 at c.if-not-take_lookahead.ensures.token))
+    c.take_lookahead.new.token c.loop-self.invariant.1.none s.1 c.if-not-take_lookahead.ensures.token)
 
 pub loop-self-preserved : goal.loop-self-preserved
 loop-self-preserved c =
     let s = rw c.in-Given.is at c.step_onto.ensures.steps in
-    let m = c.if-enter.ensures.enters in
     let room : vec_capacity c.args.events.now ≤ vec_capacity c.step_onto.new.events = search rules in
-    let a : InStep c.enter.new.pending c.step_onto.new.self = rw m.0 at c.enter.ensures.agrees in
-    rw (c.take_lookahead.ensures.taken, m.1, m.0) (
+    rw (c.take_lookahead.ensures.taken, c.begin.ensures.wanted) (
       room,
       goes_on (Unit {0}) _ _ _ _ _ _ _ _ c.loop-self.invariant.1 _ c.step_onto.new.self s.1 _ s.2 _
-          (rw m.0 at c.if-not-take_lookahead.ensures.token)
-          (rw (c.take_lookahead.ensures.taken, m.0) at (sym c.if-is_over.ensures)),
-      agrees_at c.enter.new.pending c.step_onto.new.self _ refl refl a,
+          c.if-not-take_lookahead.ensures.token
+          (rw c.take_lookahead.ensures.taken at (sym c.if-is_over.ensures)),
+      c.begin.ensures.agrees,
     )

@@ -1,6 +1,6 @@
 use Rattle.std.proofs.Common.{◌≡◌, ◌∙◌, Err, ap, pos, refl, rules, sym}
 use Rattle.libyaml_events.specs.machine.Config.{is_fault, parser}
-use Rattle.libyaml_events.proofs.calls.CallLemmas.{fetched, faulted, gave_event, gave_fault, may_enter}
+use Rattle.libyaml_events.proofs.calls.CallLemmas.{fetched, faulted, first_reading, gave_event, gave_fault}
 use Rattle.libyaml_events.proofs.calls.CallLemmas.{takes_one, wants_more}
 use Rattle.libyaml_events.proofs.calls.LetGo.{fault_left, steps_empty}
 use Rattle.libyaml_events.proofs.layer.Agreeing.{fetched_fault, fetched_ready, kept_fault}
@@ -8,9 +8,9 @@ use Rattle.libyaml_events.proofs.parser.Machine.fill.Goals as goal
 
 pub loop-self-init : goal.loop-self-init
 loop-self-init g c = (
-  λ max. may_enter g.S.yaml_token_source_t.gives (parser max c.args.source.now c.args.self.now) c.requires _ _ _
-      c.enter.ensures.enters,
-  c.enter.ensures.agrees,
+  λ max. rw c.begin.ensures.wanted (first_reading g.S.yaml_token_source_t.gives
+      (parser max c.args.source.now c.args.self.now) c.requires),
+  c.begin.ensures.agrees,
 )
 
 pub returns-in_err-next_token-clause-call : goal.returns-in_err-next_token-clause-call

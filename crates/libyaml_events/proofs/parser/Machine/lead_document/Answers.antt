@@ -1,40 +1,34 @@
-use Rattle.std.proofs.Common.{◌≡◌, ◌∙◌, refl, sym, ap, subst, true}
+use Rattle.std.proofs.Common.{◌≡◌, Bool, ap, subst, true}
 use Rattle.libyaml_types.specs.Fault.{fault_of}
 use Rattle.libyaml_automaton.specs.Growth.{pushes_in_documents}
 use Rattle.libyaml_automaton.specs.Numbers.{next_of}
-use Rattle.libyaml_events.specs.machine.Config.{handles_of}
-use Rattle.libyaml_events.proofs.layer.Leads.{document_leads, document_grows, handle_grows}
-use Rattle.libyaml_events.proofs.layer.Putting.{still_ready}
-use Rattle.libyaml_events.proofs.layer.Views.{seen_behind, seen_same}
+use Rattle.libyaml_events.specs.machine.Config.{Config, handles_of, token_ahead}
+use Rattle.libyaml_events.proofs.layer.Leads.{still_ready}
+use Rattle.libyaml_events.proofs.layer.Directives.{document_grows, document_leads, handle_grows}
 use Rattle.libyaml_events.proofs.parser.Machine.lead_document.Goals as goal
 
 pub returns-clause-led : goal.returns-clause-led
-returns-clause-led c = document_leads c.self.inside.lookahead c.self.inside.lookahead_token c.self.inside.automaton
-    c.document_step.new.self _ _ c.args.self.now c.args.token.now c.args.pending.now
-    (record c.args.pending.now { reading = c.document_step.new.read }) c.document_step.result c.type_.result
-    c.self.view_is c.requires.ready c.type_.ensures refl c.requires.declared c.document_step.ensures.fits
-    (c.document_step.ensures.steps c.args.token.now.end_mark)
+returns-clause-led c = document_leads (handles_of c.self.inside.handles.entries) (fault_of c.self.inside.prefix)
+    (token_ahead c.self.inside.lookahead c.self.inside.lookahead_token) c.self.inside.automaton c.document_step.new.self
+    c.args.self.now c.args.token.now c.args.pending.now c.document_step.new.read c.document_step.result c.type_.result
+    c.self.view_is c.type_.ensures c.requires.declared (c.document_step.ensures.steps c.args.token.now.end_mark)
 
 pub returns-clause-undone : goal.returns-clause-undone
 returns-clause-undone c = λ h.
     let u = c.document_step.ensures.undone h in
-    let r = still_ready c.args.pending.now c.document_step.new.read c.args.self.now _
-    (seen_same c.self.inside.lookahead_token c.self.inside.automaton (handles_of c.self.inside.handles.entries)
-    (fault_of c.self.inside.prefix) c.self.inside.lookahead c.document_step.new.self _ c.self.view_is u.0) u.1
+    let r = still_ready c.args.pending.now c.document_step.new.read c.args.self.now _ (rw u.0 c.self.view_is) u.1
     c.requires.ready in
     (r.0, r.1, r.2, u.1.0)
 
 pub returns-clause-grows : goal.returns-clause-grows
 returns-clause-grows c = λ h. document_grows c.args.pending.now c.args.self.now c.args.token.now.content c.type_.result
     c.requires.ready c.type_.ensures
-    (subst (λ b. pushes_in_documents (next_of c.args.pending.now.reading.next) b c.type_.result ≡ true)
-    (sym (seen_behind c.self.inside.lookahead_token c.self.inside.automaton (handles_of c.self.inside.handles.entries)
-    (fault_of c.self.inside.prefix) c.self.inside.lookahead) ∙ ap (λ y. y.behind_document_end) c.self.view_is)
-    (c.document_step.ensures.full h))
+    (subst (λ (b : Bool). pushes_in_documents (next_of c.args.pending.now.reading.next) b c.type_.result ≡ true)
+    (ap (λ (y : Config). y.behind_document_end) c.self.view_is) (c.document_step.ensures.full h))
 
 pub returns-clause-handle : goal.returns-clause-handle
-returns-clause-handle c = handle_grows c.self.inside.lookahead c.self.inside.lookahead_token c.self.inside.automaton
-    c.document_step.new.self _ _ c.args.self.now c.args.token.now c.args.pending.now
-    (record c.args.pending.now { reading = c.document_step.new.read }) c.document_step.result c.type_.result
+returns-clause-handle c = handle_grows (handles_of c.self.inside.handles.entries) (fault_of c.self.inside.prefix)
+    (token_ahead c.self.inside.lookahead c.self.inside.lookahead_token) c.self.inside.automaton c.document_step.new.self
+    c.args.self.now c.args.token.now c.args.pending.now c.document_step.new.read c.document_step.result c.type_.result
     c.self.view_is c.requires.ready c.type_.ensures c.document_step.ensures.fits c.requires.documents
     (c.document_step.ensures.steps c.args.token.now.end_mark)

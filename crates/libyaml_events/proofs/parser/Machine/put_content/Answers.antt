@@ -1,39 +1,29 @@
-use Rattle.std.proofs.Common.{ℕ, List, Option, sym, subst, ap, option_map, string_bytes}
-use Rattle.libyaml_automaton.specs.declared.reading.Reading.{Reading}
-use Rattle.libyaml_events.specs.automaton.Led.{IsContent, IsHead}
-use Rattle.libyaml_events.proofs.layer.Contents.{head_at}
-use Rattle.libyaml_events.proofs.layer.Putting.{from_before}
+use Rattle.std.proofs.Common.{◌∙◌, option_map, string_bytes, refl, sym, ap}
+use Rattle.libyaml_events.proofs.layer.Contents.{content_put, content_again}
+use Rattle.libyaml_events.specs.declared.pending.Pending.{Pending}
+use Rattle.libyaml_events.specs.machine.Answers.{only_if}
+use Rattle.libyaml_automaton.specs.Numbers.{flag}
 use Rattle.libyaml_events.proofs.parser.Machine.put_content.Goals as goal
 
-pub put_head-requires-clause-led : goal.put_head-requires-clause-led
-put_head-requires-clause-led c =
-    let l = c.requires.led in (
-      l.0,
-      l.1,
-      c.forget_earlier.new.pending.reading,
-      l.2,
-      c.lead_content-answer.ensures.led l.0 l.1 l.2
-          (subst (λ (r : Reading). IsContent l.0 l.1 c.args.token.now r l.2 c.args.self.now)
-          (sym c.forget_earlier.ensures.reading) l.3),
-    )
+pub returns-in-FullMarks-clause-puts : goal.returns-in-FullMarks-clause-puts
+returns-in-FullMarks-clause-puts c =
+    let u = c.lead_content.ensures.undone c.in-FullMarks.is in
+    λ o h. content_again o h (option_map string_bytes c.args.tag) c.args.token.now c.args.self.now c.lead_content.new.self
+    c.lead_content.new.self c.args.pending.now.reading c.lead_content.new.pending.reading
+    (only_if (flag c.args.pending.now.reading.has_anchor) c.args.pending.now.properties.anchor) c.lead_content.new.pending.properties.anchor
+    c.put_content_again.result c.put_content_again.new.pending c.put_content_again.new.out
+    c.put_content_again.new.self u.0 (ap (λ (x : Pending). x.properties.anchor) u.1 ∙ c.forget_earlier.ensures.anchor)
+    (ap (λ (x : Pending). x.reading) u.1 ∙ c.forget_earlier.ensures.reading) (c.put_content_again.ensures.puts o h)
 
-pub returns-clause-puts : goal.returns-clause-puts
-returns-clause-puts c = λ out h fact i head.
-    let r = c.forget_earlier.new.pending.reading in
-    let g = option_map string_bytes c.args.tag in
-    let same = sym c.forget_earlier.ensures.reading in
-    let now = subst (λ (x : Reading). IsHead (head_at c.forget_earlier.new.pending.properties.anchor g x) h x fact
-    c.args.self.now.handles) same
-    (subst (λ (o : Option (List ℕ)). IsHead (head_at o g c.args.pending.now.reading) h c.args.pending.now.reading fact
-    c.args.self.now.handles) (sym c.forget_earlier.ensures.anchor) head) in
-    let x = c.put_head.ensures.puts out h r fact
-    (subst (λ (o : Option (List ℕ)). IsHead (head_at o g r) h r fact c.lead_content-answer.new.self.handles)
-    (sym (ap (λ p. p.properties.anchor) c.lead_content-answer.ensures.texts))
-    (subst (λ hs. IsHead (head_at c.forget_earlier.new.pending.properties.anchor g r) h r fact hs)
-    (sym c.lead_content-answer.ensures.handles) now))
-    (c.lead_content-answer.ensures.led out h fact
-    (subst (λ (x : Reading). IsContent out h c.args.token.now x fact c.args.self.now) same i)) in (
-      from_before out c.args.self.now c.lead_content-answer.new.self _ c.put_head.new.self c.requires.none
-          c.lead_content-answer.ensures.none x.0,
-      x.1,
-    )
+pub returns-in_default : goal.returns-in_default
+returns-in_default c = record {
+  puts = λ o h. content_put o h (option_map string_bytes c.args.tag) c.args.token.now c.args.self.now c.args.self.now c.lead_content.new.self
+      c.args.pending.now.reading c.forget_earlier.new.pending.reading
+      (only_if (flag c.args.pending.now.reading.has_anchor) c.args.pending.now.properties.anchor) c.forget_earlier.new.pending.properties.anchor
+      c.put_head.result c.put_head.new.pending c.put_head.new.out c.put_head.new.self refl c.forget_earlier.ensures.anchor c.forget_earlier.ensures.reading c.lead_content.result
+      c.lead_content.new.pending.reading c.lead_content.new.pending.properties.anchor c.forget_earlier.new.pending.reading.start_mark
+      c.forget_earlier.new.pending.reading.end_mark
+      (ap (λ (x : Pending). x.properties.anchor) c.lead_content.ensures.texts) refl refl
+      (c.lead_content.ensures.led o h c.forget_earlier.new.pending.properties.anchor (option_map string_bytes c.args.tag)) c.put_head.ensures.puts;
+  grows = λ f m. let e = c.put_head.ensures.error f in absurd cc;
+}

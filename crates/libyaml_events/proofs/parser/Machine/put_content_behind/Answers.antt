@@ -1,17 +1,14 @@
-use Rattle.std.proofs.Common.{subst, refl, option_map, string_bytes}
-use Rattle.libyaml_events.specs.machine.Answers.{answer, held_in}
-use Rattle.libyaml_events.specs.machine.Steps.{Steps}
-use Rattle.libyaml_events.proofs.layer.Contents.{asked}
+use Rattle.std.proofs.Common.{option_map, string_bytes, refl, sym, ap}
+use Rattle.libyaml_events.proofs.layer.Contents.{asked_content, steps_from}
 use Rattle.libyaml_events.proofs.parser.Machine.put_content_behind.Goals as goal
 
 pub returns-clause-puts : goal.returns-clause-puts
 returns-clause-puts c = λ out h l.
-    let y = asked out h c.args.token.now c.args.pending.now c.take_tag.new.pending c.take_tag.new.pending.reading
-    c.args.self.now c.take_tag.new.self (held_in c.take_tag.new.pending).anchor (option_map string_bytes c.in-Ok.tag) l
-    c.take_tag.ensures.reading c.in-Ok.ensures.ok c.take_tag.ensures.reading c.take_tag.ensures.anchor refl
-    c.in-Ok.ensures.tag.0 c.in-Ok.ensures.tag.1 in
-    let x = c.put_content.ensures.puts out h l.1 y.0 y.1 in (
-      subst (λ s. Steps out s (answer c.put_content.result c.put_content.new.pending c.put_content.new.out
-          c.put_content.new.self) c.put_content.new.self) c.in-Ok.ensures.ok x.0,
-      λ e. absurd (x.1 e),
+    let w = c.put_content.ensures.puts out h
+    (rw (c.take_tag.ensures.reading, c.take_tag.ensures.anchor, c.in-Ok.ensures.ok)
+    (asked_content out h c.args.token.now c.args.pending.now c.args.self.now (option_map string_bytes c.in-Ok.tag)
+    c.in-Ok.ensures.tag l)) in (
+      steps_from out c.take_tag.new.self c.args.self.now c.put_content.result c.put_content.new.pending
+          c.put_content.new.out c.put_content.new.self w.1 w.0,
+      λ e. absurd (w.1 e),
     )

@@ -1,14 +1,5 @@
-use Rattle.std.proofs.Common.{sym}
-use Rattle.libyaml_events.proofs.layer.Putting.{again, from_before, is_put_document}
+use Rattle.libyaml_events.proofs.layer.Putting.{again, from_before, grows_again}
 use Rattle.libyaml_events.proofs.parser.Machine.step_document.Goals as goal
-
-pub put_document-requires : goal.put_document-requires
-put_document-requires c = record {
-  none = c.lead_document.ensures.none;
-  put = is_put_document c.lead_document.result c.in_default.not-Full;
-  led = (_, _, c.lead_document.ensures.led);
-  fits = c.lead_document.ensures.fits;
-}
 
 pub returns-in_default : goal.returns-in_default
 returns-in_default c =
@@ -18,6 +9,6 @@ returns-in_default c =
           c.lead_document.ensures.none (again _ _ _ _ c.args.token.now c.lead_document.new.self _ c.put_document.new.self
           c.forget_directives.ensures.wanted c.forget_directives.ensures.same y.0);
       ready = y.1;
-      grows = λ f m. rw (sym c.forget_directives.ensures.wanted, sym c.forget_directives.ensures.same)
-          (c.lead_document.ensures.handle (c.put_document.ensures.grows f m));
+      grows = λ f m. grows_again _ _ _ _ c.args.token.now.content c.forget_directives.ensures.wanted
+          c.forget_directives.ensures.same (c.lead_document.ensures.handle (c.put_document.ensures.grows f m));
     }

@@ -1,9 +1,0 @@
-pub mod States
-pub mod Nodes
-pub mod Steps
-pub mod Agree
-pub mod Growing
-pub mod Answered
-pub mod Histories
-pub mod Reached
-pub mod Entered

@@ -1,0 +1,35 @@
+//! Where a call begins, and what one that failed leaves.
+ghost use Rattle.std.specs.Prelude.{◌≡◌};
+ghost use Rattle.libyaml_events.specs.machine.Answers.{wanted};
+ghost use Rattle.libyaml_events.specs.machine.Want.{AtState};
+ghost use Rattle.libyaml_events.specs.automaton.View.{InStep};
+ghost use Rattle.libyaml_events.specs.parsers.Left.{let_go};
+
+use crate::lookahead::Lookahead;
+use crate::parser::Machine;
+use crate::pending::Pending;
+use libyaml_types::yaml_error_type_t;
+
+impl Machine {
+    /// Has the function of the parser's state take the next token.
+    #[inline(always)]
+    pub(crate) fn begin(&self, pending: &mut Pending)
+        ensures wanted { wanted pending.new ≡ AtState }
+        ensures agrees { InStep pending.new self.now }
+    {
+        self.automaton.begin(&mut pending.reading);
+    }
+
+    /// Drops the stacks and the lookahead, since after a fault nothing asks for them. Returns the fault's
+    /// error.
+    #[cold]
+    #[inline(never)]
+    pub(crate) fn fail(&mut self) -> yaml_error_type_t
+        ensures error { result ≡ self.old.fault.error }
+        ensures left { self.new ≡ let_go self.old }
+    {
+        self.lookahead = Lookahead::Nothing;
+        self.automaton.clear();
+        self.kept_prefix().error
+    }
+}
