@@ -32,17 +32,20 @@ pub use Rattle.libyaml_grammar.specs.sentences.Order
 pub use Rattle.libyaml_grammar.specs.sentences.Sentences
 pub use Rattle.libyaml_grammar.specs.sentences.Tokens
 pub use Rattle.libyaml_grammar.specs.sentences.Trees
+pub use Rattle.libyaml_automaton.specs.Automaton
+pub use Rattle.libyaml_automaton.specs.Config as AutomatonConfig
+pub use Rattle.libyaml_automaton.specs.Fits as AutomatonFits
+pub use Rattle.libyaml_automaton.specs.Growth as AutomatonGrowth
 pub use Rattle.libyaml_automaton.specs.Numbers as AutomatonNumbers
-pub use Rattle.libyaml_automaton.specs.Want as AutomatonWant
+pub use Rattle.libyaml_automaton.specs.Problems
+pub use Rattle.libyaml_automaton.specs.Slots
 pub use Rattle.libyaml_automaton.specs.Wanted as AutomatonWanted
-pub use Rattle.libyaml_events.specs.automaton.Texts as HeldTexts
 pub use Rattle.libyaml_events.specs.automaton.View
 pub use Rattle.libyaml_events.specs.machine.Answers
 pub use Rattle.libyaml_events.specs.machine.Config
 pub use Rattle.libyaml_events.specs.machine.Growth
 pub use Rattle.libyaml_events.specs.machine.Machine
 pub use Rattle.libyaml_events.specs.machine.Read
-pub use Rattle.libyaml_events.specs.machine.Slots
 pub use Rattle.libyaml_events.specs.machine.Want
 pub use Rattle.libyaml_events.specs.parsers.EventsLeft
 pub use Rattle.libyaml_events.specs.parsers.Lookahead
