@@ -13,92 +13,99 @@ use Rattle.rust_original.specs.parser.Parser.{Mends, OK, Outcome, Parser, yaml_p
 use Rattle.rust_original.specs.parser.Runs.{as_here, call}
 use Rattle.rust_original.proofs.parser.Documents as documents
 use Rattle.rust_original.proofs.parser.States as states
-use Rattle.rust_original.proofs.parser.Relation.{Agree, Below, Fits, IsFirst, IsInside, Matches, Stands, before}
+use Rattle.rust_original.proofs.parser.Relation.{Agree, Below, Fits, IsInside, Matches, Opens, Stands, before}
 use Rattle.rust_original.proofs.parser.Relation.{behind, behind_end, entering, feed, first, inside, over, root_end}
-use Rattle.rust_original.proofs.parser.Relation.{there, tokens_of}
+use Rattle.rust_original.proofs.parser.Relation.{there_with, tokens_of}
 
-module _ (f : Fault) (x : Fault) (ss : List yaml_parser_state_t) (ms : List Mark) where
-  abbrev conf : yaml_parser_state_t → Handles → Bool → Config
-  conf s hs be
+module _ (f : Fault) (x : Fault) (ss : List yaml_parser_state_t) where
+  abbrev conf : yaml_parser_state_t → List Mark → Handles → Bool → Config
+  conf s ms hs be
       = record { lookahead = None; state = s; states = ss; marks = ms; handles = hs; behind_document_end = be; fault = x }
 
-  abbrev Same : (here there_state : yaml_parser_state_t) → List yaml_tag_directive_t → Handles → Bool → Bool → Bool
-      → List Token → Type 0
-  Same s s' tags hs be flag ended l
-      = Matches f (yaml_parser_state_machine as_here s' (there f tags flag s' ended (conf s hs be) l))
-      (feed f AtState (conf s hs be) l)
+  abbrev Same : (here there_state : yaml_parser_state_t) → (marks marks_there : List Mark) → List yaml_tag_directive_t
+      → Handles → Bool → Bool → Bool → (tokens tokens_there : List Token) → Type 0
+  Same s s' ms ms' tags hs be flag ended l l'
+      = Matches f (yaml_parser_state_machine as_here s' (there_with f tags flag s' ended (conf s ms hs be) ms' l'))
+      (feed f AtState (conf s ms hs be) l)
 
-  entered : (s : yaml_parser_state_t) (tags : List yaml_tag_directive_t) (hs : Handles) (be flag : Bool) (t : Token)
-      (l : List Token) → IsFirst s → Below ss
-      → Agree tags hs → is_end t.content ≡ false → Same s s tags hs be flag false (t ∷ l)
-  entered st.YAML_PARSE_BLOCK_SEQUENCE_FIRST_ENTRY_STATE tags hs be flag t l i b a e
+  entered : (s' s : yaml_parser_state_t) (ms : List Mark) (tags : List yaml_tag_directive_t) (hs : Handles)
+      (be flag : Bool) (t : Token) (l : List Token) → Opens s' s → Below ss
+      → Agree tags hs → is_end t.content ≡ false → Same s s' (t.start_mark ∷ ms) ms tags hs be flag false l (t ∷ l)
+  entered st.YAML_PARSE_BLOCK_SEQUENCE_FIRST_ENTRY_STATE st.YAML_PARSE_BLOCK_SEQUENCE_ENTRY_STATE ms tags hs be flag t l i
+      b a e
       = states.block_sequence_first_entry f tags hs be flag x ss a b ms t l e
-  entered st.YAML_PARSE_BLOCK_MAPPING_FIRST_KEY_STATE tags hs be flag t l i b a e
+  entered st.YAML_PARSE_BLOCK_MAPPING_FIRST_KEY_STATE st.YAML_PARSE_BLOCK_MAPPING_KEY_STATE ms tags hs be flag t l i b a e
       = states.block_mapping_first_key f tags hs be flag x ss a b ms t l e
-  entered st.YAML_PARSE_FLOW_SEQUENCE_FIRST_ENTRY_STATE tags hs be flag t l i b a e
+  entered st.YAML_PARSE_FLOW_SEQUENCE_FIRST_ENTRY_STATE st.YAML_PARSE_FLOW_SEQUENCE_FIRST_ENTRY_STATE ms tags hs be flag t
+      l i b a e
       = states.flow_sequence_first_entry f tags hs be flag x ss a b ms t l e
-  entered st.YAML_PARSE_FLOW_MAPPING_FIRST_KEY_STATE tags hs be flag t l i b a e
+  entered st.YAML_PARSE_FLOW_MAPPING_FIRST_KEY_STATE st.YAML_PARSE_FLOW_MAPPING_FIRST_KEY_STATE ms tags hs be flag t l i b
+      a e
       = states.flow_mapping_first_key f tags hs be flag x ss a b ms t l e
-  entered _ tags hs be flag t l i b a e = absurd i
+  entered _ _ ms tags hs be flag t l i b a e = absurd i
 
-  within : (s : yaml_parser_state_t) (tags : List yaml_tag_directive_t) (hs : Handles) (be flag : Bool) (l : List Token)
-      → IsInside s → Below ss → Agree tags hs → Same s s tags hs be flag false l
-  within st.YAML_PARSE_DOCUMENT_CONTENT_STATE tags hs be flag l i b a
+  within : (s : yaml_parser_state_t) (ms : List Mark) (tags : List yaml_tag_directive_t) (hs : Handles) (be flag : Bool)
+      (l : List Token) → IsInside s → Below ss → Agree tags hs → Same s s ms ms tags hs be flag false l l
+  within st.YAML_PARSE_DOCUMENT_CONTENT_STATE ms tags hs be flag l i b a
       = states.document_content f tags hs be flag x ss a b _ ms l
-  within st.YAML_PARSE_BLOCK_NODE_STATE tags hs be flag l i b a = states.block_node f tags hs be flag x ss a b _ ms l
-  within st.YAML_PARSE_BLOCK_NODE_OR_INDENTLESS_SEQUENCE_STATE tags hs be flag l i b a
+  within st.YAML_PARSE_BLOCK_NODE_STATE ms tags hs be flag l i b a = states.block_node f tags hs be flag x ss a b _ ms l
+  within st.YAML_PARSE_BLOCK_NODE_OR_INDENTLESS_SEQUENCE_STATE ms tags hs be flag l i b a
       = states.block_node_or_indentless_sequence f tags hs be flag x ss a b _ ms l
-  within st.YAML_PARSE_FLOW_NODE_STATE tags hs be flag l i b a = states.flow_node f tags hs be flag x ss a b _ ms l
-  within st.YAML_PARSE_BLOCK_SEQUENCE_ENTRY_STATE tags hs be flag l i b a
+  within st.YAML_PARSE_FLOW_NODE_STATE ms tags hs be flag l i b a = states.flow_node f tags hs be flag x ss a b _ ms l
+  within st.YAML_PARSE_BLOCK_SEQUENCE_ENTRY_STATE ms tags hs be flag l i b a
       = states.block_sequence_entry f tags hs be flag x ss a b _ ms l
-  within st.YAML_PARSE_INDENTLESS_SEQUENCE_ENTRY_STATE tags hs be flag l i b a
+  within st.YAML_PARSE_INDENTLESS_SEQUENCE_ENTRY_STATE ms tags hs be flag l i b a
       = states.indentless_sequence_entry f tags hs be flag x ss a b _ ms l
-  within st.YAML_PARSE_BLOCK_MAPPING_KEY_STATE tags hs be flag l i b a
+  within st.YAML_PARSE_BLOCK_MAPPING_KEY_STATE ms tags hs be flag l i b a
       = states.block_mapping_key f tags hs be flag x ss a b _ ms l
-  within st.YAML_PARSE_BLOCK_MAPPING_VALUE_STATE tags hs be flag l i b a
+  within st.YAML_PARSE_BLOCK_MAPPING_VALUE_STATE ms tags hs be flag l i b a
       = states.block_mapping_value f tags hs be flag x ss a b _ ms l
-  within st.YAML_PARSE_FLOW_SEQUENCE_ENTRY_STATE tags hs be flag l i b a
+  within st.YAML_PARSE_FLOW_SEQUENCE_ENTRY_STATE ms tags hs be flag l i b a
       = states.flow_sequence_entry f tags hs be flag x ss a b _ ms l
-  within st.YAML_PARSE_FLOW_SEQUENCE_ENTRY_MAPPING_KEY_STATE tags hs be flag l i b a
+  within st.YAML_PARSE_FLOW_SEQUENCE_ENTRY_MAPPING_KEY_STATE ms tags hs be flag l i b a
       = states.pair_key f tags hs be flag x ss a b _ ms l
-  within st.YAML_PARSE_FLOW_SEQUENCE_ENTRY_MAPPING_VALUE_STATE tags hs be flag l i b a
+  within st.YAML_PARSE_FLOW_SEQUENCE_ENTRY_MAPPING_VALUE_STATE ms tags hs be flag l i b a
       = states.pair_value f tags hs be flag x ss a b _ ms l
-  within st.YAML_PARSE_FLOW_SEQUENCE_ENTRY_MAPPING_END_STATE tags hs be flag l i b a
+  within st.YAML_PARSE_FLOW_SEQUENCE_ENTRY_MAPPING_END_STATE ms tags hs be flag l i b a
       = states.pair_end f tags hs be flag x ss a b st.YAML_PARSE_FLOW_SEQUENCE_ENTRY_MAPPING_END_STATE ms l
-  within st.YAML_PARSE_FLOW_MAPPING_KEY_STATE tags hs be flag l i b a
+  within st.YAML_PARSE_FLOW_MAPPING_KEY_STATE ms tags hs be flag l i b a
       = states.flow_mapping_key f tags hs be flag x ss a b _ ms l
-  within st.YAML_PARSE_FLOW_MAPPING_VALUE_STATE tags hs be flag l i b a
+  within st.YAML_PARSE_FLOW_MAPPING_VALUE_STATE ms tags hs be flag l i b a
       = states.flow_mapping_value f tags hs be flag x ss a b _ ms l
-  within st.YAML_PARSE_FLOW_MAPPING_EMPTY_VALUE_STATE tags hs be flag l i b a
+  within st.YAML_PARSE_FLOW_MAPPING_EMPTY_VALUE_STATE ms tags hs be flag l i b a
       = states.flow_mapping_empty_value f tags hs be flag x ss a b st.YAML_PARSE_FLOW_MAPPING_EMPTY_VALUE_STATE ms l
-  within _ tags hs be flag l i b a = absurd i
+  within _ ms tags hs be flag l i b a = absurd i
 
-  called : {s s' : yaml_parser_state_t} {tags : List yaml_tag_directive_t} {hs : Handles} {be flag ended : Bool} {l :
-      List Token}
-      → Fits ss s s' tags hs be flag ended l → is_end_state s ≡ false → Same s s' tags hs be flag ended l
-  called (before {l}) e = documents.stream_start f x ss ms l
-  called (first {l}) e = documents.first_document f x ss ms l
-  called (behind_end {l}) e = documents.bare_document f x ss ms l
-  called (behind {be} {t} {l} i) e = documents.next_document f x ss ms be t.content t.start_mark t.end_mark l i
-  called (root_end {tags} {hs} {be} {flag} {l}) e = states.document_end f tags hs be flag x ss ms l
-  called (entering {s} {tags} {hs} {be} {flag} {t} {l} i b a n) e = entered s tags hs be flag t l i b a n
-  called (inside {s} {tags} {hs} {be} {flag} {l} i b a) e = within s tags hs be flag l i b a
+  called : {s s' : yaml_parser_state_t} {ms ms' : List Mark} {tags : List yaml_tag_directive_t} {hs : Handles} {be flag
+      ended : Bool} {l l' : List Token}
+      → Fits ss s s' ms ms' tags hs be flag ended l l' → is_end_state s ≡ false → Same s s' ms ms' tags hs be flag ended l l'
+  called (before {ms} {l}) e = documents.stream_start f x ss ms l
+  called (first {ms} {l}) e = documents.first_document f x ss ms l
+  called (behind_end {ms} {l}) e = documents.bare_document f x ss ms l
+  called (behind {ms} {be} {t} {l} i) e = documents.next_document f x ss ms be t.content t.start_mark t.end_mark l i
+  called (root_end {ms} {tags} {hs} {be} {flag} {l}) e = states.document_end f tags hs be flag x ss ms l
+  called (entering {s} {s'} {ms} {tags} {hs} {be} {flag} {t} {l} i b a n) e
+      = entered s' s ms tags hs be flag t l i b a n
+  called (inside {s} {ms} {tags} {hs} {be} {flag} {l} i b a) e = within s ms tags hs be flag l i b a
   called over e = absurd cc
 
 -- the flag for the stream's end is set with the last state
-pub flagged : {ss : List yaml_parser_state_t} {s s' : yaml_parser_state_t} {tags : List yaml_tag_directive_t} {hs :
-    Handles} {be flag ended : Bool} {l : List Token}
-    → Fits ss s s' tags hs be flag ended l → ended ≡ is_end_state s
+pub flagged : {ss : List yaml_parser_state_t} {s s' : yaml_parser_state_t} {ms ms' : List Mark} {tags : List
+    yaml_tag_directive_t} {hs : Handles} {be flag ended : Bool} {l l' : List Token}
+    → Fits ss s s' ms ms' tags hs be flag ended l l' → ended ≡ is_end_state s
 flagged before = refl
 flagged first = refl
 flagged behind_end = refl
 flagged (behind e) = refl
 flagged root_end = refl
-flagged (entering {s} i b a e) = go s i
+flagged (entering {s} {s'} i b a e) = go s' s i
   where
-    go : (s : yaml_parser_state_t) → IsFirst s → false ≡ is_end_state s
-    go st.YAML_PARSE_END_STATE i = absurd i
-    go _ i = refl
+    go : (s' s : yaml_parser_state_t) → Opens s' s → false ≡ is_end_state s
+    go st.YAML_PARSE_BLOCK_SEQUENCE_FIRST_ENTRY_STATE st.YAML_PARSE_BLOCK_SEQUENCE_ENTRY_STATE i = refl
+    go st.YAML_PARSE_BLOCK_MAPPING_FIRST_KEY_STATE st.YAML_PARSE_BLOCK_MAPPING_KEY_STATE i = refl
+    go st.YAML_PARSE_FLOW_SEQUENCE_FIRST_ENTRY_STATE st.YAML_PARSE_FLOW_SEQUENCE_FIRST_ENTRY_STATE i = refl
+    go st.YAML_PARSE_FLOW_MAPPING_FIRST_KEY_STATE st.YAML_PARSE_FLOW_MAPPING_FIRST_KEY_STATE i = refl
+    go _ _ i = absurd i
 flagged (inside {s} i b a) = go s i
   where
     go : (s : yaml_parser_state_t) → IsInside s → false ≡ is_end_state s
@@ -107,15 +114,22 @@ flagged (inside {s} i b a) = go s i
 flagged over = refl
 
 -- and both states are the last one
-both_end : {ss : List yaml_parser_state_t} {s s' : yaml_parser_state_t} {tags : List yaml_tag_directive_t} {hs :
-    Handles}
-    {be flag ended : Bool} {l : List Token} → Fits ss s s' tags hs be flag ended l → is_end_state s' ≡ is_end_state s
+both_end : {ss : List yaml_parser_state_t} {s s' : yaml_parser_state_t} {ms ms' : List Mark} {tags : List
+    yaml_tag_directive_t} {hs : Handles} {be flag ended : Bool} {l l' : List Token}
+    → Fits ss s s' ms ms' tags hs be flag ended l l' → is_end_state s' ≡ is_end_state s
 both_end before = refl
 both_end first = refl
 both_end behind_end = refl
 both_end (behind e) = refl
 both_end root_end = refl
-both_end (entering i b a e) = refl
+both_end (entering {s} {s'} i b a e) = go s' s i
+  where
+    go : (s' s : yaml_parser_state_t) → Opens s' s → is_end_state s' ≡ is_end_state s
+    go st.YAML_PARSE_BLOCK_SEQUENCE_FIRST_ENTRY_STATE st.YAML_PARSE_BLOCK_SEQUENCE_ENTRY_STATE i = refl
+    go st.YAML_PARSE_BLOCK_MAPPING_FIRST_KEY_STATE st.YAML_PARSE_BLOCK_MAPPING_KEY_STATE i = refl
+    go st.YAML_PARSE_FLOW_SEQUENCE_FIRST_ENTRY_STATE st.YAML_PARSE_FLOW_SEQUENCE_FIRST_ENTRY_STATE i = refl
+    go st.YAML_PARSE_FLOW_MAPPING_FIRST_KEY_STATE st.YAML_PARSE_FLOW_MAPPING_FIRST_KEY_STATE i = refl
+    go _ _ i = absurd i
 both_end (inside i b a) = refl
 both_end over = refl
 
@@ -134,4 +148,4 @@ call_same f q d l s e = subst (λ (o : Outcome). Matches f o (feed f AtState (ta
     (ap (λ (p : Parser). is_end_state p.state) s.is ∙ (both_end s.fits ∙ e))))
     (subst (λ (p : Parser). Matches f (yaml_parser_state_machine as_here p.state p)
     (feed f AtState (taken d) (tokens_of d.lookahead l))) (sym s.is)
-    (called f d.fault d.states d.marks s.fits e))
+    (called f d.fault d.states s.fits e))

@@ -1,6 +1,6 @@
 -- Between documents, both parsers do the same.
 use Rattle.std.proofs.Common.{◌≡◌, ◌∷◌, ◌++◌, ◌||◌, ◌&&◌, ℕ, pos, List, [], Option, Some, None, Bool, true, false, not}
-use Rattle.std.proofs.Common.{refl, sym, subst, codes, if◌then◌else◌}
+use Rattle.std.proofs.Common.{refl, sym, subst, codes, if◌then◌else◌, is_some}
 use Rattle.std.specs.FinMap.{get, insert}
 use Rattle.std.specs.Ordering.{int_eq}
 use Rattle.libyaml_types.specs.declared.directive.yaml_tag_directive_t.{yaml_tag_directive_t}
@@ -11,10 +11,10 @@ use Rattle.libyaml_types.specs.Fault.{Fault}
 use Rattle.libyaml_grammar.specs.cuts.FaultTexts.{document_start_fault}
 use Rattle.libyaml_grammar.specs.sentences.Tokens.{Content, DocumentEnd, DocumentStart, HandleDeclared, Mark, StreamEnd}
 use Rattle.libyaml_grammar.specs.sentences.Tokens.{StreamStart, TagDirective, Token, VersionAsked, VersionDirective}
-use Rattle.libyaml_events.specs.machine.Read.{DirectivesRead}
-use Rattle.libyaml_events.specs.machine.Config.{Config, Handles, no_handles}
-use Rattle.libyaml_events.specs.machine.Machine as mach
-use Rattle.libyaml_events.specs.machine.Want.{AtState, BehindDirective}
+use Rattle.libyaml_automaton.specs.Automaton as automaton
+use Rattle.libyaml_events.specs.machine.Config.{Config, Handles, config_of, no_handles}
+use Rattle.libyaml_events.specs.machine.Machine.{Progressed, put, seen}
+use Rattle.libyaml_events.specs.machine.Want.{AtState, Texts, Want, no_texts}
 use Rattle.rust_original.specs.parser.Parser as orig
 use Rattle.rust_original.specs.parser.Parser.{Outcome, Parser, default_tag_directives, directive_of, directives_from}
 use Rattle.rust_original.specs.parser.Runs.{as_here}
@@ -33,7 +33,7 @@ module _ (f : Fault) (x : Fault) (ss : List yaml_parser_state_t) (ms : List Mark
   -- before the stream
   stream_start_token : (be flag : Bool) (k : Content) (m n : Mark) (l : List Token) → be ≡ false → flag ≡ false
       → Matches f (orig.yaml_parser_parse_stream_start (par st.YAML_PARSE_STREAM_START_STATE false [] (tk k m n ∷ l)))
-      (fed f (mach.parse_stream_start (here st.YAML_PARSE_STREAM_START_STATE false no_handles) (tk k m n) k) l)
+      (feed f AtState (here st.YAML_PARSE_STREAM_START_STATE false no_handles) (tk k m n ∷ l))
   stream_start_token be flag (StreamStart s) m n l d e
       = (refl, standing refl first tt)
   stream_start_token be flag k m n l d e = refl
@@ -45,91 +45,104 @@ module _ (f : Fault) (x : Fault) (ss : List yaml_parser_state_t) (ms : List Mark
   stream_start (t ∷ l) = stream_start_token false false t.content t.start_mark t.end_mark l refl refl
 
   -- the directives of a document that begins at a mark, from a token on
+  abbrev directive_texts : Option yaml_version_directive_t → List yaml_tag_directive_t → Texts
+  directive_texts v ts = record no_texts { version = v; tag_directives = ts }
+
+  abbrev behind_directive : Mark → Option yaml_version_directive_t → List yaml_tag_directive_t → Want
+  behind_directive a v ts = record { next = automaton.BehindDirective a (is_some v); texts = directive_texts v ts }
+
   module _ (s s' : yaml_parser_state_t) (be flag : Bool) where
     abbrev next_there : Mark → Option yaml_version_directive_t → List yaml_tag_directive_t → Parser → Outcome
     next_there = orig.behind_directives
 
     abbrev Follows : List Token → Type 0
-    Follows l = (d : DirectivesRead) (tags : List yaml_tag_directive_t) (hs : Handles) → Reads tags hs
-        → Matches f (directives_from d.version d.tag_directives (next_there d.start_mark) l (par s' flag tags l))
-        (feed f (BehindDirective d) (here s be hs) l)
+    Follows l = (a : Mark) (o : Option yaml_version_directive_t) (ts : List yaml_tag_directive_t)
+        (tags : List yaml_tag_directive_t) (hs : Handles) → Reads tags hs
+        → Matches f (directives_from o ts (next_there a) l (par s' flag tags l))
+        (feed f (behind_directive a o ts) (here s be hs) l)
 
-    versions : (a b c : Bool) (d : DirectivesRead) (v : yaml_version_directive_t) (m : Mark) (l : List Token)
+    versions : (x y z : Bool) (a : Mark) (ts : List yaml_tag_directive_t) (v : VersionAsked) (m n : Mark) (l : List Token)
         (tags : List yaml_tag_directive_t) (hs : Handles)
-        → Matches f (directives_from (Some v) d.tag_directives (next_there d.start_mark) l (par s' flag tags l))
-        (feed f (BehindDirective (record d { version = Some v })) (here s be hs) l) → Matches f
-        (if not a || (not b && not c) then orig.yaml_parser_set_parser_error
+        → Matches f (directives_from (Some (record { major = v.major; minor = v.minor })) ts (next_there a) l
+        (par s' flag tags l))
+        (feed f (behind_directive a (Some (record { major = v.major; minor = v.minor })) ts) (here s be hs) l) → Matches f
+        (if not x || (not y && not z) then orig.yaml_parser_set_parser_error
         (codes "found incompatible YAML document") m
-        else directives_from (Some v) d.tag_directives (next_there d.start_mark) l (par s' flag tags l))
-        (fed f (mach.first_version (a && (b || c)) d (here s be hs) m v) l)
-    versions true true c d v m l tags hs h = h
-    versions true false true d v m l tags hs h = h
-    versions true false false d v m l tags hs h = refl
-    versions false b c d v m l tags hs h = refl
+        else directives_from (Some (record { major = v.major; minor = v.minor })) ts (next_there a) l
+        (par s' flag tags l))
+        (fed f (put (directive_texts None ts) None None (here s be hs) (tk (VersionDirective v) m n) (VersionDirective v)
+        (automaton.first_version (x && (y || z)) a (config_of (here s be hs))
+        (seen (tk (VersionDirective v) m n) (VersionDirective v)))) l)
+    versions true true z a ts v m n l tags hs h = h
+    versions true false true a ts v m n l tags hs h = h
+    versions true false false a ts v m n l tags hs h = refl
+    versions false y z a ts v m n l tags hs h = refl
 
-    version_token : (o : Option yaml_version_directive_t) (d : DirectivesRead) (v : VersionAsked) (m n : Mark)
-        (l : List Token)
-        (tags : List yaml_tag_directive_t) (hs : Handles) → Follows l → Reads tags hs → Matches f
-        (directives_from o d.tag_directives (next_there d.start_mark) (tk (VersionDirective v) m n ∷ l)
+    version_token : (a : Mark) (o : Option yaml_version_directive_t) (ts : List yaml_tag_directive_t) (v : VersionAsked)
+        (m n : Mark) (l : List Token) (tags : List yaml_tag_directive_t) (hs : Handles) → Follows l → Reads tags hs
+        → Matches f
+        (directives_from o ts (next_there a) (tk (VersionDirective v) m n ∷ l)
         (par s' flag tags (tk (VersionDirective v) m n ∷ l)))
-        (fed f (mach.version_directive o d (here s be hs) m (record { major = v.major; minor = v.minor })) l)
-    version_token (Some e) d v m n l tags hs ih r = refl
-    version_token None d v m n l tags hs ih r
-        = versions (int_eq v.major (pos 1)) (int_eq v.minor (pos 1)) (int_eq v.minor (pos 2)) d
-        (record { major = v.major; minor = v.minor }) m l tags hs
-        (ih (record d { version = Some (record { major = v.major; minor = v.minor }) }) tags hs r)
+        (feed f (behind_directive a o ts) (here s be hs) (tk (VersionDirective v) m n ∷ l))
+    version_token a (Some e) ts v m n l tags hs ih r = refl
+    version_token a None ts v m n l tags hs ih r
+        = versions (int_eq v.major (pos 1)) (int_eq v.minor (pos 1)) (int_eq v.minor (pos 2)) a ts v m n l tags hs
+        (ih a (Some (record { major = v.major; minor = v.minor })) ts tags hs r)
 
-    tag_token : (d : DirectivesRead) (g : HandleDeclared) (m n : Mark) (l : List Token)
-        (tags : List yaml_tag_directive_t) (hs : Handles) → Follows l → Reads tags hs → Matches f
-        (directives_from d.version d.tag_directives (next_there d.start_mark) (tk (TagDirective g) m n ∷ l)
+    tag_token : (a : Mark) (o : Option yaml_version_directive_t) (ts : List yaml_tag_directive_t) (g : HandleDeclared)
+        (m n : Mark) (l : List Token) (tags : List yaml_tag_directive_t) (hs : Handles) → Follows l → Reads tags hs
+        → Matches f
+        (directives_from o ts (next_there a) (tk (TagDirective g) m n ∷ l)
         (par s' flag tags (tk (TagDirective g) m n ∷ l)))
-        (fed f (mach.tag_directive (get hs g.handle) d (here s be hs) m (declares g.handle g.prefix)) l)
-    tag_token d g m n l tags hs ih r = subst (λ o. Matches f
-        (directives_from d.version d.tag_directives (next_there d.start_mark) (tk (TagDirective g) m n ∷ l)
-        (par s' flag tags (tk (TagDirective g) m n ∷ l)))
-        (fed f (mach.tag_directive o d (here s be hs) m (declares g.handle g.prefix)) l)) (r g.handle)
+        (feed f (behind_directive a o ts) (here s be hs) (tk (TagDirective g) m n ∷ l))
+    tag_token a o ts g m n l tags hs ih r = subst (λ (w : Option (List ℕ)). Matches f
+        (directives_from o ts (next_there a) (tk (TagDirective g) m n ∷ l)
+        (par s' flag tags (tk (TagDirective g) m n ∷ l))) (fed f (told w) l)) (r g.handle)
         (go (directive_of tags g.handle) refl)
       where
-        go : (o : Option (List ℕ)) → directive_of tags g.handle ≡ o
-            → Matches f (elim o [
+        told : Option (List ℕ) → Progressed
+        told w = put (directive_texts o ts) None None (here s be hs) (tk (TagDirective g) m n) (TagDirective g)
+            (automaton.tag_directive (is_some w) a (is_some o) (config_of (here s be hs))
+            (seen (tk (TagDirective g) m n) (TagDirective g)))
+
+        go : (w : Option (List ℕ)) → directive_of tags g.handle ≡ w
+            → Matches f (elim w [
               | Some earlier ↦ orig.yaml_parser_set_parser_error (codes "found duplicate %TAG directive") m
-              | None ↦ directives_from d.version (d.tag_directives ++ declares g.handle g.prefix ∷ [])
-                  (next_there d.start_mark) l
+              | None ↦ directives_from o (ts ++ declares g.handle g.prefix ∷ []) (next_there a) l
                   (par s' flag (tags ++ declares g.handle g.prefix ∷ []) l)
-            ]) (fed f (mach.tag_directive o d (here s be hs) m (declares g.handle g.prefix)) l)
+            ]) (fed f (told w) l)
         go (Some e) i = refl
         go None i
-            = ih (record d { tag_directives = d.tag_directives ++ declares g.handle g.prefix ∷ [] })
-            (tags ++ declares g.handle g.prefix ∷ [])
+            = ih a o (ts ++ declares g.handle g.prefix ∷ []) (tags ++ declares g.handle g.prefix ∷ [])
             (insert hs g.handle g.prefix) (reads_more tags hs g.handle g.prefix r i)
 
-    directive_token : (d : DirectivesRead) (k : Content) (m n : Mark) (l : List Token)
-        (tags : List yaml_tag_directive_t) (hs : Handles) → Follows l → Reads tags hs → Matches f
-        (directives_from d.version d.tag_directives (next_there d.start_mark) (tk k m n ∷ l)
-        (par s' flag tags (tk k m n ∷ l)))
-        (fed f (mach.explicit_document d (here s be hs) (tk k m n) k) l)
-    directive_token d (VersionDirective v) m n l tags hs ih r = version_token d.version d v m n l tags hs ih r
-    directive_token d (TagDirective g) m n l tags hs ih r = tag_token d g m n l tags hs ih r
-    directive_token d DocumentStart m n l tags hs ih r
-        = subst (λ o. Matches f o
-        (fed f (mach.explicit_document d (here s be hs) (tk DocumentStart m n) DocumentStart) l))
-        (sym (defaults_appended (par s' flag tags (tk DocumentStart m n ∷ l)) m
-        (next_there d.start_mark d.version d.tag_directives))) (
+    directive_token : (a : Mark) (o : Option yaml_version_directive_t) (ts : List yaml_tag_directive_t) (k : Content)
+        (m n : Mark) (l : List Token) (tags : List yaml_tag_directive_t) (hs : Handles) → Follows l → Reads tags hs
+        → Matches f
+        (directives_from o ts (next_there a) (tk k m n ∷ l) (par s' flag tags (tk k m n ∷ l)))
+        (feed f (behind_directive a o ts) (here s be hs) (tk k m n ∷ l))
+    directive_token a o ts (VersionDirective v) m n l tags hs ih r = version_token a o ts v m n l tags hs ih r
+    directive_token a o ts (TagDirective g) m n l tags hs ih r = tag_token a o ts g m n l tags hs ih r
+    directive_token a o ts DocumentStart m n l tags hs ih r
+        = subst (λ y. Matches f y
+        (feed f (behind_directive a o ts) (here s be hs) (tk DocumentStart m n ∷ l)))
+        (sym (defaults_appended (par s' flag tags (tk DocumentStart m n ∷ l)) m (next_there a o ts))) (
           refl,
           standing refl (inside tt tt (agree tags hs r)) tt,
         )
-    directive_token d k m n l tags hs ih r = subst (λ o. Matches f o (stopped (document_start_fault m)))
-        (sym (defaults_appended (par s' flag tags (tk k m n ∷ l)) m
-        (next_there d.start_mark d.version d.tag_directives))) refl
+    directive_token a o ts k m n l tags hs ih r = subst (λ y. Matches f y (stopped (document_start_fault m)))
+        (sym (defaults_appended (par s' flag tags (tk k m n ∷ l)) m (next_there a o ts))) refl
 
     directives : (l : List Token) → Follows l
-    directives [] d tags hs r = refl
-    directives (t ∷ l) d tags hs r = directive_token d t.content t.start_mark t.end_mark l tags hs (directives l) r
+    directives [] a o ts tags hs r = refl
+    directives (t ∷ l) a o ts tags hs r
+        = directive_token a o ts t.content t.start_mark t.end_mark l tags hs (directives l) r
 
     -- a document without a start of its own
     implicit : (k : Content) (m n : Mark) (l : List Token)
         → Matches f (default_tag_directives m (par s' flag [] (tk k m n ∷ l)) (orig.begins_implicit m None []))
-        (fed f (mach.implicit_document (here s be no_handles) (tk k m n)) l)
+        (fed f (put no_texts None None (here s be no_handles) (tk k m n) k (automaton.implicit_document
+        (config_of (here s be no_handles)) (seen (tk k m n) k))) l)
     implicit k m n l = (
       refl,
       standing refl (inside tt tt (agree [] no_handles none_declared)) tt,
@@ -137,16 +150,15 @@ module _ (f : Fault) (x : Fault) (ss : List yaml_parser_state_t) (ms : List Mark
 
     pub explicit : (k : Content) (m n : Mark) (l : List Token)
         → Matches f (orig.explicit_document m (par s' flag [] (tk k m n ∷ l)))
-        (fed f (mach.explicit_document (mach.no_directives m) (here s be no_handles) (tk k m n) k) l)
-    explicit k m n l = directives (tk k m n ∷ l) (mach.no_directives m) [] no_handles none_declared
+        (feed f (behind_directive m None []) (here s be no_handles) (tk k m n ∷ l))
+    explicit k m n l = directives (tk k m n ∷ l) m None [] [] no_handles none_declared
 
   -- where a document may be implicit: the first one
   first_token : (k : Content) (m n : Mark) (l : List Token)
       → Matches f
       (orig.yaml_parser_parse_document_start as_here
       (par st.YAML_PARSE_IMPLICIT_DOCUMENT_START_STATE false [] (tk k m n ∷ l)) true)
-      (fed f (mach.parse_implicit_document_start (here st.YAML_PARSE_IMPLICIT_DOCUMENT_START_STATE false no_handles)
-      (tk k m n) k) l)
+      (feed f AtState (here st.YAML_PARSE_IMPLICIT_DOCUMENT_START_STATE false no_handles) (tk k m n ∷ l))
   first_token StreamEnd m n l = (refl, standing refl over tt)
   first_token (VersionDirective v) m n l
       = explicit st.YAML_PARSE_IMPLICIT_DOCUMENT_START_STATE st.YAML_PARSE_IMPLICIT_DOCUMENT_START_STATE false false
@@ -186,8 +198,7 @@ module _ (f : Fault) (x : Fault) (ss : List yaml_parser_state_t) (ms : List Mark
           (feed f AtState (here st.YAML_PARSE_IMPLICIT_DOCUMENT_START_STATE true no_handles) l) → Matches f
           (orig.yaml_parser_parse_document_start as_here
           (par st.YAML_PARSE_DOCUMENT_START_STATE true [] (tk k m n ∷ l)) false)
-          (fed f (mach.parse_implicit_document_start (here st.YAML_PARSE_IMPLICIT_DOCUMENT_START_STATE true no_handles)
-          (tk k m n) k) l)
+          (feed f AtState (here st.YAML_PARSE_IMPLICIT_DOCUMENT_START_STATE true no_handles) (tk k m n ∷ l))
       go StreamEnd m n ih = (refl, standing refl over tt)
       go (VersionDirective v) m n ih
           = explicit st.YAML_PARSE_IMPLICIT_DOCUMENT_START_STATE st.YAML_PARSE_DOCUMENT_START_STATE true true
@@ -207,7 +218,7 @@ module _ (f : Fault) (x : Fault) (ss : List yaml_parser_state_t) (ms : List Mark
       → Matches f
       (orig.yaml_parser_parse_document_start as_here
       (par st.YAML_PARSE_DOCUMENT_START_STATE false [] (tk k m n ∷ l)) false)
-      (fed f (mach.parse_document_start (here st.YAML_PARSE_DOCUMENT_START_STATE be no_handles) (tk k m n) k) l)
+      (feed f AtState (here st.YAML_PARSE_DOCUMENT_START_STATE be no_handles) (tk k m n ∷ l))
   next_document be StreamEnd m n l e = (refl, standing refl over tt)
   next_document be DocumentEnd m n l e = absurd cc
   next_document be k m n l e

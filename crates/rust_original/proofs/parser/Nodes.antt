@@ -1,7 +1,9 @@
 -- Where a node is due, both parsers do the same.
-use Rattle.std.proofs.Common.{◌≡◌, ◌∷◌, ℕ, List, [], Option, Some, None, Bool, true, false, refl, sym, ap, subst, codes}
-use Rattle.std.proofs.Common.{if◌then◌else◌}
+use Rattle.std.proofs.Common.{◌≡◌, ◌∷◌, ◌∙◌, ℕ, List, [], Option, Some, None, Bool, true, false, refl, sym, ap, subst, codes}
+use Rattle.std.proofs.Common.{if◌then◌else◌, is_some}
 use Rattle.std.specs.FinMap.{get}
+use Rattle.libyaml_types.specs.Events.{zero_mark}
+use Rattle.libyaml_types.specs.Types.{token_type}
 use Rattle.libyaml_types.specs.declared.directive.yaml_tag_directive_t.{yaml_tag_directive_t}
 use Rattle.libyaml_types.specs.declared.enums.yaml_parser_state_t.{yaml_parser_state_t}
 use Rattle.libyaml_types.specs.declared.event.unnamed_yaml_event_t_data.{unnamed_yaml_event_t_data}
@@ -12,18 +14,20 @@ use Rattle.libyaml_grammar.specs.sentences.Events.{event, is_missing}
 use Rattle.libyaml_grammar.specs.sentences.Tokens.{Alias, Anchor, AnchorName, BlockEntry, BlockMappingStart}
 use Rattle.libyaml_grammar.specs.sentences.Tokens.{BlockSequenceStart, Content, FlowMappingStart, FlowSequenceStart}
 use Rattle.libyaml_grammar.specs.sentences.Tokens.{Mark, Scalar, ScalarText, Tag, TagName, Token}
-use Rattle.libyaml_events.specs.machine.Read.{NodeHead}
-use Rattle.libyaml_events.specs.machine.Read.{TagRead}
 use Rattle.libyaml_automaton.specs.declared.node_place.NodePlace.{NodePlace}
-use Rattle.libyaml_events.specs.machine.Config.{Config, Handles}
+use Rattle.libyaml_automaton.specs.declared.node_place.NodePlace.TheVariants.{Block, BlockOrIndentlessSequence, Flow}
+use Rattle.libyaml_automaton.specs.Automaton as automaton
+use Rattle.libyaml_automaton.specs.Automaton.{Properties, Step, content_problem, is_block_place, may_be_indentless}
+use Rattle.libyaml_events.specs.machine.Config.{Config, Handles, config_of}
 use Rattle.libyaml_events.specs.machine.Machine as mach
-use Rattle.libyaml_events.specs.machine.Machine.{is_block_place, may_be_indentless, or_default, with_prefix}
+use Rattle.libyaml_events.specs.machine.Machine.{Progressed, fault_with, or_default, put, seen, with_prefix, with_texts}
+use Rattle.libyaml_events.specs.machine.Want.{Texts, no_texts}
 use Rattle.rust_original.specs.parser.Parser as orig
 use Rattle.rust_original.specs.parser.Parser.{OK, Outcome, Parser, WrittenTag, prefixed, set_state}
 use Rattle.rust_original.proofs.parser.Relation.{standing, Agree, Below, Fits, IsFresh, Matches, entering, fed}
 use Rattle.rust_original.proofs.parser.Relation.{inside, popped_fits, popped_fresh, there, tk}
 
-abbrev pub written_text : Option TagRead → Option (List ℕ)
+abbrev pub written_text : Option TagName → Option (List ℕ)
 written_text None = None
 written_text (Some g) = Some g.suffix
 
@@ -42,6 +46,38 @@ missing_content true m n e
 missing_content false m n e
     = ap (λ x. parser_fault_in (codes "while parsing a flow node") x (codes "did not find expected node content") n) e
 
+problem_of : (p : NodePlace) (m : Mark) → content_fault (is_block_place p) m
+    ≡ fault_with (record { problem = content_problem p; context_mark = m; mark = m })
+problem_of Block m = refl
+problem_of BlockOrIndentlessSequence m = refl
+problem_of Flow m = refl
+
+-- what the content of a node without properties leads to asks nothing
+plain_none : (h : Texts) (c : Config) (t : Token) (k : Content) (p : NodePlace) (b g : Bool) (r : Properties)
+    → with_texts h c t k (automaton.no_content p b g r (config_of c) (seen t k))
+    ≡ put h None None c t k (automaton.no_content p b g r (config_of c) (seen t k))
+plain_none h c t k p false false r = refl
+plain_none h c t k p false true r = refl
+plain_none h c t k p true g r = refl
+
+plain_if : (h : Texts) (c : Config) (t : Token) (k : Content) (p : NodePlace) (b : Bool) (s : Step) (r : Properties)
+    → with_texts h c t k s ≡ put h None None c t k s
+    → with_texts h c t k (automaton.if_allowed b s p r (config_of c) (seen t k))
+    ≡ put h None None c t k (automaton.if_allowed b s p r (config_of c) (seen t k))
+plain_if h c t k p true s r e = e
+plain_if h c t k p false s r e = plain_none h c t k p r.anchor r.tag r
+
+plain : (h : Texts) (c : Config) (t : Token) (k : Content) (p : NodePlace) (r : Properties)
+    → with_texts h c t k (automaton.node_content p r (config_of c) (seen t k) (token_type k))
+    ≡ put h None None c t k (automaton.node_content p r (config_of c) (seen t k) (token_type k))
+plain h c t (Scalar v) p r = refl
+plain h c t FlowSequenceStart p r = refl
+plain h c t FlowMappingStart p r = refl
+plain h c t BlockSequenceStart p r = plain_if h c t BlockSequenceStart p (is_block_place p) _ r refl
+plain h c t BlockMappingStart p r = plain_if h c t BlockMappingStart p (is_block_place p) _ r refl
+plain h c t BlockEntry p r = plain_if h c t BlockEntry p (may_be_indentless p) _ r refl
+plain h c t k p r = plain_none h c t k p r.anchor r.tag r
+
 module _ (f : Fault) (tags : List yaml_tag_directive_t) (hs : Handles) (agree : Agree tags hs) (be flag : Bool)
     (x : Fault) (s s' : yaml_parser_state_t)
     (ms : List Mark) where
@@ -52,20 +88,25 @@ module _ (f : Fault) (tags : List yaml_tag_directive_t) (hs : Handles) (agree : 
   abbrev pub par : List yaml_parser_state_t → List Token → Parser
   par ss l = there f tags flag s' false (conf ss) l
 
-  abbrev head_of : (anchor tag : Option (List ℕ)) → Mark → Mark → NodeHead
-  head_of anchor tag m n = record { anchor = anchor; tag = tag; start_mark = m; end_mark = n }
+  abbrev props : (anchor tag : Option (List ℕ)) → (start end tag_mark : Mark) → Properties
+  props anchor tag a c g
+      = record { anchor = is_some anchor; tag = is_some tag; start_mark = a; end_mark = c; tag_mark = g }
+
+  abbrev texts : Option (List ℕ) → Option TagName → Texts
+  texts anchor tag = record no_texts { anchor = anchor; tag = tag }
 
   module _ (p : NodePlace) (ss : List yaml_parser_state_t) (inner : Below ss) where
-    alone : (anchor tag : Option (List ℕ)) (a b c : Mark) (k : Content) (m n : Mark) (l : List Token)
+    alone : (h : Texts) (anchor tag : Option (List ℕ)) (a b c g : Mark) (k : Content) (m n : Mark) (l : List Token)
         → OnlyAt tag anchor a m b c
         → Matches f (orig.without_content (par ss (tk k m n ∷ l)) (is_block_place p) anchor tag a b (tk k m n))
-        (fed f (mach.no_content p anchor tag (head_of anchor tag a c) (conf ss) (tk k m n)) l)
-    alone None None a b c k m n l o = missing_content (is_block_place p) a m o
-    alone None (Some tag) a b c k m n l o = (
+        (fed f (put h anchor tag (conf ss) (tk k m n) k (automaton.no_content p (is_some anchor) (is_some tag)
+        (props anchor tag a c g) (config_of (conf ss)) (seen (tk k m n) k))) l)
+    alone h None None a b c g k m n l o = missing_content (is_block_place p) a m o ∙ problem_of p m
+    alone h None (Some tag) a b c g k m n l o = (
       ap (event (mach.scalar None (Some tag) [] (is_missing (Some tag)) false YAML_PLAIN_SCALAR_STYLE) a) o,
       standing refl (popped_fits ss inner agree) (popped_fresh ss _ inner),
     )
-    alone (Some anchor) tag a b c k m n l o = (
+    alone h (Some anchor) tag a b c g k m n l o = (
       ap (event (mach.scalar (Some anchor) tag [] (is_missing tag) false YAML_PLAIN_SCALAR_STYLE) a) (ends tag o),
       standing refl (popped_fits ss inner agree) (popped_fresh ss _ inner),
     )
@@ -74,143 +115,154 @@ module _ (f : Fault) (tags : List yaml_tag_directive_t) (hs : Handles) (agree : 
         ends None o = o
         ends (Some tag) o = o
 
-    scalars : (anchor tag : Option (List ℕ)) (a b c : Mark) (v : ScalarText) (m n : Mark) (l : List Token)
-        → Matches f
-        (orig.node_content (par ss (tk (Scalar v) m n ∷ l)) (is_block_place p) (may_be_indentless p) anchor tag a b
-        (tk (Scalar v) m n))
-        (fed f (mach.node_content p (head_of anchor tag a c) (conf ss) (tk (Scalar v) m n) (Scalar v)) l)
-    scalars anchor None a b c v m n l
+    abbrev ContentOf : (h : Texts) (anchor tag : Option (List ℕ)) (a b c g : Mark) (k : Content) (m n : Mark)
+        (l : List Token) → Type 0
+    ContentOf h anchor tag a b c g k m n l = Matches f
+        (orig.node_content (par ss (tk k m n ∷ l)) (is_block_place p) (may_be_indentless p) anchor tag a b (tk k m n))
+        (fed f (put h anchor tag (conf ss) (tk k m n) k (automaton.node_content p (props anchor tag a c g)
+        (config_of (conf ss)) (seen (tk k m n) k) (token_type k))) l)
+
+    scalars : (h : Texts) (anchor tag : Option (List ℕ)) (a b c g : Mark) (v : ScalarText) (m n : Mark) (l : List Token)
+        → ContentOf h anchor tag a b c g (Scalar v) m n l
+    scalars h anchor None a b c g v m n l
         = (refl, standing refl (popped_fits ss inner agree) (popped_fresh ss _ inner))
-    scalars anchor (Some tag) a b c v m n l
+    scalars h anchor (Some tag) a b c g v m n l
         = (refl, standing refl (popped_fits ss inner agree) (popped_fresh ss _ inner))
 
     -- a collection that may begin here, or not
-    begun : (may : Bool) (e : unnamed_yaml_event_t_data) (to : yaml_parser_state_t) (anchor tag : Option (List ℕ))
-        (a b c : Mark) (k : Content) (m n : Mark)
-        (l : List Token) → OnlyAt tag anchor a m b c → Fits ss to to tags hs be flag false (tk k m n ∷ l)
-        → ((o : Option Token) → IsFresh to o)
-        → Matches f (if may then OK (event e a n) (set_state to (par ss (tk k m n ∷ l)))
+    begun : (may : Bool) (e : Outcome) (y : Step) (h : Texts) (anchor tag : Option (List ℕ)) (a b c g : Mark) (k : Content)
+        (m n : Mark) (l : List Token) → OnlyAt tag anchor a m b c
+        → Matches f e (fed f (put h anchor tag (conf ss) (tk k m n) k y) l)
+        → Matches f (if may then e
         else orig.without_content (par ss (tk k m n ∷ l)) (is_block_place p) anchor tag a b (tk k m n))
-        (fed f (mach.may_open may e to p (head_of anchor tag a c) (conf ss) (tk k m n)) l)
-    begun true e to anchor tag a b c k m n l o fits fresh
-        = (refl, standing refl fits (fresh _))
-    begun false e to anchor tag a b c k m n l o fits fresh = alone anchor tag a b c k m n l o
+        (fed f (put h anchor tag (conf ss) (tk k m n) k (automaton.if_allowed may y p (props anchor tag a c g)
+        (config_of (conf ss)) (seen (tk k m n) k))) l)
+    begun true e y h anchor tag a b c g k m n l o z = z
+    begun false e y h anchor tag a b c g k m n l o z = alone h anchor tag a b c g k m n l o
 
-    content : (anchor tag : Option (List ℕ)) (a b c : Mark) (k : Content) (m n : Mark) (l : List Token)
-        → OnlyAt tag anchor a m b c → Matches f
-        (orig.node_content (par ss (tk k m n ∷ l)) (is_block_place p) (may_be_indentless p) anchor tag a b
-        (tk k m n))
-        (fed f (mach.node_content p (head_of anchor tag a c) (conf ss) (tk k m n) k) l)
-    content anchor tag a b c (Scalar v) m n l o = scalars anchor tag a b c v m n l
-    content anchor tag a b c FlowSequenceStart m n l o
+    content : (h : Texts) (anchor tag : Option (List ℕ)) (a b c g : Mark) (k : Content) (m n : Mark) (l : List Token)
+        → OnlyAt tag anchor a m b c → ContentOf h anchor tag a b c g k m n l
+    content h anchor tag a b c g (Scalar v) m n l o = scalars h anchor tag a b c g v m n l
+    content h anchor tag a b c g FlowSequenceStart m n l o
         = (refl, standing refl (entering tt inner agree refl) tt)
-    content anchor tag a b c FlowMappingStart m n l o
+    content h anchor tag a b c g FlowMappingStart m n l o
         = (refl, standing refl (entering tt inner agree refl) tt)
-    content anchor tag a b c BlockSequenceStart m n l o
-        = begun (is_block_place p) _ _ anchor tag a b c _ m n l o (entering tt inner agree refl) (λ o. tt)
-    content anchor tag a b c BlockMappingStart m n l o
-        = begun (is_block_place p) _ _ anchor tag a b c _ m n l o (entering tt inner agree refl) (λ o. tt)
-    content anchor tag a b c BlockEntry m n l o
-        = begun (may_be_indentless p) _ _ anchor tag a b c _ m n l o (inside tt inner agree) (λ o. tt)
-    content anchor tag a b c k m n l o = alone anchor tag a b c k m n l o
+    content h anchor tag a b c g BlockSequenceStart m n l o
+        = begun (is_block_place p) _ _ h anchor tag a b c g _ m n l o
+        (refl, standing refl (entering tt inner agree refl) tt)
+    content h anchor tag a b c g BlockMappingStart m n l o
+        = begun (is_block_place p) _ _ h anchor tag a b c g _ m n l o
+        (refl, standing refl (entering tt inner agree refl) tt)
+    content h anchor tag a b c g BlockEntry m n l o
+        = begun (may_be_indentless p) _ _ h anchor tag a b c g _ m n l o
+        (refl, standing refl (inside tt inner agree) tt)
+    content h anchor tag a b c g k m n l o = alone h anchor tag a b c g k m n l o
 
     -- the content after properties
-    abbrev written : List ℕ → TagRead → WrittenTag
-    written h g = record { handle = h; suffix = g.suffix; mark = g.mark }
+    abbrev written : List ℕ → TagName → Mark → WrittenTag
+    written h g y = record { handle = h; suffix = g.suffix; mark = y }
 
-    abbrev wrote : Option TagRead → Option WrittenTag
-    wrote None = None
-    wrote (Some g) = Some (written g.handle g)
+    abbrev wrote : Option TagName → Mark → Option WrittenTag
+    wrote None y = None
+    wrote (Some g) y = Some (written g.handle g y)
 
     abbrev content_there : (anchor : Option (List ℕ)) (a b : Mark) → Token → List Token → Option (List ℕ) → Outcome
     content_there anchor a b t l tag
         = orig.node_content (par ss (t ∷ l)) (is_block_place p) (may_be_indentless p) anchor tag a b t
 
-    abbrev content_here : (anchor : Option (List ℕ)) → TagRead → (a b : Mark) → Token → Option (List ℕ)
-        → mach.Progressed
-    content_here anchor g a b t tag
-        = mach.content_resolved p (record { anchor = anchor; tag = Some g; start_mark = a; end_mark = b }) g tag
+    abbrev content_here : (anchor : Option (List ℕ)) → TagName → (a b y : Mark) → Token → Option (List ℕ) → Progressed
+    content_here anchor g a b y t tag
+        = mach.content_resolved tag p (props anchor (Some g.suffix) a b y) (config_of (conf ss)) (texts anchor (Some g))
         (conf ss) t t.content
 
-    found : (anchor : Option (List ℕ)) (g : TagRead) (h : List ℕ) (a b : Mark) (t : Token) (l : List Token)
-        (o : Option (List ℕ)) → Matches f (prefixed a (written h g) o (content_there anchor a b t l))
-        (fed f (content_here anchor g a b t (with_prefix o g.suffix)) l)
-    found anchor g h a b t l None = refl
-    found anchor g h a b t l (Some prefix) = content anchor (Some _) a b b t.content t.start_mark t.end_mark l refl
+    found : (anchor : Option (List ℕ)) (g : TagName) (h : List ℕ) (a b y : Mark) (t : Token) (l : List Token)
+        (o : Option (List ℕ)) → Matches f (prefixed a (written h g y) o (content_there anchor a b t l))
+        (fed f (content_here anchor g a b y t (with_prefix o g.suffix)) l)
+    found anchor g h a b y t l None = refl
+    found anchor g h a b y t l (Some prefix)
+        = content (texts anchor (Some g)) anchor (Some _) a b b y t.content t.start_mark t.end_mark l refl
 
-    resolved : (anchor : Option (List ℕ)) (g : TagRead) (h : List ℕ) (a b : Mark) (t : Token) (l : List Token)
-        → Matches f (orig.node_tag (par ss (t ∷ l)) a (Some (written h g)) (content_there anchor a b t l))
-        (fed f (content_here anchor g a b t (mach.resolve hs h g.suffix)) l)
-    resolved anchor g [] a b t l = content anchor (Some _) a b b t.content t.start_mark t.end_mark l refl
-    resolved anchor g (y ∷ ys) a b t l
-        = subst (λ o. Matches f (prefixed a (written (y ∷ ys) g) o (content_there anchor a b t l))
-        (fed f (content_here anchor g a b t (with_prefix (or_default (get hs (y ∷ ys)) (y ∷ ys)) g.suffix)) l))
-        (sym (agree (y ∷ ys))) (found anchor g (y ∷ ys) a b t l (or_default (get hs (y ∷ ys)) (y ∷ ys)))
+    resolved : (anchor : Option (List ℕ)) (g : TagName) (h : List ℕ) (a b y : Mark) (t : Token) (l : List Token)
+        → Matches f (orig.node_tag (par ss (t ∷ l)) a (Some (written h g y)) (content_there anchor a b t l))
+        (fed f (content_here anchor g a b y t (mach.resolve hs h g.suffix)) l)
+    resolved anchor g [] a b y t l
+        = content (texts anchor (Some g)) anchor (Some _) a b b y t.content t.start_mark t.end_mark l refl
+    resolved anchor g (z ∷ zs) a b y t l
+        = subst (λ o. Matches f (prefixed a (written (z ∷ zs) g y) o (content_there anchor a b t l))
+        (fed f (content_here anchor g a b y t (with_prefix (or_default (get hs (z ∷ zs)) (z ∷ zs)) g.suffix)) l))
+        (sym (agree (z ∷ zs))) (found anchor g (z ∷ zs) a b y t l (or_default (get hs (z ∷ zs)) (z ∷ zs)))
 
-    behind : (anchor : Option (List ℕ)) (tag : Option TagRead) (a b c : Mark) (t : Token) (l : List Token)
+    abbrev behind_here : (anchor : Option (List ℕ)) (tag : Option TagName) (a c y : Mark) → Token → Progressed
+    behind_here anchor tag a c y t
+        = mach.content_behind tag p (props anchor (written_text tag) a c y) (config_of (conf ss)) (texts anchor tag)
+        (conf ss) t t.content
+
+    behind : (anchor : Option (List ℕ)) (tag : Option TagName) (a b c y : Mark) (t : Token) (l : List Token)
         → OnlyAt (written_text tag) anchor a t.start_mark b c → Matches f
-        (orig.behind_properties (par ss (t ∷ l)) (is_block_place p) (may_be_indentless p) anchor (wrote tag) a b)
-        (fed f (mach.content_behind p (record { anchor = anchor; tag = tag; start_mark = a; end_mark = c }) tag
-        (conf ss) t t.content) l)
-    behind anchor None a b c t l o = content anchor None a b c t.content t.start_mark t.end_mark l o
-    behind anchor (Some g) a b c t l o
-        = subst (λ y. Matches f (orig.behind_properties (par ss (t ∷ l)) (is_block_place p) (may_be_indentless p) anchor
-        (wrote (Some g)) a b)
-        (fed f (mach.content_behind p (record { anchor = anchor; tag = Some g; start_mark = a; end_mark = y })
-        (Some g) (conf ss) t t.content) l))
-        o (resolved anchor g g.handle a b t l)
+        (orig.behind_properties (par ss (t ∷ l)) (is_block_place p) (may_be_indentless p) anchor (wrote tag y) a b)
+        (fed f (behind_here anchor tag a c y t) l)
+    behind anchor None a b c y t l o
+        = content (texts anchor None) anchor None a b c y t.content t.start_mark t.end_mark l o
+    behind anchor (Some g) a b c y t l o
+        = subst (λ z. Matches f (orig.behind_properties (par ss (t ∷ l)) (is_block_place p) (may_be_indentless p) anchor
+        (wrote (Some g) y) a b) (fed f (behind_here anchor (Some g) a z y t) l))
+        o (resolved anchor g g.handle a b y t l)
+
+    abbrev next_here : (anchor : Option (List ℕ)) (tag : Option TagName) (a c y : Mark) (k : Content) (m n : Mark)
+        → Progressed
+    next_here anchor tag a c y k m n
+        = with_texts (texts anchor tag) (conf ss) (tk k m n) k (automaton.behind_properties p
+        (props anchor (written_text tag) a c y) (config_of (conf ss)) (seen (tk k m n) k) (token_type k))
 
     -- after both properties no further one is read
-    behind_both : (anchor : List ℕ) (g : TagRead) (a b : Mark) (k : Content) (m n : Mark) (l : List Token)
+    behind_both : (anchor : List ℕ) (g : TagName) (a b y : Mark) (k : Content) (m n : Mark) (l : List Token)
         → Matches f
         (orig.behind_properties (par ss (tk k m n ∷ l)) (is_block_place p) (may_be_indentless p) (Some anchor)
-        (wrote (Some g)) a b)
-        (fed f (mach.behind_properties p (record { anchor = Some anchor; tag = Some g; start_mark = a; end_mark = b })
-        (conf ss) (tk k m n) k) l)
-    behind_both anchor g a b (Anchor x) m n l = behind (Some anchor) (Some g) a b b (tk (Anchor x) m n) l refl
-    behind_both anchor g a b (Tag x) m n l = behind (Some anchor) (Some g) a b b (tk (Tag x) m n) l refl
-    behind_both anchor g a b k m n l = behind (Some anchor) (Some g) a b b (tk k m n) l refl
+        (wrote (Some g) y) a b)
+        (fed f (next_here (Some anchor) (Some g) a b y k m n) l)
+    behind_both anchor g a b y (Anchor z) m n l = behind (Some anchor) (Some g) a b b y (tk (Anchor z) m n) l refl
+    behind_both anchor g a b y (Tag z) m n l = behind (Some anchor) (Some g) a b b y (tk (Tag z) m n) l refl
+    behind_both anchor g a b y k m n l = behind (Some anchor) (Some g) a b b y (tk k m n) l refl
 
     -- after an anchor, and after a tag
-    behind_anchor : (x : AnchorName) (a b : Mark) (k : Content) (m n : Mark) (l : List Token)
+    behind_anchor : (z : AnchorName) (a b : Mark) (k : Content) (m n : Mark) (l : List Token)
         → Matches f
-        (orig.yaml_parser_parse_node (par ss (tk (Anchor x) a b ∷ tk k m n ∷ l)) (is_block_place p)
+        (orig.yaml_parser_parse_node (par ss (tk (Anchor z) a b ∷ tk k m n ∷ l)) (is_block_place p)
         (may_be_indentless p))
-        (fed f (mach.behind_properties p (record { anchor = Some x.value; tag = None; start_mark = a; end_mark = b })
-        (conf ss) (tk k m n) k) l)
-    behind_anchor x a b (Tag g) m n [] = refl
-    behind_anchor x a b (Tag g) m n (w ∷ l)
-        = behind_both x.value (record { handle = g.handle; suffix = g.suffix; mark = m }) a n w.content w.start_mark
-        w.end_mark l
-    behind_anchor x a b (Anchor y) m n l = behind (Some x.value) None a b b (tk (Anchor y) m n) l refl
-    behind_anchor x a b k m n l = behind (Some x.value) None a b b (tk k m n) l refl
+        (fed f (next_here (Some z.value) None a b zero_mark k m n) l)
+    behind_anchor z a b (Tag g) m n [] = refl
+    behind_anchor z a b (Tag g) m n (w ∷ l)
+        = behind_both z.value g a n m w.content w.start_mark w.end_mark l
+    behind_anchor z a b (Anchor y) m n l = behind (Some z.value) None a b b zero_mark (tk (Anchor y) m n) l refl
+    behind_anchor z a b k m n l = behind (Some z.value) None a b b zero_mark (tk k m n) l refl
 
     behind_tag : (g : TagName) (a b : Mark) (k : Content) (m n : Mark) (l : List Token)
         → Matches f
         (orig.yaml_parser_parse_node (par ss (tk (Tag g) a b ∷ tk k m n ∷ l)) (is_block_place p)
         (may_be_indentless p))
-        (fed f (mach.behind_properties p (record {
-          anchor = None;
-          tag = Some (record { handle = g.handle; suffix = g.suffix; mark = a });
-          start_mark = a;
-          end_mark = b;
-        }) (conf ss) (tk k m n) k) l)
+        (fed f (next_here None (Some g) a b a k m n) l)
     behind_tag g a b (Anchor y) m n [] = refl
-    behind_tag g a b (Anchor y) m n (w ∷ l)
-        = behind_both y.value (record { handle = g.handle; suffix = g.suffix; mark = a }) a n w.content w.start_mark
-        w.end_mark l
-    behind_tag g a b (Tag y) m n l
-        = behind None (Some (record { handle = g.handle; suffix = g.suffix; mark = a })) a b b (tk (Tag y) m n) l refl
-    behind_tag g a b k m n l
-        = behind None (Some (record { handle = g.handle; suffix = g.suffix; mark = a })) a b b (tk k m n) l refl
+    behind_tag g a b (Anchor y) m n (w ∷ l) = behind_both y.value g a n a w.content w.start_mark w.end_mark l
+    behind_tag g a b (Tag y) m n l = behind None (Some g) a b b a (tk (Tag y) m n) l refl
+    behind_tag g a b k m n l = behind None (Some g) a b b a (tk k m n) l refl
+
+    bare : (k : Content) (m n : Mark) (l : List Token)
+        → Matches f (orig.behind_properties (par ss (tk k m n ∷ l)) (is_block_place p) (may_be_indentless p) None None m m)
+        (fed f (with_texts no_texts (conf ss) (tk k m n) k (automaton.node_content p
+        (props None None m n zero_mark) (config_of (conf ss)) (seen (tk k m n) k) (token_type k))) l)
+    bare k m n l = subst (λ (y : Progressed). Matches f
+        (orig.behind_properties (par ss (tk k m n ∷ l)) (is_block_place p) (may_be_indentless p) None None m m) (fed f y l))
+        (sym (plain no_texts (conf ss) (tk k m n) k p (props None None m n zero_mark)))
+        (content no_texts None None m m n zero_mark k m n l refl)
 
     -- a node
     pub parsed : (k : Content) (m n : Mark) (l : List Token)
         → Matches f (orig.yaml_parser_parse_node (par ss (tk k m n ∷ l)) (is_block_place p) (may_be_indentless p))
-        (fed f (mach.parse_node p (conf ss) (tk k m n) k) l)
-    parsed (Alias x) m n l = (refl, standing refl (popped_fits ss inner agree) (popped_fresh ss _ inner))
-    parsed (Anchor x) m n [] = refl
-    parsed (Anchor x) m n (u ∷ l) = behind_anchor x m n u.content u.start_mark u.end_mark l
+        (fed f (with_texts no_texts (conf ss) (tk k m n) k (automaton.parse_node p (config_of (conf ss))
+        (seen (tk k m n) k) (token_type k))) l)
+    parsed (Alias z) m n l = (refl, standing refl (popped_fits ss inner agree) (popped_fresh ss _ inner))
+    parsed (Anchor z) m n [] = refl
+    parsed (Anchor z) m n (u ∷ l) = behind_anchor z m n u.content u.start_mark u.end_mark l
     parsed (Tag g) m n [] = refl
     parsed (Tag g) m n (u ∷ l) = behind_tag g m n u.content u.start_mark u.end_mark l
-    parsed k m n l = behind None None m m n (tk k m n) l refl
+    parsed k m n l = bare k m n l

@@ -37,7 +37,7 @@ abbrev pub tokens_of : Option Token → List Token → List Token
 tokens_of None l = l
 tokens_of (Some t) l = t ∷ l
 
--- the original's parser with the stacks of a configuration
+-- the original's parser with the stacks of a configuration; its marks may be others
 abbrev pub there : Fault → List yaml_tag_directive_t → Bool → yaml_parser_state_t → Bool → Config → List Token → Parser
 there f tags flag state ended c l = record {
   tokens = l;
@@ -49,6 +49,10 @@ there f tags flag state ended c l = record {
   tag_directives = tags;
   behind_explicit_end = flag;
 }
+
+abbrev pub there_with : Fault → List yaml_tag_directive_t → Bool → yaml_parser_state_t → Bool → Config → List Mark
+    → List Token → Parser
+there_with f tags flag state ended c marks l = record (there f tags flag state ended c l) { marks = marks }
 
 -- within a document, each handle has the same prefix
 abbrev pub Agree : List yaml_tag_directive_t → Handles → Type 0
@@ -70,14 +74,15 @@ Below (st.YAML_PARSE_FLOW_MAPPING_VALUE_STATE ∷ ss) = Below ss
 Below (st.YAML_PARSE_FLOW_MAPPING_EMPTY_VALUE_STATE ∷ ss) = Below ss
 Below (_ ∷ ss) = ⊥
 
--- the states within a document: where a collection's opening token is still to be skipped, and the others
-abbrev pub IsFirst : yaml_parser_state_t → Type 0
-IsFirst st.YAML_PARSE_BLOCK_SEQUENCE_FIRST_ENTRY_STATE = Unit {0}
-IsFirst st.YAML_PARSE_BLOCK_MAPPING_FIRST_KEY_STATE = Unit {0}
-IsFirst st.YAML_PARSE_FLOW_SEQUENCE_FIRST_ENTRY_STATE = Unit {0}
-IsFirst st.YAML_PARSE_FLOW_MAPPING_FIRST_KEY_STATE = Unit {0}
-IsFirst _ = ⊥
+-- a collection's first state there, where its opening token is still to be skipped, and the state here, where it was taken
+abbrev pub Opens : (there here : yaml_parser_state_t) → Type 0
+Opens st.YAML_PARSE_BLOCK_SEQUENCE_FIRST_ENTRY_STATE st.YAML_PARSE_BLOCK_SEQUENCE_ENTRY_STATE = Unit {0}
+Opens st.YAML_PARSE_BLOCK_MAPPING_FIRST_KEY_STATE st.YAML_PARSE_BLOCK_MAPPING_KEY_STATE = Unit {0}
+Opens st.YAML_PARSE_FLOW_SEQUENCE_FIRST_ENTRY_STATE st.YAML_PARSE_FLOW_SEQUENCE_FIRST_ENTRY_STATE = Unit {0}
+Opens st.YAML_PARSE_FLOW_MAPPING_FIRST_KEY_STATE st.YAML_PARSE_FLOW_MAPPING_FIRST_KEY_STATE = Unit {0}
+Opens _ _ = ⊥
 
+-- the other states within a document
 abbrev pub IsInside : yaml_parser_state_t → Type 0
 IsInside st.YAML_PARSE_STREAM_START_STATE = ⊥
 IsInside st.YAML_PARSE_IMPLICIT_DOCUMENT_START_STATE = ⊥
@@ -94,30 +99,30 @@ abbrev pub is_document_end : Content → Bool
 is_document_end DocumentEnd = true
 is_document_end _ = false
 
--- Both states, the stack, the tag directives and handles, the two flags for an explicit end, the flag for the stream's
--- end, and the tokens to come.
-pub data Fits (ss : List yaml_parser_state_t) : (here there : yaml_parser_state_t) → List yaml_tag_directive_t → Handles
-    → Bool → Bool → Bool → List Token → Type 0 where
-  before : {l : List Token}
-      → Fits ss st.YAML_PARSE_STREAM_START_STATE st.YAML_PARSE_STREAM_START_STATE [] no_handles false false false l
-  first : {l : List Token}
-      → Fits ss st.YAML_PARSE_IMPLICIT_DOCUMENT_START_STATE st.YAML_PARSE_IMPLICIT_DOCUMENT_START_STATE [] no_handles
-      false false false l
-  behind_end : {l : List Token}
-      → Fits ss st.YAML_PARSE_IMPLICIT_DOCUMENT_START_STATE st.YAML_PARSE_DOCUMENT_START_STATE [] no_handles true true
-      false l
-  behind : {be : Bool} {t : Token} {l : List Token} → is_document_end t.content ≡ false
-      → Fits ss st.YAML_PARSE_DOCUMENT_START_STATE st.YAML_PARSE_DOCUMENT_START_STATE [] no_handles be false false
-      (t ∷ l)
-  root_end : {tags : List yaml_tag_directive_t} {hs : Handles} {be flag : Bool} {l : List Token}
-      → Fits ss st.YAML_PARSE_DOCUMENT_END_STATE st.YAML_PARSE_DOCUMENT_END_STATE tags hs be flag false l
-  entering : {s : yaml_parser_state_t} {tags : List yaml_tag_directive_t} {hs : Handles} {be flag : Bool} {t :
-      Token} {l : List Token} → IsFirst s
-      → Below ss → Agree tags hs → is_end t.content ≡ false → Fits ss s s tags hs be flag false (t ∷ l)
-  inside : {s : yaml_parser_state_t} {tags : List yaml_tag_directive_t} {hs : Handles} {be flag : Bool} {l : List Token}
-      → IsInside s → Below ss → Agree tags hs → Fits ss s s tags hs be flag false l
-  over : {tags : List yaml_tag_directive_t} {hs : Handles} {be flag : Bool} {l : List Token}
-      → Fits ss st.YAML_PARSE_END_STATE st.YAML_PARSE_END_STATE tags hs be flag true l
+-- Both states, the stack, the marks here and there, the tag directives and handles, the two flags for an explicit end, the
+-- flag for the stream's end, and the tokens to come, here and there.
+pub data Fits (ss : List yaml_parser_state_t) : (here there : yaml_parser_state_t) → (marks marks_there : List Mark)
+    → List yaml_tag_directive_t → Handles → Bool → Bool → Bool → (tokens tokens_there : List Token) → Type 0 where
+  before : {ms : List Mark} {l : List Token}
+      → Fits ss st.YAML_PARSE_STREAM_START_STATE st.YAML_PARSE_STREAM_START_STATE ms ms [] no_handles false false false l l
+  first : {ms : List Mark} {l : List Token}
+      → Fits ss st.YAML_PARSE_IMPLICIT_DOCUMENT_START_STATE st.YAML_PARSE_IMPLICIT_DOCUMENT_START_STATE ms ms []
+      no_handles false false false l l
+  behind_end : {ms : List Mark} {l : List Token}
+      → Fits ss st.YAML_PARSE_IMPLICIT_DOCUMENT_START_STATE st.YAML_PARSE_DOCUMENT_START_STATE ms ms [] no_handles true
+      true false l l
+  behind : {ms : List Mark} {be : Bool} {t : Token} {l : List Token} → is_document_end t.content ≡ false
+      → Fits ss st.YAML_PARSE_DOCUMENT_START_STATE st.YAML_PARSE_DOCUMENT_START_STATE ms ms [] no_handles be false false
+      (t ∷ l) (t ∷ l)
+  root_end : {ms : List Mark} {tags : List yaml_tag_directive_t} {hs : Handles} {be flag : Bool} {l : List Token}
+      → Fits ss st.YAML_PARSE_DOCUMENT_END_STATE st.YAML_PARSE_DOCUMENT_END_STATE ms ms tags hs be flag false l l
+  entering : {s s' : yaml_parser_state_t} {ms : List Mark} {tags : List yaml_tag_directive_t} {hs : Handles} {be flag :
+      Bool} {t : Token} {l : List Token} → Opens s' s → Below ss → Agree tags hs → is_end t.content ≡ false
+      → Fits ss s s' (t.start_mark ∷ ms) ms tags hs be flag false l (t ∷ l)
+  inside : {s : yaml_parser_state_t} {ms : List Mark} {tags : List yaml_tag_directive_t} {hs : Handles} {be flag : Bool}
+      {l : List Token} → IsInside s → Below ss → Agree tags hs → Fits ss s s ms ms tags hs be flag false l l
+  over : {ms : List Mark} {tags : List yaml_tag_directive_t} {hs : Handles} {be flag : Bool} {l : List Token}
+      → Fits ss st.YAML_PARSE_END_STATE st.YAML_PARSE_END_STATE ms ms tags hs be flag true l l
 
 -- where the key of a flow sequence's pair is due, no token is held
 abbrev pub IsFresh : yaml_parser_state_t → Option Token → Type 0
@@ -129,18 +134,30 @@ pub record Stands (f : Fault) (q : Parser) (d : Config) (l : List Token) : Type 
   pub flag : Bool
   pub state : yaml_parser_state_t
   pub ended : Bool
-  pub is : q ≡ there f tags flag state ended d (tokens_of d.lookahead l)
-  pub fits : Fits d.states d.state state tags d.handles d.behind_document_end flag ended (tokens_of d.lookahead l)
+  pub marks : List Mark
+  pub tokens : List Token
+  pub is : q ≡ there_with f tags flag state ended d marks tokens
+  pub fits : Fits d.states d.state state d.marks marks tags d.handles d.behind_document_end flag ended
+      (tokens_of d.lookahead l) tokens
   pub fresh : IsFresh d.state d.lookahead
 
 -- the parsers stand so, with what the original's fields say
 pub standing : {f : Fault} {q : Parser} {d : Config} {l : List Token} {tags : List yaml_tag_directive_t} {flag ended :
-    Bool}
-    {state : yaml_parser_state_t} → q ≡ there f tags flag state ended d (tokens_of d.lookahead l)
-    → Fits d.states d.state state tags d.handles d.behind_document_end flag ended (tokens_of d.lookahead l)
-    → IsFresh d.state d.lookahead → Stands f q d l
-standing {tags} {flag} {ended} {state} i fits fresh
-    = record { tags = tags; flag = flag; state = state; ended = ended; is = i; fits = fits; fresh = fresh }
+    Bool} {state : yaml_parser_state_t} {marks : List Mark} {tokens : List Token}
+    → q ≡ there_with f tags flag state ended d marks tokens
+    → Fits d.states d.state state d.marks marks tags d.handles d.behind_document_end flag ended (tokens_of d.lookahead l)
+    tokens → IsFresh d.state d.lookahead → Stands f q d l
+standing {tags} {flag} {ended} {state} {marks} {tokens} i fits fresh = record {
+  tags = tags;
+  flag = flag;
+  state = state;
+  ended = ended;
+  marks = marks;
+  tokens = tokens;
+  is = i;
+  fits = fits;
+  fresh = fresh;
+}
 
 -- the same event, and parsers that stand so again; or the same fault
 abbrev pub Matches : Fault → Outcome → HereCall → Type 0
@@ -151,8 +168,8 @@ Matches f (FAIL g) (stopped h) = g ≡ h
 
 -- the parser goes back to a state from the stack
 pub popped_fits :
-    (ss : List yaml_parser_state_t) {tags : List yaml_tag_directive_t} {hs : Handles} {be flag : Bool} {l : List Token}
-    → Below ss → Agree tags hs → Fits (below ss) (top ss) (top ss) tags hs be flag false l
+    (ss : List yaml_parser_state_t) {ms : List Mark} {tags : List yaml_tag_directive_t} {hs : Handles} {be flag : Bool}
+    {l : List Token} → Below ss → Agree tags hs → Fits (below ss) (top ss) (top ss) ms ms tags hs be flag false l l
 popped_fits [] b a = absurd b
 popped_fits (st.YAML_PARSE_DOCUMENT_END_STATE ∷ ss) b a = root_end
 popped_fits (st.YAML_PARSE_BLOCK_SEQUENCE_ENTRY_STATE ∷ ss) b a = inside tt b a

@@ -10,16 +10,19 @@ use Rattle.libyaml_grammar.specs.sentences.Tokens.{BlockEnd, BlockEntry, Content
 use Rattle.libyaml_grammar.specs.sentences.Tokens.{FlowMappingEnd, FlowSequenceEnd, Key, Mark, StreamEnd, TagDirective}
 use Rattle.libyaml_grammar.specs.sentences.Tokens.{Token, Value, VersionDirective}
 use Rattle.libyaml_automaton.specs.declared.node_place.NodePlace.TheVariants.{Block, BlockOrIndentlessSequence, Flow}
-use Rattle.libyaml_automaton.specs.declared.slot.Slot.TheVariants as slot
+use Rattle.libyaml_automaton.specs.Automaton as automaton
 use Rattle.libyaml_events.specs.machine.Config.{Config, Handles}
-use Rattle.libyaml_events.specs.machine.Machine as mach
-use Rattle.libyaml_events.specs.machine.Want.{AtState, BehindFlowMappingEntry, BehindFlowSequenceEntry}
+use Rattle.libyaml_events.specs.machine.Want.{AtState, Want, no_texts}
 use Rattle.rust_original.specs.parser.Parser as orig
 use Rattle.rust_original.specs.parser.Parser.{Parser, is_one_of}
 use Rattle.rust_original.specs.parser.Runs.{as_here}
 use Rattle.rust_original.proofs.parser.Nodes.{parsed}
-use Rattle.rust_original.proofs.parser.Relation.{Agree, Below, Matches, standing, behind, behind_end, fed, feed}
+use Rattle.rust_original.proofs.parser.Relation.{Agree, Below, Matches, standing, behind as behind_document, behind_end, feed}
 use Rattle.rust_original.proofs.parser.Relation.{inside, popped_fits, popped_fresh, there, tk}
+
+-- a token is wanted for this, and no text is held
+abbrev behind : automaton.Want → Want
+behind n = record { next = n; texts = no_texts }
 
 -- a token that is no STREAM-END is skipped
 end_same : (k : Content) (m n : Mark)
@@ -42,9 +45,9 @@ module _ (f : Fault) (tags : List yaml_tag_directive_t) (hs : Handles) (be flag 
 
   document_end_token : (s' : yaml_parser_state_t) (ms : List Mark) (k : Content) (m n : Mark) (l : List Token)
       → Matches f (orig.yaml_parser_parse_document_end (par s' false ms (tk k m n ∷ l)))
-      (fed f (mach.parse_document_end (here st.YAML_PARSE_DOCUMENT_END_STATE ms) (tk k m n) k) l)
+      (feed f AtState (here st.YAML_PARSE_DOCUMENT_END_STATE ms) (tk k m n ∷ l))
   document_end_token s' ms DocumentEnd m n l = (refl, standing refl behind_end tt)
-  document_end_token s' ms k m n l = (refl, standing refl (behind refl) tt)
+  document_end_token s' ms k m n l = (refl, standing refl (behind_document refl) tt)
 
   pub document_end : (ms : List Mark) (l : List Token)
       → Matches f (orig.yaml_parser_parse_document_end (par st.YAML_PARSE_DOCUMENT_END_STATE false ms l))
@@ -58,7 +61,7 @@ module _ (f : Fault) (tags : List yaml_tag_directive_t) (hs : Handles) (be flag 
       behind_item : (a b : Mark) (k : Content) (m n : Mark) (l : List Token)
           → Matches f
           (orig.yaml_parser_parse_block_sequence_entry (par s' false ms (tk BlockEntry a b ∷ tk k m n ∷ l)) false)
-          (fed f (mach.at_slot slot.BlockEntry b (here st.YAML_PARSE_BLOCK_SEQUENCE_ENTRY_STATE ms) (tk k m n) k) l)
+          (feed f (behind (automaton.BehindBlockEntry b)) (here st.YAML_PARSE_BLOCK_SEQUENCE_ENTRY_STATE ms) (tk k m n ∷ l))
       behind_item a b BlockEntry m n l = (refl, standing refl (inside tt inner agree) tt)
       behind_item a b BlockEnd m n l = (refl, standing refl (inside tt inner agree) tt)
       behind_item a b k m n l
@@ -83,8 +86,7 @@ module _ (f : Fault) (tags : List yaml_tag_directive_t) (hs : Handles) (be flag 
       behind_indentless_item : (a b : Mark) (k : Content) (m n : Mark) (l : List Token)
           → Matches f
           (orig.yaml_parser_parse_indentless_sequence_entry (par s' false ms (tk BlockEntry a b ∷ tk k m n ∷ l)))
-          (fed f (mach.at_slot slot.IndentlessEntry b (here st.YAML_PARSE_INDENTLESS_SEQUENCE_ENTRY_STATE ms) (tk k m n)
-          k) l)
+          (feed f (behind (automaton.BehindIndentlessEntry b)) (here st.YAML_PARSE_INDENTLESS_SEQUENCE_ENTRY_STATE ms) (tk k m n ∷ l))
       behind_indentless_item a b BlockEntry m n l = (refl, standing refl (inside tt inner agree) tt)
       behind_indentless_item a b Key m n l = (refl, standing refl (inside tt inner agree) tt)
       behind_indentless_item a b Value m n l = (refl, standing refl (inside tt inner agree) tt)
@@ -112,7 +114,7 @@ module _ (f : Fault) (tags : List yaml_tag_directive_t) (hs : Handles) (be flag 
       behind_key : (a b : Mark) (k : Content) (m n : Mark) (l : List Token)
           → Matches f
           (orig.yaml_parser_parse_block_mapping_key as_here (par s' false ms (tk Key a b ∷ tk k m n ∷ l)) false)
-          (fed f (mach.at_slot slot.BlockKey b (here st.YAML_PARSE_BLOCK_MAPPING_KEY_STATE ms) (tk k m n) k) l)
+          (feed f (behind (automaton.BehindKey b)) (here st.YAML_PARSE_BLOCK_MAPPING_KEY_STATE ms) (tk k m n ∷ l))
       behind_key a b Key m n l = (refl, standing refl (inside tt inner agree) tt)
       behind_key a b Value m n l = (refl, standing refl (inside tt inner agree) tt)
       behind_key a b BlockEnd m n l = (refl, standing refl (inside tt inner agree) tt)
@@ -138,7 +140,7 @@ module _ (f : Fault) (tags : List yaml_tag_directive_t) (hs : Handles) (be flag 
 
       behind_value : (a b : Mark) (k : Content) (m n : Mark) (l : List Token)
           → Matches f (orig.yaml_parser_parse_block_mapping_value (par s' false ms (tk Value a b ∷ tk k m n ∷ l)))
-          (fed f (mach.at_slot slot.BlockValue b (here st.YAML_PARSE_BLOCK_MAPPING_VALUE_STATE ms) (tk k m n) k) l)
+          (feed f (behind (automaton.BehindValue b)) (here st.YAML_PARSE_BLOCK_MAPPING_VALUE_STATE ms) (tk k m n ∷ l))
       behind_value a b Key m n l = (refl, standing refl (inside tt inner agree) tt)
       behind_value a b Value m n l = (refl, standing refl (inside tt inner agree) tt)
       behind_value a b BlockEnd m n l = (refl, standing refl (inside tt inner agree) tt)
@@ -164,12 +166,12 @@ module _ (f : Fault) (tags : List yaml_tag_directive_t) (hs : Handles) (be flag 
       sequence_entry : (a b : Mark) (k : Content) (m n : Mark) (l : List Token)
           → Matches f
           (orig.yaml_parser_parse_flow_sequence_entry (par s' false ms (tk FlowEntry a b ∷ tk k m n ∷ l)) false)
-          (fed f (mach.behind_flow_sequence_entry (here st.YAML_PARSE_FLOW_SEQUENCE_ENTRY_STATE ms) (tk k m n) k) l)
+          (feed f AtState (here st.YAML_PARSE_FLOW_SEQUENCE_FIRST_ENTRY_STATE ms) (tk k m n ∷ l))
       sequence_entry a b FlowSequenceEnd m n l
           = (refl, standing refl (popped_fits ss inner agree) (popped_fresh ss _ inner))
       sequence_entry a b Key m n l = (refl, standing refl (inside tt inner agree) tt)
       sequence_entry a b k m n l
-          = parsed f tags hs agree be flag x st.YAML_PARSE_FLOW_SEQUENCE_ENTRY_STATE s' ms Flow
+          = parsed f tags hs agree be flag x st.YAML_PARSE_FLOW_SEQUENCE_FIRST_ENTRY_STATE s' ms Flow
           (st.YAML_PARSE_FLOW_SEQUENCE_ENTRY_STATE ∷ ss) inner k m n l
 
       flow_sequence_entry_token : (k : Content) (m n : Mark) (l : List Token)
@@ -206,8 +208,7 @@ module _ (f : Fault) (tags : List yaml_tag_directive_t) (hs : Handles) (be flag 
       behind_pair_value : (a b : Mark) (k : Content) (m n : Mark) (l : List Token)
           → Matches f
           (orig.yaml_parser_parse_flow_sequence_entry_mapping_value (par s' false ms (tk Value a b ∷ tk k m n ∷ l)))
-          (fed f (mach.at_slot slot.PairValue m (here st.YAML_PARSE_FLOW_SEQUENCE_ENTRY_MAPPING_VALUE_STATE ms)
-          (tk k m n) k) l)
+          (feed f (behind automaton.BehindFlowSequenceValue) (here st.YAML_PARSE_FLOW_SEQUENCE_ENTRY_MAPPING_VALUE_STATE ms) (tk k m n ∷ l))
       behind_pair_value a b FlowEntry m n l = (refl, standing refl (inside tt inner agree) tt)
       behind_pair_value a b FlowSequenceEnd m n l = (refl, standing refl (inside tt inner agree) tt)
       behind_pair_value a b k m n l
@@ -238,24 +239,24 @@ module _ (f : Fault) (tags : List yaml_tag_directive_t) (hs : Handles) (be flag 
           → Matches f
           (orig.yaml_parser_parse_flow_mapping_key (par s' false ms (tk FlowEntry a b ∷ tk Key c d ∷ tk k m n ∷ l))
           false)
-          (fed f (mach.at_slot slot.FlowKey m (here st.YAML_PARSE_FLOW_MAPPING_KEY_STATE ms) (tk k m n) k) l)
+          (feed f (behind automaton.BehindFlowMappingKey) (here st.YAML_PARSE_FLOW_MAPPING_FIRST_KEY_STATE ms) (tk k m n ∷ l))
       flow_key a b c d Value m n l = (refl, standing refl (inside tt inner agree) tt)
       flow_key a b c d FlowEntry m n l = (refl, standing refl (inside tt inner agree) tt)
       flow_key a b c d FlowMappingEnd m n l = (refl, standing refl (inside tt inner agree) tt)
       flow_key a b c d k m n l
-          = parsed f tags hs agree be flag x st.YAML_PARSE_FLOW_MAPPING_KEY_STATE s' ms Flow
+          = parsed f tags hs agree be flag x st.YAML_PARSE_FLOW_MAPPING_FIRST_KEY_STATE s' ms Flow
           (st.YAML_PARSE_FLOW_MAPPING_VALUE_STATE ∷ ss) inner k m n l
 
       mapping_entry : (a b : Mark) (k : Content) (m n : Mark) (l : List Token)
           → Matches f
           (orig.yaml_parser_parse_flow_mapping_key (par s' false ms (tk FlowEntry a b ∷ tk k m n ∷ l)) false)
-          (fed f (mach.behind_flow_mapping_entry (here st.YAML_PARSE_FLOW_MAPPING_KEY_STATE ms) (tk k m n) k) l)
+          (feed f AtState (here st.YAML_PARSE_FLOW_MAPPING_FIRST_KEY_STATE ms) (tk k m n ∷ l))
       mapping_entry a b FlowMappingEnd m n l
           = (refl, standing refl (popped_fits ss inner agree) (popped_fresh ss _ inner))
       mapping_entry a b Key m n [] = refl
       mapping_entry a b Key m n (u ∷ l) = flow_key a b m n u.content u.start_mark u.end_mark l
       mapping_entry a b k m n l
-          = parsed f tags hs agree be flag x st.YAML_PARSE_FLOW_MAPPING_KEY_STATE s' ms Flow
+          = parsed f tags hs agree be flag x st.YAML_PARSE_FLOW_MAPPING_FIRST_KEY_STATE s' ms Flow
           (st.YAML_PARSE_FLOW_MAPPING_EMPTY_VALUE_STATE ∷ ss) inner k m n l
 
       flow_mapping_key_token : (k : Content) (m n : Mark) (l : List Token)
@@ -275,7 +276,7 @@ module _ (f : Fault) (tags : List yaml_tag_directive_t) (hs : Handles) (be flag 
 
       behind_flow_value : (a b : Mark) (k : Content) (m n : Mark) (l : List Token)
           → Matches f (orig.yaml_parser_parse_flow_mapping_value (par s' false ms (tk Value a b ∷ tk k m n ∷ l)) false)
-          (fed f (mach.at_slot slot.FlowValue m (here st.YAML_PARSE_FLOW_MAPPING_VALUE_STATE ms) (tk k m n) k) l)
+          (feed f (behind automaton.BehindFlowMappingValue) (here st.YAML_PARSE_FLOW_MAPPING_VALUE_STATE ms) (tk k m n ∷ l))
       behind_flow_value a b FlowEntry m n l = (refl, standing refl (inside tt inner agree) tt)
       behind_flow_value a b FlowMappingEnd m n l = (refl, standing refl (inside tt inner agree) tt)
       behind_flow_value a b k m n l
@@ -303,42 +304,42 @@ module _ (f : Fault) (tags : List yaml_tag_directive_t) (hs : Handles) (be flag 
 
       first_sequence_token : (k : Content) (m n : Mark) (l : List Token)
           → Matches f (orig.sequence_entry_behind_start true (par s' false ms (tk k m n ∷ l)))
-          (feed f BehindFlowSequenceEntry (here st.YAML_PARSE_FLOW_SEQUENCE_ENTRY_STATE ms) (tk k m n ∷ l))
+          (feed f AtState (here st.YAML_PARSE_FLOW_SEQUENCE_FIRST_ENTRY_STATE ms) (tk k m n ∷ l))
       first_sequence_token FlowSequenceEnd m n l
           = (refl, standing refl (popped_fits ss inner agree) (popped_fresh ss _ inner))
       first_sequence_token Key m n l = (refl, standing refl (inside tt inner agree) tt)
       first_sequence_token k m n l
-          = parsed f tags hs agree be flag x st.YAML_PARSE_FLOW_SEQUENCE_ENTRY_STATE s' ms Flow
+          = parsed f tags hs agree be flag x st.YAML_PARSE_FLOW_SEQUENCE_FIRST_ENTRY_STATE s' ms Flow
           (st.YAML_PARSE_FLOW_SEQUENCE_ENTRY_STATE ∷ ss) inner k m n l
 
       first_sequence_entry : (l : List Token) → Matches f (orig.sequence_entry_behind_start true (par s' false ms l))
-          (feed f BehindFlowSequenceEntry (here st.YAML_PARSE_FLOW_SEQUENCE_ENTRY_STATE ms) l)
+          (feed f AtState (here st.YAML_PARSE_FLOW_SEQUENCE_FIRST_ENTRY_STATE ms) l)
       first_sequence_entry [] = refl
       first_sequence_entry (t ∷ l) = first_sequence_token t.content t.start_mark t.end_mark l
 
       first_flow_key : (c d : Mark) (k : Content) (m n : Mark) (l : List Token)
           → Matches f (orig.mapping_key_behind_start true (par s' false ms (tk Key c d ∷ tk k m n ∷ l)))
-          (fed f (mach.at_slot slot.FlowKey m (here st.YAML_PARSE_FLOW_MAPPING_KEY_STATE ms) (tk k m n) k) l)
+          (feed f (behind automaton.BehindFlowMappingKey) (here st.YAML_PARSE_FLOW_MAPPING_FIRST_KEY_STATE ms) (tk k m n ∷ l))
       first_flow_key c d Value m n l = (refl, standing refl (inside tt inner agree) tt)
       first_flow_key c d FlowEntry m n l = (refl, standing refl (inside tt inner agree) tt)
       first_flow_key c d FlowMappingEnd m n l = (refl, standing refl (inside tt inner agree) tt)
       first_flow_key c d k m n l
-          = parsed f tags hs agree be flag x st.YAML_PARSE_FLOW_MAPPING_KEY_STATE s' ms Flow
+          = parsed f tags hs agree be flag x st.YAML_PARSE_FLOW_MAPPING_FIRST_KEY_STATE s' ms Flow
           (st.YAML_PARSE_FLOW_MAPPING_VALUE_STATE ∷ ss) inner k m n l
 
       first_mapping_token : (k : Content) (m n : Mark) (l : List Token)
           → Matches f (orig.mapping_key_behind_start true (par s' false ms (tk k m n ∷ l)))
-          (feed f BehindFlowMappingEntry (here st.YAML_PARSE_FLOW_MAPPING_KEY_STATE ms) (tk k m n ∷ l))
+          (feed f AtState (here st.YAML_PARSE_FLOW_MAPPING_FIRST_KEY_STATE ms) (tk k m n ∷ l))
       first_mapping_token FlowMappingEnd m n l
           = (refl, standing refl (popped_fits ss inner agree) (popped_fresh ss _ inner))
       first_mapping_token Key m n [] = refl
       first_mapping_token Key m n (u ∷ l) = first_flow_key m n u.content u.start_mark u.end_mark l
       first_mapping_token k m n l
-          = parsed f tags hs agree be flag x st.YAML_PARSE_FLOW_MAPPING_KEY_STATE s' ms Flow
+          = parsed f tags hs agree be flag x st.YAML_PARSE_FLOW_MAPPING_FIRST_KEY_STATE s' ms Flow
           (st.YAML_PARSE_FLOW_MAPPING_EMPTY_VALUE_STATE ∷ ss) inner k m n l
 
       first_mapping_key : (l : List Token) → Matches f (orig.mapping_key_behind_start true (par s' false ms l))
-          (feed f BehindFlowMappingEntry (here st.YAML_PARSE_FLOW_MAPPING_KEY_STATE ms) l)
+          (feed f AtState (here st.YAML_PARSE_FLOW_MAPPING_FIRST_KEY_STATE ms) l)
       first_mapping_key [] = refl
       first_mapping_key (t ∷ l) = first_mapping_token t.content t.start_mark t.end_mark l
 
@@ -393,7 +394,7 @@ module _ (f : Fault) (tags : List yaml_tag_directive_t) (hs : Handles) (be flag 
         → Matches f
         (orig.yaml_parser_parse_block_sequence_entry
         (par st.YAML_PARSE_BLOCK_SEQUENCE_FIRST_ENTRY_STATE false ms (t ∷ l)) true)
-        (feed f AtState (here st.YAML_PARSE_BLOCK_SEQUENCE_FIRST_ENTRY_STATE ms) (t ∷ l))
+        (feed f AtState (here st.YAML_PARSE_BLOCK_SEQUENCE_ENTRY_STATE (t.start_mark ∷ ms)) l)
     block_sequence_first_entry ms t l e
         = skipped t e
         (λ b. Matches f
@@ -406,7 +407,7 @@ module _ (f : Fault) (tags : List yaml_tag_directive_t) (hs : Handles) (be flag 
         → Matches f
         (orig.yaml_parser_parse_block_mapping_key as_here
         (par st.YAML_PARSE_BLOCK_MAPPING_FIRST_KEY_STATE false ms (t ∷ l)) true)
-        (feed f AtState (here st.YAML_PARSE_BLOCK_MAPPING_FIRST_KEY_STATE ms) (t ∷ l))
+        (feed f AtState (here st.YAML_PARSE_BLOCK_MAPPING_KEY_STATE (t.start_mark ∷ ms)) l)
     block_mapping_first_key ms t l e
         = skipped t e
         (λ b. Matches f
@@ -419,23 +420,23 @@ module _ (f : Fault) (tags : List yaml_tag_directive_t) (hs : Handles) (be flag 
         → Matches f
         (orig.yaml_parser_parse_flow_sequence_entry
         (par st.YAML_PARSE_FLOW_SEQUENCE_FIRST_ENTRY_STATE false ms (t ∷ l)) true)
-        (feed f AtState (here st.YAML_PARSE_FLOW_SEQUENCE_FIRST_ENTRY_STATE ms) (t ∷ l))
+        (feed f AtState (here st.YAML_PARSE_FLOW_SEQUENCE_FIRST_ENTRY_STATE (t.start_mark ∷ ms)) l)
     flow_sequence_first_entry ms t l e
         = skipped t e
         (λ b. Matches f
         (orig.sequence_entry_behind_start true
         (par st.YAML_PARSE_FLOW_SEQUENCE_FIRST_ENTRY_STATE b (t.start_mark ∷ ms) l))
-        (feed f BehindFlowSequenceEntry (here st.YAML_PARSE_FLOW_SEQUENCE_ENTRY_STATE (t.start_mark ∷ ms)) l))
+        (feed f AtState (here st.YAML_PARSE_FLOW_SEQUENCE_FIRST_ENTRY_STATE (t.start_mark ∷ ms)) l))
         (first_sequence_entry st.YAML_PARSE_FLOW_SEQUENCE_FIRST_ENTRY_STATE (t.start_mark ∷ ms) l)
 
     pub flow_mapping_first_key : (ms : List Mark) (t : Token) (l : List Token) → is_end t.content ≡ false
         → Matches f
         (orig.yaml_parser_parse_flow_mapping_key (par st.YAML_PARSE_FLOW_MAPPING_FIRST_KEY_STATE false ms (t ∷ l))
-        true) (feed f AtState (here st.YAML_PARSE_FLOW_MAPPING_FIRST_KEY_STATE ms) (t ∷ l))
+        true) (feed f AtState (here st.YAML_PARSE_FLOW_MAPPING_FIRST_KEY_STATE (t.start_mark ∷ ms)) l)
     flow_mapping_first_key ms t l e
         = skipped t e
         (λ b. Matches f
         (orig.mapping_key_behind_start true
         (par st.YAML_PARSE_FLOW_MAPPING_FIRST_KEY_STATE b (t.start_mark ∷ ms) l))
-        (feed f BehindFlowMappingEntry (here st.YAML_PARSE_FLOW_MAPPING_KEY_STATE (t.start_mark ∷ ms)) l))
+        (feed f AtState (here st.YAML_PARSE_FLOW_MAPPING_FIRST_KEY_STATE (t.start_mark ∷ ms)) l))
         (first_mapping_key st.YAML_PARSE_FLOW_MAPPING_FIRST_KEY_STATE (t.start_mark ∷ ms) l)

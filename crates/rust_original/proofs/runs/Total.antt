@@ -27,9 +27,9 @@ use Rattle.rust_original.specs.parser.Parser.{FAIL, Mends, OK, Outcome, Parser, 
 use Rattle.rust_original.specs.parser.Parser.{set_state}
 use Rattle.rust_original.specs.parser.Runs.{Runs, call, ends, fails, goes_on, new_parser}
 use Rattle.rust_original.proofs.parser.Calls.{call_same, flagged}
-use Rattle.rust_original.proofs.parser.Relation.{standing, Agree, Below, Fits, HereCall, IsFirst, IsFresh, Matches}
-use Rattle.rust_original.proofs.parser.Relation.{Stands, before, behind, behind_end, entering, first, inside, over}
-use Rattle.rust_original.proofs.parser.Relation.{root_end, there, tk, tokens_of}
+use Rattle.rust_original.proofs.parser.Relation.{standing, Agree, Below, Fits, HereCall, IsFresh, Matches}
+use Rattle.rust_original.proofs.parser.Relation.{Opens, Stands, before, behind, behind_end, entering, first, inside, over}
+use Rattle.rust_original.proofs.parser.Relation.{root_end, there, there_with, tk, tokens_of}
 use Rattle.rust_original.proofs.runs.Does as does
 use Rattle.rust_original.proofs.runs.Does.{Does}
 use Rattle.rust_original.proofs.runs.Ended.{NoEnd}
@@ -63,18 +63,21 @@ not_over c e = go (is_fault c.fault.error) e
     go true h = absurd cc
     go false h = h
 
+opens_pair_key : (s : yaml_parser_state_t) → Opens st.YAML_PARSE_FLOW_SEQUENCE_ENTRY_MAPPING_KEY_STATE s → ⊥
+opens_pair_key _ i = i
+
 -- where they part: after the KEY of a pair the original goes on, elsewhere it fails
-pair_stands : {ss : List yaml_parser_state_t} {s s' : yaml_parser_state_t} {tags : List yaml_tag_directive_t} {hs :
-    Handles} {be flag ended : Bool}
-    {l : List Token} → Fits ss s s' tags hs be flag ended l → s' ≡ st.YAML_PARSE_FLOW_SEQUENCE_ENTRY_MAPPING_KEY_STATE
-    → Below ss × Agree tags hs × (s ≡ st.YAML_PARSE_FLOW_SEQUENCE_ENTRY_MAPPING_KEY_STATE)
+pair_stands : {ss : List yaml_parser_state_t} {s s' : yaml_parser_state_t} {ms ms' : List Mark} {tags : List
+    yaml_tag_directive_t} {hs : Handles} {be flag ended : Bool} {l l' : List Token}
+    → Fits ss s s' ms ms' tags hs be flag ended l l' → s' ≡ st.YAML_PARSE_FLOW_SEQUENCE_ENTRY_MAPPING_KEY_STATE
+    → Below ss × Agree tags hs × (s ≡ st.YAML_PARSE_FLOW_SEQUENCE_ENTRY_MAPPING_KEY_STATE) × (ms' ≡ ms) × (l' ≡ l)
 pair_stands before e = absurd cc
 pair_stands first e = absurd cc
 pair_stands behind_end e = absurd cc
 pair_stands (behind i) e = absurd cc
 pair_stands root_end e = absurd cc
-pair_stands (entering i b a n) e = absurd (subst IsFirst e i)
-pair_stands (inside i b a) e = (b, a, e)
+pair_stands (entering {s} {s'} i b a n) e = absurd (opens_pair_key s (subst (λ (x : yaml_parser_state_t). Opens x s) e i))
+pair_stands (inside i b a) e = (b, a, e, refl, refl)
 pair_stands over e = absurd cc
 
 fresh_none : (s : yaml_parser_state_t) (o : Option Token) → s ≡ st.YAML_PARSE_FLOW_SEQUENCE_ENTRY_MAPPING_KEY_STATE
@@ -208,7 +211,7 @@ module _ (f : Fault) (m : Mends) (b : Bool)
   parted n q d rest l g a less begun next may (pair_key t k s e i) c =
       let fits = pair_stands a.stands.fits (sym (ap (λ (p : Parser). p.state) a.stands.is) ∙ s) in
       let none = fresh_none d.state d.lookahead fits.2 a.stands.fresh in
-      let tokens : tokens_of d.lookahead rest ≡ t ∷ k = sym (ap (λ (p : Parser). p.tokens) a.stands.is) ∙ e in
+      let tokens : tokens_of d.lookahead rest ≡ t ∷ k = sym fits.4 ∙ (sym (ap (λ (p : Parser). p.tokens) a.stands.is) ∙ e) in
       let left : rest ≡ t ∷ k = ap (λ (o : Option Token). tokens_of o rest) (sym none) ∙ tokens in
       let hand : Fed AtState (taken d) (Some (empty_token t.end_mark)) (l ++ empty_token t.end_mark ∷ []) g
       = pushed.takes AtState (taken d) l g (empty_token t.end_mark)
@@ -224,12 +227,16 @@ module _ (f : Fault) (m : Mends) (b : Bool)
           flag = a.stands.flag;
           state = st.YAML_PARSE_FLOW_SEQUENCE_ENTRY_MAPPING_VALUE_STATE;
           ended = false;
-          is = ap goes a.stands.is ∙
-              (ap (λ (y : List Token). goes (there f a.stands.tags a.stands.flag a.stands.state a.stands.ended d y))
-              tokens
+          marks = d.marks;
+          tokens = k;
+          is = ap goes a.stands.is
+              ∙ (ap (λ (y : List Mark). goes (there_with f a.stands.tags a.stands.flag a.stands.state a.stands.ended d y
+              a.stands.tokens)) fits.3
+              ∙ (ap (λ (y : List Token). goes (there f a.stands.tags a.stands.flag a.stands.state a.stands.ended d y))
+              (fits.4 ∙ tokens)
               ∙ ap (λ (u : Bool). there f a.stands.tags a.stands.flag
               st.YAML_PARSE_FLOW_SEQUENCE_ENTRY_MAPPING_VALUE_STATE u (behind_pair_key d) k)
-              (no_end t.content t.start_mark t.end_mark i));
+              (no_end t.content t.start_mark t.end_mark i)));
           fits = inside tt fits.0 fits.1;
           fresh = tt;
         };
