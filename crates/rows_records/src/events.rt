@@ -105,7 +105,7 @@ impl Parser {
         );
         match did {
             Did::Wants => self.hold(token)?,
-            Did::Gave | Did::Entered => self.write(rt, &event, Some(*token), texts)?,
+            Did::Gave => self.write(rt, &event, Some(*token), texts)?,
             Did::Stays => self.write(rt, &event, None, texts)?,
             Did::FullStates => self.states.push(0)?,
             Did::FullMarks => self.marks.push(ZERO_MARK)?,
@@ -113,7 +113,7 @@ impl Parser {
             Did::Bad => bail!("the stacks are too small"),
         }
         Ok(match did {
-            Did::Wants | Did::Gave | Did::Entered => true,
+            Did::Wants | Did::Gave => true,
             _ => false,
         })
     }

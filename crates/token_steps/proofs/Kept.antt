@@ -1,125 +1,146 @@
--- What a caller keeps by the kinds of tokens is what the automaton's history has.
-use Rattle.std.proofs.Common.{◌≡◌, ◌∙◌, [], None, Bool, true, false, refl, sym}
-use Rattle.std.proofs.Common.{ap}
+-- What a caller keeps by the kinds of tokens is what the parser holds.
+use Rattle.std.proofs.Common.{◌≡◌, ◌∙◌, [], None, Bool, true, false, ℕ, refl, sym, ap}
+use Rattle.std.proofs.Common.{is_some}
 use Rattle.libyaml_types.specs.Types.{token_type}
 use Rattle.libyaml_types.specs.declared.mark.yaml_mark_t.{yaml_mark_t}
 use Rattle.libyaml_types.specs.declared.token.unnamed_yaml_token_t_data.{unnamed_yaml_token_t_data}
 use Rattle.libyaml_types.specs.declared.token.unnamed_yaml_token_t_data.TheVariants as tok
 use Rattle.libyaml_types.specs.declared.enums.yaml_token_type_t.{yaml_token_type_t}
 use Rattle.libyaml_types.specs.declared.enums.yaml_token_type_t.TheVariants as kinds
-use Rattle.libyaml_grammar.specs.sentences.Tokens.{Token}
-use Rattle.libyaml_events.specs.machine.Config.{Handles}
 use Rattle.libyaml_automaton.specs.declared.node_place.NodePlace.{NodePlace}
-use Rattle.libyaml_automaton.specs.Want as w
-use Rattle.libyaml_automaton.specs.Want.{Want}
-use Rattle.libyaml_events.specs.automaton.Texts.{Held, nothing_held, held_of, held_behind, handles_behind, declared_by}
-use Rattle.libyaml_events.specs.automaton.Texts.{want_with}
-use Rattle.token_steps.proofs.Follows.{no, Keeping, nothing, directives, properties, keeping, Adds}
-use Rattle.token_steps.proofs.Follows.{is_directive, is_property}
+use Rattle.libyaml_automaton.specs.Automaton as a
+use Rattle.libyaml_automaton.specs.Automaton.{Want}
+use Rattle.libyaml_events.specs.machine.Config.{Handles}
+use Rattle.libyaml_events.specs.machine.Machine.{declared_by, handles_behind}
+use Rattle.libyaml_events.specs.machine.Want.{Texts, no_texts, texts_behind, with_property}
+use Rattle.token_steps.specs.Facts.{TagRead, NoTag, tag_behind, tag_for, tag_if}
+use Rattle.token_steps.specs.Texts.{fact_of, kept_behind, tag_of}
+use Rattle.token_steps.proofs.Follows.{no, Keeping, nothing, directives, properties, keeping, Adds, is_directive, is_property}
 
--- nothing, the texts of directives alone, or those of properties alone
-abbrev pub Fits : Keeping → Held → Type 0
-Fits nothing h = h ≡ nothing_held
-Fits directives h = (h.anchor ≡ None) × (h.tag ≡ None)
-Fits properties h = (h.version ≡ None) × (h.directives ≡ [])
+-- nothing, the texts of directives alone, or those of properties alone, which are these
+abbrev pub Holds : Keeping → Texts → Type 0
+Holds nothing h = h ≡ no_texts
+Holds directives h = (h.anchor ≡ None) × (h.tag ≡ None)
+Holds (properties b g) h = ((h.version ≡ None) × (h.tag_directives ≡ []))
+    × ((is_some h.anchor ≡ b) × (is_some h.tag ≡ g))
 
--- with what is held then
-abbrev held_then : Held → Token → unnamed_yaml_token_t_data → Want → Held
-held_then h t k v = held_of (want_with (held_behind h t k) v)
+-- the same texts
 
-without_properties : (x : Keeping) (h : Held) (k : yaml_token_type_t) → Fits x h → Adds x k directives
+without_properties : (x : Keeping) (h : Texts) (k : yaml_token_type_t) → Holds x h → Adds x k directives
     → (h.anchor ≡ None) × (h.tag ≡ None)
-without_properties nothing h k f d = (ap (λ (y : Held). y.anchor) f, ap (λ (y : Held). y.tag) f)
+without_properties nothing h k f d = (ap (λ (y : Texts). y.anchor) f, ap (λ (y : Texts). y.tag) f)
 without_properties directives h k f d = f
-without_properties properties h k f d = absurd d
-
-without_directives : (x : Keeping) (h : Held) (k : yaml_token_type_t) → Fits x h → Adds x k properties
-    → (h.version ≡ None) × (h.directives ≡ [])
-without_directives nothing h k f d = (ap (λ (y : Held). y.version) f, ap (λ (y : Held). y.directives) f)
-without_directives properties h k f d = f
-without_directives directives h k f d = absurd d
+without_properties (properties b g) h k f d = absurd d
 
 directive_added : (x : Keeping) (k : yaml_token_type_t) → Adds x k directives → is_directive k ≡ true
 directive_added nothing k d = d
 directive_added directives k d = d
-directive_added properties k d = absurd d
+directive_added (properties b g) k d = absurd d
 
-property_added : (x : Keeping) (k : yaml_token_type_t) → Adds x k properties → is_property k ≡ true
-property_added nothing k d = d
-property_added properties k d = d
-property_added directives k d = absurd d
-
-at_directive : (h : Held) (t : Token) (k : unnamed_yaml_token_t_data) (m : yaml_mark_t) (b : Bool)
-    → h.anchor ≡ None → h.tag ≡ None
+at_directive : (h : Texts) (k : unnamed_yaml_token_t_data) (m : yaml_mark_t) (b : Bool) → (h.anchor ≡ None) × (h.tag ≡ None)
     → is_directive (token_type k) ≡ true
-    → (held_then h t k (w.BehindDirective m b) ≡ held_behind h t k) × Fits directives (held_behind h t k)
-at_directive h t (tok.VersionDirective x) m b p q e = (rw (p, q) refl, (p, q))
-at_directive h t (tok.TagDirective x) m b p q e = (rw (p, q) refl, (p, q))
-at_directive h t _ m b p q e = no e
+    → (texts_behind h k (a.BehindDirective m b) ≡ kept_behind h k) × Holds directives (kept_behind h k)
+at_directive h (tok.VersionDirective v) m b n e = (refl, n)
+at_directive h (tok.TagDirective g) m b n e = (refl, n)
+at_directive h _ m b n e = no e
 
-at_property : (h : Held) (t : Token) (k : unnamed_yaml_token_t_data) (p : NodePlace) (r : w.Properties)
-    → h.version ≡ None → h.directives ≡ []
-    → is_property (token_type k) ≡ true
-    → (held_then h t k (w.BehindProperties p r) ≡ held_behind h t k) × Fits properties (held_behind h t k)
-at_property h t (tok.Anchor x) p r u v e = (rw (u, v) refl, (u, v))
-at_property h t (tok.Tag x) p r u v e = (rw (u, v) refl, (u, v))
-at_property h t _ p r u v e = no e
+at_property : (x : Keeping) (h : Texts) (k : unnamed_yaml_token_t_data) (b g : Bool) → Holds x h
+    → Adds x (token_type k) (properties b g)
+    → (with_property h k ≡ kept_behind h k) × Holds (properties b g) (kept_behind h k)
+at_property nothing h (tok.Anchor y) b g f d = (
+  refl,
+  (
+    (ap (λ (z : Texts). z.version) f, ap (λ (z : Texts). z.tag_directives) f),
+    (sym d.0, ap (λ (z : Texts). is_some z.tag) f ∙ sym d.1),
+  ),
+)
+at_property nothing h (tok.Tag y) b g f d = (
+  refl,
+  (
+    (ap (λ (z : Texts). z.version) f, ap (λ (z : Texts). z.tag_directives) f),
+    (ap (λ (z : Texts). is_some z.anchor) f ∙ sym d.0, sym d.1),
+  ),
+)
+at_property (properties u v) h (tok.Anchor y) b g f d = (refl, (f.0, (sym d.0, f.1.1 ∙ sym d.1)))
+at_property (properties u v) h (tok.Tag y) b g f d = (refl, (f.0, (f.1.0 ∙ sym d.0, sym d.1)))
+at_property directives h k b g f d = absurd d
+at_property nothing h _ b g f d = absurd d
+at_property (properties u v) h _ b g f d = absurd d
 
-pub untouched : (h : Held) (t : Token) (k : unnamed_yaml_token_t_data) → is_directive (token_type k) ≡ false
-    → is_property (token_type k) ≡ false
-    → held_behind h t k ≡ h
-untouched h t (tok.Anchor x) d p = no (sym p)
-untouched h t (tok.Tag x) d p = no (sym p)
-untouched h t (tok.VersionDirective x) d p = no (sym d)
-untouched h t (tok.TagDirective x) d p = no (sym d)
-untouched h t _ d p = refl
+untouched : (h : Texts) (k : unnamed_yaml_token_t_data) → is_directive (token_type k) ≡ false
+    → is_property (token_type k) ≡ false → kept_behind h k ≡ h
+untouched h (tok.Anchor x) d p = no (sym p)
+untouched h (tok.Tag x) d p = no (sym p)
+untouched h (tok.VersionDirective x) d p = no (sym d)
+untouched h (tok.TagDirective x) d p = no (sym d)
+untouched h _ d p = refl
 
-pub undeclared : (hs : Handles) (k : unnamed_yaml_token_t_data) → is_directive (token_type k) ≡ false
-    → declared_by hs k ≡ hs
+at_other : (x : Keeping) (h : Texts) (k : unnamed_yaml_token_t_data) → Holds x h → Adds x (token_type k) nothing
+    → (no_texts ≡ kept_behind h k) × (kept_behind h k ≡ no_texts)
+at_other nothing h k f d = let same = untouched h k d.0 d.1 ∙ f in (sym same, same)
+at_other directives h k f d = absurd d
+at_other (properties b g) h k f d = absurd d
+
+pub keeps : (x : Keeping) (u : Want) (h : Texts) (k : unnamed_yaml_token_t_data) → Holds x h
+    → Adds x (token_type k) (keeping u)
+    → (texts_behind h k u ≡ kept_behind h k) × Holds (keeping u) (kept_behind h k)
+keeps x (a.BehindDirective m b) h k f d = at_directive h k m b (without_properties x h (token_type k) f d)
+    (directive_added x (token_type k) d)
+keeps x (a.BehindProperties p r) h k f d = at_property x h k r.anchor r.tag f d
+keeps x _ h k f d = at_other x h k f d
+
+-- the same handles
+
+undeclared : (hs : Handles) (k : unnamed_yaml_token_t_data) → is_directive (token_type k) ≡ false → declared_by hs k ≡ hs
 undeclared hs (tok.TagDirective x) d = no (sym d)
 undeclared hs _ d = refl
 
-no_directive : (k : yaml_token_type_t) → is_property k ≡ true → is_directive k ≡ false
-no_directive kinds.YAML_ANCHOR_TOKEN e = refl
-no_directive kinds.YAML_TAG_TOKEN e = refl
-no_directive _ e = no e
-
-nothing_added : (x : Keeping) (h : Held) (k : yaml_token_type_t) → Fits x h → Adds x k nothing
-    → (h ≡ nothing_held) × ((is_directive k ≡ false) × (is_property k ≡ false))
-nothing_added nothing h k f d = (f, d)
-nothing_added directives h k f d = absurd d
-nothing_added properties h k f d = absurd d
-
-at_other : (x : Keeping) (h : Held) (t : Token) (k : unnamed_yaml_token_t_data) → Fits x h
-    → Adds x (token_type k) nothing
-    → (nothing_held ≡ held_behind h t k) × (held_behind h t k ≡ nothing_held)
-at_other x h t k f d =
-    let n = nothing_added x h (token_type k) f d in
-    let same = untouched h t k n.1.0 n.1.1 ∙ n.0 in
-    (sym same, same)
+property_added : (x : Keeping) (k : yaml_token_type_t) (b g : Bool) → Adds x k (properties b g) → is_directive k ≡ false
+property_added nothing kinds.YAML_ANCHOR_TOKEN b g d = refl
+property_added nothing kinds.YAML_TAG_TOKEN b g d = refl
+property_added (properties u v) kinds.YAML_ANCHOR_TOKEN b g d = refl
+property_added (properties u v) kinds.YAML_TAG_TOKEN b g d = refl
+property_added directives k b g d = absurd d
+property_added nothing _ b g d = absurd d
+property_added (properties u v) _ b g d = absurd d
 
 plain : (x : Keeping) (k : yaml_token_type_t) → Adds x k nothing → is_directive k ≡ false
 plain nothing k d = d.0
 plain directives k d = absurd d
-plain properties k d = absurd d
+plain (properties b g) k d = absurd d
 
--- the same texts
-pub keeps : (x : Keeping) (v : Want) (h : Held) (t : Token) (k : unnamed_yaml_token_t_data) → Fits x h
-    → Adds x (token_type k) (keeping v)
-    → (held_then h t k v ≡ held_behind h t k) × Fits (keeping v) (held_behind h t k)
-keeps x (w.BehindDirective m b) h t k f d =
-    let n = without_properties x h (token_type k) f d in at_directive h t k m b n.0 n.1
-    (directive_added x (token_type k) d)
-keeps x (w.BehindProperties p r) h t k f d =
-    let n = without_directives x h (token_type k) f d in at_property h t k p r n.0 n.1
-    (property_added x (token_type k) d)
-keeps x _ h t k f d = at_other x h t k f d
-
--- the same handles
-pub declares : (x : Keeping) (v : Want) (hs : Handles) (k : unnamed_yaml_token_t_data)
-    → Adds x (token_type k) (keeping v)
-    → handles_behind hs k v ≡ declared_by hs k
-declares x (w.BehindDirective m b) hs k d = refl
-declares x (w.BehindProperties p r) hs k d = sym
-    (undeclared hs k (no_directive (token_type k) (property_added x (token_type k) d)))
+pub declares : (x : Keeping) (u : Want) (hs : Handles) (k : unnamed_yaml_token_t_data) → Adds x (token_type k) (keeping u)
+    → handles_behind hs k u ≡ declared_by hs k
+declares x (a.BehindDirective m b) hs k d = refl
+declares x (a.BehindProperties p r) hs k d = sym (undeclared hs k (property_added x (token_type k) r.anchor r.tag d))
 declares x _ hs k d = sym (undeclared hs k (plain x (token_type k) d))
+
+-- the same tag
+
+abbrev pub tag_by : Keeping → ℕ → TagRead
+tag_by (properties b g) tag = tag_if g tag
+tag_by _ tag = NoTag
+
+pub tag_for_by : (u : Want) (tag : ℕ) → tag_for u tag ≡ tag_by (keeping u) tag
+tag_for_by (a.BehindProperties p r) tag = refl
+tag_for_by _ tag = refl
+
+tag_at_property : (x : Keeping) (p : NodePlace) (r : a.Properties) (hs : Handles) (h : Texts) (k : unnamed_yaml_token_t_data)
+    (tag : ℕ) → Holds x h → tag_by x tag ≡ tag_of hs h.tag → Adds x (token_type k) (properties r.anchor r.tag)
+    → tag_for (a.BehindProperties p r) (tag_behind (a.BehindProperties p r) tag (token_type k) (fact_of hs k))
+    ≡ tag_of (declared_by hs k) (kept_behind h k).tag
+tag_at_property nothing p r hs h (tok.Anchor y) tag f e d = rw (d.1, f) refl
+tag_at_property nothing p r hs h (tok.Tag y) tag f e d = rw d.1 refl
+tag_at_property (properties u v) p r hs h (tok.Anchor y) tag f e d = rw d.1 e
+tag_at_property (properties u v) p r hs h (tok.Tag y) tag f e d = rw d.1 refl
+tag_at_property directives p r hs h k tag f e d = absurd d
+tag_at_property nothing p r hs h _ tag f e d = absurd d
+tag_at_property (properties u v) p r hs h _ tag f e d = absurd d
+
+pub tags : (x : Keeping) (u : Want) (hs : Handles) (h : Texts) (k : unnamed_yaml_token_t_data) (tag : ℕ) → Holds x h
+    → tag_by x tag ≡ tag_of hs h.tag → Adds x (token_type k) (keeping u)
+    → tag_for u (tag_behind u tag (token_type k) (fact_of hs k)) ≡ tag_of (declared_by hs k) (kept_behind h k).tag
+tags x (a.BehindDirective m b) hs h k tag f e d
+    = sym (ap (tag_of (declared_by hs k)) (keeps x (a.BehindDirective m b) h k f d).1.1)
+tags x (a.BehindProperties p r) hs h k tag f e d = tag_at_property x p r hs h k tag f e d
+tags x _ hs h k tag f e d = sym (ap (λ (y : Texts). tag_of (declared_by hs k) y.tag) (at_other x h k f d).1)

@@ -1,9 +1,11 @@
+pub mod Follows
 pub mod Problems
 pub mod Told
 pub mod Found
 pub mod Whole
-pub mod Follows
 pub mod Kept
+pub mod Tied
 pub mod Running
 pub mod Failing
 pub mod Tables
+pub mod lent

@@ -1,248 +1,140 @@
--- A run is a history of the automaton.
-use Rattle.std.proofs.Common.{◌≡◌, ◌∙◌, ◌∷◌, ◌++◌, ◌==◌, List, [], ℕ, Bool, true, false, Option, None}
-use Rattle.std.proofs.Common.{Some, Ok, Err, refl, sym, ap, subst}
-use Rattle.libyaml_types.specs.Types.{token_type}
+-- A run of calls is what a parser was handed and gave.
+use Rattle.std.proofs.Common.{◌≡◌, ◌∙◌, ◌∷◌, ◌++◌, ◌==◌, List, [], ℕ, true, false, Option, None, Some, Ok}
+use Rattle.std.proofs.Common.{refl, sym, ap, subst}
+use Rattle.libyaml_types.specs.Fault.{no_fault}
 use Rattle.libyaml_types.specs.declared.mark.yaml_mark_t.{yaml_mark_t}
-use Rattle.libyaml_types.specs.declared.token.unnamed_yaml_token_t_data.{unnamed_yaml_token_t_data}
-use Rattle.libyaml_types.specs.declared.event.unnamed_yaml_event_t_data.{unnamed_yaml_event_t_data}
-use Rattle.libyaml_grammar.specs.sentences.Sentences.{has_end}
 use Rattle.libyaml_grammar.specs.sentences.Tokens.{Token}
-use Rattle.libyaml_grammar.specs.sentences.Events.{Event, event}
-use Rattle.libyaml_events.specs.machine.Config.{Handles, no_handles, is_end_state}
-use Rattle.libyaml_events.proofs.lent.Pushes.{fed_ended}
-use Rattle.libyaml_automaton.specs.Automaton.{Progressed, step, want}
+use Rattle.libyaml_grammar.specs.sentences.Events.{Event}
+use Rattle.libyaml_automaton.specs.Automaton as a
 use Rattle.libyaml_automaton.specs.Config.{Config, config_of, start}
-use Rattle.libyaml_automaton.specs.Fits.{is_opening}
-use Rattle.libyaml_automaton.specs.Shape.{Shape}
-use Rattle.libyaml_automaton.specs.Shape as ev
-use Rattle.libyaml_automaton.specs.Want as w
-use Rattle.libyaml_automaton.specs.Want.{Want}
-use Rattle.libyaml_events.specs.automaton.Histories as history
-use Rattle.libyaml_events.specs.automaton.Histories.{Stepped, StandsAs, SteppedIsFed}
-use Rattle.libyaml_events.specs.automaton.Texts.{Held, nothing_held, held_of, held_behind}
-use Rattle.libyaml_events.specs.automaton.Texts.{handles_after, declared_by, want_with}
-use Rattle.libyaml_events.specs.automaton.Texts.{content_with, event_with, lookahead_after, token_of}
-use Rattle.libyaml_events.proofs.lent.Alike.{stands}
+use Rattle.libyaml_automaton.specs.Wanted.{wanted}
+use Rattle.libyaml_events.specs.machine.Config.{Handles, no_handles, config_with}
+use Rattle.libyaml_events.specs.machine.Machine.{declared_by, lookahead_after}
+use Rattle.libyaml_events.specs.machine.Want.{Texts, no_texts}
+use Rattle.libyaml_events.specs.sources.Pushed as pushed
+use Rattle.libyaml_events.specs.sources.Pushed.{Fed}
+use Rattle.libyaml_events.proofs.lent.Pushes.{fed_ended}
 use Rattle.token_steps.specs.declared.did.Did.{Did}
 use Rattle.token_steps.specs.declared.did.Did.TheVariants as did
 use Rattle.token_steps.specs.declared.steps.steps_t.{steps_t}
 use Rattle.token_steps.specs.declared.records.step_event_t.{step_event_t}
 use Rattle.token_steps.specs.declared.records.step_fault_t.{step_fault_t}
-use Rattle.token_steps.specs.Records.{shape_of, event_of}
+use Rattle.token_steps.specs.Facts.{Given, Progressed, TagRead, Wants, step, tag_for}
+use Rattle.token_steps.specs.Facts as told
 use Rattle.token_steps.specs.Numbers.{number}
-use Rattle.token_steps.specs.Tells.{Tells, TellsEntry, IsAfterEvent, is_start, want_in}
+use Rattle.token_steps.specs.Records.{shape_of, event_of}
+use Rattle.token_steps.specs.RunLaws.{RunIsFed}
 use Rattle.token_steps.specs.Runs.{Run, begins, moves, takes, wants, gave, stays}
-use Rattle.token_steps.proofs.Follows.{no, is_first, Calm, is_at_state, keeping, Keeping, nothing}
-use Rattle.token_steps.proofs.Follows.{Adds, follows}
-use Rattle.token_steps.proofs.Kept.{Fits, keeps, declares, untouched, undeclared}
+use Rattle.token_steps.specs.Tells.{Tells, want_in, tag_in}
+use Rattle.token_steps.specs.Texts.{event_with, handles_after, kept_behind, tag_of, token_of}
+use Rattle.token_steps.proofs.Follows.{no, keeping}
+use Rattle.token_steps.proofs.Kept.{Holds}
+use Rattle.token_steps.proofs.Tied.{After, kept_after, steps_told, told_with}
 
--- a token that opens a collection is in hand
-abbrev IsOpening : Option Token → Type 0
-IsOpening None = ⊥
-IsOpening (Some t) = is_opening (token_type t.content) ≡ true
+-- such a parser, with what is kept
+pub record Stood (v : a.Want) (g : TagRead) (c : Config) (hs : Handles) (h : Texts) (o : Option Token) (l : List Token)
+    (es : List Event) : Type 0 where
+  pub fed : Fed (record { next = v; texts = h }) (config_with c hs no_fault None) o l es
+  pub holds : Holds (keeping v) h
+  pub tag : g ≡ tag_of hs h.tag
 
--- a history with what is kept; a first state of a collection is there with its opening token in hand alone
-record Stood (v : Want) (k : Config) (hs : Handles) (h : Held) (o : Option Token) (l : List Token)
-    (g : List Event) : Type 0 where
-  stepped : Stepped v k hs h o l g
-  fits : Fits (keeping v) h
-  calm : Calm k.states
-  ready : is_first k.state ≡ true → (is_at_state v ≡ true) × IsOpening o
+abbrev pub Stands : steps_t → Config → Handles → Texts → Option Token → List Token → List Event → Type 0
+Stands d c hs h o l es = Stood (wanted d.read) (tag_in d) c hs h o l es
 
-at_want : (v v' : Want) (k : Config) (hs : Handles) (h : Held) (o : Option Token) (l : List Token)
-    (g : List Event) → v ≡ v'
-    → Stood v k hs h o l g → Stood v' k hs h o l g
-at_want v v' k hs h o l g e s = subst (λ (x : Want). Stood x k hs h o l g) e s
+at_config : (v : a.Want) (g : TagRead) (c c' : Config) (hs : Handles) (h : Texts) (o : Option Token) (l : List Token)
+    (es : List Event) → c' ≡ c → Stood v g c hs h o l es → Stood v g c' hs h o l es
+at_config v g c c' hs h o l es e s = subst (λ (x : Config). Stood v g x hs h o l es) (sym e) s
 
-at_config : (v : Want) (k k' : Config) (hs : Handles) (h : Held) (o : Option Token) (l : List Token)
-    (g : List Event) → k ≡ k'
-    → Stood v k hs h o l g → Stood v k' hs h o l g
-at_config v k k' hs h o l g e s = subst (λ (x : Config). Stood v x hs h o l g) e s
+at_want : (v v' : a.Want) (g g' : TagRead) (c : Config) (hs : Handles) (h : Texts) (o : Option Token) (l : List Token)
+    (es : List Event) → v' ≡ v → g' ≡ g → Stood v g c hs h o l es → Stood v' g' c hs h o l es
+at_want v v' g g' c hs h o l es e f s = subst (λ (x : a.Want). Stood x g' c hs h o l es) (sym e)
+    (subst (λ (x : TagRead). Stood v x c hs h o l es) (sym f) s)
 
-stood_starts : Stood w.AtState start no_handles nothing_held None [] []
-stood_starts = record { stepped = history.begins; fits = refl; calm = tt; ready = λ f. no f }
+-- between two events nothing is kept
+between : (d : steps_t) (c : Config) (hs : Handles) (o : Option Token) (l : List Token) (es : List Event)
+    → wanted d.read ≡ a.AtState → Fed (record { next = a.AtState; texts = no_texts }) (config_with c hs no_fault None) o l es
+    → Stands d c hs no_texts o l es
+between d c hs o l es e f = at_want a.AtState (wanted d.read) told.NoTag (tag_in d) c hs no_texts o l es e
+    (ap (λ (x : a.Want). tag_for x d.tag) e) (record { fed = f; holds = refl; tag = refl })
 
-stood_takes : (v : Want) (k : Config) (hs : Handles) (h : Held) (l : List Token) (g : List Event) (t : Token)
-    → is_end_state k.state ≡ false
-    → Stood v k hs h None l g → Stood v k hs h (Some t) (l ++ t ∷ []) g
-stood_takes v k hs h l g t e s = record {
-  stepped = history.takes v k hs h l g t s.stepped e;
-  fits = s.fits;
-  calm = s.calm;
-  ready = λ f. absurd ((s.ready f).1);
-}
-
-stood_wants : (v v' : Want) (k k' : Config) (hs : Handles) (h : Held) (l : List Token) (g : List Event)
-    (t : Token)
-    → Stood v k hs h (Some t) l g → step v k (token_of hs t) ≡ want v' k'
-    → Adds (keeping v) (token_type t.content) (keeping v')
-    × Stood v' k' (declared_by hs t.content) (held_behind h t t.content) None l g
-stood_wants v v' k k' hs h l g t s e =
-    let f = follows v k (token_of hs t) s.calm s.ready (want v' k') e in
-    let kept = keeps (keeping v) v' h t t.content s.fits f.1.1 in
-    let same = declares (keeping v) v' hs t.content f.1.1 in (
-      f.1.1,
-      record {
-        stepped = subst (λ (x : Held). Stepped v' k' (declared_by hs t.content) x None l g) kept.0
-            (subst (λ (x : Handles). Stepped v' k' x
-            (held_of (want_with (held_behind h t t.content) v')) None l g) same
-            (history.wants v k hs h l g t v' k' s.stepped e));
-        fits = kept.1;
-        calm = f.0;
-        ready = λ i. no (sym f.1.0 ∙ i);
-      },
-    )
-
-looks : (y : Bool) (t : Token) → y ≡ true → is_opening (token_type t.content) ≡ true
-    → IsOpening (lookahead_after y t None)
-looks true t e o = o
-looks false t e o = no e
-
-stood_gives : (v : Want) (k k' : Config) (hs : Handles) (h : Held) (l : List Token) (g : List Event)
-    (t : Token) (e : w.Event)
-    → Stood v k hs h (Some t) l g → step v k (token_of hs t) ≡ Ok (w.Given e, k')
-    → Stood w.AtState k' (handles_after hs e.shape) nothing_held (lookahead_after e.stays t None) l
-    (g ++ event_with hs h t.content e ∷ [])
-stood_gives v k k' hs h l g t e s q =
-    let f = follows v k (token_of hs t) s.calm s.ready (Ok (w.Given e, k')) q in record {
-      stepped = history.gives v k hs h l g t e k' s.stepped q;
-      fits = refl;
-      calm = f.0;
-      ready = λ i. (refl, looks e.stays t (f.1 i).0 (f.1 i).1);
+after_wants : (x : Did) (d d' : steps_t) (c c' : Config) (hs : Handles) (h : Texts) (l : List Token) (es : List Event)
+    (t : Token) (e : step_event_t) (f : step_fault_t) → Stands d c hs h (Some t) l es → 0 ≡ number x
+    → Tells x (step (want_in d) c (token_of hs t)) d' e f c'
+    → Stands d' c' (declared_by hs t.content) (kept_behind h t.content) None l es
+after_wants did.Wants d d' c c' hs h l es t e f s q y =
+    let kept = subst (After hs h t.content) y (kept_after (want_in d) hs h t c s.holds s.tag) in
+    let stepped = steps_told (want_in d) hs h t c s.holds s.tag ∙ ap (told_with h hs t t.content) y in record {
+      fed = pushed.wants (record { next = wanted d.read; texts = h }) (config_with c hs no_fault None) t s.fed stepped;
+      holds = kept.0;
+      tag = kept.1;
     }
+after_wants did.Gave d d' c c' hs h l es t e f s q y = no (sym (ap (λ (x : ℕ). x == 0) q))
+after_wants did.Stays d d' c c' hs h l es t e f s q y = no (sym (ap (λ (x : ℕ). x == 0) q))
+after_wants did.FullStates d d' c c' hs h l es t e f s q y = no (sym (ap (λ (x : ℕ). x == 0) q))
+after_wants did.FullMarks d d' c c' hs h l es t e f s q y = no (sym (ap (λ (x : ℕ). x == 0) q))
+after_wants did.Failed d d' c c' hs h l es t e f s q y = no (sym (ap (λ (x : ℕ). x == 0) q))
+after_wants did.Bad d d' c c' hs h l es t e f s q y = no (sym (ap (λ (x : ℕ). x == 0) q))
 
--- a collection's start and its entry
+given : (d d' : steps_t) (c c' : Config) (hs : Handles) (h : Texts) (l : List Token) (es : List Event) (t : Token)
+    (e : told.Event) → Stands d c hs h (Some t) l es → step (want_in d) c (token_of hs t) ≡ Ok (Given e, c')
+    → wanted d'.read ≡ a.AtState
+    → Stands d' c' (handles_after hs e.shape) no_texts (lookahead_after e.stays t None) l
+    (es ++ event_with hs h t.content e ∷ [])
+given d d' c c' hs h l es t e s y w = between d' c' (handles_after hs e.shape) (lookahead_after e.stays t None) l
+    (es ++ event_with hs h t.content e ∷ []) w
+    (pushed.gives (record { next = wanted d.read; texts = h }) (config_with c hs no_fault None) t es
+    (event_with hs h t.content e) (config_with c' (handles_after hs e.shape) no_fault (lookahead_after e.stays t None)) s.fed
+    (steps_told (want_in d) hs h t c s.holds s.tag ∙ ap (told_with h hs t t.content) y) refl refl refl)
 
-enters : (p : Progressed) (t : w.Token) (e : step_event_t) (v : Want) (c : Config) → TellsEntry p t e v c
-    → (k : Config) × (p ≡ Ok (w.Given (event_of e true), k)) × (step w.AtState k t ≡ want v c)
-enters (Ok (w.Given g, k)) t e v c h = (k, ap (λ x. Ok (w.Given x, k)) h.0, h.1)
-enters (Ok (w.Wants u, k)) t e v c h = absurd h
-enters (Err f) t e v c h = absurd h
+after_event : (x : Did) (d d' : steps_t) (c c' : Config) (hs : Handles) (h : Texts) (l : List Token) (es : List Event)
+    (t : Token) (e : step_event_t) (f : step_fault_t) → Stands d c hs h (Some t) l es → 1 ≡ number x
+    → Tells x (step (want_in d) c (token_of hs t)) d' e f c'
+    → Stands d' c' (handles_after hs (shape_of e)) no_texts None l (es ++ event_with hs h t.content (event_of e false) ∷ [])
+after_event did.Gave d d' c c' hs h l es t e f s q y = given d d' c c' hs h l es t (event_of e false) s y.0 y.1
+after_event did.Wants d d' c c' hs h l es t e f s q y = no (sym (ap (λ (x : ℕ). x == 1) q))
+after_event did.Stays d d' c c' hs h l es t e f s q y = no (sym (ap (λ (x : ℕ). x == 1) q))
+after_event did.FullStates d d' c c' hs h l es t e f s q y = no (sym (ap (λ (x : ℕ). x == 1) q))
+after_event did.FullMarks d d' c c' hs h l es t e f s q y = no (sym (ap (λ (x : ℕ). x == 1) q))
+after_event did.Failed d d' c c' hs h l es t e f s q y = no (sym (ap (λ (x : ℕ). x == 1) q))
+after_event did.Bad d d' c c' hs h l es t e f s q y = no (sym (ap (λ (x : ℕ). x == 1) q))
 
-handles_stay : (x : Shape) (hs : Handles) → is_start x ≡ true → handles_after hs x ≡ hs
-handles_stay (ev.DocumentEnd i) hs e = no e
-handles_stay _ hs e = refl
+before_token : (x : Did) (d d' : steps_t) (c c' : Config) (hs : Handles) (h : Texts) (l : List Token) (es : List Event)
+    (t : Token) (e : step_event_t) (f : step_fault_t) → Stands d c hs h (Some t) l es → 2 ≡ number x
+    → Tells x (step (want_in d) c (token_of hs t)) d' e f c'
+    → Stands d' c' (handles_after hs (shape_of e)) no_texts (Some t) l
+    (es ++ event_with hs h t.content (event_of e true) ∷ [])
+before_token did.Stays d d' c c' hs h l es t e f s q y = given d d' c c' hs h l es t (event_of e true) s y.0 y.1
+before_token did.Wants d d' c c' hs h l es t e f s q y = no (sym (ap (λ (x : ℕ). x == 2) q))
+before_token did.Gave d d' c c' hs h l es t e f s q y = no (sym (ap (λ (x : ℕ). x == 2) q))
+before_token did.FullStates d d' c c' hs h l es t e f s q y = no (sym (ap (λ (x : ℕ). x == 2) q))
+before_token did.FullMarks d d' c c' hs h l es t e f s q y = no (sym (ap (λ (x : ℕ). x == 2) q))
+before_token did.Failed d d' c c' hs h l es t e f s q y = no (sym (ap (λ (x : ℕ). x == 2) q))
+before_token did.Bad d d' c c' hs h l es t e f s q y = no (sym (ap (λ (x : ℕ). x == 2) q))
 
-keeps_nothing : (v : Want) → IsAfterEvent v → keeping v ≡ nothing
-keeps_nothing w.AtState b = refl
-keeps_nothing w.BehindFlowSequenceEntry b = refl
-keeps_nothing w.BehindFlowMappingEntry b = refl
-keeps_nothing _ b = absurd b
+pub stood : (d : steps_t) (ss : List ℕ) (ms : List yaml_mark_t) (hs : Handles) (h : Texts) (o : Option Token)
+    (l : List Token) (es : List Event) → Run d ss ms hs h o l es → Stands d (config_of d.machine ss ms) hs h o l es
+stood _ _ _ _ _ _ _ _ (begins d ss ms e f) = at_config (wanted d.read) (tag_in d) start (config_of d.machine ss ms)
+    no_handles no_texts None [] [] f (between d start no_handles None [] [] e pushed.begins)
+stood _ _ _ _ _ _ _ _ (moves d d' ss ss' ms ms' hs h o l es r v g e) =
+    at_config (wanted d'.read) (tag_in d') (config_of d.machine ss ms) (config_of d'.machine ss' ms') hs h o l es e
+    (at_want (wanted d.read) (wanted d'.read) (tag_in d) (tag_in d') (config_of d.machine ss ms) hs h o l es v g
+    (stood d ss ms hs h o l es r))
+stood _ _ _ _ _ _ _ _ (takes d ss ms hs h l es t r e) =
+    let s = stood d ss ms hs h None l es r in record {
+      fed = pushed.takes (record { next = wanted d.read; texts = h })
+          (config_with (config_of d.machine ss ms) hs no_fault None) l es t s.fed (fed_ended s.fed ∙ e) refl;
+      holds = s.holds;
+      tag = s.tag;
+    }
+stood _ _ _ _ _ _ _ _ (wants d d' ss ss' ms ms' hs h l es t e f r c) =
+    after_wants c.0 d d' (config_of d.machine ss ms) (config_of d'.machine ss' ms') hs h l es t e f
+    (stood d ss ms hs h (Some t) l es r) c.1 c.2
+stood _ _ _ _ _ _ _ _ (gave d d' ss ss' ms ms' hs h l es t e f r c) =
+    after_event c.0 d d' (config_of d.machine ss ms) (config_of d'.machine ss' ms') hs h l es t e f
+    (stood d ss ms hs h (Some t) l es r) c.1 c.2
+stood _ _ _ _ _ _ _ _ (stays d d' ss ss' ms ms' hs h l es t e f r c) =
+    before_token c.0 d d' (config_of d.machine ss ms) (config_of d'.machine ss' ms') hs h l es t e f
+    (stood d ss ms hs h (Some t) l es r) c.1 c.2
 
-stood_enters : (v v' : Want) (k k' : Config) (hs : Handles) (h : Held) (l : List Token) (g : List Event)
-    (t : Token) (e : step_event_t)
-    → Stood v k hs h (Some t) l g → is_start (shape_of e) ≡ true → IsAfterEvent v'
-    → TellsEntry (step v k (token_of hs t)) (token_of hs t) e v' k'
-    → Stood v' k' hs nothing_held None l (g ++ event_with hs h t.content (event_of e true) ∷ [])
-stood_enters v v' k k' hs h l g t e s i b q =
-    let m = enters _ _ _ _ _ q in
-    let given = subst (λ (x : Handles). Stood w.AtState m.0 x nothing_held (Some t) l
-    (g ++ event_with hs h t.content (event_of e true) ∷ []))
-    (handles_stay (shape_of e) hs i) (stood_gives v k m.0 hs h l g t (event_of e true) s m.1) in
-    let taken = stood_wants w.AtState v' m.0 k' hs nothing_held l
-    (g ++ event_with hs h t.content (event_of e true) ∷ []) t given m.2 in
-    let adds : Adds nothing (token_type t.content) nothing
-    = subst (λ (x : Keeping). Adds nothing (token_type t.content) x) (keeps_nothing v' b) taken.0 in
-    subst (λ (x : Handles). Stood v' k' x nothing_held None l
-    (g ++ event_with hs h t.content (event_of e true) ∷ [])) (undeclared hs t.content adds.0)
-    (subst (λ (x : Held). Stood v' k' (declared_by hs t.content) x None l
-    (g ++ event_with hs h t.content (event_of e true) ∷ []))
-    (untouched nothing_held t t.content adds.0 adds.1) taken.1)
-
--- the same event, whether the opening token stays or not
-start_event : (x : Shape) (hs : Handles) (h : Held) (k : unnamed_yaml_token_t_data) → is_start x ≡ true
-    → content_with hs h k true x ≡ content_with hs h k false x
-start_event (ev.Scalar a b p q) hs h k e = no e
-start_event _ hs h k e = refl
-
--- the numbers that C sees
-
-after_wants : (a : Did) (v : Want) (k k' : Config) (hs : Handles) (h : Held) (l : List Token)
-    (g : List Event) (t : Token) (d : steps_t)
-    (e : step_event_t) (f : step_fault_t) → Stood v k hs h (Some t) l g → 0 ≡ number a
-    → Tells a (step v k (token_of hs t)) (token_of hs t) d e f k'
-    → Stood (want_in d) k' (declared_by hs t.content) (held_behind h t t.content) None l g
-after_wants did.Wants v k k' hs h l g t d e f s q c = (stood_wants v (want_in d) k k' hs h l g t s c).1
-after_wants did.Gave v k k' hs h l g t d e f s q c = no (sym (ap (λ (x : ℕ). x == 0) q))
-after_wants did.Entered v k k' hs h l g t d e f s q c = no (sym (ap (λ (x : ℕ). x == 0) q))
-after_wants did.Stays v k k' hs h l g t d e f s q c = no (sym (ap (λ (x : ℕ). x == 0) q))
-after_wants did.FullStates v k k' hs h l g t d e f s q c = no (sym (ap (λ (x : ℕ). x == 0) q))
-after_wants did.FullMarks v k k' hs h l g t d e f s q c = no (sym (ap (λ (x : ℕ). x == 0) q))
-after_wants did.Failed v k k' hs h l g t d e f s q c = no (sym (ap (λ (x : ℕ). x == 0) q))
-after_wants did.Bad v k k' hs h l g t d e f s q c = no (sym (ap (λ (x : ℕ). x == 0) q))
-
-after_event : (a : Did) (v : Want) (k k' : Config) (hs : Handles) (h : Held) (l : List Token)
-    (g : List Event) (t : Token) (d : steps_t)
-    (e : step_event_t) (f : step_fault_t) → Stood v k hs h (Some t) l g → 1 ≡ number a
-    → Tells a (step v k (token_of hs t)) (token_of hs t) d e f k'
-    → Stood (want_in d) k' (handles_after hs (shape_of e)) nothing_held None l
-    (g ++ event_with hs h t.content (event_of e false) ∷ [])
-after_event did.Gave v k k' hs h l g t d e f s q c = at_want w.AtState (want_in d) k' _ _ _ _ _ (sym c.1)
-    (stood_gives v k k' hs h l g t (event_of e false) s c.0)
-after_event did.Entered v k k' hs h l g t d e f s q c =
-    subst (λ (x : unnamed_yaml_event_t_data). Stood (want_in d) k'
-    (handles_after hs (shape_of e)) nothing_held None l
-    (g ++ event x e.start_mark e.end_mark ∷ [])) (start_event (shape_of e) hs h t.content c.0)
-    (subst (λ (x : Handles). Stood (want_in d) k' x nothing_held None l
-    (g ++ event_with hs h t.content (event_of e true) ∷ []))
-    (sym (handles_stay (shape_of e) hs c.0))
-    (stood_enters v (want_in d) k k' hs h l g t e s c.0 c.1.0 c.1.1))
-after_event did.Wants v k k' hs h l g t d e f s q c = no (sym (ap (λ (x : ℕ). x == 1) q))
-after_event did.Stays v k k' hs h l g t d e f s q c = no (sym (ap (λ (x : ℕ). x == 1) q))
-after_event did.FullStates v k k' hs h l g t d e f s q c = no (sym (ap (λ (x : ℕ). x == 1) q))
-after_event did.FullMarks v k k' hs h l g t d e f s q c = no (sym (ap (λ (x : ℕ). x == 1) q))
-after_event did.Failed v k k' hs h l g t d e f s q c = no (sym (ap (λ (x : ℕ). x == 1) q))
-after_event did.Bad v k k' hs h l g t d e f s q c = no (sym (ap (λ (x : ℕ). x == 1) q))
-
-before_token : (a : Did) (v : Want) (k k' : Config) (hs : Handles) (h : Held) (l : List Token)
-    (g : List Event) (t : Token) (d : steps_t)
-    (e : step_event_t) (f : step_fault_t) → Stood v k hs h (Some t) l g → 2 ≡ number a
-    → Tells a (step v k (token_of hs t)) (token_of hs t) d e f k'
-    → Stood (want_in d) k' (handles_after hs (shape_of e)) nothing_held (Some t) l
-    (g ++ event_with hs h t.content (event_of e true) ∷ [])
-before_token did.Stays v k k' hs h l g t d e f s q c = at_want w.AtState (want_in d) k' _ _ _ _ _ (sym c.1)
-    (stood_gives v k k' hs h l g t (event_of e true) s c.0)
-before_token did.Wants v k k' hs h l g t d e f s q c = no (sym (ap (λ (x : ℕ). x == 2) q))
-before_token did.Gave v k k' hs h l g t d e f s q c = no (sym (ap (λ (x : ℕ). x == 2) q))
-before_token did.Entered v k k' hs h l g t d e f s q c = no (sym (ap (λ (x : ℕ). x == 2) q))
-before_token did.FullStates v k k' hs h l g t d e f s q c = no (sym (ap (λ (x : ℕ). x == 2) q))
-before_token did.FullMarks v k k' hs h l g t d e f s q c = no (sym (ap (λ (x : ℕ). x == 2) q))
-before_token did.Failed v k k' hs h l g t d e f s q c = no (sym (ap (λ (x : ℕ). x == 2) q))
-before_token did.Bad v k k' hs h l g t d e f s q c = no (sym (ap (λ (x : ℕ). x == 2) q))
-
--- before STREAM-END the parser has not ended
-alive : (v : Want) (k : Config) (hs : Handles) (h : Held) (l : List Token)
-    (g : List Event)
-    → Stepped v k hs h None l g → has_end l ≡ false → is_end_state k.state ≡ false
-alive v k hs h l g s e = let at = stands v k hs h None l g s in fed_ended at.3 ∙ e
-
-stood : (d : steps_t) (ss : List ℕ) (ms : List yaml_mark_t) (hs : Handles) (h : Held)
-    (o : Option Token)
-    (l : List Token) (g : List Event) → Run d ss ms hs h o l g
-    → Stood (want_in d) (config_of d.machine ss ms) hs h o l g
-stood _ _ _ _ _ _ _ _ (begins d ss ms e f) =
-    at_config (want_in d) start (config_of d.machine ss ms) no_handles nothing_held None [] [] (sym f)
-    (at_want w.AtState (want_in d) start no_handles nothing_held None [] [] (sym e) stood_starts)
-stood _ _ _ _ _ _ _ _ (moves d d' ss ss' ms ms' hs h o l g r v e) =
-    at_config (want_in d') (config_of d.machine ss ms) (config_of d'.machine ss' ms') hs h o l g (sym e)
-    (at_want (want_in d) (want_in d') (config_of d.machine ss ms) hs h o l g (sym v)
-    (stood d ss ms hs h o l g r))
-stood _ _ _ _ _ _ _ _ (takes d ss ms hs h l g t r e) =
-    let s = stood d ss ms hs h None l g r in
-    stood_takes (want_in d) (config_of d.machine ss ms) hs h l g t
-    (alive (want_in d) (config_of d.machine ss ms) hs h l g s.stepped e) s
-stood _ _ _ _ _ _ _ _ (wants d d' ss ss' ms ms' hs h l g t e f r c) =
-    after_wants c.0 (want_in d) (config_of d.machine ss ms) (config_of d'.machine ss' ms') hs h l g t d' e f
-    (stood d ss ms hs h (Some t) l g r) c.1 c.2
-stood _ _ _ _ _ _ _ _ (gave d d' ss ss' ms ms' hs h l g t e f r c) =
-    after_event c.0 (want_in d) (config_of d.machine ss ms) (config_of d'.machine ss' ms') hs h l g t d' e f
-    (stood d ss ms hs h (Some t) l g r) c.1 c.2
-stood _ _ _ _ _ _ _ _ (stays d d' ss ss' ms ms' hs h l g t e f r c) =
-    before_token c.0 (want_in d) (config_of d.machine ss ms) (config_of d'.machine ss' ms') hs h l g t d' e f
-    (stood d ss ms hs h (Some t) l g r) c.1 c.2
-
-pub fed : (d : steps_t) (ss : List ℕ) (ms : List yaml_mark_t) (hs : Handles)
-    (h : Held) (o : Option Token)
-    (l : List Token) (g : List Event) → Run d ss ms hs h o l g
-    → StandsAs (want_in d) (config_of d.machine ss ms) hs h o l g
-fed d ss ms hs h o l g r = stands _ _ hs h o l g (stood d ss ms hs h o l g r).stepped
+pub fed : RunIsFed
+fed d ss ms hs h o l es r = let s = stood d ss ms hs h o l es r in (s.fed, s.tag)

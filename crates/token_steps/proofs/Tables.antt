@@ -7,7 +7,8 @@ use Rattle.std.specs.FinMap.{get}
 use Rattle.libyaml_types.specs.Models.{TagDirectiveToken}
 use Rattle.libyaml_types.specs.declared.token.unnamed_yaml_token_t_data.TheVariants as token
 use Rattle.libyaml_events.specs.machine.Config.{Handles}
-use Rattle.libyaml_events.specs.automaton.Texts.{bit, declared_by, fact_of}
+use Rattle.libyaml_events.specs.machine.Machine.{declared_by}
+use Rattle.token_steps.specs.Texts.{bit, fact_of}
 use Rattle.token_steps.specs.declared.tags.handles.handle_t.{handle_t}
 use Rattle.token_steps.specs.Handles.{AllWithin, bytes_at, handles_at}
 use Rattle.token_steps.proofs.Found.{adds, stay}

@@ -1,145 +1,234 @@
--- Which results ask nothing further, and which stack was full.
+-- Which results ask nothing further, what the next token is wanted for then, and which stack was full.
 use mathlib.Core.Bool.{true≢false}
-use Rattle.std.proofs.Common.{◌≡◌, ◌∙◌, ◌≤◌, ℕ, List, Bool, true, false, Ok, Err, refl, sym, ap, subst}
-use Rattle.std.proofs.Common.{length}
+use Rattle.std.proofs.Common.{◌≡◌, ◌∙◌, ℕ, List, Bool, true, false, Err, refl, sym, ap, subst, ◌⊎◌, inl, inr}
 use Rattle.libyaml_types.specs.declared.mark.yaml_mark_t.{yaml_mark_t}
 use Rattle.libyaml_types.specs.declared.enums.yaml_token_type_t.{yaml_token_type_t}
 use Rattle.libyaml_types.specs.declared.enums.yaml_token_type_t.TheVariants as tok
 use Rattle.libyaml_types.specs.declared.enums.yaml_parser_state_t.{yaml_parser_state_t}
-use Rattle.libyaml_automaton.specs.Openings.{start_by}
 use Rattle.libyaml_automaton.specs.declared.answer.Answer.{Answer}
 use Rattle.libyaml_automaton.specs.declared.answer.Answer.TheVariants as answer
+use Rattle.libyaml_automaton.specs.declared.next.Next.{Next}
+use Rattle.libyaml_automaton.specs.declared.next.Next.TheVariants as next
 use Rattle.libyaml_automaton.specs.declared.machine.Machine.{Machine}
 use Rattle.libyaml_automaton.specs.declared.node_place.NodePlace.{NodePlace}
 use Rattle.libyaml_automaton.specs.declared.reading.Reading.{Reading}
-use Rattle.libyaml_automaton.specs.Automaton.{Progressed, content_behind, node_content, fail, mapping_start}
-use Rattle.libyaml_automaton.specs.Automaton.{step}
+use Rattle.libyaml_automaton.specs.Answers.{Says, outcome}
+use Rattle.libyaml_automaton.specs.Automaton as automaton
+use Rattle.libyaml_automaton.specs.Automaton.{AsksContent, Properties, Step}
 use Rattle.libyaml_automaton.specs.Config.{Config, config_of}
-use Rattle.libyaml_automaton.specs.Fits.{FitsStep, FitsDocument, Part, Nodes}
-use Rattle.libyaml_automaton.specs.Fits.{First, Documents}
-use Rattle.libyaml_automaton.specs.Growth.{IsFull, Stack, States, Marks, stack_of_part, is_first}
-use Rattle.libyaml_automaton.specs.Growth.{stack_part_of, pushes, pushes_in_documents, stack_in_step}
-use Rattle.libyaml_automaton.specs.declared.next.Next.{Next}
-use Rattle.libyaml_automaton.specs.Numbers.{flag}
+use Rattle.libyaml_automaton.specs.Fits.{FitsStep, FitsDocument, FitsContent, Part, Nodes, Documents}
+use Rattle.libyaml_automaton.specs.Fits.{is_simple, opens_at}
+use Rattle.libyaml_automaton.specs.Growth.{HasNoRoom, opens, stack_part_of, pushes, pushes_in_documents}
+use Rattle.libyaml_automaton.specs.Numbers.{flag, next_of}
 use Rattle.libyaml_automaton.specs.Problems as problem
-use Rattle.libyaml_automaton.specs.Want.{Token, Want, AtState, Wants, Properties, TagRead, NoTag, EmptyTag}
-use Rattle.libyaml_automaton.specs.Want.{Bang, OtherTag, Undefined}
-use Rattle.token_steps.specs.Growth.{stack_by, stack_at}
-use Rattle.token_steps.specs.Records.{is_undefined, step_fault}
+use Rattle.libyaml_automaton.specs.Wanted.{wanted, wanted_by}
+use Rattle.token_steps.specs.Facts.{Progressed, TagRead, NoTag, EmptyTag, Bang, OtherTag, Undefined, Token}
+use Rattle.token_steps.specs.Facts.{content_behind, put, seen, step, with_facts}
+use Rattle.token_steps.specs.Growth.{content_opens, pushes_by, pushes_mark, pushes_state}
+use Rattle.token_steps.specs.Records.{is_undefined}
+use Rattle.token_steps.proofs.Follows.{no}
 use Rattle.token_steps.specs.declared.did.Did.{Did}
 use Rattle.token_steps.specs.declared.did.Did.TheVariants as did
 use Rattle.token_steps.specs.declared.steps.steps_t.{steps_t}
 use Rattle.token_steps.specs.declared.records.step_event_t.{step_event_t}
 use Rattle.token_steps.specs.declared.records.step_fault_t.{step_fault_t}
-use Rattle.token_steps.specs.Tells.{IsTold, IsDone, IsUntold, IsGiven, IsAfterEvent, Tells, want_in}
+use Rattle.token_steps.specs.Tells.{FitsTold, IsTold, IsDone, IsUntold, IsGiven, Tells}
 
-pub told_in_step : (a : Answer) (k : yaml_token_type_t) (r : Reading) (s : yaml_parser_state_t)
-    → FitsStep a k r s → (a ≡ answer.Full → ⊥) → (a ≡ answer.Document → ⊥)
+pub told_in_step : (a : Answer) (k : yaml_token_type_t) (r : Reading) (s : yaml_parser_state_t) → FitsStep a k r s
+    → (a ≡ answer.FullStates → ⊥) → (a ≡ answer.FullMarks → ⊥) → (a ≡ answer.Document → ⊥)
     → (a ≡ answer.AsksContent → ⊥) → IsTold a
-told_in_step answer.Full k r s f n d c = n refl
-told_in_step answer.Document k r s f n d c = d refl
-told_in_step answer.AsksContent k r s f n d c = c refl
-told_in_step answer.AsksVersion k r s f n d c = f
-told_in_step answer.AsksHandle k r s f n d c = f
-told_in_step answer.First k r s f n d c = f
-told_in_step answer.Enter k r s f n d c = f
-told_in_step answer.Node k r s f n d c = f
-told_in_step _ k r s f n d c = tt
+told_in_step answer.FullStates k r s f n m d c = n refl
+told_in_step answer.FullMarks k r s f n m d c = m refl
+told_in_step answer.Document k r s f n m d c = d refl
+told_in_step answer.AsksContent k r s f n m d c = c refl
+told_in_step answer.AsksVersion k r s f n m d c = f
+told_in_step answer.AsksHandle k r s f n m d c = f
+told_in_step answer.Enter k r s f n m d c = f
+told_in_step answer.Node k r s f n m d c = f
+told_in_step _ k r s f n m d c = tt
 
-pub told_in_document : (a : Answer) (k : yaml_token_type_t) (r : Reading) (s : yaml_parser_state_t)
-    → FitsDocument a k r s → (a ≡ answer.Full → ⊥)
-    → (a ≡ answer.AsksVersion → ⊥) → (a ≡ answer.AsksHandle → ⊥) → IsTold a
-told_in_document answer.Full k r s f n d c = n refl
+pub told_in_document : (a : Answer) (k : yaml_token_type_t) (r : Reading) (s : yaml_parser_state_t) → FitsDocument a k r s
+    → (a ≡ answer.FullStates → ⊥) → (a ≡ answer.AsksVersion → ⊥) → (a ≡ answer.AsksHandle → ⊥) → IsTold a
+told_in_document answer.FullStates k r s f n d c = n refl
 told_in_document answer.AsksVersion k r s f n d c = d refl
 told_in_document answer.AsksHandle k r s f n d c = c refl
+told_in_document answer.FullMarks k r s f n d c = f
 told_in_document answer.Document k r s f n d c = f
 told_in_document answer.AsksContent k r s f n d c = f
-told_in_document answer.First k r s f n d c = f
 told_in_document answer.Enter k r s f n d c = f
 told_in_document answer.Node k r s f n d c = f
 told_in_document _ k r s f n d c = tt
 
-pub defined : (g : TagRead) (p : NodePlace) (r : Properties) (c : Config) (t : Token) (k : yaml_token_type_t)
-    → is_undefined g ≡ false → content_behind g p r c t k ≡ node_content p r c t k
-defined NoTag p r c t k e = refl
-defined EmptyTag p r c t k e = refl
-defined Bang p r c t k e = refl
-defined OtherTag p r c t k e = refl
-defined Undefined p r c t k e = absurd (true≢false e)
+pub told_content : (a : Answer) (k : yaml_token_type_t) (r : Reading) → FitsContent a k r → (a ≡ answer.FullMarks → ⊥)
+    → IsTold a
+told_content answer.FullMarks k r f n = n refl
+told_content answer.Document k r f n = f
+told_content answer.AsksVersion k r f n = f
+told_content answer.AsksHandle k r f n = f
+told_content answer.AsksContent k r f n = f
+told_content answer.FullStates k r f n = f
+told_content answer.Enter k r f n = f
+told_content answer.Node k r f n = f
+told_content _ k r f n = tt
 
-pub undefined : (g : TagRead) (p : NodePlace) (r : Properties) (c : Config) (t : Token)
-    (k : yaml_token_type_t)
-    → is_undefined g ≡ true
-    → content_behind g p r c t k ≡ fail problem.undefined_handle r.start_mark r.tag_mark
-undefined Undefined p r c t k e = refl
-undefined NoTag p r c t k e = absurd (true≢false (sym e))
-undefined EmptyTag p r c t k e = absurd (true≢false (sym e))
-undefined Bang p r c t k e = absurd (true≢false (sym e))
-undefined OtherTag p r c t k e = absurd (true≢false (sym e))
+-- what is wanted
 
-pub marks_full : (d : Part) (p q : Bool) (m : Machine) (ss : List ℕ) (ms : List yaml_mark_t)
-    → is_first d ≡ true
-    → IsFull (stack_of_part d p) m ss ms → (stack_by d p q ≡ Marks) × (length ms ≤ m.marks_count)
-marks_full First p q m ss ms e f = (refl, f)
-marks_full Nodes p q m ss ms e f = absurd (true≢false (sym e))
-marks_full Documents p q m ss ms e f = absurd f
+simple : (n : Next) → is_simple n ≡ true → n ≡ next.BehindProperties → ⊥
+simple n s e = true≢false (sym s ∙ ap is_simple e)
+
+pub fits_in_step : (a : Answer) (k : yaml_token_type_t) (r : Reading) (s : yaml_parser_state_t) → FitsStep a k r s
+    → FitsTold a k r NoTag
+fits_in_step answer.Wants k r s f = simple (next_of r.next) f.0
+fits_in_step answer.WantsAnchor k r s f = f.0
+fits_in_step answer.WantsTag k r s f = f
+fits_in_step answer.Empty k r s f = refl
+fits_in_step answer.EmptyBehind k r s f = refl
+fits_in_step answer.Pair k r s f = refl
+fits_in_step _ k r s f = tt
+
+pub fits_in_document : (a : Answer) (k : yaml_token_type_t) (r : Reading) (s : yaml_parser_state_t) → FitsDocument a k r s
+    → FitsTold a k r NoTag
+fits_in_document answer.Wants k r s f = simple (next_of r.next) f.0
+fits_in_document answer.WantsAnchor k r s f = absurd f
+fits_in_document answer.WantsTag k r s f = absurd f
+fits_in_document answer.Empty k r s f = refl
+fits_in_document answer.EmptyBehind k r s f = refl
+fits_in_document answer.Pair k r s f = refl
+fits_in_document _ k r s f = tt
+
+-- a handle
+
+pub defined : (g : TagRead) (tag : ℕ) (p : NodePlace) (r : Properties) (c : Config) (t : Token) → is_undefined g ≡ false
+    → content_behind g tag p r c t ≡ put g tag t (automaton.node_content p r c (seen t) t.kind)
+defined Undefined tag p r c t e = absurd (true≢false e)
+defined _ tag p r c t e = refl
+
+pub undefined : (g : TagRead) (tag : ℕ) (p : NodePlace) (r : Properties) (c : Config) (t : Token) → is_undefined g ≡ true
+    → content_behind g tag p r c t
+    ≡ Err (record { problem = problem.undefined_handle; context_mark = r.start_mark; mark = r.tag_mark })
+undefined Undefined tag p r c t e = refl
+undefined _ tag p r c t e = no e
+
+pub opens_defined : (g : TagRead) (p : NodePlace) (k : yaml_token_type_t) → is_undefined g ≡ false
+    → content_opens g p k ≡ opens_at p k
+opens_defined Undefined p k e = absurd (true≢false e)
+opens_defined _ p k e = refl
+
+-- stacks
 
 abbrev is_nodes : Part → Bool
 is_nodes Nodes = true
-is_nodes _ = false
+is_nodes Documents = false
 
-abbrev is_states : Stack → Bool
-is_states States = true
-is_states _ = false
+pub by_nodes : (d : Part) (p q : Bool) → (d ≡ Documents → ⊥) → pushes_by d p q ≡ p
+by_nodes Nodes p q n = refl
+by_nodes Documents p q n = absurd (n refl)
 
-abbrev is_marks : Stack → Bool
-is_marks Marks = true
-is_marks _ = false
+pub by_documents : (d : Part) (p q : Bool) → d ≡ Documents → pushes_by d p q ≡ q
+by_documents Nodes p q e = no (sym (ap is_nodes e))
+by_documents Documents p q e = refl
 
-pub full_states : (d : Part) (p q : Bool) (m : Machine) (ss : List ℕ) (ms : List yaml_mark_t)
-    → (d ≡ Documents → ⊥)
-    → stack_by d p q ≡ States → length ss ≤ m.states_count → IsFull (stack_of_part d p) m ss ms
-full_states Nodes true q m ss ms n e f = f
-full_states Documents p q m ss ms n e f = absurd (n refl)
-full_states Nodes false q m ss ms n e f = absurd (true≢false (sym (ap is_states e)))
-full_states First p q m ss ms n e f = absurd (true≢false (sym (ap is_states e)))
+-- a step that pushes a state is a node's, and follows no properties
+pub pushes_nodes : (n : Next) (k : yaml_token_type_t) → pushes n k ≡ true → stack_part_of n ≡ Documents → ⊥
+pushes_nodes next.AtPairKey k e d = true≢false (ap is_nodes d)
+pushes_nodes next.BehindBlockEntry k e d = true≢false (ap is_nodes d)
+pushes_nodes next.BehindIndentlessEntry k e d = true≢false (ap is_nodes d)
+pushes_nodes next.BehindKey k e d = true≢false (ap is_nodes d)
+pushes_nodes next.BehindValue k e d = true≢false (ap is_nodes d)
+pushes_nodes next.AtFlowSequenceFirstEntry k e d = true≢false (ap is_nodes d)
+pushes_nodes next.BehindFlowSequenceValue k e d = true≢false (ap is_nodes d)
+pushes_nodes next.AtFlowMappingFirstKey k e d = true≢false (ap is_nodes d)
+pushes_nodes next.BehindFlowMappingKey k e d = true≢false (ap is_nodes d)
+pushes_nodes next.BehindFlowMappingValue k e d = true≢false (ap is_nodes d)
+pushes_nodes _ k e d = no e
 
-pub states_full : (d : Part) (p q : Bool) (m : Machine) (ss : List ℕ) (ms : List yaml_mark_t)
-    → is_first d ≡ false → IsFull (stack_of_part d p) m ss ms
-    → (stack_by d p q ≡ States) × (length ss ≤ m.states_count)
-states_full Nodes true q m ss ms n f = (refl, f)
-states_full Nodes false q m ss ms n f = absurd f
-states_full First p q m ss ms n f = absurd (true≢false n)
-states_full Documents true q m ss ms n f = absurd f
-states_full Documents false q m ss ms n f = absurd f
+pub pushes_elsewhere : (n : Next) (k : yaml_token_type_t) → pushes n k ≡ true → n ≡ next.BehindProperties → ⊥
+pushes_elsewhere n k e p = true≢false (sym e ∙ ap (λ (x : Next). pushes x k) p)
 
-pub full_marks : (d : Part) (p q : Bool) (m : Machine) (ss : List ℕ) (ms : List yaml_mark_t)
-    → stack_by d p q ≡ Marks → length ms ≤ m.marks_count → IsFull (stack_of_part d p) m ss ms
-full_marks First p q m ss ms e f = f
-full_marks Nodes true q m ss ms e f = absurd (true≢false (sym (ap is_marks e)))
-full_marks Nodes false q m ss ms e f = absurd (true≢false (sym (ap is_marks e)))
-full_marks Documents p true m ss ms e f = absurd (true≢false (sym (ap is_marks e)))
-full_marks Documents p false m ss ms e f = absurd (true≢false (sym (ap is_marks e)))
+pub mark_elsewhere : (n : Next) (g : TagRead) (p : NodePlace) (k : yaml_token_type_t) → (n ≡ next.BehindProperties → ⊥)
+    → pushes_mark n g p k ≡ opens n k
+mark_elsewhere next.BehindProperties g p k n = absurd (n refl)
+mark_elsewhere _ g p k n = refl
 
--- documents never grow the marks
-pub no_marks : (d : Part) (p q : Bool) → d ≡ Documents → stack_by d p q ≡ Marks → ⊥
-no_marks Documents p true e m = true≢false (sym (ap is_marks m))
-no_marks Documents p false e m = true≢false (sym (ap is_marks m))
-no_marks First p q e m = true≢false (ap is_first e)
-no_marks Nodes true q e m = true≢false (sym (ap is_marks m))
-no_marks Nodes false q e m = true≢false (sym (ap is_marks m))
+pub mark_behind : (n : Next) (g : TagRead) (p : NodePlace) (k : yaml_token_type_t) → n ≡ next.BehindProperties
+    → pushes_mark n g p k ≡ content_opens g p k
+mark_behind n g p k e = rw e refl
 
-pub in_documents : (d : Part) (p q : Bool) → d ≡ Documents → stack_by d p q ≡ States → q ≡ true
-in_documents Documents p true e m = refl
-in_documents Documents p false e m = absurd (true≢false (sym (ap is_states m)))
-in_documents First p q e m = absurd (true≢false (ap is_first e))
-in_documents Nodes p q e m = absurd (true≢false (ap is_nodes e))
+pub no_mark : (n : Next) (g : TagRead) (p : NodePlace) (k : yaml_token_type_t) → stack_part_of n ≡ Documents
+    → pushes_mark n g p k ≡ false
+no_mark next.AtStreamStart g p k d = refl
+no_mark next.AtImplicitDocumentStart g p k d = refl
+no_mark next.AtDocumentStart g p k d = refl
+no_mark next.AtDocumentEnd g p k d = refl
+no_mark next.AtEnd g p k d = refl
+no_mark next.BehindDirective g p k d = refl
+no_mark next.AtBlockSequenceFirstEntry g p k d = refl
+no_mark next.AtBlockMappingFirstKey g p k d = refl
+no_mark _ g p k d = no (sym (ap is_nodes d))
 
-pub documents_in : (d : Part) (p q : Bool) → d ≡ Documents → q ≡ true → stack_by d p q ≡ States
-documents_in Documents p true e m = refl
-documents_in Documents p false e m = absurd (true≢false (sym m))
-documents_in First p q e m = absurd (true≢false (ap is_first e))
-documents_in Nodes p q e m = absurd (true≢false (ap is_nodes e))
+pub opens_elsewhere : (n : Next) (k : yaml_token_type_t) → opens n k ≡ true → n ≡ next.BehindProperties → ⊥
+opens_elsewhere n k e p = true≢false (sym e ∙ ap (λ (x : Next). opens x k) p)
+
+-- the same stack is full for a call as for the automaton's step
+pub full_in_states : (n n' : Next) (b : Bool) (g : TagRead) (q : NodePlace) (k : yaml_token_type_t) (ss : List ℕ)
+    (ms : List yaml_mark_t) (i j : ℕ) → n' ≡ n
+    → HasNoRoom (pushes n' k) ss i × (HasNoRoom (opens n' k) ms j → ⊥)
+    → HasNoRoom (pushes_state n b k) ss i × (HasNoRoom (pushes_mark n g q k) ms j → ⊥)
+full_in_states n n' b g q k ss ms i j e = rw e (λ h. (
+  (by_nodes (stack_part_of n) (pushes n k) (pushes_in_documents n b k) (pushes_nodes n k h.0.0) ∙ h.0.0, h.0.1),
+  λ m. h.1 (sym (mark_elsewhere n g q k (pushes_elsewhere n k h.0.0)) ∙ m.0, m.1),
+))
+
+pub full_in_marks : (n n' : Next) (g : TagRead) (q : NodePlace) (k : yaml_token_type_t) (ms : List yaml_mark_t) (j : ℕ)
+    → n' ≡ n → HasNoRoom (opens n' k) ms j → HasNoRoom (pushes_mark n g q k) ms j
+full_in_marks n n' g q k ms j e = rw e (λ h. (mark_elsewhere n g q k (opens_elsewhere n k h.0) ∙ h.0, h.1))
+
+pub document_out : (n n' : Next) (m m' : Machine) (g : TagRead) (q : NodePlace) (k : yaml_token_type_t) (ss ss' : List ℕ)
+    (ms : List yaml_mark_t) (j : ℕ) → n' ≡ n → m' ≡ m → ss' ≡ ss → stack_part_of n ≡ Documents
+    → HasNoRoom (pushes_in_documents n' (flag m'.behind_document_end) k) ss' m'.states_count
+    → HasNoRoom (pushes_state n (flag m.behind_document_end) k) ss m.states_count
+    × (HasNoRoom (pushes_mark n g q k) ms j → ⊥)
+document_out n n' m m' g q k ss ss' ms j e f x d = rw (e, f, x) (λ h. (
+  (by_documents (stack_part_of n) (pushes n k) (pushes_in_documents n (flag m.behind_document_end) k) d ∙ h.0, h.1),
+  λ y. true≢false (sym y.0 ∙ no_mark n g q k d),
+))
+
+pub document_in : (n n' : Next) (m m' : Machine) (k : yaml_token_type_t) (ss ss' : List ℕ) → n' ≡ n → m' ≡ m → ss' ≡ ss
+    → stack_part_of n ≡ Documents → HasNoRoom (pushes_state n (flag m.behind_document_end) k) ss m.states_count
+    → HasNoRoom (pushes_in_documents n' (flag m'.behind_document_end) k) ss' m'.states_count
+document_in n n' m m' k ss ss' e f x d = rw (e, f, x) (λ h. (
+  sym (by_documents (stack_part_of n) (pushes n k) (pushes_in_documents n (flag m.behind_document_end) k) d) ∙ h.0,
+  h.1,
+))
+
+pub no_marks : (n : Next) (g : TagRead) (q : NodePlace) (k : yaml_token_type_t) → stack_part_of n ≡ Documents
+    → pushes_mark n g q k ≡ true → ⊥
+no_marks n g q k d e = true≢false (sym e ∙ no_mark n g q k d)
+
+-- none is full for a step that did something
+pub room_for_states : (n n' : Next) (b : Bool) (g : TagRead) (q : NodePlace) (k : yaml_token_type_t) (ss : List ℕ)
+    (ms : List yaml_mark_t) (i j : ℕ) → n' ≡ n → (stack_part_of n' ≡ Documents → ⊥)
+    → (HasNoRoom (pushes n' k) ss i × (HasNoRoom (opens n' k) ms j → ⊥) → ⊥)
+    → HasNoRoom (pushes_state n b k) ss i × (HasNoRoom (pushes_mark n g q k) ms j → ⊥) → ⊥
+room_for_states n n' b g q k ss ms i j e d f h =
+    let part = λ (x : stack_part_of n ≡ Documents). d (ap stack_part_of e ∙ x) in
+    let pushed : pushes n k ≡ true
+    = sym (by_nodes (stack_part_of n) (pushes n k) (pushes_in_documents n b k) part) ∙ h.0.0 in
+    f (
+      (ap (λ (x : Next). pushes x k) e ∙ pushed, h.0.1),
+      λ m. h.1 (
+        mark_elsewhere n g q k (pushes_elsewhere n k pushed) ∙ (sym (ap (λ (x : Next). opens x k) e) ∙ m.0),
+        m.1,
+      ),
+    )
+
+pub same_step : (w w' : automaton.Want) (tag : ℕ) (m m' : Machine) (ss ss' : List ℕ) (ms ms' : List yaml_mark_t) (t : Token)
+    → w' ≡ w → m' ≡ m → ss' ≡ ss → ms' ≡ ms
+    → step (record { next = w'; tag = tag }) (config_of m' ss' ms') t
+    ≡ step (record { next = w; tag = tag }) (config_of m ss ms) t
+same_step w w' tag m m' ss ss' ms ms' t a b d e = rw (a, b, d, e) refl
+
+-- results
 
 pub not_states : (d : Did) → IsDone d → d ≡ did.FullStates → ⊥
 not_states d h e = subst IsDone e h
@@ -150,6 +239,12 @@ not_marks d h e = subst IsDone e h
 pub not_bad : (d : Did) → IsDone d → d ≡ did.Bad → ⊥
 not_bad d h e = subst IsDone e h
 
+pub not_undone : (d : Did) → IsDone d → IsUntold d → ⊥
+not_undone did.FullStates h u = h
+not_undone did.FullMarks h u = h
+not_undone did.Bad h u = h
+not_undone _ h u = u
+
 abbrev IsNotStates : Did → Type 0
 IsNotStates did.FullStates = ⊥
 IsNotStates _ = Unit {0}
@@ -158,116 +253,99 @@ abbrev IsNotMarks : Did → Type 0
 IsNotMarks did.FullMarks = ⊥
 IsNotMarks _ = Unit {0}
 
+pub states_not_marks : did.FullStates ≡ did.FullMarks → ⊥
+states_not_marks e = subst IsNotMarks e tt
+
 pub never_marks : (d : Did) → ((d ≡ did.FullStates → ⊥) → IsDone d) → d ≡ did.FullMarks → ⊥
 never_marks did.FullMarks h e = h (λ s. subst IsNotStates s tt)
 never_marks _ h e = subst IsNotMarks e tt
 
-pub undone_states : (d : Did) → ((d ≡ did.FullStates → ⊥) → IsDone d) → (IsDone d → ⊥) → d ≡ did.FullStates
-undone_states did.FullStates h n = refl
-undone_states did.FullMarks h n = absurd (h (λ s. subst IsNotStates s tt))
-undone_states did.Bad h n = absurd (h (λ s. subst IsNotStates s tt))
-undone_states _ h n = absurd (n tt)
+-- after an event no text is kept
+pub told_want : (a : Did) (p : Progressed) (d : steps_t) (e : step_event_t) (f : step_fault_t) (c : Config)
+    → Tells a p d e f c → IsGiven a → wanted d.read ≡ automaton.AtState
+told_want did.Gave p d e f c h g = h.1
+told_want did.Stays p d e f c h g = h.1
+told_want _ p d e f c h g = absurd g
 
-abbrev IsNotFull : Answer → Type 0
-IsNotFull answer.Full = ⊥
-IsNotFull _ = Unit {0}
+-- after properties a token that opens a collection is asked about
 
-abbrev IsNotDocument : Answer → Type 0
-IsNotDocument answer.Document = ⊥
-IsNotDocument _ = Unit {0}
+abbrev is_asking : Step → Bool
+is_asking (automaton.Gives e c) = false
+is_asking (automaton.Wants w c) = false
+is_asking (automaton.Fails f) = false
+is_asking _ = true
 
-pub asks_not_full : answer.AsksContent ≡ answer.Full → ⊥
-asks_not_full e = subst IsNotFull e tt
+opening_asks : (q p : NodePlace) (r : Properties) (c : Config) (t : automaton.Token) (k : yaml_token_type_t)
+    → opens_at q k ≡ true → is_asking (automaton.behind_properties p r c t k) ≡ true
+opening_asks q p r c t tok.YAML_ANCHOR_TOKEN e = no e
+opening_asks q p r c t tok.YAML_TAG_TOKEN e = no e
+opening_asks q p r c t _ e = refl
 
-pub asks_not_document : answer.AsksContent ≡ answer.Document → ⊥
-asks_not_document e = subst IsNotDocument e tt
+content_asks : (g : TagRead) (q p : NodePlace) (r : Properties) (c : Config) (t : automaton.Token) (k : yaml_token_type_t)
+    → content_opens g q k ≡ true → is_asking (automaton.behind_properties p r c t k) ≡ true
+content_asks Undefined q p r c t k e = no e
+content_asks NoTag q p r c t k e = opening_asks q p r c t k e
+content_asks EmptyTag q p r c t k e = opening_asks q p r c t k e
+content_asks Bang q p r c t k e = opening_asks q p r c t k e
+content_asks OtherTag q p r c t k e = opening_asks q p r c t k e
 
-pub step_states : (n n' : Next) (b : Bool) (m : Machine) (k : yaml_token_type_t) (ss : List ℕ)
-    (ms : List yaml_mark_t) → n ≡ n'
-    → (stack_part_of n' ≡ Documents → ⊥) → (IsFull (stack_in_step n' k) m ss ms → ⊥)
-    → (stack_at n b k ≡ States) × (length ss ≤ m.states_count) → ⊥
-step_states n n' b m k ss ms e d f h = f (full_states (stack_part_of n') (pushes n' k)
-    (pushes_in_documents n' b k) m ss ms d
-    (ap (λ (x : Next). stack_at x b k) (sym e) ∙ h.0) h.1)
+asks_nothing : (s : Step) (a : Answer) (h : Properties) (t : automaton.Token) (r : Reading) (c : Config)
+    → Says s (outcome a h t r c) → IsTold a → is_asking s ≡ false
+asks_nothing s answer.Document h t r c e x = absurd x
+asks_nothing s answer.AsksVersion h t r c e x = absurd x
+asks_nothing s answer.AsksHandle h t r c e x = absurd x
+asks_nothing s answer.AsksContent h t r c e x = absurd x
+asks_nothing s answer.FullStates h t r c e x = absurd x
+asks_nothing s answer.FullMarks h t r c e x = absurd x
+asks_nothing s answer.Enter h t r c e x = absurd x
+asks_nothing s answer.Node h t r c e x = absurd x
+asks_nothing s _ h t r c e x = ap is_asking e
 
-pub step_marks : (n n' : Next) (b : Bool) (m : Machine) (k : yaml_token_type_t) (ss : List ℕ)
-    (ms : List yaml_mark_t) → n ≡ n'
-    → (IsFull (stack_in_step n' k) m ss ms → ⊥) → (stack_at n b k ≡ Marks) × (length ms ≤ m.marks_count) → ⊥
-step_marks n n' b m k ss ms e f h = f (full_marks (stack_part_of n') (pushes n' k)
-    (pushes_in_documents n' b k) m ss ms
-    (ap (λ (x : Next). stack_at x b k) (sym e) ∙ h.0) h.1)
+plainly : (tag : ℕ) (t : Token) (s : Step) → is_asking s ≡ false → with_facts tag t s ≡ put NoTag tag t s
+plainly tag t (automaton.Gives e c) n = refl
+plainly tag t (automaton.Wants w c) n = refl
+plainly tag t (automaton.Fails f) n = refl
+plainly tag t (automaton.AsksVersion m c) n = no (sym n)
+plainly tag t (automaton.AsksHandle m h c) n = no (sym n)
+plainly tag t (AsksContent p r c) n = no (sym n)
 
--- no room, where the next step enters no collection whose opening token stayed
-pub full_in_step : (n n' : Next) (b : Bool) (m : Machine) (k : yaml_token_type_t) (ss : List ℕ)
-    (ms : List yaml_mark_t) → n ≡ n' → is_first (stack_part_of n') ≡ false
-    → IsFull (stack_in_step n' k) m ss ms → (stack_at n b k ≡ States) × (length ss ≤ m.states_count)
-full_in_step n n' b m k ss ms e f h =
-    let s = states_full (stack_part_of n') (pushes n' k) (pushes_in_documents n' b k) m ss ms f h in
-    (ap (λ (x : Next). stack_at x b k) e ∙ s.0, s.1)
+-- such a result is what the automaton does
+pub put_plainly : (tag : ℕ) (t : Token) (s : Step) (a : Answer) (h : Properties) (u : automaton.Token) (r : Reading)
+    (c : Config) → Says s (outcome a h u r c) → IsTold a → with_facts tag t s ≡ put NoTag tag t s
+put_plainly tag t s a h u r c e x = plainly tag t s (asks_nothing s a h u r c e x)
 
-pub same_step : (v v' : Want) (m m' : Machine) (ss ss' : List ℕ) (ms ms' : List yaml_mark_t) (t : Token)
-    → v' ≡ v → m' ≡ m → ss' ≡ ss → ms' ≡ ms
-    → step v' (config_of m' ss' ms') t ≡ step v (config_of m ss ms) t
-same_step v v' m m' ss ss' ms ms' t a b d e = rw (a, b, d, e) refl
+pub told_step : (w w' : automaton.Want) (tag : ℕ) (c : Config) (t : Token) (a : Answer) (h : Properties)
+    (u : automaton.Token) (r : Reading) (d : Config) → w' ≡ w
+    → Says (automaton.step w' c (seen t) t.kind) (outcome a h u r d) → IsTold a
+    → step (record { next = w; tag = tag }) c t ≡ put NoTag tag t (automaton.step w' c (seen t) t.kind)
+told_step w w' tag c t a h u r d e s x = ap (λ (y : automaton.Want). with_facts tag t (automaton.step y c (seen t) t.kind)) (sym e)
+    ∙ put_plainly tag t (automaton.step w' c (seen t) t.kind) a h u r d s x
 
-pub document_in : (n n' : Next) (m m' : Machine) (k : yaml_token_type_t) (ss ss' : List ℕ) → n ≡ n' → m ≡ m'
-    → ss ≡ ss'
-    → stack_part_of n' ≡ Documents → (stack_at n (flag m.behind_document_end) k ≡ States)
-    × (length ss ≤ m.states_count)
-    → (pushes_in_documents n' (flag m'.behind_document_end) k ≡ true) × (length ss' ≤ m'.states_count)
-document_in n n' m m' k ss ss' e f g d = rw (e, f, g)
-    (λ h. (in_documents (stack_part_of n') (pushes n' k) _ d h.0, h.1))
+-- and leaves no mark unput after properties
+pub told_opens_none : (n : Next) (g : TagRead) (q : NodePlace) (m : Reading) (c : Config) (t : automaton.Token)
+    (k : yaml_token_type_t) (a : Answer) (h : Properties) (r : Reading) (d : Config)
+    → Says (automaton.step (wanted_by n m) c t k) (outcome a h t r d) → IsTold a → n ≡ next.BehindProperties
+    → pushes_mark n g q k ≡ true → ⊥
+told_opens_none n g q m c t k a h r d e x b o =
+    let says = subst (λ (y : Next). Says (automaton.step (wanted_by y m) c t k) (outcome a h t r d)) b e in
+    let asks : is_asking (automaton.step (wanted_by next.BehindProperties m) c t k) ≡ true
+    = content_asks g q _ _ c t k (sym (mark_behind n g q k b) ∙ o) in
+    true≢false (sym asks ∙ asks_nothing _ a h t r d says x)
 
-pub document_out : (n n' : Next) (m m' : Machine) (k : yaml_token_type_t) (ss ss' : List ℕ) → n ≡ n' → m ≡ m'
-    → ss ≡ ss'
-    → stack_part_of n' ≡ Documents → (pushes_in_documents n' (flag m'.behind_document_end) k ≡ true)
-    × (length ss' ≤ m'.states_count)
-    → (stack_at n (flag m.behind_document_end) k ≡ States) × (length ss ≤ m.states_count)
-document_out n n' m m' k ss ss' e f g d = rw (e, f, g)
-    (λ h. (documents_in (stack_part_of n') (pushes n' k) _ d h.0, h.1))
+abbrev is_behind : Next → Bool
+is_behind next.BehindProperties = true
+is_behind _ = false
 
-pub start_by_other : (k : yaml_token_type_t) (h : Properties) → (k ≡ tok.YAML_BLOCK_SEQUENCE_START_TOKEN → ⊥)
-    → (k ≡ tok.YAML_FLOW_SEQUENCE_START_TOKEN → ⊥) → (k ≡ tok.YAML_FLOW_MAPPING_START_TOKEN → ⊥)
-    → start_by k h ≡ mapping_start h false
-start_by_other tok.YAML_BLOCK_SEQUENCE_START_TOKEN h a b c = absurd (a refl)
-start_by_other tok.YAML_FLOW_SEQUENCE_START_TOKEN h a b c = absurd (b refl)
-start_by_other tok.YAML_FLOW_MAPPING_START_TOKEN h a b c = absurd (c refl)
-start_by_other _ h a b c = refl
+by_next : (n : Next) → (n ≡ next.BehindProperties) ⊎ (n ≡ next.BehindProperties → ⊥)
+by_next next.BehindProperties = inl refl
+by_next _ = inr (λ e. true≢false (sym (ap is_behind e)))
 
--- where a call's want is known, as a collection is entered
-abbrev want_of : Progressed → Want
-want_of (Ok (Wants w, c)) = w
-want_of _ = AtState
-
--- after an event no text is needed
-pub told_want : (a : Did) (p : Progressed) (t : Token) (d : steps_t) (e : step_event_t) (f : step_fault_t)
-    (c : Config)
-    → Tells a p t d e f c → IsGiven a → IsAfterEvent (want_in d)
-told_want did.Gave p t d e f c h g = subst IsAfterEvent (sym h.1) tt
-told_want did.Stays p t d e f c h g = subst IsAfterEvent (sym h.1) tt
-told_want did.Entered p t d e f c h g = h.1.0
-told_want did.Wants p t d e f c h g = absurd g
-told_want did.FullStates p t d e f c h g = absurd g
-told_want did.FullMarks p t d e f c h g = absurd g
-told_want did.Failed p t d e f c h g = absurd g
-told_want did.Bad p t d e f c h g = absurd g
-
-pub not_undone : (d : Did) → IsDone d → IsUntold d → ⊥
-not_undone did.FullStates h u = h
-not_undone did.FullMarks h u = h
-not_undone did.Bad h u = h
-not_undone did.Wants h u = u
-not_undone did.Gave h u = u
-not_undone did.Entered h u = u
-not_undone did.Stays h u = u
-not_undone did.Failed h u = u
-
-abbrev IsNotFailed : Did → Type 0
-IsNotFailed did.Failed = ⊥
-IsNotFailed _ = Unit {0}
-
-pub told_fault : (a : Did) (p : Progressed) (t : Token) (d : steps_t) (e : step_event_t) (f : step_fault_t)
-    (c : Config)
-    → a ≡ did.Failed → Tells a p t d e f c → p ≡ Err (step_fault f)
-told_fault did.Failed p t d e f c q h = h
-told_fault _ p t d e f c q h = absurd (subst IsNotFailed q tt)
+pub room_for_marks : (n n' : Next) (g : TagRead) (q : NodePlace) (m : Reading) (c : Config) (t : automaton.Token)
+    (k : yaml_token_type_t) (a : Answer) (h : Properties) (r : Reading) (d : Config) (ms : List yaml_mark_t) (j : ℕ)
+    → n' ≡ n → n' ≡ next_of m.next → Says (automaton.step (wanted m) c t k) (outcome a h t r d) → IsTold a
+    → (HasNoRoom (opens n' k) ms j → ⊥) → HasNoRoom (pushes_mark n g q k) ms j → ⊥
+room_for_marks n n' g q m c t k a h r d ms j e v s x f y = by_place (by_next n) where
+  by_place : (n ≡ next.BehindProperties) ⊎ (n ≡ next.BehindProperties → ⊥) → ⊥
+  by_place (inl b) = told_opens_none (next_of m.next) g q m c t k a h r d s x (sym v ∙ (e ∙ b))
+      (ap (λ (z : Next). pushes_mark z g q k) (sym v ∙ e) ∙ y.0)
+  by_place (inr b) = f (ap (λ (z : Next). opens z k) e ∙ (sym (mark_elsewhere n g q k b) ∙ y.0), y.1)

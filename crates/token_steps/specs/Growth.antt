@@ -1,23 +1,39 @@
--- Which stack a call pushes on.
-use Rattle.std.specs.Prelude.{Bool, true, false}
+-- Where a call pushes, and so finds a stack full that has no room.
+use Rattle.std.specs.Prelude.{Bool, false}
 use Rattle.libyaml_types.specs.declared.enums.yaml_token_type_t.{yaml_token_type_t}
 use Rattle.libyaml_automaton.specs.declared.next.Next.{Next}
-use Rattle.libyaml_automaton.specs.Fits.{Part, Documents}
-use Rattle.libyaml_automaton.specs.Growth.{Stack, Neither, States, stack_of_part, stack_part_of, pushes}
-use Rattle.libyaml_automaton.specs.Growth.{pushes_in_documents}
-use Rattle.libyaml_automaton.specs.Numbers.{next_of, state_of, flag}
+use Rattle.libyaml_automaton.specs.declared.next.Next.TheVariants as next
+use Rattle.libyaml_automaton.specs.declared.node_place.NodePlace.{NodePlace}
+use Rattle.libyaml_automaton.specs.Fits.{Part, Nodes, Documents, opens_at}
+use Rattle.libyaml_automaton.specs.Growth.{stack_part_of, pushes, pushes_in_documents, opens}
+use Rattle.libyaml_automaton.specs.Numbers.{next_of, state_of, place_of, flag}
 use Rattle.libyaml_automaton.specs.Wanted.{settled}
 use Rattle.token_steps.specs.declared.steps.steps_t.{steps_t}
+use Rattle.token_steps.specs.Facts.{TagRead, Undefined, tag_if}
 
-abbrev pub stack_by : Part → (pushes in_documents : Bool) → Stack
-stack_by Documents pushes true = States
-stack_by Documents pushes false = Neither
-stack_by d pushes in_documents = stack_of_part d pushes
+-- the function that takes the next token
+abbrev pub next_in : steps_t → Next
+next_in d = settled (next_of d.read.next) (state_of d.machine.state)
 
-abbrev pub stack_at : Next → (behind : Bool) → yaml_token_type_t → Stack
-stack_at n behind k = stack_by (stack_part_of n) (pushes n k) (pushes_in_documents n behind k)
+abbrev pub pushes_by : Part → (pushes in_documents : Bool) → Bool
+pushes_by Nodes pushes in_documents = pushes
+pushes_by Documents pushes in_documents = in_documents
 
--- the stack that the call pushes on at a token of this kind
-abbrev pub grown : steps_t → yaml_token_type_t → Stack
-grown d k = stack_at (settled (next_of d.read.next) (state_of d.machine.state))
-    (flag d.machine.behind_document_end) k
+-- a call at a token of this kind puts a state on the stack
+abbrev pub pushes_state : Next → (behind_document_end : Bool) → yaml_token_type_t → Bool
+pushes_state n behind k = pushes_by (stack_part_of n) (pushes n k) (pushes_in_documents n behind k)
+
+abbrev pub grows_states : steps_t → yaml_token_type_t → Bool
+grows_states d k = pushes_state (next_in d) (flag d.machine.behind_document_end) k
+
+-- A mark is put where a collection opens, after properties too, unless a handle isn't declared.
+abbrev pub content_opens : TagRead → NodePlace → yaml_token_type_t → Bool
+content_opens Undefined p k = false
+content_opens g p k = opens_at p k
+
+abbrev pub pushes_mark : Next → TagRead → NodePlace → yaml_token_type_t → Bool
+pushes_mark next.BehindProperties g p k = content_opens g p k
+pushes_mark n g p k = opens n k
+
+abbrev pub grows_marks : steps_t → yaml_token_type_t → Bool
+grows_marks d k = pushes_mark (next_in d) (tag_if (flag d.read.has_tag) d.tag) (place_of d.read.place) k

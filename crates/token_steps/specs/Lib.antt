@@ -1,7 +1,9 @@
+pub mod Facts
 pub mod Numbers
 pub mod Records
-pub mod Tells
 pub mod Growth
+pub mod Tells
 pub mod Handles
+pub mod Texts
 pub mod Runs
 pub mod RunLaws

@@ -6,7 +6,6 @@ use Rattle.token_steps.specs.declared.did.Did.TheVariants as did
 abbrev pub number : Did → ℕ
 number did.Wants = 0
 number did.Gave = 1
-number did.Entered = 1
 number did.Stays = 2
 number did.FullStates = 3
 number did.FullMarks = 4

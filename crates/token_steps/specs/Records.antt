@@ -4,10 +4,9 @@ use Rattle.libyaml_types.specs.declared.mark.yaml_mark_t.{yaml_mark_t}
 use Rattle.libyaml_types.specs.declared.enums.yaml_token_type_t.{yaml_token_type_t}
 use Rattle.libyaml_types.specs.declared.enums.yaml_token_type_t.TheVariants as tok
 use Rattle.libyaml_automaton.specs.Numbers.{flag}
-use Rattle.libyaml_automaton.specs.Shape.{Shape}
-use Rattle.libyaml_automaton.specs.Shape as ev
-use Rattle.libyaml_automaton.specs.Want.{Token, TagRead, Undefined, Properties, Event, Fault}
-use Rattle.libyaml_automaton.specs.Wanted.{tag_if}
+use Rattle.libyaml_automaton.specs.Automaton.{Fault, Properties}
+use Rattle.token_steps.specs.Facts.{Event, Shape, TagRead, Token, Undefined, tag_if}
+use Rattle.token_steps.specs.Facts as ev
 use Rattle.token_steps.specs.declared.records.step_span_t.{step_span_t}
 use Rattle.token_steps.specs.declared.records.step_event_t.{step_event_t}
 use Rattle.token_steps.specs.declared.records.step_fault_t.{step_fault_t}
@@ -85,7 +84,7 @@ head_tag h = tag_if (flag h.has_tag) h.tag
 abbrev pub head_of : Head → (start end tag_mark : yaml_mark_t) → Properties
 head_of h start end tag_mark = record {
   anchor = flag h.has_anchor;
-  tag = head_tag h;
+  tag = flag h.has_tag;
   start_mark = start;
   end_mark = end;
   tag_mark = tag_mark;

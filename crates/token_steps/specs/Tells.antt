@@ -1,63 +1,46 @@
 -- What a call says of the automaton's step at its token.
-use Rattle.std.specs.Prelude.{◌≡◌, ℕ, Bool, true, false, Ok, Err}
+use Rattle.std.specs.Prelude.{◌≡◌, ℕ, true, false, Ok, Err}
+use Rattle.libyaml_types.specs.declared.enums.yaml_token_type_t.{yaml_token_type_t}
+use Rattle.libyaml_types.specs.declared.enums.yaml_token_type_t.TheVariants as tok
 use Rattle.libyaml_automaton.specs.declared.answer.Answer.{Answer}
 use Rattle.libyaml_automaton.specs.declared.answer.Answer.TheVariants as answer
-use Rattle.libyaml_automaton.specs.Automaton.{Progressed, want, step}
+use Rattle.libyaml_automaton.specs.declared.next.Next.TheVariants as next
+use Rattle.libyaml_automaton.specs.declared.reading.Reading.{Reading}
+use Rattle.libyaml_automaton.specs.Automaton.{AtState}
 use Rattle.libyaml_automaton.specs.Config.{Config}
-use Rattle.libyaml_automaton.specs.Shape.{Shape}
-use Rattle.libyaml_automaton.specs.Shape as ev
-use Rattle.libyaml_automaton.specs.Want.{Token, Want, AtState, BehindFlowSequenceEntry}
-use Rattle.libyaml_automaton.specs.Want.{BehindFlowMappingEntry, Given, Wants}
+use Rattle.libyaml_automaton.specs.Numbers.{next_of}
 use Rattle.libyaml_automaton.specs.Wanted.{wanted}
 use Rattle.token_steps.specs.declared.did.Did.{Did}
 use Rattle.token_steps.specs.declared.did.Did.TheVariants as did
 use Rattle.token_steps.specs.declared.steps.steps_t.{steps_t}
 use Rattle.token_steps.specs.declared.records.step_event_t.{step_event_t}
 use Rattle.token_steps.specs.declared.records.step_fault_t.{step_fault_t}
+use Rattle.token_steps.specs.Facts.{Given, NoTag, Progressed, TagRead, Want, Wants, tag_for}
 use Rattle.token_steps.specs.Numbers.{number}
-use Rattle.token_steps.specs.Records.{event_of, step_fault, shape_of}
+use Rattle.token_steps.specs.Records.{event_of, step_fault}
 
 -- what the next token is wanted for
 abbrev pub want_in : steps_t → Want
-want_in d = wanted d.tag d.read
+want_in d = record { next = wanted d.read; tag = d.tag }
 
--- What a token is wanted for after an event: the parser's state says it, or the token follows one that opens
--- a flow collection. No text is kept for these.
-abbrev pub IsAfterEvent : Want → Type 0
-IsAfterEvent AtState = Unit {0}
-IsAfterEvent BehindFlowSequenceEntry = Unit {0}
-IsAfterEvent BehindFlowMappingEntry = Unit {0}
-IsAfterEvent _ = ⊥
+-- and the tag of the node whose properties are read
+abbrev pub tag_in : steps_t → TagRead
+tag_in d = tag_for (wanted d.read) d.tag
 
-abbrev pub is_start : Shape → Bool
-is_start (ev.SequenceStart anchor tag implicit is_flow) = true
-is_start (ev.MappingStart anchor tag implicit is_flow) = true
-is_start _ = false
-
--- the start e of a collection, and then its entry at the same token
-abbrev pub TellsEntry : Progressed → Token → step_event_t → Want → Config → Type 0
-TellsEntry (Ok (Given g, k)) t e w c = (g ≡ event_of e true) × (step AtState k t ≡ want w c)
-TellsEntry (Ok (Wants v, k)) t e w c = ⊥
-TellsEntry (Err f) t e w c = ⊥
-
--- p is what the automaton does at the token t; d, e, f and c are the record, the event, the fault and the
--- configuration after it
-abbrev pub Tells : Did → (p : Progressed) → (t : Token) → (d : steps_t) → (e : step_event_t) →
-    (f : step_fault_t) → (c : Config) → Type 0
-Tells did.Wants p t d e f c = p ≡ want (want_in d) c
-Tells did.Gave p t d e f c = (p ≡ Ok (Given (event_of e false), c)) × (want_in d ≡ AtState)
-Tells did.Entered p t d e f c = (is_start (shape_of e) ≡ true)
-    × (IsAfterEvent (want_in d) × TellsEntry p t e (want_in d) c)
-Tells did.Stays p t d e f c = (p ≡ Ok (Given (event_of e true), c)) × (want_in d ≡ AtState)
-Tells did.FullStates p t d e f c = Unit {0}
-Tells did.FullMarks p t d e f c = Unit {0}
-Tells did.Failed p t d e f c = p ≡ Err (step_fault f)
-Tells did.Bad p t d e f c = Unit {0}
+-- p is what the automaton does with the token's fact; d, e, f and c are the record, the event, the fault and the
+-- configuration after it. After an event no text is kept.
+abbrev pub Tells : Did → (p : Progressed) → (d : steps_t) → (e : step_event_t) → (f : step_fault_t) → (c : Config) → Type 0
+Tells did.Wants p d e f c = p ≡ Ok (Wants (want_in d), c)
+Tells did.Gave p d e f c = (p ≡ Ok (Given (event_of e false), c)) × (wanted d.read ≡ AtState)
+Tells did.Stays p d e f c = (p ≡ Ok (Given (event_of e true), c)) × (wanted d.read ≡ AtState)
+Tells did.FullStates p d e f c = Unit {0}
+Tells did.FullMarks p d e f c = Unit {0}
+Tells did.Failed p d e f c = p ≡ Err (step_fault f)
+Tells did.Bad p d e f c = Unit {0}
 
 -- an event was put
 abbrev pub IsGiven : Did → Type 0
 IsGiven did.Gave = Unit {0}
-IsGiven did.Entered = Unit {0}
 IsGiven did.Stays = Unit {0}
 IsGiven _ = ⊥
 
@@ -81,13 +64,22 @@ IsTold answer.Document = ⊥
 IsTold answer.AsksVersion = ⊥
 IsTold answer.AsksHandle = ⊥
 IsTold answer.AsksContent = ⊥
-IsTold answer.Full = ⊥
-IsTold answer.First = ⊥
+IsTold answer.FullStates = ⊥
+IsTold answer.FullMarks = ⊥
 IsTold answer.Enter = ⊥
 IsTold answer.Node = ⊥
 IsTold _ = Unit {0}
 
+-- a property alone has the next token wanted after properties, and g is the tag of the node that the event is of
+abbrev pub FitsTold : Answer → yaml_token_type_t → Reading → (g : TagRead) → Type 0
+FitsTold answer.Wants k r g = next_of r.next ≡ next.BehindProperties → ⊥
+FitsTold answer.WantsAnchor k r g = k ≡ tok.YAML_ANCHOR_TOKEN
+FitsTold answer.WantsTag k r g = (k ≡ tok.YAML_TAG_TOKEN) × (next_of r.next ≡ next.BehindProperties)
+FitsTold answer.Empty k r g = g ≡ NoTag
+FitsTold answer.EmptyBehind k r g = g ≡ NoTag
+FitsTold answer.Pair k r g = g ≡ NoTag
+FitsTold _ k r g = Unit {0}
+
 -- the same by the number that C sees
-abbrev pub TellsNumber : ℕ → (p : Progressed) → (t : Token) → (d : steps_t) → (e : step_event_t) →
-    (f : step_fault_t) → (c : Config) → Type 0
-TellsNumber n p t d e f c = (a : Did) × (n ≡ number a) × Tells a p t d e f c
+abbrev pub TellsNumber : ℕ → (p : Progressed) → (d : steps_t) → (e : step_event_t) → (f : step_fault_t) → (c : Config) → Type 0
+TellsNumber n p d e f c = (a : Did) × (n ≡ number a) × Tells a p d e f c

@@ -9,8 +9,6 @@ pub enum Did {
     Wants,
     /// An event was put, and the token was taken.
     Gave,
-    /// A collection's start was put, and its opening token was taken: two steps in one.
-    Entered,
     /// An event was put. The same token is to be handed in again.
     Stays,
     /// Nothing was done: the stack of states has no room for one more.
@@ -24,7 +22,7 @@ pub enum Did {
 }
 
 impl Did {
-    /// Returns the number that C sees, the same for `Gave` and `Entered`.
+    /// Returns the number that C sees.
     #[inline(always)]
     pub fn number(self) -> u32
         ensures { result ≡ number self }
@@ -32,7 +30,6 @@ impl Did {
         match self {
             Did::Wants => 0,
             Did::Gave => 1,
-            Did::Entered => 1,
             Did::Stays => 2,
             Did::FullStates => 3,
             Did::FullMarks => 4,

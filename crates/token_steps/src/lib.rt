@@ -5,6 +5,7 @@
 //! two calls there is one record of plain numbers and two stacks, in the caller's memory.
 #![tactic(auto)]
 
+mod asking;
 mod did;
 mod head;
 pub mod laws;

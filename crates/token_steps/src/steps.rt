@@ -1,22 +1,20 @@
 //! The call.
 ghost use Rattle.std.specs.Prelude.{◌≡◌, ◌≤◌, ◌↔◌, ℕ, List, length, true};
 ghost use Rattle.libyaml_types.specs.declared.mark.yaml_mark_t.{yaml_mark_t};
-ghost use Rattle.libyaml_automaton.specs.Automaton as automaton;
+ghost use Rattle.libyaml_automaton.specs.Automaton.{AtState};
 ghost use Rattle.libyaml_automaton.specs.Config.{config_of, start, Within};
-ghost use Rattle.libyaml_automaton.specs.Numbers.{flag, next_of, state_of, place_of};
-ghost use Rattle.libyaml_automaton.specs.Want.{AtState, Token};
-ghost use Rattle.libyaml_automaton.specs.Wanted.{IsAt, wanted, properties};
-ghost use Rattle.libyaml_automaton.specs.Growth.{States, Marks, stack_part_of, pushes_in_documents};
-ghost use Rattle.libyaml_automaton.specs.Fits.{Documents};
-ghost use Rattle.token_steps.specs.Growth.{grown};
+ghost use Rattle.libyaml_automaton.specs.Growth.{HasNoRoom};
+ghost use Rattle.libyaml_automaton.specs.Wanted.{wanted};
+ghost use Rattle.token_steps.specs.Facts as facts;
+ghost use Rattle.token_steps.specs.Growth.{grows_states, grows_marks};
 ghost use Rattle.token_steps.specs.Records.{AreFlags, kind_of, span_token};
 ghost use Rattle.token_steps.specs.Numbers.{IsEventNumber, IsFaultNumber};
-ghost use Rattle.token_steps.specs.Tells.{Tells, want_in, IsAfterEvent, IsDone, IsGiven, IsUntold};
+ghost use Rattle.token_steps.specs.Tells.{Tells, want_in, IsGiven, IsUntold};
 
 use crate::did::Did;
-use crate::head::{Head, NO_HEAD};
+use crate::head::NO_HEAD;
 use crate::records::{step_event_t, step_fault_t, step_span_t};
-use libyaml_automaton::{Answer, Machine, Reading, UNDEFINED_HANDLE};
+use libyaml_automaton::{Answer, Machine, Reading};
 use libyaml_types::{yaml_mark_t, yaml_token_type_t};
 
 /// What is kept between two calls, beside the two stacks: plain numbers, each of which may be any.
@@ -69,7 +67,7 @@ impl steps_t {
     pub fn new() -> Self
         ensures config { (states : List ℕ) (marks : List yaml_mark_t)
             → config_of result.machine states marks ≡ start }
-        ensures wanted { want_in result ≡ AtState }
+        ensures wanted { wanted result.read ≡ AtState }
         ensures within { (states : List ℕ) (marks : List yaml_mark_t) → Within result.machine states marks }
     {
         steps_t {
@@ -99,20 +97,20 @@ impl steps_t {
         event: &mut step_event_t,
         fault: &mut step_fault_t,
     ) -> Did
-        ensures tells { Tells result (automaton.step (want_in self.old)
+        ensures tells { Tells result (facts.step (want_in self.old)
             (config_of self.old.machine states.old marks.old) (span_token kind fact at.now))
-            (span_token kind fact at.now) self.new event.new fault.new
-            (config_of self.new.machine states.new marks.new) }
+            self.new event.new fault.new (config_of self.new.machine states.new marks.new) }
         ensures within { Within self.old.machine states.old marks.old
             → Within self.new.machine states.new marks.new }
         ensures bad { (result ≡ Did.Bad) ↔ (Within self.old.machine states.old marks.old → ⊥) }
         ensures full_states { Within self.old.machine states.old marks.old → (result ≡ Did.FullStates)
-            ↔ ((grown self.old kind ≡ States) × (length states.old ≤ self.old.machine.states_count)) }
+            ↔ (HasNoRoom (grows_states self.old kind) states.old self.old.machine.states_count
+            × (HasNoRoom (grows_marks self.old kind) marks.old self.old.machine.marks_count → ⊥)) }
         ensures full_marks { Within self.old.machine states.old marks.old → (result ≡ Did.FullMarks)
-            ↔ ((grown self.old kind ≡ Marks) × (length marks.old ≤ self.old.machine.marks_count)) }
+            ↔ HasNoRoom (grows_marks self.old kind) marks.old self.old.machine.marks_count }
         ensures undone { IsUntold result → (self.new.machine ≡ self.old.machine) × ((states.new ≡ states.old)
             × ((marks.new ≡ marks.old) × (want_in self.new ≡ want_in self.old))) }
-        ensures holds_nothing { IsGiven result → IsAfterEvent (want_in self.new) }
+        ensures holds_nothing { IsGiven result → wanted self.new.read ≡ AtState }
         ensures event_number { IsGiven result → IsEventNumber event.new.kind }
         ensures event_flags { IsGiven result → AreFlags event.new }
         ensures fault_number { result ≡ Did.Failed → IsFaultNumber fault.new.problem }
@@ -131,13 +129,8 @@ impl steps_t {
             &at.start_mark,
             &at.end_mark,
         ) {
-            Answer::Full => {
-                if self.read.is_first() {
-                    Did::FullMarks
-                } else {
-                    Did::FullStates
-                }
-            }
+            Answer::FullStates => Did::FullStates,
+            Answer::FullMarks => Did::FullMarks,
             Answer::Document => self.document(states, kind, fact, at, event, fault),
             Answer::AsksContent => self.content(states, marks, kind, fact, at, event, fault),
             answer => self.tell(
@@ -152,129 +145,5 @@ impl steps_t {
                 fault,
             ),
         }
-    }
-
-    /// Takes a token that is the stream's or a document's.
-    #[inline(always)]
-    fn document(
-        &mut self,
-        states: &mut [u8],
-        kind: yaml_token_type_t,
-        fact: u8,
-        at: &step_span_t,
-        event: &mut step_event_t,
-        fault: &mut step_fault_t,
-    ) -> Did
-        requires within { self.old.machine.states_count ≤ length states.old }
-        requires at { IsAt (next_of self.old.read.next) (state_of self.old.machine.state) }
-        requires documents { stack_part_of (next_of self.old.read.next) ≡ Documents }
-        ensures tells { (marks : List yaml_mark_t) → Tells result (automaton.step (want_in self.old)
-            (config_of self.old.machine states.old marks) (span_token kind fact at.now))
-            (span_token kind fact at.now) self.new event.new fault.new
-            (config_of self.new.machine states.new marks) }
-        ensures within { self.new.machine.states_count ≤ length states.new }
-        ensures marks { self.new.machine.marks_count ≡ self.old.machine.marks_count }
-        ensures full { (result ≡ Did.FullStates) ↔ ((pushes_in_documents (next_of self.old.read.next)
-            (flag self.old.machine.behind_document_end) kind ≡ true)
-            × (length states.old ≤ self.old.machine.states_count)) }
-        ensures undone { result ≡ Did.FullStates → (self.new.machine ≡ self.old.machine)
-            × ((states.new ≡ states.old) × (want_in self.new ≡ want_in self.old)) }
-        ensures done { (result ≡ Did.FullStates → ⊥) → IsDone result }
-        ensures event_number { IsGiven result → IsEventNumber event.new.kind }
-        ensures event_flags { IsGiven result → AreFlags event.new }
-        ensures event_kept { (IsGiven result → ⊥) → event.new ≡ event.old }
-        ensures fault_kept { (result ≡ Did.Failed → ⊥) → fault.new ≡ fault.old }
-    {
-        match self
-            .machine
-            .document_step(&mut self.read, states, kind, &at.start_mark)
-        {
-            Answer::Full => Did::FullStates,
-            Answer::AsksVersion => {
-                let answer = self.machine.version_directive(&mut self.read, fact != 0);
-                self.tell(
-                    answer,
-                    &NO_HEAD,
-                    &at.start_mark,
-                    &at.end_mark,
-                    kind,
-                    fact,
-                    at,
-                    event,
-                    fault,
-                )
-            }
-            Answer::AsksHandle => {
-                let answer = self.machine.tag_directive(&mut self.read, fact != 0);
-                self.tell(
-                    answer,
-                    &NO_HEAD,
-                    &at.start_mark,
-                    &at.end_mark,
-                    kind,
-                    fact,
-                    at,
-                    event,
-                    fault,
-                )
-            }
-            answer => self.tell(
-                answer,
-                &NO_HEAD,
-                &at.start_mark,
-                &at.end_mark,
-                kind,
-                fact,
-                at,
-                event,
-                fault,
-            ),
-        }
-    }
-
-    /// Takes a token that follows a node's properties.
-    #[inline(always)]
-    fn content(
-        &mut self,
-        states: &[u8],
-        marks: &mut [yaml_mark_t],
-        kind: yaml_token_type_t,
-        fact: u8,
-        at: &step_span_t,
-        event: &mut step_event_t,
-        fault: &mut step_fault_t,
-    ) -> Did
-        requires within { Within self.old.machine states.now marks.old }
-        ensures tells { Tells result (automaton.content_behind (properties self.old.tag self.old.read).tag
-            (place_of self.old.read.place) (properties self.old.tag self.old.read)
-            (config_of self.old.machine states.now marks.old) (span_token kind fact at.now) kind)
-            (span_token kind fact at.now) self.new event.new fault.new
-            (config_of self.new.machine states.now marks.new) }
-        ensures within { Within self.new.machine states.now marks.new }
-        ensures done { IsDone result }
-        ensures event_number { IsGiven result → IsEventNumber event.new.kind }
-        ensures event_flags { IsGiven result → AreFlags event.new }
-        ensures event_kept { (IsGiven result → ⊥) → event.new ≡ event.old }
-        ensures fault_kept { (result ≡ Did.Failed → ⊥) → fault.new ≡ fault.old }
-    {
-        let head = Head {
-            has_anchor: self.read.has_anchor,
-            has_tag: self.read.has_tag,
-            tag: self.tag,
-        };
-        let start = self.read.start_mark;
-        let end = self.read.end_mark;
-        if head.is_undefined() {
-            return self.fail(&start, &self.read.tag_mark, UNDEFINED_HANDLE, fault);
-        }
-        let answer = self.machine.content_behind(
-            &mut self.read,
-            states,
-            marks,
-            kind,
-            &at.start_mark,
-            &at.end_mark,
-        );
-        self.tell(answer, &head, &start, &end, kind, fact, at, event, fault)
     }
 }

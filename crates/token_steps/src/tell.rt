@@ -2,15 +2,14 @@
 ghost use Rattle.std.specs.Prelude.{◌≡◌, ◌≤◌, ℕ, List, Bool, true, false};
 ghost use Rattle.libyaml_types.specs.declared.mark.yaml_mark_t.{yaml_mark_t};
 ghost use Rattle.libyaml_automaton.specs.Answers.{Says, outcome};
-ghost use Rattle.libyaml_automaton.specs.Automaton.{Progressed};
-ghost use Rattle.libyaml_automaton.specs.Config.{Config, config_of};
+ghost use Rattle.libyaml_automaton.specs.Automaton.{AtState, Step};
+ghost use Rattle.libyaml_automaton.specs.Config.{config_of};
 ghost use Rattle.libyaml_automaton.specs.Numbers.{flag};
-ghost use Rattle.libyaml_automaton.specs.Openings.{start_by};
-ghost use Rattle.libyaml_automaton.specs.Want.{AtState};
-ghost use Rattle.libyaml_automaton.specs.Wanted.{wanted};
-ghost use Rattle.token_steps.specs.Records.{AreFlags, head_of, shape_of, span_token};
+ghost use Rattle.libyaml_automaton.specs.Wanted.{token, wanted};
+ghost use Rattle.token_steps.specs.Facts as facts;
+ghost use Rattle.token_steps.specs.Records.{AreFlags, head_of, head_tag, span_token};
 ghost use Rattle.token_steps.specs.Numbers.{IsEventNumber};
-ghost use Rattle.token_steps.specs.Tells.{Tells, IsTold, IsDone, IsGiven};
+ghost use Rattle.token_steps.specs.Tells.{FitsTold, Tells, IsTold, IsDone, IsGiven};
 
 use crate::did::Did;
 use crate::head::{Head, NO_HEAD};
@@ -114,7 +113,7 @@ impl steps_t {
     #[inline(always)]
     fn rest(&mut self, did: Did) -> Did
         ensures did { result ≡ did }
-        ensures wanted { wanted self.new.tag self.new.read ≡ AtState }
+        ensures wanted { wanted self.new.read ≡ AtState }
         ensures kept { self.new ≡ record self.old { read = record self.old.read { next = 0 } } }
     {
         self.read.next = 0;
@@ -160,13 +159,12 @@ impl steps_t {
         event: &mut step_event_t,
         fault: &mut step_fault_t,
     ) -> Did
-        ensures tells { (p q : Progressed) (g : yaml_mark_t) (states : List ℕ) (marks : List yaml_mark_t)
-            → p ≡ q
-            → Says q (span_token kind fact at.now) (outcome answer (head_of head.now start.now end.now g)
-            (span_token kind fact at.now) self.old.tag self.old.read
-            (config_of self.old.machine states marks))
-            → Tells result p (span_token kind fact at.now) self.new event.new fault.new
-            (config_of self.new.machine states marks) }
+        requires fits { FitsTold answer kind self.old.read (head_tag head.now) }
+        ensures tells { (p : Step) (g : yaml_mark_t) (states : List ℕ) (marks : List yaml_mark_t)
+            → Says p (outcome answer (head_of head.now start.now end.now g)
+            (token kind at.now.start_mark at.now.end_mark) self.old.read (config_of self.old.machine states marks))
+            → Tells result (facts.put (head_tag head.now) self.old.tag (span_token kind fact at.now) p)
+            self.new event.new fault.new (config_of self.new.machine states marks) }
         ensures machine { self.new.machine ≡ self.old.machine }
         ensures done { IsTold answer → IsDone result }
         ensures event_number { IsGiven result → IsEventNumber event.new.kind }
@@ -256,7 +254,7 @@ impl steps_t {
                     start,
                     &at.end_mark,
                 );
-                Did::Entered
+                self.rest(Did::Gave)
             }
             Answer::BlockMapping => {
                 let is_missing = head.is_missing();
@@ -270,7 +268,7 @@ impl steps_t {
                     start,
                     &at.end_mark,
                 );
-                Did::Entered
+                self.rest(Did::Gave)
             }
             Answer::FlowSequence => {
                 let is_missing = head.is_missing();
@@ -284,7 +282,7 @@ impl steps_t {
                     start,
                     &at.end_mark,
                 );
-                Did::Entered
+                self.rest(Did::Gave)
             }
             Answer::FlowMapping => {
                 let is_missing = head.is_missing();
@@ -298,9 +296,8 @@ impl steps_t {
                     start,
                     &at.end_mark,
                 );
-                Did::Entered
+                self.rest(Did::Gave)
             }
-            Answer::Unentered => self.unentered(head, start, kind, at, event),
             Answer::IndentlessSequence => {
                 let is_missing = head.is_missing();
                 put_node(
@@ -358,84 +355,6 @@ impl steps_t {
                 fault,
             ),
             _ => Did::Bad,
-        }
-    }
-
-    /// Puts the start of the collection that the token opens. The token stays.
-    #[cold]
-    #[inline(never)]
-    fn unentered(
-        &mut self,
-        head: &Head,
-        start: &yaml_mark_t,
-        kind: yaml_token_type_t,
-        at: &step_span_t,
-        event: &mut step_event_t,
-    ) -> Did
-        ensures did { result ≡ Did.Stays }
-        ensures wanted { wanted self.new.tag self.new.read ≡ AtState }
-        ensures machine { self.new.machine ≡ self.old.machine }
-        ensures shape { (e g : yaml_mark_t)
-            → shape_of event.new ≡ start_by kind (head_of head.now start.now e g) }
-        ensures start { event.new.start_mark ≡ start.now }
-        ensures end { event.new.end_mark ≡ at.now.end_mark }
-        ensures event_number { IsEventNumber event.new.kind }
-        ensures event_flags { AreFlags event.new }
-    {
-        let is_missing = head.is_missing();
-        match kind {
-            yaml_token_type_t::YAML_BLOCK_SEQUENCE_START_TOKEN => {
-                put_node(
-                    event,
-                    SEQUENCE_START,
-                    head,
-                    is_missing,
-                    false,
-                    false,
-                    start,
-                    &at.end_mark,
-                );
-                self.rest(Did::Stays)
-            }
-            yaml_token_type_t::YAML_FLOW_SEQUENCE_START_TOKEN => {
-                put_node(
-                    event,
-                    SEQUENCE_START,
-                    head,
-                    is_missing,
-                    false,
-                    true,
-                    start,
-                    &at.end_mark,
-                );
-                self.rest(Did::Stays)
-            }
-            yaml_token_type_t::YAML_FLOW_MAPPING_START_TOKEN => {
-                put_node(
-                    event,
-                    MAPPING_START,
-                    head,
-                    is_missing,
-                    false,
-                    true,
-                    start,
-                    &at.end_mark,
-                );
-                self.rest(Did::Stays)
-            }
-            _ => {
-                put_node(
-                    event,
-                    MAPPING_START,
-                    head,
-                    is_missing,
-                    false,
-                    false,
-                    start,
-                    &at.end_mark,
-                );
-                self.rest(Did::Stays)
-            }
         }
     }
 }

@@ -3,7 +3,7 @@ ghost use Rattle.std.specs.Prelude.{◌≡◌, ◌++◌, Some, is_some};
 ghost use Rattle.std.specs.FinMap.{get};
 ghost use Rattle.libyaml_grammar.specs.sentences.Order.{is_accepted};
 ghost use Rattle.token_steps.specs.Handles.{handles_at};
-ghost use Rattle.libyaml_events.specs.automaton.Texts.{bit, tag_fact as fact_of_tag};
+ghost use Rattle.token_steps.specs.Texts.{bit, tag_fact as fact_of_tag};
 
 use crate::tags::handles::{declared_prefix, handle_t, is_same};
 

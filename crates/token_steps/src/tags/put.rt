@@ -2,7 +2,7 @@
 ghost use Rattle.std.specs.Prelude.{◌≡◌, ◌≤◌, ◌<◌, ◌++◌, ℕ, List, Some, None, length, drop, take};
 ghost use Rattle.libyaml_events.specs.machine.Machine.{resolve};
 ghost use Rattle.token_steps.specs.Handles.{handles_at};
-ghost use Rattle.libyaml_events.specs.automaton.Texts.{tag_fact};
+ghost use Rattle.token_steps.specs.Texts.{tag_fact};
 ghost use Rattle.token_steps.specs.Numbers.{length_or_none};
 
 use crate::tags::facts::whole_fact;

@@ -1,0 +1,150 @@
+//! The tokens of documents, and those after a node's properties: where a step asks for a text's fact.
+ghost use Rattle.std.specs.Prelude.{◌≡◌, ◌≤◌, ◌↔◌, ℕ, List, length, true};
+ghost use Rattle.libyaml_types.specs.declared.mark.yaml_mark_t.{yaml_mark_t};
+ghost use Rattle.libyaml_automaton.specs.Config.{config_of, Within};
+ghost use Rattle.libyaml_automaton.specs.Fits.{Documents};
+ghost use Rattle.libyaml_automaton.specs.Growth.{HasNoRoom, stack_part_of, pushes_in_documents};
+ghost use Rattle.libyaml_automaton.specs.Numbers.{flag, next_of, state_of, place_of};
+ghost use Rattle.libyaml_automaton.specs.Wanted.{IsAt, properties};
+ghost use Rattle.token_steps.specs.Facts as facts;
+ghost use Rattle.token_steps.specs.Facts.{tag_if};
+ghost use Rattle.token_steps.specs.Growth.{content_opens};
+ghost use Rattle.token_steps.specs.Records.{AreFlags, span_token};
+ghost use Rattle.token_steps.specs.Numbers.{IsEventNumber};
+ghost use Rattle.token_steps.specs.Tells.{Tells, want_in, IsDone, IsGiven};
+
+use crate::did::Did;
+use crate::head::{Head, NO_HEAD};
+use crate::records::{step_event_t, step_fault_t, step_span_t};
+use crate::steps::steps_t;
+use libyaml_automaton::{Answer, UNDEFINED_HANDLE};
+use libyaml_types::{yaml_mark_t, yaml_token_type_t};
+
+impl steps_t {
+    /// Takes a token that is the stream's or a document's.
+    #[inline(always)]
+    pub(crate) fn document(
+        &mut self,
+        states: &mut [u8],
+        kind: yaml_token_type_t,
+        fact: u8,
+        at: &step_span_t,
+        event: &mut step_event_t,
+        fault: &mut step_fault_t,
+    ) -> Did
+        requires within { self.old.machine.states_count ≤ length states.old }
+        requires at { IsAt (next_of self.old.read.next) (state_of self.old.machine.state) }
+        requires documents { stack_part_of (next_of self.old.read.next) ≡ Documents }
+        ensures tells { (marks : List yaml_mark_t) → Tells result (facts.step (want_in self.old)
+            (config_of self.old.machine states.old marks) (span_token kind fact at.now))
+            self.new event.new fault.new (config_of self.new.machine states.new marks) }
+        ensures within { self.new.machine.states_count ≤ length states.new }
+        ensures marks { self.new.machine.marks_count ≡ self.old.machine.marks_count }
+        ensures full { (result ≡ Did.FullStates) ↔ HasNoRoom (pushes_in_documents (next_of self.old.read.next)
+            (flag self.old.machine.behind_document_end) kind) states.old self.old.machine.states_count }
+        ensures undone { result ≡ Did.FullStates → (self.new.machine ≡ self.old.machine)
+            × ((states.new ≡ states.old) × (want_in self.new ≡ want_in self.old)) }
+        ensures done { (result ≡ Did.FullStates → ⊥) → IsDone result }
+        ensures event_number { IsGiven result → IsEventNumber event.new.kind }
+        ensures event_flags { IsGiven result → AreFlags event.new }
+        ensures event_kept { (IsGiven result → ⊥) → event.new ≡ event.old }
+        ensures fault_kept { (result ≡ Did.Failed → ⊥) → fault.new ≡ fault.old }
+    {
+        match self
+            .machine
+            .document_step(&mut self.read, states, kind, &at.start_mark)
+        {
+            Answer::FullStates => Did::FullStates,
+            Answer::AsksVersion => {
+                let answer = self.machine.version_directive(&mut self.read, fact != 0);
+                self.tell(
+                    answer,
+                    &NO_HEAD,
+                    &at.start_mark,
+                    &at.end_mark,
+                    kind,
+                    fact,
+                    at,
+                    event,
+                    fault,
+                )
+            }
+            Answer::AsksHandle => {
+                let answer = self.machine.tag_directive(&mut self.read, fact != 0);
+                self.tell(
+                    answer,
+                    &NO_HEAD,
+                    &at.start_mark,
+                    &at.end_mark,
+                    kind,
+                    fact,
+                    at,
+                    event,
+                    fault,
+                )
+            }
+            answer => self.tell(
+                answer,
+                &NO_HEAD,
+                &at.start_mark,
+                &at.end_mark,
+                kind,
+                fact,
+                at,
+                event,
+                fault,
+            ),
+        }
+    }
+
+    /// Takes a token that follows a node's properties.
+    #[inline(always)]
+    pub(crate) fn content(
+        &mut self,
+        states: &[u8],
+        marks: &mut [yaml_mark_t],
+        kind: yaml_token_type_t,
+        fact: u8,
+        at: &step_span_t,
+        event: &mut step_event_t,
+        fault: &mut step_fault_t,
+    ) -> Did
+        requires within { Within self.old.machine states.now marks.old }
+        ensures tells { Tells result (facts.content_behind (tag_if (flag self.old.read.has_tag) self.old.tag)
+            self.old.tag (place_of self.old.read.place) (properties self.old.read)
+            (config_of self.old.machine states.now marks.old) (span_token kind fact at.now))
+            self.new event.new fault.new (config_of self.new.machine states.now marks.new) }
+        ensures within { Within self.new.machine states.now marks.new }
+        ensures full { (result ≡ Did.FullMarks) ↔ HasNoRoom (content_opens
+            (tag_if (flag self.old.read.has_tag) self.old.tag) (place_of self.old.read.place) kind) marks.old
+            self.old.machine.marks_count }
+        ensures undone { result ≡ Did.FullMarks → (self.new ≡ self.old) × (marks.new ≡ marks.old) }
+        ensures done { (result ≡ Did.FullMarks → ⊥) → IsDone result }
+        ensures event_number { IsGiven result → IsEventNumber event.new.kind }
+        ensures event_flags { IsGiven result → AreFlags event.new }
+        ensures event_kept { (IsGiven result → ⊥) → event.new ≡ event.old }
+        ensures fault_kept { (result ≡ Did.Failed → ⊥) → fault.new ≡ fault.old }
+    {
+        let head = Head {
+            has_anchor: self.read.has_anchor,
+            has_tag: self.read.has_tag,
+            tag: self.tag,
+        };
+        let start = self.read.start_mark;
+        let end = self.read.end_mark;
+        if head.is_undefined() {
+            return self.fail(&start, &self.read.tag_mark, UNDEFINED_HANDLE, fault);
+        }
+        match self.machine.content_behind(
+            &mut self.read,
+            states,
+            marks,
+            kind,
+            &at.start_mark,
+            &at.end_mark,
+        ) {
+            Answer::FullMarks => Did::FullMarks,
+            answer => self.tell(answer, &head, &start, &end, kind, fact, at, event, fault),
+        }
+    }
+}
