@@ -15,13 +15,11 @@ number_undone _ e = absurd (true≢false (sym e))
 
 pub number_given : (d : Did) → is_given (number d) ≡ true → IsGiven d
 number_given did.Gave e = tt
-number_given did.Entered e = tt
 number_given did.Stays e = tt
 number_given _ e = absurd (true≢false (sym e))
 
 pub number_not_given : (d : Did) → is_given (number d) ≡ false → IsGiven d → ⊥
 number_not_given did.Gave e = absurd (true≢false e)
-number_not_given did.Entered e = absurd (true≢false e)
 number_not_given did.Stays e = absurd (true≢false e)
 number_not_given did.Wants e = λ g. g
 number_not_given did.FullStates e = λ g. g

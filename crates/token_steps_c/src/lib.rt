@@ -4,16 +4,17 @@
 
 mod tags;
 
-ghost use Rattle.std.specs.Prelude.{◌≡◌, ◌≤◌, ◌↔◌, ℕ, List, length, true, false};
+ghost use Rattle.std.specs.Prelude.{◌≡◌, ◌≤◌, ◌↔◌, ℕ, List, true, false};
 ghost use Rattle.libyaml_types.specs.declared.mark.yaml_mark_t.{yaml_mark_t};
-ghost use Rattle.libyaml_automaton.specs.Automaton as automaton;
+ghost use Rattle.libyaml_automaton.specs.Automaton.{AtState};
 ghost use Rattle.libyaml_automaton.specs.Config.{config_of, start, Within};
-ghost use Rattle.libyaml_automaton.specs.Growth.{States, Marks};
-ghost use Rattle.libyaml_automaton.specs.Want.{AtState};
-ghost use Rattle.token_steps.specs.Growth.{grown};
+ghost use Rattle.libyaml_automaton.specs.Growth.{HasNoRoom};
+ghost use Rattle.libyaml_automaton.specs.Wanted.{wanted};
+ghost use Rattle.token_steps.specs.Facts as facts;
+ghost use Rattle.token_steps.specs.Growth.{grows_states, grows_marks};
 ghost use Rattle.token_steps.specs.Records.{AreFlags, kind_of, span_token};
 ghost use Rattle.token_steps.specs.Numbers.{is_given, is_undone, IsEventNumber, IsFaultNumber};
-ghost use Rattle.token_steps.specs.Tells.{TellsNumber, want_in, IsAfterEvent};
+ghost use Rattle.token_steps.specs.Tells.{TellsNumber, want_in};
 
 use libyaml_types::yaml_mark_t;
 pub use tags::{pokhvizi_directive_fact, pokhvizi_tag, pokhvizi_version_fact};
@@ -24,7 +25,7 @@ use token_steps::{step_event_t, step_fault_t, step_span_t, steps_t, token_kind};
 pub extern "C" fn pokhvizi_steps_new(steps: &mut steps_t)
     ensures config { (states : List ℕ) (marks : List yaml_mark_t)
         → config_of steps.new.machine states marks ≡ start }
-    ensures wanted { want_in steps.new ≡ AtState }
+    ensures wanted { wanted steps.new.read ≡ AtState }
     ensures within { (states : List ℕ) (marks : List yaml_mark_t) → Within steps.new.machine states marks }
 {
     *steps = steps_t::new();
@@ -45,21 +46,21 @@ pub extern "C" fn pokhvizi_step(
     event: &mut step_event_t,
     fault: &mut step_fault_t,
 ) -> u32
-    ensures tells { TellsNumber result (automaton.step (want_in steps.old)
+    ensures tells { TellsNumber result (facts.step (want_in steps.old)
         (config_of steps.old.machine states.old marks.old) (span_token (kind_of kind) fact at.now))
-        (span_token (kind_of kind) fact at.now) steps.new event.new fault.new
-        (config_of steps.new.machine states.new marks.new) }
+        steps.new event.new fault.new (config_of steps.new.machine states.new marks.new) }
     ensures numbers { result ≤ 6 }
     ensures within { Within steps.old.machine states.old marks.old
         → Within steps.new.machine states.new marks.new }
     ensures bad { (result ≡ 6) ↔ (Within steps.old.machine states.old marks.old → ⊥) }
     ensures full_states { Within steps.old.machine states.old marks.old → (result ≡ 3)
-        ↔ ((grown steps.old (kind_of kind) ≡ States) × (length states.old ≤ steps.old.machine.states_count)) }
+        ↔ (HasNoRoom (grows_states steps.old (kind_of kind)) states.old steps.old.machine.states_count
+        × (HasNoRoom (grows_marks steps.old (kind_of kind)) marks.old steps.old.machine.marks_count → ⊥)) }
     ensures full_marks { Within steps.old.machine states.old marks.old → (result ≡ 4)
-        ↔ ((grown steps.old (kind_of kind) ≡ Marks) × (length marks.old ≤ steps.old.machine.marks_count)) }
+        ↔ HasNoRoom (grows_marks steps.old (kind_of kind)) marks.old steps.old.machine.marks_count }
     ensures undone { is_undone result ≡ true → (steps.new.machine ≡ steps.old.machine)
         × ((states.new ≡ states.old) × ((marks.new ≡ marks.old) × (want_in steps.new ≡ want_in steps.old))) }
-    ensures holds_nothing { is_given result ≡ true → IsAfterEvent (want_in steps.new) }
+    ensures holds_nothing { is_given result ≡ true → wanted steps.new.read ≡ AtState }
     ensures event_number { is_given result ≡ true → IsEventNumber event.new.kind }
     ensures event_flags { is_given result ≡ true → AreFlags event.new }
     ensures event_kept { is_given result ≡ false → event.new ≡ event.old }
