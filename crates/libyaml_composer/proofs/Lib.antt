@@ -1,0 +1,4 @@
+pub mod Opens
+pub mod Children
+pub mod Tops
+pub mod lent

@@ -1,0 +1,4 @@
+-- The theorems that crates above may name, and no others of these proofs.
+pub mod Follows
+pub mod Full
+pub mod Stacks

@@ -1,0 +1,4 @@
+pub mod Numbers
+pub mod Composing
+pub mod Held
+pub mod Standing

@@ -1,0 +1,50 @@
+-- The numbers that C sees.
+use Rattle.std.specs.Prelude.{◌==◌, ◌||◌, ℕ, zero, suc, ℤ, pos, negsuc, Bool, true, false, nat_lt, not, if◌then◌else◌}
+use Rattle.libyaml_types.specs.declared.enums.yaml_event_type_t.{yaml_event_type_t}
+use Rattle.libyaml_types.specs.declared.enums.yaml_event_type_t.TheVariants as ev
+use Rattle.libyaml_composer.specs.declared.deed.Deed.{Deed}
+use Rattle.libyaml_composer.specs.declared.deed.Deed.TheVariants as deed
+
+abbrev pub number : Deed → ℕ
+number deed.Passes = 0
+number deed.Begins = 1
+number deed.Ends = 2
+number deed.Root = 3
+number deed.Item = 4
+number deed.Key = 5
+number deed.Value = 6
+number deed.Closes = 7
+number deed.FullStack = 8
+number deed.UndefinedAlias = 9
+number deed.RepeatedAnchor = 10
+number deed.FullList = 11
+number deed.Bad = 12
+
+-- a flag is set unless it is 0
+abbrev pub flag : ℕ → Bool
+flag n = not (n == 0)
+
+-- an id is any number but 0, which stands for none
+abbrev pub is_id : ℤ → Bool
+is_id (pos zero) = false
+is_id (pos (suc n)) = true
+is_id (negsuc n) = true
+
+-- libyaml's numbers of events; of other bytes none
+abbrev pub kind_of : ℕ → yaml_event_type_t
+kind_of byte =
+    if byte == 1 then ev.YAML_STREAM_START_EVENT else
+    if byte == 2 then ev.YAML_STREAM_END_EVENT else
+    if byte == 3 then ev.YAML_DOCUMENT_START_EVENT else
+    if byte == 4 then ev.YAML_DOCUMENT_END_EVENT else
+    if byte == 5 then ev.YAML_ALIAS_EVENT else
+    if byte == 6 then ev.YAML_SCALAR_EVENT else
+    if byte == 7 then ev.YAML_SEQUENCE_START_EVENT else
+    if byte == 8 then ev.YAML_SEQUENCE_END_EVENT else
+    if byte == 9 then ev.YAML_MAPPING_START_EVENT else
+    if byte == 10 then ev.YAML_MAPPING_END_EVENT else
+    ev.YAML_NO_EVENT
+
+-- nothing was done
+abbrev pub is_undone_number : ℕ → Bool
+is_undone_number n = (n == 0) || nat_lt 7 n

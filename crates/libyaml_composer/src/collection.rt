@@ -1,0 +1,48 @@
+//! A collection that is open.
+ghost use Rattle.std.specs.Prelude.{◌≡◌, ◌<◌, suc, false};
+ghost use Rattle.libyaml_composer.specs.Composing.{deed_in, full_in, holding};
+ghost use Rattle.libyaml_composer.specs.Numbers.{flag, is_id};
+
+use crate::deed::Deed;
+use crate::records::open_t;
+
+/// Returns whether the number is that of an id, and not 0.
+#[inline(always)]
+pub(crate) fn is_id(number: i32) -> bool
+    ensures { result ≡ is_id number }
+{
+    number != 0
+}
+
+impl open_t {
+    /// Returns whether its list, which may have `most` entries, has no room for what a child needs.
+    #[inline(always)]
+    pub(crate) fn is_full(&self, most: u32) -> bool
+        ensures { result ≡ full_in most self.now.children (flag self.now.is_mapping) (is_id self.now.key) }
+    {
+        if self.is_mapping != 0 && is_id(self.key) {
+            return false;
+        }
+        self.children >= most
+    }
+
+    /// Takes a child. Returns what that is to it.
+    #[inline(always)]
+    pub(crate) fn hold(&mut self, child: i32, most: u32) -> Deed
+        requires { full_in most self.old.children (flag self.old.is_mapping) (is_id self.old.key) ≡ false }
+        ensures held { self.new ≡ holding child self.old }
+        ensures deed { result ≡ deed_in (flag self.old.is_mapping) (is_id self.old.key) }
+    {
+        if self.is_mapping == 0 {
+            self.children += 1;
+            return Deed::Item;
+        }
+        if is_id(self.key) {
+            self.key = 0;
+            return Deed::Value;
+        }
+        self.children += 1;
+        self.key = child;
+        Deed::Key
+    }
+}
