@@ -10,7 +10,7 @@ import sys
 from definitions import ROOT
 from passed_on import CRATES
 
-NAMED = re.compile(r"Rattle\.(\w+)\.proofs\.((?:lent\.)?\w+)")
+NAMED = re.compile(r"(?:Rattle\.)?\b(\w+)(?:\.|::)proofs(?:\.|::)((?:lent(?:\.|::))?\w+)")
 
 
 def main():
@@ -21,6 +21,7 @@ def main():
                 for owner, module in NAMED.findall(path.read_text() if path.suffix in (".antt", ".rt") else ""):
                     if owner not in CRATES:
                         continue
+                    module = module.replace("::", ".")
                     used.add((owner, module) if owner != crate else None)
                     if room == "specs" or owner != crate and not module.startswith("lent."):
                         wrong.append(f"{path.relative_to(ROOT)} names {module} of the proofs of {owner}")

@@ -6,3 +6,4 @@ pub mod Roots
 pub mod Building
 pub mod LoadLists
 pub mod RunLoads
+pub mod Leading

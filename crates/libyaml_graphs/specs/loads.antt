@@ -2,3 +2,4 @@ pub mod Loads
 pub mod Bounds
 pub mod GraphLaws
 pub mod Linear
+pub mod Leads

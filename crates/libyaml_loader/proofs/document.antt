@@ -1,5 +1,3 @@
 pub mod AnchorLemmas
-pub mod StackLemmas
-pub mod Appending
-pub mod Loading
-pub mod IdsKept
+pub mod Deciding
+pub mod Putting

@@ -1,4 +1,3 @@
-pub mod Leading
 pub mod InTurn
 pub mod Steps
 pub mod Pushing

@@ -1,4 +1,4 @@
-pub mod Leads
+pub mod LoadMemory
 pub mod Composing
 pub mod Loaded
 pub mod PushesLoads

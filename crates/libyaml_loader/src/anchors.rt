@@ -1,8 +1,9 @@
 //! The anchors of a document on the way.
 
-ghost use Rattle.std.specs.Prelude.{◌≡◌, IfOk, OnOk, string_bytes};
+ghost use Rattle.std.specs.Prelude.{◌≡◌, pos, IfOk, OnOk, string_bytes};
 ghost use Rattle.std.specs.Option.{option_map};
 ghost use Rattle.std.specs.FinMap.{get, insert};
+ghost use Rattle.libyaml_graphs.specs.graphs.Graphs.{id_or};
 ghost use Rattle.libyaml_graphs.specs.machine.Loader.{no_anchors};
 ghost use Rattle.libyaml_loader.specs.document.Ids.{carrier_of};
 
@@ -64,5 +65,17 @@ impl Anchors {
             ≡ insert self.old (string_bytes anchor) (carrier_of carrier)) }
     {
         Ok(self.inner.insert(anchor, carrier)?)
+    }
+}
+
+/// Returns the id of the node that carries an anchor, or 0 where none does.
+#[inline(always)]
+#[tactic(auto, using(crate::proofs::document::AnchorLemmas::magnitude_is))]
+pub(crate) fn id_or_none(carrier: Option<Carrier>) -> i32
+    ensures { result ≡ pos (id_or (option_map carrier_of carrier)) }
+{
+    match carrier {
+        Some(carrier) => carrier.node,
+        None => 0,
     }
 }

@@ -12,7 +12,7 @@ ghost use Rattle.libyaml_loader.specs.document.Refusals.{fault_by};
 ghost use Rattle.libyaml_loader.specs.pushes.Composing.{Composes, ComposesEvent, IsSound, closing_by};
 ghost use Rattle.libyaml_loader.specs.pushes.Composing.{ended_by};
 ghost use Rattle.libyaml_loader.specs.pushes.Composing.{opening_by, composer_state};
-ghost use Rattle.libyaml_loader.specs.pushes.Leads.{Leads};
+ghost use Rattle.libyaml_graphs.specs.loads.Leads.{Leads};
 
 use crate::context::loader_ctx;
 use crate::refusal::{Refusal, fault_by};
@@ -48,13 +48,14 @@ pub(crate) struct Composer {
     /// The fault that is kept, or `NO_FAULT`.
     pub fault: yaml_parser_t_prefix,
     /// How many entries each list of a document may have.
-    pub max_entries: usize,
+    pub max_entries: u32,
 }
 
 impl Composer {
     /// Returns a composer without an open document and without a fault. Each list of a document may have
     /// `max_entries` entries.
-    pub(crate) fn new(alloc: Global, max_entries: usize) -> Self
+    pub(crate) fn new(alloc: Global, max_entries: u32) -> Self
+        requires { max_entries ≤ 2147483647 }
         ensures none_open { result.is_open ≡ false }
         ensures fault { fault_of result.fault ≡ no_fault }
         ensures bound { result.max_entries ≡ max_entries }
@@ -85,6 +86,7 @@ impl Composer {
     /// Keeps this fault for good. The document that is open is dropped.
     #[cold]
     pub(crate) fn keep(&mut self, fault: yaml_parser_t_prefix)
+        requires { self.old.max_entries ≤ 2147483647 }
         ensures none_open { self.new.is_open ≡ false }
         ensures sound { IsSound self.new }
         ensures fault { self.new.fault ≡ fault }
@@ -203,6 +205,7 @@ impl Composer {
 
     /// Ends the document that is open, and returns it.
     fn end(&mut self, closing: Closing) -> yaml_document_t
+        requires { self.old.max_entries ≤ 2147483647 }
         ensures none_open { self.new.is_open ≡ false }
         ensures sound { IsSound self.new }
         ensures ended { result ≡ ended_by (closing_by closing) self.old.ctx }
@@ -225,6 +228,7 @@ impl Composer {
     /// Keeps the fault of this refusal, of an event that starts at `mark`, and returns its error.
     #[cold]
     fn refuse(&mut self, refusal: Refusal, mark: yaml_mark_t) -> yaml_error_type_t
+        requires { self.old.max_entries ≤ 2147483647 }
         ensures none_open { self.new.is_open ≡ false }
         ensures sound { IsSound self.new }
         ensures fault { fault_of self.new.fault ≡ fault_by refusal self.old.ctx.first_mark mark }

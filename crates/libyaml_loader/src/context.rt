@@ -2,45 +2,50 @@
 //!
 //! A function that fails may leave the document half changed. The load then fails, and drops it.
 
-ghost use Rattle.std.specs.Prelude.{◌≡◌, suc, pos, [], length, nat_lt, true, false, Some, None};
+ghost use Rattle.std.specs.Prelude.{◌≡◌, ◌++◌, ◌∷◌, [], length, false, Some, None};
 ghost use Rattle.std.specs.Prelude.{IfOk, IfErr, OnOk, option_map, string_bytes};
 ghost use Rattle.libyaml_documents.specs.Documents.{empty_document};
 ghost use Rattle.libyaml_documents.specs.LoadedNodes.{begun_document, ended_document};
-ghost use Rattle.libyaml_documents.specs.LoadedNodes.{mapping_loaded, scalar_loaded};
-ghost use Rattle.libyaml_documents.specs.LoadedNodes.{sequence_loaded};
-ghost use Rattle.libyaml_documents.specs.Nodes.{IsIdUpTo, ids_of};
-ghost use Rattle.libyaml_graphs.specs.machine.Loader.{no_anchors, parent_full, register, registered};
-ghost use Rattle.libyaml_graphs.specs.graphs.GraphParts.{alias_part, leaf_part, part_of, start_part};
-ghost use Rattle.libyaml_loader.specs.document.Context.{AllOpenIn, Composed, IdsAreIn, NodeLoaded, Refuses};
-ghost use Rattle.libyaml_loader.specs.document.Context.{ParentRefuses, RefusesAnchor};
-ghost use Rattle.libyaml_loader.specs.document.Context.{closed_innermost, handed_to, loader_of};
-ghost use Rattle.libyaml_loader.specs.document.Ids.{node_id_of};
+ghost use Rattle.libyaml_documents.specs.LoadedNodes.{mapping_loaded, scalar_loaded, sequence_loaded};
+ghost use Rattle.libyaml_graphs.specs.machine.Loader.{no_anchors};
+ghost use Rattle.libyaml_graphs.specs.graphs.GraphParts.{alias_part, closing_of, end_part, leaf_part};
+ghost use Rattle.libyaml_graphs.specs.graphs.GraphParts.{part_of, start_part};
+ghost use Rattle.libyaml_grammar.specs.sentences.Events.{Event};
+ghost use Rattle.libyaml_composer.specs.Composing.{most_of};
+ghost use Rattle.libyaml_composer.specs.Held.{IsRefused, placed};
+ghost use Rattle.libyaml_composer.specs.Standing.{Fits, IsNode};
+ghost use Rattle.libyaml_loader.specs.document.Context.{Composed, Decided, IsEvent, IsListed, Named, Refuses};
+ghost use Rattle.libyaml_loader.specs.document.Context.{Stands, refusal_of, with_nodes};
+ghost use Rattle.libyaml_loader.specs.document.Stack.{begun, made};
 
-use crate::anchors::Anchors;
-use crate::ids::{Carrier, NodeId};
+use crate::anchors::{Anchors, id_or_none};
+use crate::ids::Carrier;
 use crate::refusal::Refusal;
-use crate::stack::OpenCollections;
+use crate::stack::{NO_PLACE, OpenCollections};
+use libyaml_composer::{Deed, place_t};
 use libyaml_documents::building::{
-    ChildRole, append_child, append_node, begin_document, end_document, mapping_of_event,
-    scalar_of_event, sequence_of_event, set_end_mark,
+    append_node, begin_document, end_document, mapping_of_event, scalar_of_event,
+    sequence_of_event, set_end_mark,
 };
-use libyaml_documents::{yaml_document_t, yaml_node_t};
+use libyaml_documents::{
+    yaml_document_append_mapping_pair, yaml_document_append_sequence_item, yaml_document_t,
+};
 use libyaml_types::{
-    ZERO_MARK, unnamed_yaml_event_t_data, unnamed_yaml_event_t_data_document_start,
-    unnamed_yaml_event_t_data_mapping_start, unnamed_yaml_event_t_data_scalar,
-    unnamed_yaml_event_t_data_sequence_start, yaml_event_t, yaml_mark_t,
+    ZERO_MARK, unnamed_yaml_event_t_data, unnamed_yaml_event_t_data_alias,
+    unnamed_yaml_event_t_data_document_start, unnamed_yaml_event_t_data_mapping_start,
+    unnamed_yaml_event_t_data_scalar, unnamed_yaml_event_t_data_sequence_start, yaml_event_t,
+    yaml_event_type_t, yaml_mark_t,
 };
 use std::alloc::Global;
 
-/// A document that is being composed. Each of its lists may have at most `max_entries` entries.
+/// A document that is being composed.
 ///
 /// Extends libyaml's `loader_ctx` by the parser's fields `document` and `aliases`.
 #[derive(Drop)]
 pub(crate) struct loader_ctx {
     pub document: yaml_document_t,
-    pub stack: OpenCollections,
+    pub collections: OpenCollections,
     pub anchors: Anchors,
-    pub max_entries: usize,
     /// Where the first node with a repeated anchor starts. Before `RepeatedAnchor` its value has no meaning.
     pub first_mark: yaml_mark_t,
     pub alloc: Global,
@@ -48,16 +53,14 @@ pub(crate) struct loader_ctx {
 
 impl loader_ctx {
     /// Returns a context without a document. Takes no memory.
-    pub(crate) fn new(alloc: Global, max_entries: usize) -> Self
-        ensures stack { result.stack ≡ [] }
+    pub(crate) fn new(alloc: Global, max_entries: u32) -> Self
+        ensures collections { result.collections ≡ made (most_of max_entries) }
         ensures anchors { result.anchors ≡ no_anchors }
-        ensures bound { result.max_entries ≡ max_entries }
     {
         loader_ctx {
             document: empty_document(alloc),
-            stack: OpenCollections::new(alloc),
+            collections: OpenCollections::new(alloc, max_entries),
             anchors: Anchors::new(alloc),
-            max_entries,
             first_mark: ZERO_MARK,
             alloc,
         }
@@ -69,9 +72,15 @@ impl loader_ctx {
         start: unnamed_yaml_event_t_data_document_start,
         start_mark: yaml_mark_t,
     )
-        ensures { self.new ≡ record self.old { document = begun_document start start_mark } }
+        requires { self.old.collections.is_within ≡ false }
+        ensures { self.new ≡ record self.old {
+          document = begun_document start start_mark;
+          collections =
+              begun self.old.collections;
+        } }
     {
         self.document = begin_document(self.alloc, start, start_mark);
+        self.collections.begin();
     }
 
     /// Ends the document at `end_mark`, implicitly or explicitly, and returns it.
@@ -83,7 +92,8 @@ impl loader_ctx {
         document
     }
 
-    /// Composes an event: adds its node or alias, or closes a collection. Other events change nothing.
+    /// Composes an event that doesn't end the document: adds its node or alias, or closes a collection. Other
+    /// events change nothing.
     ///
     /// The texts that a node keeps are moved out of the event.
     ///
@@ -94,14 +104,16 @@ impl loader_ctx {
     /// of this one.
     #[inline(never)]
     pub(crate) fn compose(&mut self, event: &mut yaml_event_t) -> Result<(), Refusal>
-        requires { IdsAreIn (loader_of self.old) }
+        requires stands { Stands self.old }
+        requires not_end { closing_of event.old ≡ None }
         ensures ok { OnOk result (Composed self.old self.new (part_of event.old)) }
+        ensures stands { OnOk result (Stands self.new) }
         ensures err { IfErr result (λ r. Refuses self.old self.new (part_of event.old)
             event.old.start_mark r) }
     {
         match &mut event.content {
             unnamed_yaml_event_t_data::Alias(alias) => {
-                self.yaml_parser_load_alias(&alias.anchor, &event.start_mark)
+                self.yaml_parser_load_alias(alias, &event.start_mark)
             }
             unnamed_yaml_event_t_data::Scalar(scalar) => {
                 self.yaml_parser_load_scalar(scalar, &event.start_mark, &event.end_mark)
@@ -113,23 +125,10 @@ impl loader_ctx {
                 self.yaml_parser_load_mapping(start, &event.start_mark, &event.end_mark)
             }
             unnamed_yaml_event_t_data::SequenceEnd | unnamed_yaml_event_t_data::MappingEnd => {
-                self.load_end(event.end_mark);
+                self.load_end(&event.end_mark);
                 Ok(())
             }
             _ => Ok(()),
-        }
-    }
-
-    /// Checks that a list of this many entries may have one more. The error is `Memory`.
-    fn has_room(&self, entries: usize) -> Result<(), Refusal>
-        ensures ok { OnOk result (nat_lt self.now.max_entries (suc entries) ≡ false) }
-        ensures err { IfErr result (λ r. (r ≡ Refusal.Memory)
-            × (nat_lt self.now.max_entries (suc entries) ≡ true)) }
-    {
-        if entries < self.max_entries {
-            Ok(())
-        } else {
-            Err(Refusal::Memory)
         }
     }
 
@@ -138,19 +137,19 @@ impl loader_ctx {
     /// libyaml: `yaml_parser_load_alias`.
     fn yaml_parser_load_alias(
         &mut self,
-        anchor: &str,
+        alias: &mut unnamed_yaml_event_t_data_alias,
         start_mark: &yaml_mark_t,
     ) -> Result<(), Refusal>
-        requires { IdsAreIn (loader_of self.old) }
-        ensures ok { OnOk result (Composed self.old self.new (Some (alias_part anchor.now start_mark.now))) }
-        ensures err { IfErr result (λ r. Refuses self.old self.new (Some (alias_part anchor.now
-            start_mark.now))
-            start_mark.now r) }
+        requires { Stands self.old }
+        ensures ok { OnOk result (Composed self.old self.new
+            (Some (alias_part alias.old.anchor start_mark.now))) }
+        ensures stands { OnOk result (Stands self.new) }
+        ensures err { IfErr result (λ r. Refuses self.old self.new
+            (Some (alias_part alias.old.anchor start_mark.now)) start_mark.now r) }
     {
-        match self.anchors.find(anchor) {
-            Some(carrier) => self.yaml_parser_load_node_add(carrier.node),
-            None => Err(Refusal::UndefinedAlias),
-        }
+        let mut place = NO_PLACE;
+        let deed = self.decide_alias(alias.anchor.as_str(), start_mark, &mut place)?;
+        self.hand(deed, &place)
     }
 
     /// Appends a scalar to the nodes, and puts it into the innermost open collection.
@@ -162,18 +161,23 @@ impl loader_ctx {
         start_mark: &yaml_mark_t,
         end_mark: &yaml_mark_t,
     ) -> Result<(), Refusal>
-        requires { IdsAreIn (loader_of self.old) }
+        requires { Stands self.old }
         ensures ok { OnOk result (Composed self.old self.new
             (Some (leaf_part scalar.old.anchor (scalar_loaded scalar.old start_mark.now end_mark.now)))) }
+        ensures stands { OnOk result (Stands self.new) }
         ensures err { IfErr result (λ r. Refuses self.old self.new
             (Some (leaf_part scalar.old.anchor (scalar_loaded scalar.old start_mark.now end_mark.now)))
             start_mark.now r) }
     {
-        self.has_room(self.document.nodes().len())?;
-        let anchor = scalar.anchor.take();
-        let node = scalar_of_event(self.alloc, scalar, start_mark, end_mark)?;
-        self.load_node(anchor, node, start_mark)?;
-        Ok(())
+        let mut place = NO_PLACE;
+        let deed = self.decide(
+            yaml_event_type_t::YAML_SCALAR_EVENT,
+            &mut scalar.anchor,
+            start_mark,
+            &mut place,
+        )?;
+        self.append_scalar(scalar, start_mark, end_mark)?;
+        self.hand(deed, &place)
     }
 
     /// Appends an empty sequence to the nodes, puts it into the innermost open collection, and opens it.
@@ -185,21 +189,23 @@ impl loader_ctx {
         start_mark: &yaml_mark_t,
         end_mark: &yaml_mark_t,
     ) -> Result<(), Refusal>
-        requires { IdsAreIn (loader_of self.old) }
-        ensures ok { OnOk result (Composed self.old self.new
-            (Some (start_part start.old.anchor
+        requires { Stands self.old }
+        ensures ok { OnOk result (Composed self.old self.new (Some (start_part start.old.anchor
             (sequence_loaded start.old.tag start.old.style [] start_mark.now end_mark.now)))) }
-        ensures err { IfErr result (λ r. Refuses self.old self.new
-            (Some (start_part start.old.anchor
+        ensures stands { OnOk result (Stands self.new) }
+        ensures err { IfErr result (λ r. Refuses self.old self.new (Some (start_part start.old.anchor
             (sequence_loaded start.old.tag start.old.style [] start_mark.now end_mark.now)))
             start_mark.now r) }
     {
-        self.has_room(self.document.nodes().len())?;
-        let anchor = start.anchor.take();
-        let node = sequence_of_event(self.alloc, start, start_mark, end_mark)?;
-        let id = self.load_node(anchor, node, start_mark)?;
-        self.stack.push(id)?;
-        Ok(())
+        let mut place = NO_PLACE;
+        let deed = self.decide(
+            yaml_event_type_t::YAML_SEQUENCE_START_EVENT,
+            &mut start.anchor,
+            start_mark,
+            &mut place,
+        )?;
+        self.append_sequence(start, start_mark, end_mark)?;
+        self.hand(deed, &place)
     }
 
     /// Appends an empty mapping to the nodes, puts it into the innermost open collection, and opens it.
@@ -211,121 +217,218 @@ impl loader_ctx {
         start_mark: &yaml_mark_t,
         end_mark: &yaml_mark_t,
     ) -> Result<(), Refusal>
-        requires { IdsAreIn (loader_of self.old) }
-        ensures ok { OnOk result (Composed self.old self.new
-            (Some (start_part start.old.anchor
+        requires { Stands self.old }
+        ensures ok { OnOk result (Composed self.old self.new (Some (start_part start.old.anchor
             (mapping_loaded start.old.tag start.old.style [] start_mark.now end_mark.now)))) }
-        ensures err { IfErr result (λ r. Refuses self.old self.new
-            (Some (start_part start.old.anchor
+        ensures stands { OnOk result (Stands self.new) }
+        ensures err { IfErr result (λ r. Refuses self.old self.new (Some (start_part start.old.anchor
             (mapping_loaded start.old.tag start.old.style [] start_mark.now end_mark.now)))
             start_mark.now r) }
     {
-        self.has_room(self.document.nodes().len())?;
-        let anchor = start.anchor.take();
-        let node = mapping_of_event(self.alloc, start, start_mark, end_mark)?;
-        let id = self.load_node(anchor, node, start_mark)?;
-        self.stack.push(id)?;
-        Ok(())
-    }
-
-    /// Appends a node without children, registers its anchor, puts the node into the innermost open
-    /// collection, and returns its id.
-    #[inline(always)]
-    fn load_node(
-        &mut self,
-        anchor: Option<String>,
-        node: yaml_node_t,
-        start_mark: &yaml_mark_t,
-    ) -> Result<NodeId, Refusal>
-        requires ids { IdsAreIn (loader_of self.old) }
-        requires childless { ids_of node.content ≡ [] }
-        requires mark { node.start_mark ≡ start_mark.now }
-        ensures ok { IfOk result
-            (λ id. NodeLoaded self.old self.new id (option_map string_bytes anchor) node) }
-        ensures err { IfErr result (λ r. RefusesAnchor
-            (register (option_map string_bytes anchor) (suc (length self.old.document.nodes)) node.start_mark
-            self.old.anchors)
-            r self.new.first_mark) }
-    {
-        let id = NodeId::new(append_node(&mut self.document, node)?);
-        self.yaml_parser_register_anchor(anchor, id, start_mark)?;
-        self.yaml_parser_load_node_add(id)?;
-        Ok(id)
-    }
-
-    /// Registers this node, which starts at `mark`, as the carrier of the anchor, if there is an anchor.
-    ///
-    /// libyaml: `yaml_parser_register_anchor`.
-    #[inline(always)]
-    fn yaml_parser_register_anchor(
-        &mut self,
-        anchor: Option<String>,
-        node: NodeId,
-        mark: &yaml_mark_t,
-    ) -> Result<(), Refusal>
-        ensures ok { OnOk result (register (option_map string_bytes anchor) (node_id_of node) mark.now
-            self.old.anchors ≡ registered self.new.anchors) }
-        ensures rest { OnOk result (self.new ≡ record self.old { anchors = self.new.anchors }) }
-        ensures err { IfErr result (λ r. RefusesAnchor
-            (register (option_map string_bytes anchor) (node_id_of node) mark.now self.old.anchors)
-            r self.new.first_mark) }
-    {
-        let Some(anchor) = anchor else {
-            return Ok(());
-        };
-        match self
-            .anchors
-            .register(anchor, Carrier { node, mark: *mark })?
-        {
-            None => Ok(()),
-            Some(first) => {
-                self.first_mark = first.mark;
-                Err(Refusal::RepeatedAnchor)
-            }
-        }
+        let mut place = NO_PLACE;
+        let deed = self.decide(
+            yaml_event_type_t::YAML_MAPPING_START_EVENT,
+            &mut start.anchor,
+            start_mark,
+            &mut place,
+        )?;
+        self.append_mapping(start, start_mark, end_mark)?;
+        self.hand(deed, &place)
     }
 
     /// Closes the innermost open collection, if there is one, and sets its node's end mark.
     ///
     /// libyaml: `yaml_parser_load_sequence_end` and `yaml_parser_load_mapping_end`.
-    fn load_end(&mut self, end_mark: yaml_mark_t)
-        requires { AllOpenIn (length self.old.document.nodes) self.old.stack }
-        ensures { self.new ≡ closed_innermost end_mark self.old }
+    fn load_end(&mut self, end_mark: &yaml_mark_t)
+        requires { Stands self.old }
+        ensures ok { Composed self.old self.new (Some (end_part end_mark.now)) }
+        ensures stands { Stands self.new }
     {
-        if let Some(closed) = self.stack.pop() {
-            set_end_mark(&mut self.document, closed.node.number, end_mark);
+        let mut place = NO_PLACE;
+        let deed = self
+            .collections
+            .step(yaml_event_type_t::YAML_SEQUENCE_END_EVENT, 0, &mut place);
+        if let Deed::Closes = deed {
+            set_end_mark(&mut self.document, place.parent, *end_mark);
         }
     }
 
-    /// Puts a child into the innermost open collection, if there is one: as an item, a key or a value.
+    /// Registers the next node, which starts at `mark`, as the carrier of the anchor, if there is an anchor.
+    /// Returns the id of the node that carried it before, or 0 where none did. The anchor is moved out.
     ///
-    /// libyaml: `yaml_parser_load_node_add`.
+    /// libyaml: `yaml_parser_register_anchor`.
+    ///
+    /// # Errors
+    ///
+    /// `Memory`.
     #[inline(always)]
-    fn yaml_parser_load_node_add(&mut self, child: NodeId) -> Result<(), Refusal>
-        requires stack { AllOpenIn (length self.old.document.nodes) self.old.stack }
-        requires child { IsIdUpTo (length self.old.document.nodes) (pos (node_id_of child)) }
-        ensures ok { OnOk result (self.new ≡ handed_to (pos (node_id_of child)) self.old) }
-        ensures room { OnOk result (parent_full self.old.max_entries self.old.stack self.old.document.nodes
-            ≡ false) }
-        ensures err { IfErr result (λ r. ParentRefuses self.old r) }
+    fn named(&mut self, anchor: &mut Option<String>, mark: &yaml_mark_t) -> Result<i32, Refusal>
+        ensures ok { IfOk result (λ id. Named self.old self.new (option_map string_bytes anchor.old) mark.now id) }
+        ensures err { IfErr result (λ r. r ≡ Refusal.Memory) }
     {
-        let Some(parent) = self.stack.innermost() else {
-            return Ok(());
-        };
-        let key = parent.key_number();
-        let number = child.number;
-        match append_child(
-            &mut self.document,
-            parent.node.number,
-            key,
-            number,
-            self.max_entries,
-        )? {
-            ChildRole::Item => {}
-            ChildRole::Ignored => {}
-            ChildRole::Key => self.stack.set_key(Some(child)),
-            ChildRole::Value => self.stack.set_key(None),
+        match anchor {
+            None => Ok(0),
+            Some(_) => self.register(anchor, mark),
         }
+    }
+
+    /// As `named`, and a function of its own since few nodes have an anchor.
+    #[inline(never)]
+    fn register(&mut self, anchor: &mut Option<String>, mark: &yaml_mark_t) -> Result<i32, Refusal>
+        ensures ok { IfOk result (λ id. Named self.old self.new (option_map string_bytes anchor.old) mark.now id) }
+        ensures err { IfErr result (λ r. r ≡ Refusal.Memory) }
+    {
+        let Some(anchor) = anchor.take() else {
+            return Ok(0);
+        };
+        let count = self.document.nodes().len();
+        if count >= 2147483647 {
+            return Err(Refusal::Memory);
+        }
+        let node = count as i32 + 1;
+        match self
+            .anchors
+            .register(anchor, Carrier { node, mark: *mark })?
+        {
+            None => Ok(0),
+            Some(first) => {
+                self.first_mark = first.mark;
+                Ok(first.node)
+            }
+        }
+    }
+
+    /// Decides what is to be done with a node of an event of this kind, with this anchor, that starts here.
+    /// The anchor is moved out, and is the next node's from here on.
+    ///
+    /// # Errors
+    ///
+    /// As those of `compose`.
+    #[inline(always)]
+    fn decide(
+        &mut self,
+        kind: yaml_event_type_t,
+        anchor: &mut Option<String>,
+        mark: &yaml_mark_t,
+        place: &mut place_t,
+    ) -> Result<Deed, Refusal>
+        requires { Stands self.old }
+        ensures ok { IfOk result (λ d. (e : Event) → IsEvent kind (option_map string_bytes anchor.old) mark.now e
+            → IsNode (part_of e) → Decided self.old self.new (part_of e) e.end_mark d place.new) }
+        ensures err { IfErr result (λ r. (e : Event) → IsEvent kind (option_map string_bytes anchor.old) mark.now e
+            → IsNode (part_of e) → Refuses self.old self.new (part_of e) mark.now r) }
+    {
+        let carrier = self.named(anchor, mark)?;
+        let deed = taken(self.collections.take(kind, carrier, place)?)?;
+        Ok(deed)
+    }
+
+    /// Decides what is to be done with an alias of this anchor that starts here.
+    ///
+    /// # Errors
+    ///
+    /// As those of `compose`.
+    #[inline(always)]
+    fn decide_alias(
+        &mut self,
+        anchor: &str,
+        mark: &yaml_mark_t,
+        place: &mut place_t,
+    ) -> Result<Deed, Refusal>
+        requires { Stands self.old }
+        ensures ok { IfOk result (λ d. Decided self.old self.new (Some (alias_part anchor.now mark.now)) mark.now d
+            place.new) }
+        ensures err { IfErr result (λ r. Refuses self.old self.new (Some (alias_part anchor.now mark.now))
+            mark.now r) }
+    {
+        let carrier = self.anchors.find(anchor);
+        let kind = yaml_event_type_t::YAML_ALIAS_EVENT;
+        let deed = taken(self.collections.take(kind, id_or_none(carrier), place)?)?;
+        Ok(deed)
+    }
+
+    /// Hands a child to its parent.
+    ///
+    /// # Errors
+    ///
+    /// An allocation failed.
+    #[inline(always)]
+    fn hand(&mut self, deed: Deed, place: &place_t) -> Result<(), Refusal>
+        requires { Fits deed place.now (length self.old.document.nodes) self.old.document.nodes }
+        ensures handed { OnOk result (self.new ≡ record self.old {
+          document = with_nodes (placed deed place.now self.old.document.nodes) self.old.document;
+        }) }
+        ensures err { IfErr result (λ r. (r ≡ Refusal.Memory) × IsListed deed) }
+    {
+        match deed {
+            Deed::Item => {
+                yaml_document_append_sequence_item(&mut self.document, place.parent, place.child)?;
+                Ok(())
+            }
+            Deed::Value => {
+                yaml_document_append_mapping_pair(
+                    &mut self.document,
+                    place.parent,
+                    place.key,
+                    place.child,
+                )?;
+                Ok(())
+            }
+            _ => Ok(()),
+        }
+    }
+
+    /// Appends the scalar of an event to the nodes.
+    fn append_scalar(
+        &mut self,
+        scalar: &mut unnamed_yaml_event_t_data_scalar,
+        start_mark: &yaml_mark_t,
+        end_mark: &yaml_mark_t,
+    ) -> Result<(), Refusal>
+        ensures added { OnOk result (self.new ≡ record self.old {
+          document = with_nodes (self.old.document.nodes
+              ++ scalar_loaded scalar.old start_mark.now end_mark.now ∷ []) self.old.document;
+        }) }
+        ensures err { IfErr result (λ r. r ≡ Refusal.Memory) }
+    {
+        let node = scalar_of_event(self.alloc, scalar, start_mark, end_mark)?;
+        append_node(&mut self.document, node)?;
+        Ok(())
+    }
+
+    /// Appends the sequence that an event starts, without items, to the nodes.
+    fn append_sequence(
+        &mut self,
+        start: &mut unnamed_yaml_event_t_data_sequence_start,
+        start_mark: &yaml_mark_t,
+        end_mark: &yaml_mark_t,
+    ) -> Result<(), Refusal>
+        ensures added { OnOk result (self.new ≡ record self.old {
+          document = with_nodes (self.old.document.nodes
+              ++ sequence_loaded start.old.tag start.old.style [] start_mark.now end_mark.now ∷ []) self.old.document;
+        }) }
+        ensures err { IfErr result (λ r. r ≡ Refusal.Memory) }
+    {
+        let node = sequence_of_event(self.alloc, start, start_mark, end_mark)?;
+        append_node(&mut self.document, node)?;
+        Ok(())
+    }
+
+    /// Appends the mapping that an event starts, without pairs, to the nodes.
+    fn append_mapping(
+        &mut self,
+        start: &mut unnamed_yaml_event_t_data_mapping_start,
+        start_mark: &yaml_mark_t,
+        end_mark: &yaml_mark_t,
+    ) -> Result<(), Refusal>
+        ensures added { OnOk result (self.new ≡ record self.old {
+          document = with_nodes (self.old.document.nodes
+              ++ mapping_loaded start.old.tag start.old.style [] start_mark.now end_mark.now ∷ []) self.old.document;
+        }) }
+        ensures err { IfErr result (λ r. r ≡ Refusal.Memory) }
+    {
+        let node = mapping_of_event(self.alloc, start, start_mark, end_mark)?;
+        append_node(&mut self.document, node)?;
         Ok(())
     }
 }
@@ -340,4 +443,22 @@ pub(crate) fn empty_document(alloc: Global) -> yaml_document_t
         implicit: false,
     };
     begin_document(alloc, start, ZERO_MARK)
+}
+
+/// Returns this deed, unless it is a refusal.
+///
+/// # Errors
+///
+/// The refusal.
+#[inline(always)]
+fn taken(deed: Deed) -> Result<Deed, Refusal>
+    ensures ok { IfOk result (λ d. (d ≡ deed) × (IsRefused deed → ⊥)) }
+    ensures err { IfErr result (λ r. IsRefused deed × (r ≡ refusal_of deed)) }
+{
+    match deed {
+        Deed::UndefinedAlias => Err(Refusal::UndefinedAlias),
+        Deed::RepeatedAnchor => Err(Refusal::RepeatedAnchor),
+        Deed::FullList => Err(Refusal::Memory),
+        deed => Ok(deed),
+    }
 }

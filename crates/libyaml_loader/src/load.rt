@@ -116,8 +116,9 @@ fn next_document<S: yaml_token_source_t>(
 }
 
 /// How many entries each list may have.
-fn bound_of<S>(parser: &yaml_parser_t<S>) -> usize
-    ensures { result ≡ magnitude parser.now.max_entries }
+fn bound_of<S>(parser: &yaml_parser_t<S>) -> u32
+    ensures value { result ≡ magnitude parser.now.max_entries }
+    ensures most { result ≤ 2147483647 }
 {
-    parser.max_entries() as usize
+    parser.max_entries() as u32
 }

@@ -63,7 +63,7 @@ impl yaml_push_loader_t {
     {
         yaml_push_loader_t {
             parser: yaml_push_parser_t::new(alloc),
-            composer: Composer::new(alloc, n as usize),
+            composer: Composer::new(alloc, n as u32),
             events: Vec::new(alloc),
         }
     }

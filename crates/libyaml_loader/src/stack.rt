@@ -1,91 +1,179 @@
-//! The open collections of a document on the way.
+//! The open collections of a document on the way: the composer, with a stack of its own.
 
-ghost use Rattle.std.specs.Prelude.{◌≡◌, [], ◌∷◌, OnOk};
-ghost use Rattle.std.specs.Option.{option_map};
-ghost use Rattle.libyaml_graphs.specs.machine.Loader.{outer};
-ghost use Rattle.libyaml_loader.specs.document.Ids.{node_number_of, open_of};
-ghost use Rattle.libyaml_loader.specs.document.Stack.{innermost, opened_node, with_key};
+ghost use Rattle.std.specs.Prelude.{◌≡◌, ℕ, suc, length, nat_le, true, false, IfOk, OnErr, OnOk};
+ghost use Rattle.libyaml_composer.specs.Composing.{is_start, most_of, step, told};
+ghost use Rattle.libyaml_loader.specs.document.Stack.{begun, made, roomy};
 
-use crate::ids::{NodeId, Open};
+use libyaml_composer::{Deed, composer_t, open_t, place_t};
+use libyaml_types::yaml_event_type_t;
 use std::alloc::{AllocError, Global};
 use std::marker::Model;
 
-/// A stack of open collections, which contracts see with the innermost first.
+/// The composer, and its stack, which grows as it needs.
 ///
 /// libyaml: `loader_ctx`.
 #[derive(Drop)]
 pub(crate) struct OpenCollections {
-    inner: Vec<Open>,
+    composer: composer_t,
+    entries: Vec<open_t>,
 }
 
 impl Model for OpenCollections {
-    ghost use Rattle.std.specs.Prelude.{List};
-    ghost use Rattle.libyaml_graphs.specs.machine.Loader as machine;
+    ghost use Rattle.std.specs.Prelude.{◌≤◌, length};
+    ghost use Rattle.libyaml_composer.specs.Composing.{Composer, composer_of};
 
-    ghost Value = { List machine.OpenNode };
+    ghost Value = { Composer };
 
-    ghost use Rattle.libyaml_loader.specs.document.Stack.{open_stack_of};
+    ghost view = { λ s. composer_of s.composer s.entries.items };
 
-    ghost view = { λ s. open_stack_of s.inner.items };
+    ghost invariant = { λ s. s.composer.depth ≤ length s.entries.items };
+}
+
+/// No place.
+pub(crate) const NO_PLACE: place_t = place_t {
+    node: 0,
+    child: 0,
+    parent: 0,
+    key: 0,
+};
+
+/// An entry that is written before it is read.
+const BLANK: open_t = open_t {
+    node: 0,
+    key: 0,
+    children: 0,
+    is_mapping: 0,
+};
+
+/// Returns whether an event of this kind opens a collection.
+#[inline(always)]
+fn is_start(kind: yaml_event_type_t) -> bool
+    ensures { result ≡ is_start kind }
+{
+    matches!(
+        kind,
+        yaml_event_type_t::YAML_SEQUENCE_START_EVENT | yaml_event_type_t::YAML_MAPPING_START_EVENT
+    )
 }
 
 impl OpenCollections {
-    /// Returns a stack without open collections. Takes no memory.
-    pub(crate) fn new(alloc: Global) -> Self
-        ensures { result ≡ [] }
+    /// Returns what is kept before a stream's first document, without an allocation.
+    pub(crate) fn new(alloc: Global, max_entries: u32) -> Self
+        ensures { result ≡ made (most_of max_entries) }
     {
         OpenCollections {
-            inner: Vec::new(alloc),
+            composer: composer_t::new(max_entries),
+            entries: Vec::new(alloc),
         }
     }
 
-    /// Opens the collection of this node.
+    /// Begins a document.
+    pub(crate) fn begin(&mut self)
+        requires { self.old.is_within ≡ false }
+        ensures { self.new ≡ begun self.old }
+    {
+        let mut place = NO_PLACE;
+        let _ = self.composer.compose(
+            self.entries.as_mut_slice(),
+            yaml_event_type_t::YAML_DOCUMENT_START_EVENT,
+            0,
+            &mut place,
+        );
+    }
+
+    /// Takes an event within a document, by its kind and fact. Returns what is to be done, never `FullStack`.
+    ///
+    /// # Errors
+    ///
+    /// An allocation failed, at the start of a collection.
+    #[inline(always)]
+    #[tactic(auto, using(libyaml_composer::proofs::lent::Full::full_starts))]
+    pub(crate) fn take(
+        &mut self,
+        kind: yaml_event_type_t,
+        fact: i32,
+        place: &mut place_t,
+    ) -> Result<Deed, AllocError>
+        requires { self.old.is_within ≡ true }
+        ensures ok { IfOk result (λ d. (room : ℕ) × (told d place.new self.new
+            ≡ step kind fact place.old (roomy room self.old))) }
+        ensures roomy { IfOk result (λ d. d ≡ Deed.FullStack → ⊥) }
+        ensures err { OnErr result (is_start kind ≡ true) }
+    {
+        self.make_room(kind)?;
+        Ok(self.step(kind, fact, place))
+    }
+
+    /// Makes room for the collection that an event of this kind opens, if it opens one.
+    ///
+    /// # Errors
+    ///
+    /// An allocation failed, at the start of a collection.
+    #[inline(always)]
+    #[tactic(auto, using(libyaml_composer::proofs::lent::Stacks::depth_below))]
+    fn make_room(&mut self, kind: yaml_event_type_t) -> Result<(), AllocError>
+        ensures roomy { OnOk result (self.new ≡ roomy self.new.room self.old) }
+        ensures left { OnOk result (is_start kind ≡ true → nat_le self.new.room (length self.new.stack) ≡ false) }
+        ensures err { OnErr result (is_start kind ≡ true) }
+    {
+        if !is_start(kind) {
+            return Ok(());
+        }
+        if self.composer.depth == self.entries.len() {
+            return self.grow();
+        }
+        Ok(())
+    }
+
+    /// Takes an event within a document, where the stack has room for what it opens.
+    #[inline(always)]
+    pub(crate) fn step(&mut self, kind: yaml_event_type_t, fact: i32, place: &mut place_t) -> Deed
+        requires { self.old.is_within ≡ true }
+        ensures tells { told result place.new self.new ≡ step kind fact place.old self.old }
+    {
+        let stack = self.entries.as_mut_slice();
+        match kind {
+            yaml_event_type_t::YAML_ALIAS_EVENT => self.composer.alias(stack, fact, place),
+            yaml_event_type_t::YAML_SCALAR_EVENT => self.composer.scalar(stack, fact, place),
+            yaml_event_type_t::YAML_SEQUENCE_START_EVENT => {
+                self.composer.start(stack, 0, fact, place)
+            }
+            yaml_event_type_t::YAML_MAPPING_START_EVENT => {
+                self.composer.start(stack, 1, fact, place)
+            }
+            yaml_event_type_t::YAML_SEQUENCE_END_EVENT => self.composer.end(stack, place),
+            _ => self.composer.compose(stack, kind, fact, place),
+        }
+    }
+
+    /// Makes room for some collections more.
     ///
     /// # Errors
     ///
     /// An allocation failed.
-    pub(crate) fn push(&mut self, node: NodeId) -> Result<(), AllocError>
-        ensures { OnOk result (self.new ≡ opened_node node ∷ self.old) }
+    #[cold]
+    fn grow(&mut self) -> Result<(), AllocError>
+        ensures roomy { OnOk result (self.new ≡ roomy self.new.room self.old) }
+        ensures within { OnOk result (nat_le self.new.room (length self.new.stack) ≡ false) }
     {
-        self.inner.push(Open { node, key: None })?;
-        Ok(())
+        self.lengthen()?;
+        self.lengthen()?;
+        self.lengthen()?;
+        self.lengthen()
     }
 
-    /// Takes the innermost collection off.
-    pub(crate) fn pop(&mut self) -> Option<Open>
-        ensures top { option_map open_of result ≡ innermost self.old }
-        ensures rest { self.new ≡ outer self.old }
-    {
-        self.inner.pop()
-    }
-
-    /// Returns the innermost collection.
-    pub(crate) fn innermost(&self) -> Option<Open>
-        ensures { option_map open_of result ≡ innermost self.now }
-    {
-        self.inner.last().copied()
-    }
-
-    /// Sets or clears the pending key of the innermost collection.
-    pub(crate) fn set_key(&mut self, key: Option<NodeId>)
-        ensures { self.new ≡ with_key (node_number_of key) self.old }
-    {
-        let count = self.inner.len();
-        if count > 0 {
-            self.inner[count - 1].key = key;
-        }
-    }
-}
-
-impl Open {
-    /// Returns the number of the key that waits.
+    /// Makes room for one collection more.
+    ///
+    /// # Errors
+    ///
+    /// An allocation failed.
     #[inline(always)]
-    pub(crate) fn key_number(&self) -> Option<i32>
-        ensures { result ≡ node_number_of self.now.key }
+    #[tactic(auto, using(libyaml_composer::proofs::lent::Stacks::stack_among, libyaml_composer::proofs::lent::Stacks::depth_within))]
+    fn lengthen(&mut self) -> Result<(), AllocError>
+        ensures roomy { OnOk result (self.new ≡ roomy (suc self.old.room) self.old) }
+        ensures within { OnOk result (nat_le (suc self.old.room) (length self.old.stack) ≡ false) }
     {
-        match self.key {
-            Some(key) => Some(key.number),
-            None => None,
-        }
+        self.entries.push(BLANK)?;
+        Ok(())
     }
 }

@@ -86,7 +86,12 @@ pub use Rattle.libyaml_graphs.specs.rows.LoadRows
 pub use Rattle.libyaml_graphs.specs.machine.Loader
 pub use Rattle.libyaml_graphs.specs.loads.Linear
 pub use Rattle.libyaml_graphs.specs.loads.Loads
+pub use Rattle.libyaml_graphs.specs.loads.Leads
 pub use Rattle.libyaml_graphs.specs.graphs.GraphParts
+pub use Rattle.libyaml_composer.specs.Composing as ComposerSteps
+pub use Rattle.libyaml_composer.specs.Held as ComposerHeld
+pub use Rattle.libyaml_composer.specs.Numbers as ComposerNumbers
+pub use Rattle.libyaml_composer.specs.Standing as ComposerStanding
 pub use Rattle.libyaml_loader.specs.loads.LoadGrowth
 pub use Rattle.libyaml_loader.specs.document.Ids
 pub use Rattle.libyaml_loader.specs.document.Anchors
@@ -95,7 +100,7 @@ pub use Rattle.libyaml_loader.specs.loads.Loading
 pub use Rattle.libyaml_loader.specs.loads.LoadsInTurn
 pub use Rattle.libyaml_loader.specs.loads.NextLoad
 pub use Rattle.libyaml_loader.specs.loads.OneLoad
-pub use Rattle.libyaml_loader.specs.pushes.Leads
+pub use Rattle.libyaml_loader.specs.pushes.LoadMemory
 pub use Rattle.libyaml_loader.specs.pushes.Composing
 pub use Rattle.libyaml_loader.specs.pushes.Loaded
 pub use Rattle.libyaml_loader.specs.pushes.OnePushLoads

@@ -3,7 +3,7 @@ use Rattle.std.proofs.Common.{◌≡◌, ℕ, zero, suc, ℤ, pos, negsuc, List,
 use Rattle.std.proofs.Common.{Option, Some, None, Bool, false, Ok, Err}
 use Rattle.std.specs.Prelude.{slice_get}
 use Rattle.libyaml_types.specs.declared.enums.yaml_node_type_t.{yaml_node_type_t}
-use Rattle.libyaml_types.specs.declared.enums.yaml_node_type_t.TheVariants.{YAML_NO_NODE, YAML_SCALAR_NODE}
+use Rattle.libyaml_types.specs.declared.enums.yaml_node_type_t.TheVariants.{YAML_NO_NODE}
 use Rattle.libyaml_types.specs.declared.enums.yaml_node_type_t.TheVariants.{YAML_SEQUENCE_NODE, YAML_MAPPING_NODE}
 use Rattle.libyaml_grammar.specs.sentences.Events.{Event}
 use Rattle.libyaml_types.specs.Fault.{Fault}
@@ -12,7 +12,7 @@ use Rattle.libyaml_documents.specs.LoadedNodes.{children_at, children_of, childr
 use Rattle.libyaml_documents.specs.Nodes.{changed_at, item_behind, node_at, node_type, pair_behind, type_at, type_of}
 use Rattle.libyaml_documents.specs.Nodes.{with_changed, with_item, with_pair}
 use Rattle.libyaml_documents.specs.declared.node.unnamed_yaml_node_t_data.{unnamed_yaml_node_t_data}
-use Rattle.libyaml_documents.specs.declared.node.unnamed_yaml_node_t_data.TheVariants.{Scalar, Sequence, Mapping}
+use Rattle.libyaml_documents.specs.declared.node.unnamed_yaml_node_t_data.TheVariants.{Sequence, Mapping}
 use Rattle.libyaml_documents.specs.declared.node.yaml_node_t.{yaml_node_t}
 use Rattle.libyaml_graphs.specs.machine.Loader.{Loader, OpenNode, State, between, bounded_option, content_full}
 use Rattle.libyaml_graphs.specs.machine.Loader.{content_with, fresh, hand, handed, if_going}
@@ -178,16 +178,4 @@ hands_value n i o k s nodes waits is =
     takes : (c : unnamed_yaml_node_t_data) → node_type c ≡ YAML_MAPPING_NODE
         → Takes n (Some k) None i (pair_behind (record { key = k; value = i })) (λ (m : ℕ). false) c
     takes (Mapping s) h = (refl, refl, refl)
-    takes _ h = absurd cc
-
-pub hands_nothing : (n : ℕ) (i : ℤ) (o : OpenNode) (s : List OpenNode) (nodes : List yaml_node_t)
-    → type_at nodes o.node ≡ YAML_SCALAR_NODE
-    → Hands n i (o ∷ s) nodes nodes (o ∷ s) false
-hands_nothing n i o s nodes is =
-    same_nodes n i o.node _ _ nodes _
-    (by_type n i o.node o.key o.key s nodes (λ c. c) (λ (m : ℕ). false) YAML_SCALAR_NODE (λ h. cc) takes is)
-  where
-    takes : (c : unnamed_yaml_node_t_data) → node_type c ≡ YAML_SCALAR_NODE
-        → Takes n o.key o.key i (λ c. c) (λ (m : ℕ). false) c
-    takes (Scalar s) h = (refl, refl, refl)
     takes _ h = absurd cc

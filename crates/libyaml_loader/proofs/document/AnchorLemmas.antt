@@ -1,5 +1,5 @@
 -- The map of anchors, by its entries.
-use Rattle.std.proofs.Common.{◌≡◌, ℕ, List, [], ◌∷◌, Option, Some, Bool, true, false, cond, nat_cmp, String}
+use Rattle.std.proofs.Common.{◌≡◌, ◌≤ℤ◌, arith, ℤ, pos, negsuc, ℕ, List, [], ◌∷◌, Option, Some, Bool, true, false, cond, nat_cmp, String}
 use Rattle.std.proofs.Common.{string_bytes, refl, ap, sym, ◌∙◌}
 use Rattle.std.specs.Cmp.{eq_by_cmp_equiv}
 use Rattle.std.specs.Cmp.Lexicographic.{slice_cmp, nat_list_cmp_total}
@@ -13,7 +13,8 @@ use Rattle.std.proofs.lemmas.Map.Lookups.{exact_bytes}
 use Rattle.std.proofs.lemmas.Map.Text.{btree_map_updates_text, is_eq-slice_cmp}
 use Rattle.libyaml_loader.specs.declared.ids.Carrier.{Carrier}
 use Rattle.libyaml_loader.specs.document.Anchors.{anchors_of, carriers_of}
-use Rattle.libyaml_loader.specs.document.Ids.{carrier_of}
+use Rattle.std.proofs.lemmas.Int.{ints}
+use Rattle.libyaml_loader.specs.document.Ids.{carrier_of, magnitude}
 
 choose : (b : Bool) (c : Carrier) (o : Option Carrier)
     → cond b (Some (carrier_of c)) (option_map carrier_of o) ≡ option_map carrier_of (cond b (Some c) o)
@@ -43,3 +44,7 @@ module _ {Y : Type 0} where
       ∙ ap (λ b. cond b (Some (carrier_of c)) (get (anchors_of m.entries) q))
       ((eq_by_cmp_equiv nat_list_cmp_total).symm q (string_bytes a) ∙ is_eq-slice_cmp (string_bytes a) q)
       ∙ ap (cond (bytes_eq (string_bytes a) q) (Some (carrier_of c))) (get_anchor m q)))
+
+pub magnitude_is : (z : ℤ) → pos 1 ≤ℤ z → z ≡ pos (magnitude z)
+magnitude_is (pos n) h = refl
+magnitude_is (negsuc n) h = absurd (omega (arith, ints))

@@ -20,10 +20,11 @@ use Rattle.libyaml_loader.specs.loads.Loading.{LoadFails, LoadsFrom, ParserFails
 use Rattle.libyaml_loader.specs.loads.Loading.{by_memory, by_parser, whole}
 use Rattle.libyaml_loader.specs.pushes.Composing as composing
 use Rattle.libyaml_loader.specs.pushes.Composing.{RefusesEvent}
-use Rattle.libyaml_loader.specs.pushes.Leads.{Leads, for_document, for_node}
+use Rattle.libyaml_graphs.specs.loads.Leads.{Leads}
+use Rattle.libyaml_loader.specs.pushes.LoadMemory.{for_document, for_node}
 use Rattle.libyaml_loader.proofs.loads.Reaching.{left_by, load_by, load_of_first}
 use Rattle.libyaml_loader.proofs.loads.Taking.{FindsEnd, took_both, took_none}
-use Rattle.libyaml_loader.proofs.pushes.Leading.{leads_both, leads_none}
+use Rattle.libyaml_graphs.proofs.lent.Leading.{leads_both, leads_none}
 
 none_left : (s : State) → left_from s [] ≡ []
 none_left between = refl

@@ -13,8 +13,8 @@ use Rattle.libyaml_graphs.specs.machine.Loader.{Loading, State, between, bounded
 use Rattle.libyaml_graphs.specs.machine.Loader.{load_from, within}
 use Rattle.libyaml_graphs.proofs.lent.BoundedLoader.{one_load}
 use Rattle.libyaml_graphs.proofs.lent.Machine.{goes_on_left, opens_left, passes_left}
-use Rattle.libyaml_loader.specs.pushes.Leads.{Leads, behind_events, loads_from, whole_then}
-use Rattle.libyaml_loader.proofs.pushes.Leading.{closes_there, from_none, goes_there, opens_there, passes_by, refused_there}
+use Rattle.libyaml_graphs.specs.loads.Leads.{Leads, behind_events, loads_from, whole_then}
+use Rattle.libyaml_graphs.proofs.lent.Leading.{closes_there, from_none, goes_there, opens_there, passes_by, refused_there}
 
 -- a load is the first of the loads to come
 abbrev first : List Load → Load

@@ -18,12 +18,12 @@ use Rattle.libyaml_graphs.specs.loads.Bounds.{IsBoundedLoads, bounded_loads}
 use Rattle.libyaml_graphs.specs.loads.Loads.{Load, last_load}
 use Rattle.libyaml_graphs.specs.machine.Loader.{State, between}
 use Rattle.libyaml_graphs.proofs.lent.LoadLists.{same_loads}
-use Rattle.libyaml_loader.specs.pushes.Leads.{Leads, as_loads, loads_from}
+use Rattle.libyaml_graphs.specs.loads.Leads.{Leads, as_loads, loads_from}
 use Rattle.libyaml_loader.specs.pushes.Loaded.{Loaded, PushLoader, loader_fault, loader_has_stopped, standing_loader}
 use Rattle.libyaml_loader.specs.pushes.OnePushLoads.{OnePushLoads, PushLoadsAlike, PushLoadsRunOut, alike}
 use Rattle.libyaml_loader.specs.pushes.OnePushLoads.{first_runs_out, second_runs_out}
 use Rattle.libyaml_loader.specs.pushes.PushesLoads.{AreThen, PushesLoads, StopsLoading, TakesLoads, by_memory, by_tokens}
-use Rattle.libyaml_loader.proofs.pushes.Leading.{from_none}
+use Rattle.libyaml_graphs.proofs.lent.Leading.{from_none}
 
 one_loads : (n : ℕ) (l : List Token) (f : Fault) (a b : List Load) → IsBoundedLoads n l f a
     → IsBoundedLoads n l f b → a ≡ b

@@ -31,14 +31,14 @@ use Rattle.libyaml_events.proofs.lent.RunStops.{short_run, whole_run}
 use Rattle.libyaml_loader.specs.pushes.Composing as comp
 use Rattle.libyaml_loader.specs.pushes.Composing.{Composes, RefusesEvent, RefusesOneOf, by_loads}
 use Rattle.libyaml_loader.specs.pushes.Composing.{by_memory as no_memory, state_by, composer_state}
-use Rattle.libyaml_loader.specs.pushes.Leads.{Leads, as_loads, loads_from}
+use Rattle.libyaml_graphs.specs.loads.Leads.{Leads, as_loads, loads_from}
 use Rattle.libyaml_loader.specs.pushes.Loaded.{ForLoaded, Loaded, PushLoader, RemembersLoads, loader_has_stopped}
 use Rattle.libyaml_loader.specs.pushes.Loaded.{loader_keeps_fault, standing_loader}
 use Rattle.libyaml_loader.specs.pushes.PushesLoads.{AreThen, BeginsEachLoads, PushesLoads, StopsLoading, by_memory}
 use Rattle.libyaml_loader.specs.pushes.PushesLoads.{by_tokens}
 use Rattle.libyaml_loader.specs.pushes.PushesLoads.{in_loader, in_parser}
 use Rattle.libyaml_loader.specs.declared.composer.Composer.{Composer}
-use Rattle.libyaml_loader.proofs.pushes.Leading.{from_none, leads_both}
+use Rattle.libyaml_graphs.proofs.lent.Leading.{from_none, leads_both}
 
 -- the loads of a run whose events are these
 pub are_then : (n : ℕ) (tokens : List Token) (source : Fault) (events : List Event) (x : Ending)

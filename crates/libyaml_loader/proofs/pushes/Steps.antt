@@ -1,7 +1,15 @@
 -- What one event does to the document that is open.
 use Rattle.std.proofs.Common.{◌≡◌, ◌⊎◌, inl, inr, ℕ, List, [], ◌∷◌, Option, Some, None, Bool, Result, Ok, Err, true}
 use Rattle.std.proofs.Common.{refl, sym, ap, subst, ◌∙◌}
+use Rattle.std.proofs.Common.{length, map}
 use Rattle.std.proofs.lemmas.List.{append-nil}
+use Rattle.std.specs.Cmp.Lexicographic.{nat_list_cmp_total}
+use Rattle.std.specs.FinMap.{get, get-from_entries}
+use Rattle.libyaml_composer.specs.declared.records.open_t.{open_t}
+use Rattle.libyaml_composer.specs.Composing.{Composer}
+use Rattle.libyaml_composer.specs.Held.{open_of}
+use Rattle.libyaml_composer.specs.Standing.{IsCarried, Opens}
+use Rattle.libyaml_loader.specs.document.Stack.{begun}
 use Rattle.libyaml_types.specs.declared.enums.yaml_error_type_t.{yaml_error_type_t}
 use Rattle.libyaml_documents.specs.Documents.{Document}
 use Rattle.libyaml_documents.specs.LoadedNodes.{begun_document}
@@ -10,56 +18,70 @@ use Rattle.libyaml_types.specs.Fault.{Fault, fault_of, memory_fault}
 use Rattle.libyaml_graphs.specs.graphs.GraphParts as parts
 use Rattle.libyaml_graphs.specs.graphs.GraphParts.{closing_of, opening_of, part_of}
 use Rattle.libyaml_graphs.specs.machine.Loader as machine
-use Rattle.libyaml_graphs.specs.machine.Loader.{Loader, OpenNode, State, between, bounded_option, failed, fresh, no_anchors}
+use Rattle.libyaml_graphs.specs.machine.Loader.{Loader, State, between, bounded_option, failed, fresh, no_anchors}
 use Rattle.libyaml_graphs.specs.machine.Loader.{within}
-use Rattle.libyaml_loader.specs.declared.composer.Composer.{Composer}
+use Rattle.libyaml_loader.specs.declared.composer.Composer as loader
 use Rattle.libyaml_loader.specs.declared.context.loader_ctx.{loader_ctx}
 use Rattle.libyaml_loader.specs.declared.refusal.Refusal.{Refusal}
 use Rattle.libyaml_loader.specs.declared.refusal.Refusal.TheVariants.{Memory}
-use Rattle.libyaml_loader.specs.document.Context.{Composed, IdsAreIn, Refuses, loader_of}
+use Rattle.libyaml_loader.specs.document.Context.{Composed, Refuses, Stands, loader_of, opening_of_document}
 use Rattle.libyaml_loader.specs.document.Refusals.{fault_by}
 use Rattle.libyaml_loader.specs.loads.LoadGrowth.{load_may_grow}
 use Rattle.libyaml_loader.specs.declared.composer.Closing.{Closing}
 use Rattle.libyaml_loader.specs.pushes.Composing.{Composes, ComposesEvent, IsSound, RefusesEvent, RefusesOneOf, by_loads}
-use Rattle.libyaml_loader.specs.pushes.Composing.{by_memory, closing_by, opening_of_document, state_by, composer_state}
-use Rattle.libyaml_loader.specs.pushes.Leads.{Leads, for_document, for_node}
-use Rattle.libyaml_loader.proofs.document.IdsKept.{ids_fresh, ids_kept}
+use Rattle.libyaml_loader.specs.pushes.Composing.{by_memory, closing_by, state_by, composer_state}
+use Rattle.libyaml_graphs.specs.loads.Leads.{Leads}
+use Rattle.libyaml_loader.specs.pushes.LoadMemory.{for_document, for_node}
 use Rattle.libyaml_loader.proofs.pushes.InTurn.{refuses_more}
-use Rattle.libyaml_loader.proofs.pushes.Leading.{leads_none, opens_there, refused_there}
+use Rattle.libyaml_graphs.proofs.lent.Leading.{leads_none, opens_there, refused_there}
 
 -- a new context stands at a fresh machine
 context_is_fresh : (c : loader_ctx) (o : parts.Opening) → c.document ≡ begun_document o.start o.mark
-    → c.stack ≡ [] → c.anchors ≡ no_anchors
-    → loader_of c ≡ fresh
+    → c.collections.stack ≡ [] → c.anchors ≡ no_anchors → loader_of c ≡ fresh
 context_is_fresh c o document stack anchors =
-    ap (λ (d : Document). record { nodes = d.nodes; stack = c.stack; anchors = c.anchors }) document
-    ∙ ap (λ (s : List OpenNode). record { nodes = []; stack = s; anchors = c.anchors }) stack
+    ap (λ (d : Document). record { nodes = d.nodes; stack = map open_of c.collections.stack; anchors = c.anchors }) document
+    ∙ ap (λ (s : List open_t). record { nodes = []; stack = map open_of s; anchors = c.anchors }) stack
     ∙ ap (λ (a : machine.Anchors). record { nodes = []; stack = []; anchors = a }) anchors
 
 -- it begins
-module _ (c : loader_ctx) (o : parts.Opening) (is : c.document ≡ begun_document o.start o.mark)
-    (stack : c.stack ≡ []) (anchors : c.anchors ≡ no_anchors) where
+module _ (old c : loader_ctx) (o : parts.Opening) (anchors : old.anchors ≡ no_anchors)
+    (is : c ≡ record old { document = begun_document o.start o.mark; collections = begun old.collections }) where
+  document : c.document ≡ begun_document o.start o.mark
+  document = ap (λ (x : loader_ctx). x.document) is
+
+  collections : c.collections ≡ begun old.collections
+  collections = ap (λ (x : loader_ctx). x.collections) is
+
+  none : c.anchors ≡ no_anchors
+  none = ap (λ (x : loader_ctx). x.anchors) is ∙ anchors
+
   pub begun_leads : (n : ℕ) (e : Event) → opening_of e ≡ Some o → Leads n between (e ∷ []) [] (state_by true c)
   begun_leads n e h = subst (λ (s : State). Leads n between (e ∷ []) [] s)
-      (ap (λ (l : Loader). within o l) (sym (context_is_fresh c o is stack anchors))
-      ∙ ap (λ (d : Document). within (opening_of_document d) (loader_of c)) (sym is))
+      (ap (λ (l : Loader). within o l)
+      (sym (context_is_fresh c o document (ap (λ (x : Composer). x.stack) collections) none))
+      ∙ ap (λ (d : Document). within (opening_of_document d) (loader_of c)) (sym document))
       (opens_there n e o h)
 
-  pub begun_ids : IdsAreIn (loader_of c)
-  begun_ids = subst IdsAreIn (sym (context_is_fresh c o is stack anchors)) ids_fresh
+  pub begun_stands : Stands c
+  begun_stands = record {
+    is_within = ap (λ (x : Composer). x.is_within) collections;
+    opening = refl;
+    nodes = ap (λ (x : Composer). x.nodes) collections ∙ ap (λ (d : Document). length d.nodes) (sym document);
+    opens = subst (λ (s : List open_t). Opens (length c.document.nodes) c.document.nodes (length c.document.nodes) s)
+        (sym (ap (λ (x : Composer). x.stack) collections)) tt;
+    carried = λ (a : List ℕ). subst (IsCarried (length c.document.nodes))
+        (sym (ap (λ (x : machine.Anchors). get x a) none ∙ get-from_entries nat_list_cmp_total [] a)) tt;
+  }
 
 -- an event adds to it, or is refused
-module _ (old : Composer) (new : loader_ctx) (e : Event) (sound : IsSound old) (is_open : old.is_open ≡ true) where
-  pub added_ids : Composed old.ctx new (part_of e) → IdsAreIn (loader_of new)
-  added_ids h = ids_kept old.ctx.max_entries (loader_of old.ctx) (loader_of new) (part_of e) (sound.ids is_open) h.goes
-
+module _ (old : loader.Composer) (new : loader_ctx) (e : Event) (sound : IsSound old) (is_open : old.is_open ≡ true) where
   pub refused : (r : Refusal) (f : Fault) → closing_of e ≡ None → Refuses old.ctx new (part_of e) e.start_mark r
       → f ≡ fault_by r new.first_mark e.start_mark → RefusesEvent ⊥ old.max_entries (composer_state old) e f
   refused r f no_end h fault =
       subst (λ (b : Bool). RefusesEvent ⊥ old.max_entries (state_by b old.ctx) e f) (sym is_open) (go h)
     where
       go : ((r ≡ Memory) × (load_may_grow (loader_of old.ctx) (part_of e) ≡ true))
-          ⊎ (bounded_option old.ctx.max_entries (loader_of old.ctx) (part_of e)
+          ⊎ (bounded_option old.ctx.collections.most (loader_of old.ctx) (part_of e)
           ≡ failed (fault_by r new.first_mark e.start_mark))
           → RefusesEvent ⊥ old.max_entries (state_by true old.ctx) e f
       go (inl m) = by_memory (fault ∙ ap (λ (q : Refusal). fault_by q new.first_mark e.start_mark) m.0)
@@ -68,7 +90,7 @@ module _ (old : Composer) (new : loader_ctx) (e : Event) (sound : IsSound old) (
           (ap (λ (n : ℕ). bounded_option n (loader_of old.ctx) (part_of e)) (sym sound.bound) ∙ (w ∙ ap failed (sym fault))))
 
 -- What an event did, where a list takes the documents that end.
-module _ (Full : Type 0) (old mid : Composer) (e : Event) (before : List Document)
+module _ (Full : Type 0) (old mid : loader.Composer) (e : Event) (before : List Document)
     (r : Result (Option Closing) yaml_error_type_t) (h : ComposesEvent old e r mid) where
   refused_first : (f : Fault) → RefusesEvent Full old.max_entries (composer_state old) e f
       → RefusesOneOf Full old.max_entries (composer_state old) (e ∷ []) [] f
@@ -83,7 +105,7 @@ module _ (Full : Type 0) (old mid : Composer) (e : Event) (before : List Documen
   }
 
   -- the document ended, and the list had no room for it
-  pub into_full : (new : Composer) (c : Closing) (z : yaml_error_type_t) → r ≡ Ok (Some c)
+  pub into_full : (new : loader.Composer) (c : Closing) (z : yaml_error_type_t) → r ≡ Ok (Some c)
       → fault_of new.fault ≡ memory_fault → Full → Composes Full old (e ∷ []) before (Err z) new before
   into_full new c z is fault full =
       let ends : (old.is_open ≡ true) × (closing_of e ≡ Some (closing_by c)) × (mid ≡ old) = rw is at h in

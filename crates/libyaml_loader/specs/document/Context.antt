@@ -1,79 +1,108 @@
 -- The document on the way, and what the loader's steps make of it.
-use Rattle.std.specs.Prelude.{◌≡◌, ◌++◌, ◌∷◌, ◌⊎◌, ℕ, suc, ℤ, pos, IfSome, List, [], length, Bool, true, false, Option}
-use Rattle.std.specs.Prelude.{Some, None}
-use Rattle.std.specs.FinMap.{get}
+use Rattle.std.specs.Prelude.{◌≡◌, ◌⊎◌, ℕ, suc, ℤ, pos, List, length, Bool, true, Option, Some, None}
 use Rattle.libyaml_types.specs.declared.mark.yaml_mark_t.{yaml_mark_t}
 use Rattle.libyaml_types.specs.Fault.{Fault}
+use Rattle.libyaml_types.specs.Types.{event_anchor, event_type}
+use Rattle.libyaml_types.specs.declared.enums.yaml_event_type_t.{yaml_event_type_t}
+use Rattle.libyaml_grammar.specs.sentences.Events.{Event}
 use Rattle.libyaml_documents.specs.declared.node.yaml_node_t.{yaml_node_t}
 use Rattle.libyaml_documents.specs.Documents.{Document}
 use Rattle.libyaml_documents.specs.Nodes.{IsIdUpTo}
-use Rattle.libyaml_graphs.specs.graphs.Graphs as graphs
-use Rattle.libyaml_graphs.specs.machine.Loader.{Loader, OpenNode, Loading, Registered, bounded_option, closed_by, failed}
-use Rattle.libyaml_graphs.specs.machine.Loader.{going, hand, handed, known, outer, parent_full}
-use Rattle.libyaml_graphs.specs.machine.Loader.{register, registered}
-use Rattle.libyaml_graphs.specs.graphs.GraphParts.{Part}
+use Rattle.libyaml_graphs.specs.machine.Loader.{Loader, Loading, bounded_option, failed, going}
+use Rattle.libyaml_graphs.specs.graphs.Graphs.{id_or}
+use Rattle.libyaml_graphs.specs.graphs.GraphParts.{Opening, Part, closing_of}
+use Rattle.libyaml_composer.specs.declared.deed.Deed.{Deed}
+use Rattle.libyaml_composer.specs.declared.deed.Deed.TheVariants as deed
+use Rattle.libyaml_composer.specs.declared.records.place_t.{place_t}
+use Rattle.libyaml_composer.specs.Held as held
+use Rattle.libyaml_composer.specs.Held.{Held, anchored, anchored_by, applied_part, carrier_of, first_mark}
+use Rattle.libyaml_composer.specs.Held.{with_node}
+use Rattle.libyaml_composer.specs.Standing.{Fits, IsChild, IsClosed, IsNode, IsPart, IsPut, Standing}
+use Rattle.libyaml_composer.specs.Numbers.{is_id}
 use Rattle.libyaml_loader.specs.declared.context.loader_ctx.{loader_ctx}
-use Rattle.libyaml_loader.specs.declared.ids.NodeId.{NodeId}
 use Rattle.libyaml_loader.specs.declared.refusal.Refusal.{Refusal}
-use Rattle.libyaml_loader.specs.declared.refusal.Refusal.TheVariants.{Memory, RepeatedAnchor}
-use Rattle.libyaml_loader.specs.loads.LoadGrowth.{load_may_grow, parent_grows}
+use Rattle.libyaml_loader.specs.declared.refusal.Refusal.TheVariants.{Memory, RepeatedAnchor, UndefinedAlias}
+use Rattle.libyaml_loader.specs.loads.LoadGrowth.{load_may_grow}
 use Rattle.libyaml_loader.specs.document.Refusals.{fault_by}
 
--- what the loader's machine sees
+-- how a document on the way began
+abbrev pub opening_of_document : Document → Opening
+opening_of_document d = record {
+  start = record {
+    version_directive = d.version_directive;
+    tag_directives = d.tag_directives;
+    implicit =
+        d.start_implicit;
+  };
+  mark = d.start_mark;
+}
+
+-- what the loader holds of it, and what its machine sees
+abbrev pub held_of : loader_ctx → Held
+held_of c = record {
+  opening = Some (opening_of_document c.document);
+  nodes = c.document.nodes;
+  anchors = c.anchors;
+}
+
 abbrev pub loader_of : loader_ctx → Loader
-loader_of c = record { nodes = c.document.nodes; stack = c.stack; anchors = c.anchors }
+loader_of c = held.loader_of c.collections (held_of c)
+
+abbrev pub Stands : loader_ctx → Type 0
+Stands c = Standing c.collections (held_of c) (opening_of_document c.document)
 
 abbrev pub with_nodes : List yaml_node_t → Document → Document
 with_nodes nodes d = record d { nodes = nodes }
 
--- Carriers, open collections and keys that wait are among n nodes.
-abbrev pub CarrierIn : ℕ → Option graphs.Carrier → Type 0
-CarrierIn n None = Unit {0}
-CarrierIn n (Some c) = IsIdUpTo n (pos c.id)
-
-abbrev pub AllOpenIn : ℕ → List OpenNode → Type 0
-AllOpenIn n [] = Unit {0}
-AllOpenIn n (o ∷ s) = IsIdUpTo n o.node × IfSome o.key (IsIdUpTo n) × AllOpenIn n s
-
-pub record IdsAreIn (l : Loader) : Type 0 where
-  pub stack : AllOpenIn (length l.nodes) l.stack
-  pub carriers : (a : List ℕ) → CarrierIn (length l.nodes) (get l.anchors a)
-
--- a child handed to the innermost open collection
-abbrev pub handed_to : ℤ → loader_ctx → loader_ctx
-handed_to i c = record c {
-  document = with_nodes (hand i c.stack c.document.nodes) c.document;
-  stack =
-      handed i c.stack c.document.nodes;
-}
-
--- the innermost open collection ended
-abbrev pub closed_innermost : yaml_mark_t → loader_ctx → loader_ctx
-closed_innermost m c = record c { document = with_nodes (closed_by m c.stack c.document.nodes) c.document; stack = outer c.stack }
-
--- why an anchor is not registered, and where its first node starts
-abbrev pub RefusesAnchor : Registered → Refusal → (first_mark : yaml_mark_t) → Type 0
-RefusesAnchor (known first) r m = (r ≡ Memory) ⊎ ((r ≡ RepeatedAnchor) × (m ≡ first))
-RefusesAnchor (registered xs) r m = r ≡ Memory
-
--- a node was put after the others, its anchor registered, and it was handed to its parent
-pub record NodeLoaded (old new : loader_ctx) (id : NodeId) (anchor : Option (List ℕ)) (node : yaml_node_t) : Type 0 where
-  pub id_is : id.number ≡ pos (suc (length old.document.nodes))
-  pub anchors : register anchor (suc (length old.document.nodes)) node.start_mark old.anchors ≡ registered new.anchors
-  pub context : new ≡ handed_to (pos (suc (length old.document.nodes)))
-      (record old { document = with_nodes (old.document.nodes ++ node ∷ []) old.document; anchors = new.anchors })
-  pub room : parent_full old.max_entries old.stack old.document.nodes ≡ false
-
 -- the machine goes on by an event's part, and the document's fields stay
 pub record Composed (old new : loader_ctx) (p : Option Part) : Type 0 where
-  pub goes : bounded_option old.max_entries (loader_of old) p ≡ going (loader_of new)
+  pub goes : bounded_option old.collections.most (loader_of old) p ≡ going (loader_of new)
   pub document : new.document ≡ with_nodes new.document.nodes old.document
-  pub bound : new.max_entries ≡ old.max_entries
+  pub bound : new.collections.most ≡ old.collections.most
 
--- why a child is not put into its parent's list: this may grow, or is full
-abbrev pub ParentRefuses : loader_ctx → Refusal → Type 0
-ParentRefuses c r = (r ≡ Memory)
-    × ((parent_grows c.stack c.document.nodes ≡ true) ⊎ (parent_full c.max_entries c.stack c.document.nodes ≡ true))
+-- memory may be taken: for a node, an item or a pair
+abbrev pub IsListed : Deed → Type 0
+IsListed deed.Item = Unit {0}
+IsListed deed.Value = Unit {0}
+IsListed _ = ⊥
+
+abbrev pub Grows : Deed → place_t → Type 0
+Grows d p = (IsPut d × (is_id p.node ≡ true)) ⊎ IsListed d
+
+-- The next node is named by this anchor, if there is one. The id is that of the node which carried it before; 0 where none did.
+pub record Named (old new : loader_ctx) (a : Option (List ℕ)) (m : yaml_mark_t) (id : ℤ) : Type 0 where
+  pub carrier : id ≡ pos (id_or (carrier_of old.anchors a))
+  pub context : new ≡ record old {
+    anchors = anchored a (suc (length old.document.nodes)) m old.anchors;
+    first_mark = new.first_mark;
+  }
+  pub first : is_id id ≡ true → new.first_mark ≡ first_mark (carrier_of old.anchors a) m
+
+-- why a load stops where this is refused
+abbrev pub refusal_of : Deed → Refusal
+refusal_of deed.UndefinedAlias = UndefinedAlias
+refusal_of deed.RepeatedAnchor = RepeatedAnchor
+refusal_of _ = Memory
+
+-- What is decided of an event: the machine goes on where this is done, and what may be relied on there.
+pub record Decided (old new : loader_ctx) (q : Option Part) (end : yaml_mark_t) (d : Deed) (p : place_t) : Type 0 where
+  pub part : IsPart d
+  pub goes : bounded_option old.collections.most (loader_of old) q
+      ≡ going (held.loader_of new.collections (applied_part d p q end (held_of old)))
+  pub stands : Standing new.collections (applied_part d p q end (held_of old)) (opening_of_document old.document)
+  pub bound : new.collections.most ≡ old.collections.most
+  pub context : new ≡ record old {
+    collections = new.collections;
+    anchors = anchored_by (suc (length old.document.nodes)) q old.anchors;
+    first_mark = new.first_mark;
+  }
+  pub fits : Fits d p (length (with_node (is_id p.node) p.node q (held_of old)).nodes)
+      (with_node (is_id p.node) p.node q (held_of old)).nodes
+  pub node : IsPut d → is_id p.node ≡ true → p.node ≡ pos (suc (length old.document.nodes))
+  pub closed : IsClosed d → IsIdUpTo (length old.document.nodes) p.parent
+  pub put : IsChild q → IsPut d
+  pub numbered : IsNode q → p.node ≡ pos (suc (length old.document.nodes))
+  pub grows : Grows d p → load_may_grow (loader_of old) q ≡ true
 
 -- an allocation failed, where there may be one, or the machine fails by this refusal
 abbrev pub RefusedBy : (grows : Bool) → Loading → Refusal → Fault → Type 0
@@ -81,5 +110,12 @@ RefusedBy grows o r f = ((r ≡ Memory) × (grows ≡ true)) ⊎ (o ≡ failed f
 
 -- of an event that starts at this mark
 abbrev pub Refuses : (old new : loader_ctx) → Option Part → yaml_mark_t → Refusal → Type 0
-Refuses old new p mark r = RefusedBy (load_may_grow (loader_of old) p) (bounded_option old.max_entries (loader_of old) p)
-    r (fault_by r new.first_mark mark)
+Refuses old new p mark r = RefusedBy (load_may_grow (loader_of old) p)
+    (bounded_option old.collections.most (loader_of old) p) r (fault_by r new.first_mark mark)
+
+-- an event of this kind, with this anchor, that starts here, and isn't the document's end
+pub record IsEvent (kind : yaml_event_type_t) (anchor : Option (List ℕ)) (mark : yaml_mark_t) (e : Event) : Type 0 where
+  pub kind_is : event_type e.content ≡ kind
+  pub anchor_is : event_anchor e.content ≡ anchor
+  pub mark_is : e.start_mark ≡ mark
+  pub not_end : closing_of e ≡ None

@@ -1,21 +1,15 @@
--- The stack of open collections, by the list of a `Vec` whose last is the innermost.
-use Rattle.std.specs.Prelude.{ℤ, List, [], ◌∷◌, map, reverse, Option, Some, None}
-use Rattle.libyaml_graphs.specs.machine.Loader as machine
-use Rattle.libyaml_loader.specs.declared.ids.NodeId.{NodeId}
-use Rattle.libyaml_loader.specs.declared.ids.Open.{Open}
-use Rattle.libyaml_loader.specs.document.Ids.{open_of}
+-- The composer as a loader keeps it.
+use Rattle.std.specs.Prelude.{ℕ, [], true, false}
+use Rattle.libyaml_composer.specs.Composing.{Composer}
 
-abbrev pub open_stack_of : List Open → List machine.OpenNode
-open_stack_of items = reverse (map open_of items)
+-- before a stream's first document
+abbrev pub made : ℕ → Composer
+made most = record { is_within = false; nodes = 0; most = most; room = 0; stack = [] }
 
-abbrev pub opened_node : NodeId → machine.OpenNode
-opened_node node = record { node = node.number; key = None }
+-- a document begins
+abbrev pub begun : Composer → Composer
+begun c = record c { is_within = true; nodes = 0; stack = [] }
 
-abbrev pub innermost : List machine.OpenNode → Option machine.OpenNode
-innermost [] = None
-innermost (o ∷ s) = Some o
-
--- the innermost with another key that waits
-abbrev pub with_key : Option ℤ → List machine.OpenNode → List machine.OpenNode
-with_key k [] = []
-with_key k (o ∷ s) = record { node = o.node; key = k } ∷ s
+-- with room for so many collections
+abbrev pub roomy : ℕ → Composer → Composer
+roomy room c = record c { room = room }

@@ -1,5 +1,5 @@
 -- What the code that composes documents keeps, and what it does with events.
-use Rattle.std.specs.Prelude.{◌≡◌, ◌++◌, ◌∷◌, ℕ, List, [], Bool, true, false, Option, Some, None, Result, Ok, Err}
+use Rattle.std.specs.Prelude.{◌≡◌, ◌≤◌, ◌++◌, ◌∷◌, ℕ, List, [], Bool, true, false, Option, Some, None, Result, Ok, Err}
 use Rattle.libyaml_types.specs.declared.enums.yaml_error_type_t.{yaml_error_type_t}
 use Rattle.libyaml_documents.specs.Documents.{Document}
 use Rattle.libyaml_grammar.specs.sentences.Events.{Event}
@@ -13,8 +13,9 @@ use Rattle.libyaml_loader.specs.declared.composer.Closing.{Closing}
 use Rattle.libyaml_loader.specs.declared.composer.Composer.{Composer}
 use Rattle.libyaml_loader.specs.declared.composer.Opening.{Opening}
 use Rattle.libyaml_loader.specs.declared.context.loader_ctx.{loader_ctx}
-use Rattle.libyaml_loader.specs.document.Context.{IdsAreIn, loader_of}
-use Rattle.libyaml_loader.specs.pushes.Leads.{Leads, NeedsMemoryAt, loads_from}
+use Rattle.libyaml_loader.specs.document.Context.{Stands, loader_of, opening_of_document}
+use Rattle.libyaml_graphs.specs.loads.Leads.{Leads, loads_from}
+use Rattle.libyaml_loader.specs.pushes.LoadMemory.{NeedsMemoryAt}
 
 -- the start and the end of a document
 abbrev pub opening_by : Opening → parts.Opening
@@ -22,18 +23,6 @@ opening_by o = record { start = o.start; mark = o.mark }
 
 abbrev pub closing_by : Closing → parts.Closing
 closing_by c = record { is_implicit = c.implicit; mark = c.mark }
-
--- how a document on the way began
-abbrev pub opening_of_document : Document → parts.Opening
-opening_of_document d = record {
-  start = record {
-    version_directive = d.version_directive;
-    tag_directives = d.tag_directives;
-    implicit =
-        d.start_implicit;
-  };
-  mark = d.start_mark;
-}
 
 abbrev pub state_by : (is_open : Bool) → loader_ctx → State
 state_by false c = between
@@ -48,9 +37,10 @@ ended_by c x = document (opening_of_document x.document) x.document.nodes c
 
 -- the document that is open is sound, or nothing is left of the one before; the bound is the composer's
 pub record IsSound (c : Composer) : Type 0 where
-  pub ids : c.is_open ≡ true → IdsAreIn (loader_of c.ctx)
-  pub fresh : c.is_open ≡ false → (c.ctx.stack ≡ []) × (c.ctx.anchors ≡ no_anchors)
-  pub bound : c.ctx.max_entries ≡ c.max_entries
+  pub stands : c.is_open ≡ true → Stands c.ctx
+  pub fresh : c.is_open ≡ false → (c.ctx.collections.is_within ≡ false) × (c.ctx.anchors ≡ no_anchors)
+  pub bound : c.ctx.collections.most ≡ c.max_entries
+  pub most : c.max_entries ≤ 2147483647
 
 -- The event is refused: the loads end there with this fault, whatever comes after it; or an allocation failed.
 pub data RefusesEvent (Full : Type 0) (n : ℕ) (here : State) (e : Event) (f : Fault) : Type 0 where

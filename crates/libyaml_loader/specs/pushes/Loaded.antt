@@ -8,7 +8,7 @@ use Rattle.libyaml_events.specs.machine.Config.{is_fault}
 use Rattle.libyaml_events.specs.sources.Pushed as pushed
 use Rattle.libyaml_events.specs.sources.Pushed.{PushParser, Pushed}
 use Rattle.libyaml_graphs.specs.machine.Loader.{State, between}
-use Rattle.libyaml_loader.specs.pushes.Leads.{Leads}
+use Rattle.libyaml_graphs.specs.loads.Leads.{Leads}
 
 -- What is kept between two tokens: the parser; whether a document is open, and its nodes so far; the fault; and how
 -- many entries each list of a document may have.

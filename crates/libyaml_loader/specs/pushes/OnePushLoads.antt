@@ -9,7 +9,7 @@ use Rattle.libyaml_documents.specs.Documents.{Document}
 use Rattle.libyaml_events.specs.sources.Determined.{BeginsEachRun}
 use Rattle.libyaml_events.specs.sources.Pushes.{Done}
 use Rattle.libyaml_graphs.specs.machine.Loader.{State, between}
-use Rattle.libyaml_loader.specs.pushes.Leads.{Leads}
+use Rattle.libyaml_graphs.specs.loads.Leads.{Leads}
 use Rattle.libyaml_loader.specs.pushes.Loaded.{PushLoader, loader_fault}
 use Rattle.libyaml_loader.specs.pushes.PushesLoads.{LoadNeedsMemory}
 

@@ -15,7 +15,8 @@ use Rattle.libyaml_graphs.specs.loads.Bounds.{IsBoundedLoads}
 use Rattle.libyaml_graphs.specs.loads.Linear.{documents_size}
 use Rattle.libyaml_graphs.specs.loads.Loads.{Load, last_load}
 use Rattle.libyaml_graphs.specs.machine.Loader.{State, between}
-use Rattle.libyaml_loader.specs.pushes.Leads.{Leads, NeedsMemoryAt, as_loads}
+use Rattle.libyaml_graphs.specs.loads.Leads.{Leads, as_loads}
+use Rattle.libyaml_loader.specs.pushes.LoadMemory.{NeedsMemoryAt}
 use Rattle.libyaml_loader.specs.pushes.Loaded.{ForLoaded, Loaded, PushLoader, loader_fault, loader_has_stopped, loader_keeps_fault}
 
 -- The loads over these tokens, after which the source fails so, are these documents and then this load: within the bound n.

@@ -11,11 +11,11 @@ use Rattle.libyaml_graphs.specs.graphs.GraphParts.{closing_of}
 use Rattle.libyaml_graphs.specs.loads.Bounds.{next_bounded}
 use Rattle.libyaml_graphs.specs.loads.Loads.{left_over}
 use Rattle.libyaml_loader.specs.declared.composer.Composer.{Composer}
-use Rattle.libyaml_loader.specs.document.Context.{loader_of}
+use Rattle.libyaml_loader.specs.document.Context.{loader_of, opening_of_document}
 use Rattle.libyaml_loader.specs.loads.Loading.{DocumentOrError, LoadsFrom, Took}
-use Rattle.libyaml_loader.specs.pushes.Composing.{RefusesEvent, closing_by, ended_by, opening_of_document, state_by}
+use Rattle.libyaml_loader.specs.pushes.Composing.{RefusesEvent, closing_by, ended_by, state_by}
 use Rattle.libyaml_loader.specs.pushes.Composing.{composer_state}
-use Rattle.libyaml_loader.specs.pushes.Leads.{Leads}
+use Rattle.libyaml_graphs.specs.loads.Leads.{Leads}
 use Rattle.libyaml_loader.proofs.loads.Ended.{has_not_ended, no_error, still_ended}
 use Rattle.libyaml_loader.proofs.loads.OnTheWay.{OnTheWay, way_ends, way_fails, way_finds_end, way_more, way_none}
 use Rattle.libyaml_loader.proofs.loads.OnTheWay.{way_refused}

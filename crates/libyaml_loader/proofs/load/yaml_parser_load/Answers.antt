@@ -20,7 +20,7 @@ loads : (g : given.Over) (c : After-next_document g)
     c.next_document.new.parser
 loads g c =
     subst (λ (n : ℕ). LoadsFrom g.S.yaml_token_source_t (next_bounded n) left_over c.args.parser.now
-    c.next_document.result c.next_document.new.parser) (c.new-composer.ensures.bound ∙ c.bound_of.ensures)
+    c.next_document.result c.next_document.new.parser) (c.new-composer.ensures.bound ∙ c.bound_of.ensures.value)
     c.next_document.ensures.loads
 
 pub returns-then-has_failed-clause-no_fault : goal.returns-then-has_failed-clause-no_fault

@@ -1,16 +1,16 @@
 use Rattle.std.proofs.Common.{sym, ◌∙◌}
 use Rattle.std.proofs.lemmas.Bool.{true≢false}
-use Rattle.libyaml_loader.proofs.pushes.Steps.{added_ids, refused}
+use Rattle.libyaml_loader.proofs.pushes.Steps.{refused}
 use Rattle.libyaml_loader.proofs.composer.Composer.compose.Goals as goal
 
 pub returns-in-Ok-clause-sound : goal.returns-in-Ok-clause-sound
 returns-in-Ok-clause-sound c =
     let composed = c.in-Ok.ensures.ok in
     record {
-      ids = λ h. added_ids c.args.self.now c.compose.new.self c.args.event.now c.requires.sound c.if-not-self.false
-          composed;
+      stands = λ h. c.in-Ok.ensures.stands;
       fresh = λ none. absurd (true≢false (sym c.if-not-self.false ∙ none));
       bound = composed.bound ∙ c.requires.sound.bound;
+      most = c.requires.sound.most;
     }
 
 pub returns-in-Err-clause-composes : goal.returns-in-Err-clause-composes

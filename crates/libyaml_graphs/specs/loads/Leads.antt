@@ -1,14 +1,13 @@
 -- How a loader goes on by events that it is handed (docs/DEFINITIONS.md, "Documents pushed").
-use Rattle.std.specs.Prelude.{◌≡◌, ◌++◌, ℕ, List, [], ◌∷◌, map, Option, Some, None, Ok, Err, true}
+use Rattle.std.specs.Prelude.{◌≡◌, ◌++◌, ℕ, List, [], ◌∷◌, map, Option, Some, None, Ok, Err}
 use Rattle.libyaml_documents.specs.Documents.{Document}
 use Rattle.libyaml_types.specs.Fault.{Fault}
 use Rattle.libyaml_grammar.specs.sentences.Events.{Event}
 use Rattle.libyaml_grammar.specs.runs.Runs.{Ending}
-use Rattle.libyaml_graphs.specs.graphs.GraphParts.{Closing, Opening, closing_of, opening_of, part_of}
+use Rattle.libyaml_graphs.specs.graphs.GraphParts.{Closing, closing_of, opening_of, part_of}
 use Rattle.libyaml_graphs.specs.loads.Bounds.{bounded_loads}
 use Rattle.libyaml_graphs.specs.loads.Loads.{Load, behind_document, end_of_document}
 use Rattle.libyaml_graphs.specs.machine.Loader.{Loader, State, between, bounded_option, fresh, if_going, load_from, within}
-use Rattle.libyaml_loader.specs.loads.LoadGrowth.{load_may_grow}
 
 -- a load, and after a document that is whole these
 abbrev pub whole_then : Option Closing → Load → List Load → List Load
@@ -45,9 +44,3 @@ pub record Leads (n : ℕ) (old : State) (events : List Event) (documents : List
   pub loads : (rest : List Event) (x : Ending) → loads_from n old (events ++ rest) x ≡ as_loads documents
       ++ loads_from n new rest x
   pub state : new ≡ behind_events n old events
-
--- At this event memory is needed: for a node, an item or a pair of the document that is open; or it ends a
--- document, for which the list of documents has no room.
-pub data NeedsMemoryAt (Full : Type 0) (here : State) (e : Event) : Type 0 where
-  for_node : (o : Opening) (l : Loader) → here ≡ within o l → load_may_grow l (part_of e) ≡ true → NeedsMemoryAt Full here e
-  for_document : (c : Closing) → closing_of e ≡ Some c → Full → NeedsMemoryAt Full here e

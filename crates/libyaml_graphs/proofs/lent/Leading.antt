@@ -14,7 +14,7 @@ use Rattle.libyaml_graphs.specs.machine.Loader.{if_going, load_from, within}
 use Rattle.libyaml_graphs.proofs.lent.BoundedLoader.{one_load}
 use Rattle.libyaml_graphs.proofs.lent.Machine.{nothing_left, opens, within_event}
 use Rattle.libyaml_graphs.proofs.lent.Roots.{left_behind}
-use Rattle.libyaml_loader.specs.pushes.Leads.{Leads, as_loads, behind_event, behind_events, loads_from, whole_then}
+use Rattle.libyaml_graphs.specs.loads.Leads.{Leads, as_loads, behind_event, behind_events, loads_from, whole_then}
 
 -- at the end of the events
 pub from_none : (n : ℕ) (s : State) (x : Ending) → loads_from n s [] x ≡ last_load x ∷ []
