@@ -1,0 +1,113 @@
+/* YAML documents of a parser's events, one at a time: an event goes in, and what is to be done to the document comes out.
+ *
+ * The events, all nodes, all texts and all memory are the caller's. A call takes an event's kind and one number, and returns
+ * which node comes next, and where it goes: as item of a sequence, as key or value of a mapping. No mark and no text is read.
+ * The library allocates nothing and keeps nothing outside of the structs below, so any number of threads may each compose.
+ * Numbers of events are libyaml's (yaml_event_type_t), as those that pokhvizi_step (steps.h) puts.
+ *
+ * Nodes have ids, which count from 1 within a document in the order of the events that begin them; the root has the id 1. An
+ * alias is no node: it has the id of the node with its anchor.
+ *
+ *     pokhvizi_composer_new(&composer, INT32_MAX);                     and the first event
+ *     deed = pokhvizi_compose(&composer, stack, stack_room, kind, fact, &place);
+ *
+ *     POKHVIZI_PASSES           the event is no part of a document
+ *     POKHVIZI_BEGINS           a document begins with this DOCUMENT-START, without nodes and anchors
+ *     POKHVIZI_ENDS             the document ends with this DOCUMENT-END: it is whole
+ *     POKHVIZI_ROOT             put the node `place.node`, if it isn't 0
+ *     POKHVIZI_ITEM             the same, and then `place.child` after the items of the node `place.parent`
+ *     POKHVIZI_KEY              the same, where `place.child` is the key of the next pair of `place.parent`, and waits for
+ *                               its value
+ *     POKHVIZI_VALUE            the same, and then the pair `place.key` and `place.child` after the pairs of `place.parent`
+ *     POKHVIZI_CLOSES           the node `place.parent` ends where this event ends
+ *     POKHVIZI_FULL_STACK       nothing was done: make `stack` larger, call again with the same event
+ *     POKHVIZI_UNDEFINED_ALIAS  nothing was done: stop. No node of the document carries this alias's anchor
+ *     POKHVIZI_REPEATED_ANCHOR  nothing was done: stop. The node `fact` carries this node's anchor, and began first
+ *     POKHVIZI_FULL_LIST        nothing was done: stop. A list of the document has as many entries as it may
+ *     POKHVIZI_BAD_STACK        nothing was done: stop. `composer` counts more than `stack_room`
+ *
+ * To put a node is to append it to the nodes of the document: the event's tag, value and style, and its marks; a collection has
+ * no children yet. Where it has an anchor, that names it from now on, also within itself. As libyaml loads it, a node without a
+ * tag, or with the tag `!`, has tag:yaml.org,2002:str, :seq or :map; an undefined alias is "found undefined alias" where the
+ * alias starts; and a repeated anchor is "second occurrence" where this node starts, with the context "found duplicate anchor;
+ * first occurrence" where the node `fact` starts.
+ *
+ * Facts. `fact` is the one thing that a call has to know of texts: of an ALIAS the id of the node of the document that carries
+ * its anchor, and of a node with an anchor the id of an earlier one that carries it. It is 0 where there is none, and of any
+ * other event it isn't looked at. pokhvizi_carrier finds it in a table; any other way to the same number does as well.
+ *
+ * `stack` has an entry for each collection that is open. What stands in it before the first call doesn't matter; to make it
+ * larger, move its bytes, as by realloc. Each list of a document, its nodes and the items or pairs of each, may have as many
+ * entries as pokhvizi_composer_new said, and never more than 2,147,483,647.
+ *
+ * Any bytes may stand in the structs, and `kind` and `fact` may be any numbers: then the documents are wrong, and nothing else
+ * happens. What the library does is proved. That the caller keeps to this is not: no pointer is null, also where its length
+ * is 0; each array has as many entries as the length after it says; none of them overlap. */
+#ifndef POKHVIZI_COMPOSE_H
+#define POKHVIZI_COMPOSE_H
+#include "version.h"
+
+#ifdef __cplusplus
+extern "C" {
+#endif
+
+/* What composes. It may be copied and moved: nothing points into it. Its fields are the library's. */
+typedef struct {
+    size_t depth;
+    uint32_t nodes, max_entries;
+    uint8_t is_within;
+} pokhvizi_composer_t;
+
+/* A collection that is open. Its fields are the library's. */
+typedef struct {
+    int32_t node, key;
+    uint32_t children, is_mapping;
+} pokhvizi_open_t;
+
+/* Where a node or an alias goes. What a deed has no use for is 0. */
+typedef struct {
+    int32_t node;   /* the id of the node to be put; 0 of an alias */
+    int32_t child;  /* the id that goes to the parent */
+    int32_t parent; /* the id of the collection that it goes to, or that ends */
+    int32_t key;    /* of a value */
+} pokhvizi_place_t;
+
+enum {
+    POKHVIZI_PASSES,
+    POKHVIZI_BEGINS,
+    POKHVIZI_ENDS,
+    POKHVIZI_ROOT,
+    POKHVIZI_ITEM,
+    POKHVIZI_KEY,
+    POKHVIZI_VALUE,
+    POKHVIZI_CLOSES,
+    POKHVIZI_FULL_STACK,
+    POKHVIZI_UNDEFINED_ALIAS,
+    POKHVIZI_REPEATED_ANCHOR,
+    POKHVIZI_FULL_LIST,
+    POKHVIZI_BAD_STACK
+};
+
+/* Begins a stream. Each list of a document may have so many entries. */
+void pokhvizi_composer_new(pokhvizi_composer_t *composer, uint32_t max_entries);
+
+/* Takes an event, as told above. */
+uint32_t pokhvizi_compose(pokhvizi_composer_t *composer, pokhvizi_open_t *stack, size_t stack_room, uint8_t kind, int32_t fact,
+                          pokhvizi_place_t *place);
+
+/* An anchor: `length` bytes of a buffer, from `place` on, and the id of the node that carries it. */
+typedef struct {
+    uint64_t place, length;
+    int32_t node;
+} pokhvizi_anchor_t;
+
+/* The fact of an event with this anchor, where the nodes of the document that have anchors are `anchors`, whose texts are ranges
+ * of `texts`: the first node with it, and else 0. */
+int32_t pokhvizi_carrier(const pokhvizi_anchor_t *anchors, size_t count, const uint8_t *texts, size_t length,
+                         const uint8_t *anchor, size_t anchor_length);
+
+#ifdef __cplusplus
+}
+#endif
+
+#endif

@@ -1,0 +1,4 @@
+pub mod Runs
+pub mod RunLaws
+pub mod Anchors
+pub mod TokenLaws

@@ -1,0 +1,32 @@
+-- What holds of every run.
+use Rattle.std.specs.Prelude.{◌≡◌, ◌∷◌, ◌++◌, ℕ, List, [], Err}
+use Rattle.libyaml_grammar.specs.sentences.Events.{Event}
+use Rattle.libyaml_grammar.specs.runs.Runs.{Ending}
+use Rattle.libyaml_documents.specs.Documents.{Document}
+use Rattle.libyaml_graphs.specs.loads.Bounds.{bounded_loads}
+use Rattle.libyaml_graphs.specs.loads.Loads.{last_load}
+use Rattle.libyaml_graphs.specs.machine.Loader.{between}
+use Rattle.libyaml_composer.specs.declared.composer.composer_t.{composer_t}
+use Rattle.libyaml_composer.specs.declared.deed.Deed.{Deed}
+use Rattle.libyaml_composer.specs.declared.records.open_t.{open_t}
+use Rattle.libyaml_composer.specs.declared.records.place_t.{place_t}
+use Rattle.libyaml_composer.specs.Composing.{composer_of}
+use Rattle.libyaml_composer.specs.Held.{Held, IsRefused, fault_by, state_of}
+use Rattle.libyaml_graphs.specs.loads.Leads.{Leads, as_loads}
+use Rattle.document_steps.specs.Runs.{ComposeCalls, Run}
+
+-- the loader's machine, at the same events, stands where the caller does, and gave the same documents
+abbrev pub RunIsMachine : Type 0
+RunIsMachine = (most : ℕ) (d : composer_t) (ss : List open_t) (h : Held) (es : List Event) (ds : List Document)
+    → Run most d ss h es ds → Leads most between es ds (state_of (composer_of d ss) h)
+
+-- the documents are all loads of the events so far, whatever comes after them
+abbrev pub RunIsLoads : Type 0
+RunIsLoads = (most : ℕ) (d : composer_t) (ss : List open_t) (h : Held) (es : List Event) (ds : List Document)
+    → Run most d ss h es ds → (x : Ending) → bounded_loads most es x ≡ as_loads ds ++ last_load x ∷ []
+
+-- where a call refuses an event, the loads end there with its fault, whatever comes after it
+abbrev pub RunFails : Type 0
+RunFails = (most : ℕ) (d d' : composer_t) (ss ss' : List open_t) (h : Held) (es : List Event) (ds : List Document) (a : Deed)
+    (e : Event) (p p' : place_t) → Run most d ss h es ds → ComposeCalls a d ss h e d' ss' p p' → IsRefused a
+    → (rest : List Event) (x : Ending) → bounded_loads most (es ++ e ∷ rest) x ≡ as_loads ds ++ Err (fault_by a h e) ∷ []

@@ -1,0 +1,66 @@
+//! The calls of `libyaml_composer` and `document_steps` for C. `bindings/c/include/pokhvizi/compose.h` declares
+//! them, and says what a caller does.
+#![tactic(auto)]
+
+ghost use Rattle.std.specs.Prelude.{◌≡◌, ◌≤◌, ◌↔◌, List, [], length, true, false};
+ghost use Rattle.libyaml_composer.specs.declared.deed.Deed.{Deed};
+ghost use Rattle.libyaml_composer.specs.declared.records.open_t.{open_t};
+ghost use Rattle.libyaml_composer.specs.Composing.{composer_of, most_of, step, told};
+ghost use Rattle.libyaml_composer.specs.Numbers.{is_undone_number, kind_of, number};
+ghost use Rattle.document_steps.specs.Anchors.{node_in};
+
+use document_steps::{anchor_t, carrier};
+use libyaml_composer::{composer_t, event_kind, open_t, place_t};
+
+/// Puts what is kept before a stream's first event. Each list of a document may have `max_entries` entries, and
+/// never more than 2,147,483,647.
+#[unsafe(no_mangle)]
+pub extern "C" fn pokhvizi_composer_new(composer: &mut composer_t, max_entries: u32)
+    ensures depth { composer.new.depth ≡ 0 }
+    ensures composer { (entries : List open_t) → composer_of composer.new entries ≡ record {
+      is_within = false;
+      nodes = 0;
+      most = most_of max_entries;
+      room = length entries;
+      stack = [];
+    } }
+{
+    *composer = composer_t::new(max_entries);
+}
+
+/// Takes an event by its kind and fact, as `composer_t::compose` does. Returns 0 where the event is no part of
+/// a document; 1 and 2 where a document begins and ends; 3 to 6 where a node or an alias was put, as a root,
+/// an item, a key or a value; 7 where a collection ends; 8 where the stack has no room, and nothing was done; 9
+/// and 10 where an alias is undefined, and where an anchor comes twice; 11 where a list is full; and 12 where
+/// the record counts more than the stack has room for, and nothing was done.
+#[unsafe(no_mangle)]
+pub extern "C" fn pokhvizi_compose(
+    composer: &mut composer_t,
+    stack: &mut [open_t],
+    kind: u8,
+    fact: i32,
+    place: &mut place_t,
+) -> u32
+    ensures tells { composer.old.depth ≤ length stack.old → (deed : Deed) × (result ≡ number deed)
+        × (told deed place.new (composer_of composer.new stack.new)
+        ≡ step (kind_of kind) fact place.old (composer_of composer.old stack.old)) }
+    ensures numbers { result ≤ 12 }
+    ensures within { composer.old.depth ≤ length stack.old → composer.new.depth ≤ length stack.new }
+    ensures bad { (result ≡ 12) ↔ (composer.old.depth ≤ length stack.old → ⊥) }
+    ensures undone { is_undone_number result ≡ true → (composer.new ≡ composer.old)
+        × ((stack.new ≡ stack.old) × (place.new ≡ place.old)) }
+    ensures bound { composer.new.max_entries ≡ composer.old.max_entries }
+{
+    composer
+        .compose(stack, event_kind(kind), fact, place)
+        .number()
+}
+
+/// Returns the fact of an event that names or carries an anchor, as `document_steps::carrier` does: the id of
+/// the node that the table has for it, and else 0.
+#[unsafe(no_mangle)]
+pub extern "C" fn pokhvizi_carrier(anchors: &[anchor_t], texts: &[u8], anchor: &[u8]) -> i32
+    ensures { result ≡ node_in texts.now anchors.now anchor.now }
+{
+    carrier(anchors, texts, anchor)
+}
