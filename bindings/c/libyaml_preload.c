@@ -4,16 +4,17 @@
  *         bindings/c/libyaml_preload.c DIR/libpokhvizi.a -lyaml
  *     LD_PRELOAD=$PWD/libyaml_preload.so PROGRAM
  *
- * DIR is that of scripts/build_c.sh. Only `yaml_parser_parse` is replaced. libyaml's scanner gives the tokens, its
- * `yaml_event_delete` and `yaml_parser_delete` free all there is, and its `yaml_parser_load` composes documents of these
- * events.
+ * DIR is that of scripts/build_c.sh. `yaml_parser_parse` and `yaml_parser_load` are replaced. libyaml's scanner gives the
+ * tokens, and its `yaml_event_delete`, `yaml_document_delete` and `yaml_parser_delete` free all there is.
  *
  * A call reads no token past those that its event needs, and moves their texts into the event. What is kept between two
  * calls stands in the yaml_parser_t, in the place of what libyaml's own parser keeps there: its states, the marks of open
  * collections, and the tag directives of the document. So a parser may be moved and deleted as with libyaml, at any time,
- * and two parsers share nothing. A failed allocation is the error YAML_MEMORY_ERROR, after which a call gives no event.
+ * and two parsers share nothing. A load composes the next document of the events that it parses, and keeps nothing after it. A
+ * failed allocation is the error YAML_MEMORY_ERROR, after which a call gives no event and no document.
  *
  * What is other than with libyaml stands in docs/DIFFERENCES.md. */
+#include <pokhvizi/compose.h>
 #include <pokhvizi/steps.h>
 #include <assert.h>
 #include <stdlib.h>
@@ -402,15 +403,15 @@ static inline uint32_t step(yaml_parser_t *parser, const yaml_token_t *token, st
                          fact_of(parser, token, held), at, made, fault);
 }
 
-/* Steps to the next event, or to an error. */
-static int next(yaml_parser_t *parser, struct held *held, yaml_event_t *event)
+/* Steps to the next event, whose token is at the head where it was given with it, and held by nobody: POKHVIZI_GAVE or
+ * POKHVIZI_STAYS. 0 where there is an error. */
+static uint32_t advance(yaml_parser_t *parser, struct held *held, pokhvizi_event_t *made)
 {
-    pokhvizi_event_t made;
     pokhvizi_fault_t fault;
     const yaml_token_t *token;
 
     while ((token = peek(parser)) != NULL) {
-        uint32_t did = step(parser, token, held, &made, &fault);
+        uint32_t did = step(parser, token, held, made, &fault);
         switch (did) {
         case POKHVIZI_WANTS:
             if (!hold(parser, token, held))
@@ -419,7 +420,7 @@ static int next(yaml_parser_t *parser, struct held *held, yaml_event_t *event)
             break;
         case POKHVIZI_GAVE:
         case POKHVIZI_STAYS:
-            return give_event(parser, &made, did == POKHVIZI_STAYS, held, event);
+            return did;
         case POKHVIZI_FULL_STATES:
             if (!grow_states(parser, 2 * kept_of(parser)->states_room))
                 return out_of_memory(parser);
@@ -439,23 +440,345 @@ static int next(yaml_parser_t *parser, struct held *held, yaml_event_t *event)
     return 0;
 }
 
+static void forget(struct held *held)
+{
+    if (held->anchor != NULL || held->tag != NULL) {  /* an error, or the tag `!`, which a scalar's event hasn't */
+        free(held->anchor);
+        free(held->tag);
+        held->anchor = held->tag = NULL;
+    }
+}
+
+/* A parse has ended, or has an error. */
+static int has_stopped(const yaml_parser_t *parser)
+{
+    return parser->error != YAML_NO_ERROR || parser->stream_end_produced || parser->state == YAML_PARSE_END_STATE;
+}
+
 /* In the place of libyaml's function of this name. */
 __attribute__((visibility("default"))) int yaml_parser_parse(yaml_parser_t *parser, yaml_event_t *event)
 {
     struct held held = {0};
+    pokhvizi_event_t made;
+    uint32_t did;
     int given;
 
     assert(parser);
     assert(event);
     memset(event, 0, sizeof *event);
-    if (parser->error != YAML_NO_ERROR || parser->stream_end_produced || parser->state == YAML_PARSE_END_STATE)
+    if (has_stopped(parser))
         return 1;
     if (parser->state == YAML_PARSE_STREAM_START_STATE && !begin(parser))
         return out_of_memory(parser);
-    given = next(parser, &held, event);
-    if (held.anchor != NULL || held.tag != NULL) {  /* an error, or the tag `!`, which a scalar's event hasn't */
-        free(held.anchor);
-        free(held.tag);
-    }
+    did = advance(parser, &held, &made);
+    given = did != 0 && give_event(parser, &made, did == POKHVIZI_STAYS, &held, event);
+    forget(&held);
     return given;
+}
+
+/* ---- The loader ---- */
+
+/* What is kept while a document is composed. Its first stack is its own. */
+struct loading {
+    pokhvizi_composer_t composer;
+    pokhvizi_open_t first[24];
+    pokhvizi_open_t *stack;
+    size_t stack_room;
+    pokhvizi_anchor_t *anchors;
+    size_t anchors_count, anchors_room;
+    uint8_t *texts;
+    size_t texts_length, texts_room;
+};
+
+static int grow_stack(struct loading *loading)
+{
+    size_t used = loading->stack_room * sizeof *loading->stack;
+    pokhvizi_open_t *old = loading->stack == loading->first ? NULL : loading->stack, *made = realloc(old, 2 * used);
+
+    if (made == NULL)
+        return 0;
+    if (old == NULL)
+        memcpy(made, loading->first, used);
+    loading->stack = made;
+    loading->stack_room *= 2;
+    return 1;
+}
+
+static int32_t carrier(const struct loading *loading, const yaml_char_t *anchor)
+{
+    if (loading->anchors_count == 0)
+        return 0;
+    return pokhvizi_carrier(loading->anchors, loading->anchors_count, loading->texts, loading->texts_length, anchor,
+                            strlen((const char *)anchor));
+}
+
+/* Makes a node the carrier of its anchor; 0 where memory is refused. */
+static int carry(struct loading *loading, const yaml_char_t *anchor, int32_t node)
+{
+    size_t length = strlen((const char *)anchor), room;
+    pokhvizi_anchor_t *anchors = loading->anchors;
+    uint8_t *texts = loading->texts;
+
+    if (loading->anchors_count == loading->anchors_room) {
+        room = 2 * loading->anchors_room + 8;
+        if ((anchors = realloc(anchors, room * sizeof *anchors)) == NULL)
+            return 0;
+        loading->anchors = anchors;
+        loading->anchors_room = room;
+    }
+    if (length > loading->texts_room - loading->texts_length || texts == NULL) {
+        room = 2 * loading->texts_room + length + 64;
+        if ((texts = realloc(texts, room)) == NULL)
+            return 0;
+        loading->texts = texts;
+        loading->texts_room = room;
+    }
+    memcpy(texts + loading->texts_length, anchor, length);
+    anchors[loading->anchors_count++] = (pokhvizi_anchor_t){loading->texts_length, length, node};
+    loading->texts_length += length;
+    return 1;
+}
+
+/* ---- Documents ---- */
+
+/* Makes room for one entry more of one of libyaml's stacks, which are three pointers; 0 where memory is refused. */
+#define ROOM(stack) ((stack).top < (stack).end || more_room(&(stack).start, &(stack).top, &(stack).end, sizeof *(stack).start))
+
+static int more_room(void *start, void *top, void *end, size_t size)
+{
+    char *from, *to, *made;
+    size_t used, room;
+
+    memcpy(&from, start, sizeof from);
+    memcpy(&to, top, sizeof to);
+    used = to - from;
+    room = used == 0 ? 16 * size : 2 * used;
+    if ((made = realloc(from, room)) == NULL)
+        return 0;
+    to = made + used;
+    memcpy(start, &made, sizeof made);
+    memcpy(top, &to, sizeof to);
+    made += room;
+    memcpy(end, &made, sizeof made);
+    return 1;
+}
+
+static yaml_node_t *node_of(const yaml_document_t *document, int32_t id)
+{
+    return document->nodes.start + id - 1;
+}
+
+/* The tag of a node: a missing one, or `!`, is its kind's. NULL where memory is refused. */
+static yaml_char_t *tag_of(const pokhvizi_event_t *made, struct held *held, const char *by_kind, size_t size)
+{
+    yaml_char_t *tag = held->tag;
+
+    if (made->has_tag && strcmp((const char *)tag, "!") != 0) {
+        held->tag = NULL;
+        return tag;
+    }
+    return (tag = malloc(size)) == NULL ? NULL : memcpy(tag, by_kind, size);
+}
+
+#define TAG_OF(made, held, by_kind) tag_of(made, held, by_kind, sizeof(by_kind))
+
+/* A scalar has the value and style of its token, or is empty where the token isn't its own. */
+static int make_scalar(const pokhvizi_event_t *made, yaml_token_t *token, struct held *held, yaml_node_t *node)
+{
+    node->type = YAML_SCALAR_NODE;
+    if ((node->tag = TAG_OF(made, held, YAML_DEFAULT_SCALAR_TAG)) == NULL)
+        return 0;
+    if (token == NULL) {
+        node->data.scalar.style = YAML_PLAIN_SCALAR_STYLE;
+        node->data.scalar.length = 0;
+        return (node->data.scalar.value = calloc(1, 1)) != NULL;
+    }
+    node->data.scalar.value = token->data.scalar.value;
+    node->data.scalar.length = token->data.scalar.length;
+    node->data.scalar.style = token->data.scalar.style;
+    token->data.scalar.value = NULL;
+    return 1;
+}
+
+/* Makes a node of an event, without children; 0 where memory is refused. */
+static int make_node(const pokhvizi_event_t *made, yaml_token_t *token, struct held *held, yaml_node_t *node)
+{
+    memset(node, 0, offsetof(yaml_node_t, start_mark));
+    memcpy(&node->start_mark, &made->start_mark, sizeof(pokhvizi_span_t));
+    switch (made->kind) {
+    case YAML_SCALAR_EVENT:
+        return make_scalar(made, token, held, node);
+    case YAML_SEQUENCE_START_EVENT:
+        node->type = YAML_SEQUENCE_NODE;
+        node->data.sequence.style = made->is_flow ? YAML_FLOW_SEQUENCE_STYLE : YAML_BLOCK_SEQUENCE_STYLE;
+        return ROOM(node->data.sequence.items) && (node->tag = TAG_OF(made, held, YAML_DEFAULT_SEQUENCE_TAG)) != NULL;
+    default:
+        node->type = YAML_MAPPING_NODE;
+        node->data.mapping.style = made->is_flow ? YAML_FLOW_MAPPING_STYLE : YAML_BLOCK_MAPPING_STYLE;
+        return ROOM(node->data.mapping.pairs) && (node->tag = TAG_OF(made, held, YAML_DEFAULT_MAPPING_TAG)) != NULL;
+    }
+}
+
+/* Puts the node or alias of an event at its place; 0 where memory is refused. */
+static int put(struct loading *loading, uint32_t deed, const pokhvizi_place_t *place, const pokhvizi_event_t *made,
+               yaml_token_t *token, struct held *held, yaml_document_t *document)
+{
+    yaml_node_t *parent;
+
+    if (place->node != 0 &&
+        (!ROOM(document->nodes) || !make_node(made, token, held, document->nodes.top++) ||
+         (made->has_anchor && !carry(loading, held->anchor, place->node))))
+        return 0;
+    if (deed == POKHVIZI_ITEM) {
+        parent = node_of(document, place->parent);
+        if (!ROOM(parent->data.sequence.items))
+            return 0;
+        *parent->data.sequence.items.top++ = place->child;
+    } else if (deed == POKHVIZI_VALUE) {
+        parent = node_of(document, place->parent);
+        if (!ROOM(parent->data.mapping.pairs))
+            return 0;
+        parent->data.mapping.pairs.top->key = place->key;
+        parent->data.mapping.pairs.top++->value = place->child;
+    }
+    return 1;
+}
+
+static int begin_document(const yaml_parser_t *parser, const pokhvizi_event_t *made, const struct held *held,
+                          yaml_document_t *document)
+{
+    yaml_event_t event = {0};
+    int done = document_start(parser, held, &event);
+
+    document->version_directive = event.data.document_start.version_directive;
+    document->tag_directives.start = event.data.document_start.tag_directives.start;
+    document->tag_directives.end = event.data.document_start.tag_directives.end;
+    document->start_implicit = made->implicit;
+    memcpy(&document->start_mark, &made->start_mark, sizeof document->start_mark);
+    return done;
+}
+
+static int give_composer_fault(yaml_parser_t *parser, const pokhvizi_event_t *made, const yaml_document_t *document,
+                               int32_t first)
+{
+    parser->error = YAML_COMPOSER_ERROR;
+    memcpy(&parser->problem_mark, &made->start_mark, sizeof parser->problem_mark);
+    if (made->kind == YAML_ALIAS_EVENT) {
+        parser->problem = "found undefined alias";
+        return 0;
+    }
+    parser->problem = "second occurrence";
+    parser->context = "found duplicate anchor; first occurrence";
+    parser->context_mark = node_of(document, first)->start_mark;
+    return 0;
+}
+
+/* Composes an event, of the token that ends with it where there is one. Returns what was done, and
+ * POKHVIZI_BAD_STACK where there is an error. */
+static uint32_t compose(yaml_parser_t *parser, struct loading *loading, const pokhvizi_event_t *made, yaml_token_t *token,
+                        struct held *held, yaml_document_t *document)
+{
+    const yaml_char_t *anchor = made->has_anchor ? held->anchor :
+                                made->kind == YAML_ALIAS_EVENT ? token->data.alias.value : NULL;
+    int32_t fact = anchor == NULL ? 0 : carrier(loading, anchor);
+    pokhvizi_place_t place;
+    uint32_t deed;
+    int done = 1;
+
+    while ((deed = pokhvizi_compose(&loading->composer, loading->stack, loading->stack_room, made->kind, fact, &place)) ==
+           POKHVIZI_FULL_STACK)
+        if (!grow_stack(loading))
+            break;
+    switch (deed) {
+    case POKHVIZI_PASSES:
+        return deed;
+    case POKHVIZI_BEGINS:
+        done = begin_document(parser, made, held, document);
+        break;
+    case POKHVIZI_ENDS:
+        document->end_implicit = made->implicit;
+        memcpy(&document->end_mark, &made->end_mark, sizeof document->end_mark);
+        break;
+    case POKHVIZI_CLOSES:
+        memcpy(&node_of(document, place.parent)->end_mark, &made->end_mark, sizeof(yaml_mark_t));
+        break;
+    case POKHVIZI_ROOT:
+    case POKHVIZI_ITEM:
+    case POKHVIZI_KEY:
+    case POKHVIZI_VALUE:
+        done = put(loading, deed, &place, made, token, held, document);
+        break;
+    case POKHVIZI_UNDEFINED_ALIAS:
+    case POKHVIZI_REPEATED_ANCHOR:
+        give_composer_fault(parser, made, document, fact);
+        return POKHVIZI_BAD_STACK;
+    default:
+        done = 0;
+    }
+    if (done)
+        return deed;
+    out_of_memory(parser);
+    return POKHVIZI_BAD_STACK;
+}
+
+/* Loads the next document, of which nothing is there yet; 0 where there is an error. At the stream's end there is none. */
+static int load(yaml_parser_t *parser, struct loading *loading, struct held *held, yaml_document_t *document)
+{
+    pokhvizi_event_t made;
+    uint32_t did, deed;
+
+    do {
+        if ((did = advance(parser, held, &made)) == 0)
+            return 0;
+        yaml_token_t *token = did == POKHVIZI_STAYS ? NULL : parser->tokens.head;
+        deed = compose(parser, loading, &made, token, held, document);
+        if (made.kind == YAML_DOCUMENT_END_EVENT)
+            forget_directives(parser);
+        if (made.kind == YAML_STREAM_END_EVENT) {
+            parser->state = YAML_PARSE_END_STATE;
+            parser->stream_end_produced = 1;
+        }
+        if (deed == POKHVIZI_BAD_STACK)
+            return 0;
+        if (token != NULL) {
+            if (token->type == YAML_ALIAS_TOKEN)
+                free(token->data.alias.value);
+            skip(parser);
+        }
+        forget(held);
+        held->has_version = 0;
+    } while (deed != POKHVIZI_ENDS && !parser->stream_end_produced);
+    return 1;
+}
+
+/* In the place of libyaml's function of this name. */
+__attribute__((visibility("default"))) int yaml_parser_load(yaml_parser_t *parser, yaml_document_t *document)
+{
+    struct loading loading;
+    struct held held = {0};
+    int loaded;
+
+    assert(parser);
+    assert(document);
+    memset(document, 0, sizeof *document);
+    pokhvizi_composer_new(&loading.composer, INT32_MAX);
+    loading.stack = loading.first;
+    loading.stack_room = sizeof loading.first / sizeof *loading.first;
+    loading.anchors = NULL;
+    loading.texts = NULL;
+    loading.anchors_count = loading.anchors_room = loading.texts_length = loading.texts_room = 0;
+    if (!ROOM(document->nodes) || (parser->state == YAML_PARSE_STREAM_START_STATE && !begin(parser)))
+        loaded = out_of_memory(parser);
+    else if (has_stopped(parser))
+        loaded = parser->error == YAML_NO_ERROR;
+    else
+        loaded = load(parser, &loading, &held, document);
+    forget(&held);
+    if (!loaded)
+        yaml_document_delete(document);
+    if (loading.stack != loading.first)
+        free(loading.stack);
+    free(loading.anchors);
+    free(loading.texts);
+    return loaded;
 }
