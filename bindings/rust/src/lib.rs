@@ -12,28 +12,24 @@
 //! with the original and says no more than a warning.
 //!
 //! [`yaml_parser_parse`], [`yaml_parser_load`] and [`yaml_parser_delete`] are replaced. A parse takes as many tokens of the
-//! scanner as its event needs, and moves their texts; a load reads the stream to its end, and makes all its documents. What a
+//! scanner as its event needs, a load as many as its document needs, and their texts are moved. What a
 //! parser needs here is kept by the `yaml_parser_t` itself, in `problem_offset` while there is no error: so it may be moved and
 //! deleted as before, at any time, and two parsers share nothing.
 //!
 //! What is other than in the original, beside what DIFFERENCES.md of the repository says of libyaml's:
 //!
-//! - The first load reads the stream to its end: memory is that of all tokens and documents.
 //! - A failed allocation of the library is the fault `YAML_MEMORY_ERROR`; one of Rust's ends the process, as there.
-//! - Of a load, a tag, an anchor, an alias or a tag directive that isn't UTF-8 is the scanner's fault `text is not UTF-8`, with
-//!   the mark of its token.
 //! - A load within a document that is being parsed is the parser's fault `load within a document`.
 //! - A load after a fault fails again with that fault.
 
 #![allow(non_camel_case_types, clippy::missing_safety_doc)]
 
+mod composer;
 mod documents;
 mod events;
 mod fault;
-mod records;
 mod run;
 mod steps;
-mod texts;
 mod tokens;
 
 use std::ops::Deref;

@@ -1,0 +1,142 @@
+//! The composer of `pokhvizi/compose.h`: an event in, and what is to be done to the document out.
+
+use crate::fault::Fault;
+use std::collections::HashMap;
+
+/// What is kept between two events: plain numbers, which nobody reads here.
+#[repr(C)]
+struct Record([u64; 3]);
+
+/// A collection that is open, which nobody reads here.
+#[derive(Clone, Copy)]
+#[repr(C)]
+struct Open([u32; 4]);
+
+/// Where a node or an alias goes.
+#[derive(Clone, Copy, Default)]
+#[repr(C)]
+pub struct Place {
+    pub node: i32,
+    pub child: i32,
+    pub parent: i32,
+    pub key: i32,
+}
+
+extern "C" {
+    fn pokhvizi_composer_new(composer: *mut Record, max_entries: u32);
+
+    fn pokhvizi_compose(
+        composer: *mut Record,
+        stack: *mut Open,
+        stack_room: usize,
+        kind: u8,
+        fact: i32,
+        place: *mut Place,
+    ) -> u32;
+}
+
+/// What is to be done to the document.
+#[derive(Clone, Copy, PartialEq)]
+pub enum Deed {
+    /// Nothing.
+    Passes,
+    /// It begins.
+    Begins,
+    /// It is whole.
+    Ends,
+    /// A node or an alias has its place, if it is in a collection.
+    Puts(Child),
+    /// A collection ends.
+    Closes,
+}
+
+/// What a node or an alias is to its parent.
+#[derive(Clone, Copy, PartialEq)]
+pub enum Child {
+    Root,
+    Item,
+    Key,
+    Value,
+}
+
+/// Why an event can't be composed.
+pub enum Refusal {
+    /// No node carries the anchor of this alias.
+    UndefinedAlias,
+    /// This node carries the anchor of another.
+    RepeatedAnchor(i32),
+    /// No memory, or too many nodes.
+    Fault(Fault),
+}
+
+/// The open collections of a document, and its anchors.
+pub struct Composer {
+    record: Record,
+    stack: Vec<Open>,
+    anchors: HashMap<Vec<u8>, i32>,
+}
+
+impl Composer {
+    const ROOM: usize = 16;
+
+    pub fn new() -> Composer {
+        let mut record = Record([0; 3]);
+        // SAFETY: the record is the caller's.
+        unsafe { pokhvizi_composer_new(&mut record, i32::MAX as u32) };
+        Composer {
+            record,
+            stack: vec![Open([0; 4]); Composer::ROOM],
+            anchors: HashMap::new(),
+        }
+    }
+
+    /// Takes an event by its kind and its anchor, and writes where its node or alias goes.
+    #[inline]
+    pub fn compose(&mut self, kind: u8, anchor: Option<&[u8]>, place: &mut Place) -> Result<Deed, Refusal> {
+        let fact = anchor.and_then(|anchor| self.anchors.get(anchor)).copied().unwrap_or(0);
+        loop {
+            // SAFETY: the pointers are to as many entries as are said.
+            let deed = unsafe {
+                pokhvizi_compose(
+                    &mut self.record,
+                    self.stack.as_mut_ptr(),
+                    self.stack.len(),
+                    kind,
+                    fact,
+                    place,
+                )
+            };
+            return match deed {
+                0 => Ok(Deed::Passes),
+                1 => Ok(Deed::Begins),
+                2 => Ok(Deed::Ends),
+                3 => Ok(Deed::Puts(Child::Root)),
+                4 => Ok(Deed::Puts(Child::Item)),
+                5 => Ok(Deed::Puts(Child::Key)),
+                6 => Ok(Deed::Puts(Child::Value)),
+                7 => Ok(Deed::Closes),
+                8 => {
+                    self.grow()?;
+                    continue;
+                }
+                9 => Err(Refusal::UndefinedAlias),
+                10 => Err(Refusal::RepeatedAnchor(fact)),
+                _ => Err(Refusal::Fault(Fault::memory())),
+            };
+        }
+    }
+
+    /// Makes a node the carrier of its anchor.
+    pub fn carry(&mut self, anchor: &[u8], node: i32) {
+        self.anchors.insert(anchor.to_vec(), node);
+    }
+
+    #[cold]
+    fn grow(&mut self) -> Result<(), Refusal> {
+        let room = self.stack.len();
+        let grown = self.stack.try_reserve_exact(room);
+        grown.map_err(|_| Refusal::Fault(Fault::memory()))?;
+        self.stack.resize(2 * room, Open([0; 4]));
+        Ok(())
+    }
+}
