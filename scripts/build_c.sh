@@ -3,8 +3,8 @@
 #
 #     sh scripts/build_c.sh DIR [ci] [aarch64]
 #
-#     libpokhvizi.a        one object a header of bindings/c/include/pokhvizi: steps.o, documents.o and lines.o, each with the
-#                          toolchain's allocator where it allocates, whose only global names are those of its header
+#     libpokhvizi.a        one object a header of bindings/c/include/pokhvizi: steps.o, compose.o and lines.o, whose only global
+#                          names are those of its header; lines.o has the toolchain's allocator
 #     libpokhvizi.so       the same as a shared library, libpokhvizi.so.N: N rises when a struct or a function changes
 #     NAME_module.o        the objects that the prover's compiler wrote, of which NAME.o is made
 #     yaml                 examples/yaml.c over libpokhvizi.a; CFLAGS are taken from the environment
@@ -97,20 +97,22 @@ aarch64)
     ;;
 esac
 build_door steps token_steps_c '' $(names_of steps)
-build_door documents records_c "$allocator" $(names_of documents)
+build_door compose document_steps_c '' $(names_of compose)
 build_door lines token_lines_c "$allocator" $(names_of lines)
-if "${tools}nm" -u "$dir/steps.o" | grep -v -w -E 'U (memcmp|memcpy|memmove|memset)' | grep .; then
-    echo "the steps need more than memory in place" >&2
-    exit 1
-fi
+for door in steps compose; do
+    if "${tools}nm" -u "$dir/$door.o" | grep -v -w -E 'U (memcmp|memcpy|memmove|memset)' | grep .; then
+        echo "$door.o needs more than memory in place" >&2
+        exit 1
+    fi
+done
 
 cd "$dir"
 rm -f libpokhvizi.a libpokhvizi.so*
-"${tools}ar" rcsD libpokhvizi.a steps.o documents.o lines.o
-names=$(cd "$top" && for door in steps documents lines; do names_of $door; done | sort)
+"${tools}ar" rcsD libpokhvizi.a steps.o compose.o lines.o
+names=$(cd "$top" && for door in steps compose lines; do names_of $door; done | sort)
 { echo "POKHVIZI_$abi {"; echo "global:"; printf '%s;\n' $names; echo "local: *; };"; } > pokhvizi.map
 "$cc" -shared -nostartfiles -Wl,-soname,"libpokhvizi.so.$abi" -Wl,--version-script,pokhvizi.map -Wl,-z,relro,-z,now,-z,noexecstack \
-    -Wl,--gc-sections -Wl,--build-id=sha1 -Wl,-z,defs -o "libpokhvizi.so.$abi" steps.o documents.o lines.o
+    -Wl,--gc-sections -Wl,--build-id=sha1 -Wl,-z,defs -o "libpokhvizi.so.$abi" steps.o compose.o lines.o
 "${tools}strip" --strip-unneeded "libpokhvizi.so.$abi"
 ln -s "libpokhvizi.so.$abi" libpokhvizi.so
 shared=$("${tools}nm" -D --defined-only libpokhvizi.so | awk 'NF == 3 && $2 == "T" { sub(/@.*/, "", $3); print $3 }' | sort)

@@ -112,7 +112,7 @@ check faults_of_yaml.c PyYAML "$yaml" -- python3 scripts/compare_faults.py "$yam
 check fronts PyYAML $yamltokens "$yaml" -- python3 scripts/compare_fronts.py "$yaml"
 check python PyYAML timeout truncate $yamltokens "$yaml" -- sh scripts/doors/python_checks.sh $yamltokens "$libraries/libpokhvizi.so"
 check lines cc c++ readelf valgrind yaml.h "$yaml" -- sh scripts/doors/lines_checks.sh "$libraries"
-check documents cc c++ python3 readelf valgrind yaml.h "$libraries/libpokhvizi.a" -- sh scripts/doors/documents_checks.sh "$libraries"
+check compose cc c++ python3 readelf valgrind yaml.h "$libraries/libpokhvizi.a" -- sh scripts/doors/compose_checks.sh "$libraries"
 check steps cc c++ python3 readelf valgrind yaml.h "$libraries/libpokhvizi.a" -- sh scripts/doors/steps_checks.sh "$libraries"
 check release cc c++ make pkg-config readelf python3 yaml.h "$libraries/libpokhvizi.a" -- sh scripts/release_checks.sh "$libraries" $all
 check any_processor qemu-x86_64 cc yaml.h "$libraries/libpokhvizi.a" -- sh scripts/doors/any_processor.sh "$libraries"

@@ -1,5 +1,5 @@
 #!/bin/sh
-# Writes into DIR the LLVM modules that the prover's compiler makes of the libraries for C, as steps.ll, documents.ll and lines.ll,
+# Writes into DIR the LLVM modules that the prover's compiler makes of the libraries for C, as steps.ll, compose.ll and lines.ll,
 # and beside them the objects that its clang makes of these, as NAME_module.o:
 #
 #     sh scripts/llvm_source.sh DIR
@@ -51,5 +51,5 @@ module() {
 }
 
 module steps token_steps_c
-module documents records_c
+module compose document_steps_c
 module lines token_lines_c

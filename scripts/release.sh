@@ -75,9 +75,9 @@ proof_note() {
     rt version
     echo
     echo "SHA-256 of the objects that the prover's compiler wrote, before they were linked with its allocator ($1):"
-    (cd "$(folder_of "$1")" && sha256sum steps_module.o documents_module.o lines_module.o)
+    (cd "$(folder_of "$1")" && sha256sum steps_module.o compose_module.o lines_module.o)
     echo
-    echo "The prover's last lines for each of them, steps, documents and lines:"
+    echo "The prover's last lines for each of them, steps, compose and lines:"
     grep -E '^(fn|axioms|logic[ =])' "$(folder_of "$1")/rt_lib.log" | sed "s#/[^ ]*/rattle/logic/#rattle/logic/#"
 }
 
@@ -112,7 +112,7 @@ c_archive() {
     sed "s/@GLIBC@/$glibc/" bindings/c/README.md > "$tree/README.md"
     cp LICENSE "$work/NOTICES" CHANGELOG.md docs/PROVED.md docs/DEFINITIONS.md docs/DIFFERENCES.md docs/HEADLINE.md "$tree/share/doc/pokhvizi"
     cp "$tree/README.md" "$tree/share/doc/pokhvizi"
-    cp examples/events.c examples/documents.c examples/yaml.c examples/list.yaml "$tree/share/doc/pokhvizi/examples"
+    cp examples/events.c examples/compose.c examples/yaml.c examples/list.yaml "$tree/share/doc/pokhvizi/examples"
     proof_note "$machine" > "$tree/share/doc/pokhvizi/PROOF"
     pack "$tree" "$out/pokhvizi-$version-$machine-linux.tar.gz"
 }

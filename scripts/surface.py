@@ -22,8 +22,8 @@ IMPL = re.compile(r"impl(<.*?>)? (?:(.+?) for )?(\w+)")
 USE = re.compile(r"pub use ([\w:]+?)(?:::\{([^}]*)\}| as (\w+))?;")
 LAWS = re.compile(r"(?:laws|rows)::")
 NAMED = (
-    "unsafe_libyaml", "token_lines", "token_lines_c", "yaml_path", "token_steps", "token_steps_c", "records",
-    "records_c",
+    "unsafe_libyaml", "token_lines", "token_lines_c", "yaml_path", "token_steps", "token_steps_c",
+    "document_steps", "document_steps_c",
 )
 INNER = re.compile(r"putting::")  # a module for the crates above alone
 EXAMPLES = {"example_source", "example_list", "example_theorems", "rows_common"}

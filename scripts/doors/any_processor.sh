@@ -36,8 +36,8 @@ $cc -O2 -mssse3 -static -o "$work/later" "$work/later.c" || exit 2
 set -- examples/*.yaml scripts/broken/*.yaml scripts/whole/*.yaml
 $cc -O2 -static -Ibindings/c/include -o "$work/steps" scripts/doors/steps_driver.c "$dir/libpokhvizi.a" -lyaml || exit 2
 check "libpokhvizi.a, steps" "$work/steps" "$@"
-$cc -O2 -static -Ibindings/c/include -o "$work/documents" scripts/doors/documents_driver.c "$dir/libpokhvizi.a" -lyaml || exit 2
-check "libpokhvizi.a, documents" "$work/documents" "$@"
+$cc -O2 -static -Ibindings/c/include -o "$work/compose" scripts/doors/compose_driver.c "$dir/libpokhvizi.a" -lyaml -lpthread || exit 2
+check "libpokhvizi.a, documents" "$work/compose" "$@"
 $cc -O2 -static -Ibindings/c/include -o "$work/yaml" examples/yaml.c "$dir/libpokhvizi.a" -lyaml || exit 2
 for mode in events nodes; do
     check "libpokhvizi.a, lines of $mode" "$work/yaml" $mode examples/compose.yaml

@@ -13,11 +13,10 @@ from pathlib import Path
 CRATES = Path(__file__).resolve().parents[2] / "crates"
 # the header, the files that have its structs, and the structs' names in C where they are others
 HEADERS = (
-    ("pokhvizi/documents.h", ("records/src/records.rt",),
-     {"mark_record_t": "pokhvizi_mark_t", "range_record_t": "pokhvizi_range_t", "token_record_t": "pokhvizi_token_t",
-      "directive_record_t": "pokhvizi_directive_t", "fault_record_t": "pokhvizi_documents_fault_t",
-      "document_record_t": "pokhvizi_document_t", "node_record_t": "pokhvizi_node_t", "pair_record_t": "pokhvizi_pair_t",
-      "document_counts_t": "pokhvizi_document_counts_t", "documents_run_t": "pokhvizi_documents_t"},
+    ("pokhvizi/compose.h",
+     ("libyaml_composer/src/composer.rt", "libyaml_composer/src/records.rt", "document_steps/src/anchors.rt"),
+     {"composer_t": "pokhvizi_composer_t", "open_t": "pokhvizi_open_t", "place_t": "pokhvizi_place_t",
+      "anchor_t": "pokhvizi_anchor_t"},
      ()),
     ("pokhvizi/steps.h",
      ("libyaml_types/src/mark.rt", "libyaml_automaton/src/machine.rt", "libyaml_automaton/src/reading.rt",

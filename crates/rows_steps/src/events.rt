@@ -1,0 +1,351 @@
+//! The events of token records, by steps.
+
+use crate::tokens::{ABSENT, Tokens, mark_record_t, range_record_t, token_record_t};
+use anyhow::{Context, Result, bail};
+use libyaml_types::{
+    ZERO_MARK, yaml_alias_event_initialize, yaml_document_end_event_initialize,
+    yaml_document_start_event_initialize, yaml_encoding_t, yaml_event_t,
+    yaml_mapping_end_event_initialize, yaml_mapping_start_event_initialize, yaml_mapping_style_t,
+    yaml_mark_t, yaml_scalar_event_initialize, yaml_scalar_style_t,
+    yaml_sequence_end_event_initialize, yaml_sequence_start_event_initialize,
+    yaml_sequence_style_t, yaml_stream_end_event_initialize, yaml_stream_start_event_initialize,
+    yaml_version_directive_t,
+};
+use line_writing::write_event;
+use std::alloc::Global;
+use token_steps::{
+    Did, directive_fact, handle_t, step_event_t, step_fault_t, step_span_t, steps_t, tag, text_t,
+    token_kind, version_fact,
+};
+
+/// A token takes fewer steps than this.
+const STEPS: usize = 16;
+
+const NO_EVENT: step_event_t = step_event_t {
+    kind: 0,
+    has_anchor: 0,
+    has_tag: 0,
+    implicit: 0,
+    quoted_implicit: 0,
+    is_flow: 0,
+    start_mark: ZERO_MARK,
+    end_mark: ZERO_MARK,
+};
+
+const NO_FAULT: step_fault_t = step_fault_t {
+    problem: 0,
+    context_mark: ZERO_MARK,
+    problem_mark: ZERO_MARK,
+};
+
+/// A parser over the steps. Its stacks have no room at first, and take one entry more where they are full.
+#[derive(Drop)]
+struct Parser {
+    steps: steps_t,
+    states: Vec<u8>,
+    marks: Vec<yaml_mark_t>,
+    /// The tag directives of the document.
+    handles: Vec<handle_t>,
+    /// The anchor, the tag in full and the version since the last event.
+    anchor: range_record_t,
+    tag: Vec<u8>,
+    version: Option<yaml_version_directive_t>,
+}
+
+/// Writes the lines of the events of these tokens.
+pub fn print_events(rt: &HostRuntime, tokens: &Tokens) -> Result<()> {
+    let mut parser = Parser::new(rt.alloc());
+    for token in tokens.records.iter() {
+        parser.take(rt, token, tokens.texts.as_slice())?;
+    }
+    Ok(())
+}
+
+impl Parser {
+    fn new(alloc: Global) -> Self {
+        Parser {
+            steps: steps_t::new(),
+            states: Vec::new(alloc),
+            marks: Vec::new(alloc),
+            handles: Vec::new(alloc),
+            anchor: NO_TEXT,
+            tag: Vec::new(alloc),
+            version: None,
+        }
+    }
+
+    /// Takes a token, and writes the lines of the events that it settles.
+    fn take(&mut self, rt: &HostRuntime, token: &token_record_t, texts: &[u8]) -> Result<()> {
+        for _ in 0..STEPS {
+            if self.step(rt, token, texts)? {
+                return Ok(());
+            }
+        }
+        bail!("a token is never taken")
+    }
+
+    /// Steps once; returns whether the token was taken.
+    fn step(&mut self, rt: &HostRuntime, token: &token_record_t, texts: &[u8]) -> Result<bool> {
+        let mut event = NO_EVENT;
+        let mut fault = NO_FAULT;
+        let fact = self.fact(rt.alloc(), token, texts)?;
+        let at = step_span_t {
+            start_mark: mark_of(&token.start_mark),
+            end_mark: mark_of(&token.end_mark),
+        };
+        let did = self.steps.step(
+            self.states.as_mut_slice(),
+            self.marks.as_mut_slice(),
+            token_kind(byte_of(token.kind)),
+            fact,
+            &at,
+            &mut event,
+            &mut fault,
+        );
+        match did {
+            Did::Wants => self.hold(token)?,
+            Did::Gave => self.write(rt, &event, Some(*token), texts)?,
+            Did::Stays => self.write(rt, &event, None, texts)?,
+            Did::FullStates => self.states.push(0)?,
+            Did::FullMarks => self.marks.push(ZERO_MARK)?,
+            Did::Failed => bail!("the tokens have a fault"),
+            Did::Bad => bail!("the stacks are too small"),
+        }
+        Ok(match did {
+            Did::Wants | Did::Gave => true,
+            _ => false,
+        })
+    }
+
+    /// Returns the fact of a token, and makes a tag in full.
+    fn fact(&mut self, alloc: Global, token: &token_record_t, texts: &[u8]) -> Result<u8> {
+        match token.kind {
+            3 => Ok(version_fact(token.major, token.minor)),
+            4 => Ok(directive_fact(
+                self.handles.as_slice(),
+                texts,
+                slice_of(texts, &token.first)?,
+            )),
+            20 => self.tag_fact(
+                alloc,
+                slice_of(texts, &token.first)?,
+                slice_of(texts, &token.second)?,
+                texts,
+            ),
+            21 if token.style == 1 => Ok(1),
+            _ => Ok(0),
+        }
+    }
+
+    fn tag_fact(
+        &mut self,
+        alloc: Global,
+        handle: &[u8],
+        suffix: &[u8],
+        texts: &[u8],
+    ) -> Result<u8> {
+        let mut size = 0usize;
+        let fact = tag(
+            self.handles.as_slice(),
+            texts,
+            handle,
+            suffix,
+            &mut [],
+            &mut size,
+        );
+        if size != usize::MAX {
+            let mut whole = vec![in alloc; 0u8; size]?;
+            tag(
+                self.handles.as_slice(),
+                texts,
+                handle,
+                suffix,
+                whole.as_mut_slice(),
+                &mut size,
+            );
+            self.tag = whole;
+        }
+        Ok(fact)
+    }
+
+    /// Holds what a token has for a later event.
+    fn hold(&mut self, token: &token_record_t) -> Result<()> {
+        match token.kind {
+            3 => {
+                self.version = Some(yaml_version_directive_t {
+                    major: token.major,
+                    minor: token.minor,
+                });
+            }
+            4 => {
+                self.handles.push(handle_t {
+                    handle: text_of(&token.first),
+                    prefix: text_of(&token.second),
+                })?;
+            }
+            19 => self.anchor = token.first,
+            _ => {}
+        }
+        Ok(())
+    }
+
+    /// Writes the line of an event, of the token that ends with it if there is one.
+    fn write(
+        &mut self,
+        rt: &HostRuntime,
+        event: &step_event_t,
+        token: Option<token_record_t>,
+        texts: &[u8],
+    ) -> Result<()> {
+        let mut made = self.unmarked(rt.alloc(), event, &token.unwrap_or_default(), texts)?;
+        made.start_mark = event.start_mark;
+        made.end_mark = event.end_mark;
+        write_event(rt.alloc(), &made, &mut rt.stdout())?;
+        self.anchor = NO_TEXT;
+        self.version = None;
+        if event.kind == 4 {
+            self.handles = Vec::new(rt.alloc());
+        }
+        Ok(())
+    }
+
+    /// Returns the event without its marks. A scalar without a token is empty and plain.
+    fn unmarked(
+        &self,
+        alloc: Global,
+        event: &step_event_t,
+        token: &token_record_t,
+        texts: &[u8],
+    ) -> Result<yaml_event_t> {
+        let implicit = event.implicit == 1;
+        let anchor = option_of(texts, &self.anchor)?;
+        let whole = self.tag.as_slice();
+        let tag = if event.has_tag == 1 {
+            Some(whole)
+        } else {
+            None
+        };
+        match event.kind {
+            1 => Ok(yaml_stream_start_event_initialize(encoding_of(token.style))),
+            2 => Ok(yaml_stream_end_event_initialize()),
+            3 => self.document_start(alloc, implicit, texts),
+            4 => Ok(yaml_document_end_event_initialize(implicit)),
+            5 => Ok(yaml_alias_event_initialize(alloc, slice_of(texts, &token.first)?)?),
+            6 => {
+                let quoted = event.quoted_implicit == 1;
+                let value = slice_of(texts, &token.first)?;
+                let style = scalar_style_of(token);
+                Ok(yaml_scalar_event_initialize(
+                    alloc, anchor, tag, value, implicit, quoted, style,
+                )?)
+            }
+            7 => {
+                let style = sequence_style_of(event);
+                Ok(yaml_sequence_start_event_initialize(alloc, anchor, tag, implicit, style)?)
+            }
+            8 => Ok(yaml_sequence_end_event_initialize()),
+            9 => {
+                let style = mapping_style_of(event);
+                Ok(yaml_mapping_start_event_initialize(alloc, anchor, tag, implicit, style)?)
+            }
+            _ => Ok(yaml_mapping_end_event_initialize()),
+        }
+    }
+
+    fn document_start(&self, alloc: Global, implicit: bool, texts: &[u8]) -> Result<yaml_event_t> {
+        let mut pairs = Vec::new(alloc);
+        for made in self.handles.iter() {
+            let handle = slice_of(texts, &range_of(&made.handle))?;
+            let prefix = slice_of(texts, &range_of(&made.prefix))?;
+            pairs.push((handle, prefix))?;
+        }
+        Ok(yaml_document_start_event_initialize(alloc, self.version, pairs.as_slice(), implicit)?)
+    }
+}
+
+/// The range of a text that isn't there.
+const NO_TEXT: range_record_t = range_record_t {
+    place: ABSENT,
+    length: 0,
+};
+
+/// Returns the number of a token's kind, and 255 for any number that is none.
+fn byte_of(kind: u32) -> u8 {
+    if kind < 255 { kind as u8 } else { 255 }
+}
+
+fn mark_of(record: &mark_record_t) -> yaml_mark_t {
+    yaml_mark_t {
+        index: record.index,
+        line: record.line,
+        column: record.column,
+    }
+}
+
+fn text_of(range: &range_record_t) -> text_t {
+    text_t {
+        place: range.place as u64,
+        length: range.length as u64,
+    }
+}
+
+fn range_of(text: &text_t) -> range_record_t {
+    range_record_t {
+        place: text.place as usize,
+        length: text.length as usize,
+    }
+}
+
+/// Returns the entries of a range.
+fn slice_of<'a, T>(list: &'a [T], range: &range_record_t) -> Result<&'a [T]> {
+    let end = range.place.saturating_add(range.length);
+    Ok(
+        list.get(range.place..end)
+            .context("a range outside the buffer")?,
+    )
+}
+
+/// Returns the text of a range, where there is one.
+fn option_of<'a>(texts: &'a [u8], range: &range_record_t) -> Result<Option<&'a [u8]>> {
+    if range.place == ABSENT {
+        return Ok(None);
+    }
+    let text = slice_of(texts, range)?;
+    Ok(Some(text))
+}
+
+fn encoding_of(number: u32) -> yaml_encoding_t {
+    match number {
+        1 => yaml_encoding_t::YAML_UTF8_ENCODING,
+        2 => yaml_encoding_t::YAML_UTF16LE_ENCODING,
+        3 => yaml_encoding_t::YAML_UTF16BE_ENCODING,
+        _ => yaml_encoding_t::YAML_ANY_ENCODING,
+    }
+}
+
+fn scalar_style_of(token: &token_record_t) -> yaml_scalar_style_t {
+    match token.style {
+        0 | 1 => yaml_scalar_style_t::YAML_PLAIN_SCALAR_STYLE,
+        2 => yaml_scalar_style_t::YAML_SINGLE_QUOTED_SCALAR_STYLE,
+        3 => yaml_scalar_style_t::YAML_DOUBLE_QUOTED_SCALAR_STYLE,
+        4 => yaml_scalar_style_t::YAML_LITERAL_SCALAR_STYLE,
+        5 => yaml_scalar_style_t::YAML_FOLDED_SCALAR_STYLE,
+        _ => yaml_scalar_style_t::YAML_ANY_SCALAR_STYLE,
+    }
+}
+
+fn sequence_style_of(event: &step_event_t) -> yaml_sequence_style_t {
+    if event.is_flow == 1 {
+        yaml_sequence_style_t::YAML_FLOW_SEQUENCE_STYLE
+    } else {
+        yaml_sequence_style_t::YAML_BLOCK_SEQUENCE_STYLE
+    }
+}
+
+fn mapping_style_of(event: &step_event_t) -> yaml_mapping_style_t {
+    if event.is_flow == 1 {
+        yaml_mapping_style_t::YAML_FLOW_MAPPING_STYLE
+    } else {
+        yaml_mapping_style_t::YAML_BLOCK_MAPPING_STYLE
+    }
+}
