@@ -1,6 +1,8 @@
-/* The tokens, the events or the nodes of a YAML file, as lines: libyaml's scanner (Debian: libyaml-dev), and then our
- * static library. `scripts/build_c.sh DIR` builds it; USAGE below says how it is called. */
-#include <pokhvizi/lines.h>
+/* The tokens, the events or the nodes of a YAML file, as lines: libyaml's scanner (Debian: libyaml-dev), and then steps of our
+ * static library: a token in, an event out; an event in, and where its node goes. `scripts/build_c.sh DIR` builds it; USAGE
+ * below says how it is called. */
+#include <pokhvizi/compose.h>
+#include <pokhvizi/steps.h>
 #include <errno.h>
 #include <signal.h>
 #include <stdio.h>
@@ -13,13 +15,10 @@ static const char USAGE[] =
     "Writes the lines of a YAML file's tokens, events, or documents and nodes; FILE may be -, for standard input.\n"
     "A fault of the YAML is the last of the events or nodes: FAULT, who found it, its mark and its words, and maybe a\n"
     "line CONTEXT. Marks are index:line:column, counted in characters from 0. A fault is told on standard error too.\n"
-    "A token's line has at most 1,048,576 bytes; beyond it the run ends with `line too long`, no fault of the YAML.\n"
     "Exit status: 0 the file was read to its end, 1 it has a fault, 2 wrong words, 3 the file can't be read, the\n"
-    "output can't be written, there is no memory, or a line is too long.\n";
+    "output can't be written, or there is no memory.\n";
 
 enum { ENDED = 0, FAULTED = 1, WRONG_WORDS = 2, FAILED = 3 };
-
-typedef uint32_t run_t(const uint8_t *, size_t, uint8_t *, size_t, uint64_t, size_t *, size_t *);
 
 /* Bytes that grow. Once `failed` is set, memory was refused, and they are not to be used. */
 struct text {
@@ -68,6 +67,13 @@ static void put(struct text *text, const void *bytes, size_t length)
 static void put_words(struct text *text, const char *words)
 {
     put(text, words, strlen(words));
+}
+
+/* More room for a stack of entries of this size. */
+static void widen(struct text *stack, size_t size)
+{
+    stack->length = stack->room;
+    reserve(stack, size);
 }
 
 static void put_mark(struct text *text, yaml_mark_t mark)
@@ -208,82 +214,491 @@ static yaml_mark_t mark_at(const struct text *yaml, yaml_encoding_t encoding, si
     return mark;
 }
 
-static void put_scanner_fault(struct text *text, const yaml_parser_t *parser, const struct text *yaml)
+/* A line of a fault: who found it, its mark and its words, and maybe a line of its context. */
+static void put_fault(struct text *text, const char *finder, yaml_mark_t mark, const char *problem, yaml_mark_t context_mark,
+                      const char *context)
 {
-    int reader = parser->error == YAML_READER_ERROR;
-
-    put_words(text, reader ? "FAULT reader" : "FAULT scanner");
-    put_mark(text, reader ? mark_at(yaml, parser->encoding, parser->problem_offset) : parser->problem_mark);
+    put_words(text, finder);
+    put_mark(text, mark);
     put_words(text, " ");
-    put_words(text, parser->problem != NULL ? parser->problem : "-");
+    put_words(text, problem != NULL ? problem : "-");
     put_words(text, "\n");
-    if (parser->context != NULL) {
+    if (context != NULL) {
         put_words(text, "CONTEXT");
-        put_mark(text, parser->context_mark);
+        put_mark(text, context_mark);
         put_words(text, " ");
-        put_words(text, parser->context);
+        put_words(text, context);
         put_words(text, "\n");
     }
 }
 
-/* What the scanner made of a text: token lines, how many, and the fault's text, which is empty where it has none. */
-struct scan {
-    struct text tokens, fault;
-    size_t count;
+static void put_scanner_fault(struct text *text, const yaml_parser_t *parser, const struct text *yaml)
+{
+    int reader = parser->error == YAML_READER_ERROR;
+
+    put_fault(text, reader ? "FAULT reader" : "FAULT scanner",
+              reader ? mark_at(yaml, parser->encoding, parser->problem_offset) : parser->problem_mark, parser->problem,
+              parser->context_mark, parser->context);
+}
+
+/* ---- A run: events by steps of tokens, documents by steps of events ---- */
+
+/* A text of the document: a range of `texts`. */
+struct range {
+    size_t place, length;
 };
 
-/* Scans a text; 0 where memory was refused. */
-static int scan(const struct text *yaml, struct scan *made)
+struct node {
+    uint8_t kind, is_flow;
+    int style;
+    yaml_mark_t start, end;
+    struct range tag, value;
+    struct text children; /* ids */
+};
+
+struct run {
+    int wants_nodes;
+    struct text out;
+    pokhvizi_steps_t steps;
+    pokhvizi_composer_t composer;
+    struct text states, marks, stack;
+    struct text handles, handle_texts;  /* of the document */
+    struct text anchor, tag;            /* since the last event; the tag in full */
+    char version[32];                   /* of the next document; "-" where it has none */
+    struct text nodes, anchors, texts;  /* of the document */
+    struct text start;                  /* the rest of its line */
+    pokhvizi_event_t opening;
+};
+
+#define ENTRIES(type, text) ((type *)(void *)(text).bytes)
+#define COUNT(type, text) ((text).length / sizeof(type))
+#define ROOM(type, text) ((text).room / sizeof(type))
+
+static yaml_mark_t mark_of(pokhvizi_mark_t mark)
+{
+    yaml_mark_t made = {mark.index, mark.line, mark.column};
+    return made;
+}
+
+static void put_flag(struct text *text, int flag)
+{
+    put_words(text, flag ? " 1" : " 0");
+}
+
+static void put_number(struct text *text, const char *before, size_t number)
+{
+    char digits[32];
+
+    snprintf(digits, sizeof digits, "%s%zu", before, number);
+    put_words(text, digits);
+}
+
+/* ---- What the steps have to know of texts ---- */
+
+static uint8_t tag_fact(struct run *run, const yaml_char_t *handle, const yaml_char_t *suffix)
+{
+    size_t suffix_length = strlen((const char *)suffix), size = 0;
+
+    run->tag.length = 0;
+    if (!reserve(&run->tag, run->handle_texts.length + suffix_length + 32)) /* no default prefix has more */
+        return 0;
+    uint8_t fact = pokhvizi_tag(ENTRIES(pokhvizi_handle_t, run->handles), COUNT(pokhvizi_handle_t, run->handles),
+                                run->handle_texts.bytes, run->handle_texts.length, handle, strlen((const char *)handle), suffix,
+                                suffix_length, run->tag.bytes, run->tag.room, &size);
+    run->tag.length = fact < 4 ? size : 0;
+    return fact;
+}
+
+static uint8_t fact_of(struct run *run, const yaml_token_t *token)
+{
+    const yaml_char_t *handle;
+
+    switch (token->type) {
+    case YAML_SCALAR_TOKEN:
+        return token->data.scalar.style == YAML_PLAIN_SCALAR_STYLE;
+    case YAML_VERSION_DIRECTIVE_TOKEN:
+        return pokhvizi_version_fact(token->data.version_directive.major, token->data.version_directive.minor);
+    case YAML_TAG_DIRECTIVE_TOKEN:
+        handle = token->data.tag_directive.handle;
+        return pokhvizi_directive_fact(ENTRIES(pokhvizi_handle_t, run->handles), COUNT(pokhvizi_handle_t, run->handles),
+                                       run->handle_texts.bytes, run->handle_texts.length, handle, strlen((const char *)handle));
+    case YAML_TAG_TOKEN:
+        return tag_fact(run, token->data.tag.handle, token->data.tag.suffix);
+    default:
+        return 0;
+    }
+}
+
+static pokhvizi_text_t kept(struct text *texts, const yaml_char_t *text)
+{
+    pokhvizi_text_t range = {texts->length, strlen((const char *)text)};
+
+    put(texts, text, range.length);
+    return range;
+}
+
+/* Keeps the texts of a token that was taken without an event. */
+static void keep(struct run *run, const yaml_token_t *token)
+{
+    pokhvizi_handle_t handle;
+
+    switch (token->type) {
+    case YAML_ANCHOR_TOKEN:
+        run->anchor.length = 0;
+        put_words(&run->anchor, (const char *)token->data.anchor.value);
+        break;
+    case YAML_VERSION_DIRECTIVE_TOKEN:
+        snprintf(run->version, sizeof run->version, "%d.%d", token->data.version_directive.major,
+                 token->data.version_directive.minor);
+        break;
+    case YAML_TAG_DIRECTIVE_TOKEN:
+        handle.handle = kept(&run->handle_texts, token->data.tag_directive.handle);
+        handle.prefix = kept(&run->handle_texts, token->data.tag_directive.prefix);
+        put(&run->handles, &handle, sizeof handle);
+        break;
+    default:
+        break;
+    }
+}
+
+/* The version and the tag directives of the document that begins. */
+static void put_directives(struct run *run, struct text *text)
+{
+    const pokhvizi_handle_t *handles = ENTRIES(pokhvizi_handle_t, run->handles);
+    size_t count = COUNT(pokhvizi_handle_t, run->handles);
+
+    put_words(text, " ");
+    put_words(text, run->version);
+    put_number(text, " ", count);
+    for (size_t i = 0; i < count && !run->handle_texts.failed; i++) {
+        put_bytes(text, run->handle_texts.bytes + handles[i].handle.place, handles[i].handle.length);
+        put_bytes(text, run->handle_texts.bytes + handles[i].prefix.place, handles[i].prefix.length);
+    }
+    strcpy(run->version, "-");
+}
+
+/* ---- Event lines ---- */
+
+static const char *const EVENTS[] = {
+    "NO-EVENT", "STREAM-START", "STREAM-END", "DOCUMENT-START", "DOCUMENT-END", "ALIAS", "SCALAR", "SEQUENCE-START",
+    "SEQUENCE-END", "MAPPING-START", "MAPPING-END",
+};
+
+static void put_property(struct text *text, int has, const struct text *property)
+{
+    if (has)
+        put_bytes(text, property->bytes, property->length);
+    else
+        put_words(text, " -");
+}
+
+/* The line of an event. A scalar whose token stays is an empty one. */
+static void put_event(struct run *run, const pokhvizi_event_t *event, const yaml_token_t *token, int stays)
+{
+    struct text *out = &run->out;
+
+    put_words(out, EVENTS[event->kind]);
+    put_mark(out, mark_of(event->start_mark));
+    put_mark(out, mark_of(event->end_mark));
+    if (event->kind == YAML_SCALAR_EVENT || event->kind == YAML_SEQUENCE_START_EVENT || event->kind == YAML_MAPPING_START_EVENT) {
+        put_property(out, event->has_anchor, &run->anchor);
+        put_property(out, event->has_tag, &run->tag);
+    }
+    switch (event->kind) {
+    case YAML_STREAM_START_EVENT:
+        put_words(out, ENCODINGS[token->data.stream_start.encoding]);
+        break;
+    case YAML_DOCUMENT_START_EVENT:
+        put_flag(out, event->implicit);
+        put_directives(run, out);
+        break;
+    case YAML_DOCUMENT_END_EVENT:
+        put_flag(out, event->implicit);
+        break;
+    case YAML_ALIAS_EVENT:
+        put_string(out, token->data.alias.value);
+        break;
+    case YAML_SCALAR_EVENT:
+        put_bytes(out, stays ? (const yaml_char_t *)"" : token->data.scalar.value, stays ? 0 : token->data.scalar.length);
+        put_flag(out, event->implicit);
+        put_flag(out, event->quoted_implicit);
+        put_words(out, STYLES[stays ? YAML_PLAIN_SCALAR_STYLE : token->data.scalar.style]);
+        break;
+    case YAML_SEQUENCE_START_EVENT:
+    case YAML_MAPPING_START_EVENT:
+        put_flag(out, event->implicit);
+        put_words(out, event->is_flow ? " flow" : " block");
+        break;
+    default:
+        break;
+    }
+    put_words(out, "\n");
+}
+
+/* ---- Documents ---- */
+
+static struct range put_text(struct run *run, const void *text, size_t length)
+{
+    struct range range = {run->texts.length, length};
+
+    put(&run->texts, text, length);
+    return range;
+}
+
+/* A node's tag, which is its kind's where none is given, or `!`. */
+static struct range put_tag(struct run *run, const pokhvizi_event_t *event)
+{
+    const char *kind = event->kind == YAML_SCALAR_EVENT ? YAML_STR_TAG
+                       : event->kind == YAML_SEQUENCE_START_EVENT ? YAML_SEQ_TAG : YAML_MAP_TAG;
+
+    if (!event->has_tag || (run->tag.length == 1 && run->tag.bytes[0] == '!'))
+        return put_text(run, kind, strlen(kind));
+    return put_text(run, run->tag.bytes, run->tag.length);
+}
+
+static void put_node(struct run *run, const pokhvizi_event_t *event, const yaml_token_t *token, int stays, int32_t id)
+{
+    struct node node = {.kind = event->kind, .is_flow = event->is_flow, .style = YAML_PLAIN_SCALAR_STYLE};
+
+    node.start = mark_of(event->start_mark);
+    node.end = mark_of(event->end_mark);
+    node.tag = put_tag(run, event);
+    if (event->kind == YAML_SCALAR_EVENT && !stays) {
+        node.style = token->data.scalar.style;
+        node.value = put_text(run, token->data.scalar.value, token->data.scalar.length);
+    }
+    put(&run->nodes, &node, sizeof node);
+    if (event->has_anchor) {
+        struct range anchor = put_text(run, run->anchor.bytes, run->anchor.length);
+        pokhvizi_anchor_t entry = {anchor.place, anchor.length, id};
+        put(&run->anchors, &entry, sizeof entry);
+    }
+}
+
+static void put_child(struct node *parent, int32_t child)
+{
+    put(&parent->children, &child, sizeof child);
+}
+
+/* Leaves nothing of a document. */
+static void forget(struct run *run)
+{
+    for (size_t i = 0; i < COUNT(struct node, run->nodes); i++)
+        free(ENTRIES(struct node, run->nodes)[i].children.bytes);
+    run->nodes.length = run->anchors.length = run->texts.length = run->start.length = 0;
+}
+
+static void put_node_line(struct run *run, const struct node *node, size_t id)
+{
+    struct text *out = &run->out;
+    const int32_t *children = ENTRIES(int32_t, node->children);
+    size_t count = COUNT(int32_t, node->children);
+    int is_mapping = node->kind == YAML_MAPPING_START_EVENT;
+
+    put_number(out, "", id);
+    put_words(out, node->kind == YAML_SCALAR_EVENT ? " SCALAR" : is_mapping ? " MAPPING" : " SEQUENCE");
+    put_mark(out, node->start);
+    put_mark(out, node->end);
+    put_bytes(out, run->texts.bytes + node->tag.place, node->tag.length);
+    if (node->kind == YAML_SCALAR_EVENT) {
+        put_bytes(out, run->texts.bytes + node->value.place, node->value.length);
+        put_words(out, STYLES[node->style]);
+    } else {
+        put_words(out, node->is_flow ? " flow" : " block");
+        put_number(out, " ", is_mapping ? count / 2 : count);
+        for (size_t i = 0; i < count; i++)
+            put_number(out, is_mapping && i % 2 == 1 ? ":" : " ", (size_t)children[i]);
+    }
+    put_words(out, "\n");
+    out->failed |= node->children.failed;
+}
+
+static void put_document(struct run *run, const pokhvizi_event_t *end)
+{
+    struct text *out = &run->out;
+
+    put_words(out, "DOCUMENT");
+    put_mark(out, mark_of(run->opening.start_mark));
+    put_mark(out, mark_of(end->end_mark));
+    put_flag(out, run->opening.implicit);
+    put_flag(out, end->implicit);
+    put(out, run->start.bytes, run->start.length);
+    put_words(out, "\n");
+    for (size_t i = 0; i < COUNT(struct node, run->nodes); i++)
+        put_node_line(run, &ENTRIES(struct node, run->nodes)[i], i + 1);
+    forget(run);
+}
+
+static int composer_fault(struct run *run, const pokhvizi_event_t *event, uint32_t deed, int32_t fact)
+{
+    if (deed == POKHVIZI_UNDEFINED_ALIAS)
+        put_fault(&run->out, "FAULT composer", mark_of(event->start_mark), "found undefined alias", mark_of(event->start_mark), NULL);
+    else if (deed == POKHVIZI_REPEATED_ANCHOR)
+        put_fault(&run->out, "FAULT composer", mark_of(event->start_mark), "second occurrence",
+                  ENTRIES(struct node, run->nodes)[fact - 1].start, "found duplicate anchor; first occurrence");
+    else
+        return FAILED;
+    return FAULTED;
+}
+
+/* The id of the node that carries an event's anchor. */
+static int32_t carrier_of(struct run *run, const pokhvizi_event_t *event, const yaml_token_t *token)
+{
+    const uint8_t *anchor = run->anchor.bytes;
+    size_t length = run->anchor.length;
+
+    if (event->kind == YAML_ALIAS_EVENT) {
+        anchor = token->data.alias.value;
+        length = strlen((const char *)anchor);
+    } else if (!event->has_anchor || event->kind < YAML_SCALAR_EVENT || event->kind == YAML_SEQUENCE_END_EVENT ||
+               event->kind == YAML_MAPPING_END_EVENT) {
+        return 0;
+    }
+    return pokhvizi_carrier(ENTRIES(pokhvizi_anchor_t, run->anchors), COUNT(pokhvizi_anchor_t, run->anchors), run->texts.bytes,
+                            run->texts.length, anchor, length);
+}
+
+/* Composes an event, and puts the lines of the document that ends with it. */
+static int compose(struct run *run, const pokhvizi_event_t *event, const yaml_token_t *token, int stays)
+{
+    int32_t fact = carrier_of(run, event, token);
+    pokhvizi_place_t place;
+    uint32_t deed;
+
+    while ((deed = pokhvizi_compose(&run->composer, ENTRIES(pokhvizi_open_t, run->stack), ROOM(pokhvizi_open_t, run->stack),
+                                    event->kind, fact, &place)) == POKHVIZI_FULL_STACK) {
+        widen(&run->stack, sizeof(pokhvizi_open_t));
+        if (run->stack.failed)
+            return FAILED;
+    }
+    if (deed > POKHVIZI_FULL_STACK)
+        return composer_fault(run, event, deed, fact);
+    if (deed == POKHVIZI_BEGINS) {
+        run->opening = *event;
+        put_directives(run, &run->start);
+    }
+    if (deed == POKHVIZI_ENDS)
+        put_document(run, event);
+    if (deed >= POKHVIZI_ROOT && deed <= POKHVIZI_VALUE && place.node != 0)
+        put_node(run, event, token, stays, place.node);
+    if (run->nodes.failed || run->anchors.failed || run->texts.failed || run->start.failed)
+        return FAILED;
+    struct node *parent = ENTRIES(struct node, run->nodes) + (place.parent - 1);
+    if (deed == POKHVIZI_VALUE)
+        put_child(parent, place.key);
+    if (deed == POKHVIZI_VALUE || deed == POKHVIZI_ITEM)
+        put_child(parent, place.child);
+    if (deed == POKHVIZI_CLOSES)
+        parent->end = mark_of(event->end_mark);
+    return ENDED;
+}
+
+/* Takes an event: its line, or its part of the document. */
+static int take(struct run *run, const pokhvizi_event_t *event, const yaml_token_t *token, int stays)
+{
+    int status = ENDED;
+
+    if (run->wants_nodes)
+        status = compose(run, event, token, stays);
+    else
+        put_event(run, event, token, stays);
+    if (event->kind == YAML_DOCUMENT_END_EVENT)
+        run->handles.length = run->handle_texts.length = 0;
+    return status;
+}
+
+/* Takes a token, with all events that it gives. */
+static int take_token(struct run *run, const yaml_token_t *token)
+{
+    pokhvizi_event_t event;
+    pokhvizi_fault_t fault;
+    const char *context;
+    int status = ENDED;
+
+    for (;;) {
+        uint8_t fact = fact_of(run, token);
+        if (run->states.failed || run->marks.failed || run->tag.failed || status != ENDED)
+            return status != ENDED ? status : FAILED;
+        switch (pokhvizi_step(&run->steps, run->states.bytes, run->states.room, ENTRIES(pokhvizi_mark_t, run->marks),
+                              ROOM(pokhvizi_mark_t, run->marks), (uint8_t)token->type, fact,
+                              (const pokhvizi_span_t *)(const void *)&token->start_mark, &event, &fault)) {
+        case POKHVIZI_WANTS:
+            keep(run, token);
+            return run->anchor.failed || run->handles.failed || run->handle_texts.failed ? FAILED : ENDED;
+        case POKHVIZI_GAVE:
+            return take(run, &event, token, 0);
+        case POKHVIZI_STAYS:
+            status = take(run, &event, token, 1);
+            break;
+        case POKHVIZI_FULL_STATES:
+            widen(&run->states, 1);
+            break;
+        case POKHVIZI_FULL_MARKS:
+            widen(&run->marks, sizeof(pokhvizi_mark_t));
+            break;
+        default:
+            pokhvizi_problem(fault.problem, &context);
+            put_fault(&run->out, "FAULT parser", mark_of(fault.problem_mark), pokhvizi_problem(fault.problem, &context),
+                      mark_of(fault.context_mark), context);
+            return FAULTED;
+        }
+    }
+}
+
+/* Room for a first entry in each buffer that is handed to the library: none of them may be null. */
+static int begin(struct run *run, int wants_nodes)
+{
+    struct text *all[] = {&run->out, &run->states, &run->marks, &run->stack, &run->handles, &run->handle_texts, &run->anchor,
+                          &run->tag, &run->nodes, &run->anchors, &run->texts, &run->start};
+    int is_there = 1;
+
+    run->wants_nodes = wants_nodes;
+    strcpy(run->version, "-");
+    pokhvizi_steps_new(&run->steps);
+    pokhvizi_composer_new(&run->composer, INT32_MAX);
+    for (size_t i = 0; i < sizeof all / sizeof *all; i++)
+        is_there = is_there && reserve(all[i], 64);
+    return is_there;
+}
+
+static void end(struct run *run)
+{
+    struct text *all[] = {&run->out, &run->states, &run->marks, &run->stack, &run->handles, &run->handle_texts, &run->anchor,
+                          &run->tag, &run->nodes, &run->anchors, &run->texts, &run->start};
+
+    forget(run);
+    for (size_t i = 0; i < sizeof all / sizeof *all; i++)
+        free(all[i]->bytes);
+}
+
+/* Scans a text: the lines of its tokens, or what a run makes of them. The scanner's fault goes to `fault`. */
+static int scan(const struct text *yaml, struct run *run, int wants_tokens, struct text *fault)
 {
     yaml_parser_t parser;
     yaml_token_t token;
-    int more = 1;
+    int status = ENDED, more = 1;
 
     if (!yaml_parser_initialize(&parser))
-        return 0;
+        return FAILED;
     yaml_parser_set_input_string(&parser, yaml->bytes, yaml->length);
-    while (more && yaml_parser_scan(&parser, &token)) {
-        put_token(&made->tokens, &token);
-        made->count++;
-        more = token.type != YAML_STREAM_END_TOKEN && !made->tokens.failed;
+    while (status == ENDED && more && yaml_parser_scan(&parser, &token)) {
+        more = token.type != YAML_STREAM_END_TOKEN;
+        if (wants_tokens)
+            put_token(&run->out, &token);
+        else
+            status = take_token(run, &token);
         yaml_token_delete(&token);
+        if (run->out.failed)
+            status = FAILED;
     }
-    int refused = parser.error == YAML_MEMORY_ERROR;
-    if (!refused && parser.error != YAML_NO_ERROR)
-        put_scanner_fault(&made->fault, &parser, yaml);
+    if (parser.error == YAML_MEMORY_ERROR)
+        status = FAILED;
+    if (status == ENDED && parser.error != YAML_NO_ERROR) {
+        put_scanner_fault(fault, &parser, yaml);
+        status = fault->failed ? FAILED : FAULTED;
+    }
     yaml_parser_delete(&parser);
-    return !refused && !made->tokens.failed && !made->fault.failed && reserve(&made->tokens, 1);
-}
-
-/* ---- Runs ---- */
-
-/* Runs over token lines until all bytes of the run had room, and says how the last run ended. */
-static uint32_t run_whole(run_t *run, const struct text *tokens, struct text *out)
-{
-    size_t wanted = 4096;
-
-    do {
-        out->length = 0;
-        if (!reserve(out, wanted))
-            return POKHVIZI_LINES_NO_MEMORY;
-        uint32_t outcome = run(tokens->bytes, tokens->length, out->bytes, out->room, UINT64_MAX, &out->length, &wanted);
-        if (out->length == wanted)
-            return outcome;
-    } while (1);
-}
-
-/* Puts the scanner's fault in the place of `no more tokens`, where that is the last line. */
-static void tell_fault(struct text *out, const struct scan *made)
-{
-    char line[120];
-    int length = snprintf(line, sizeof line, "FAULT reader %zu:%zu:0 no more tokens\n", made->count, made->count);
-
-    if (made->fault.length == 0 || out->length < (size_t)length)
-        return;
-    if (memcmp(out->bytes + out->length - length, line, length) == 0) {
-        out->length -= length;
-        put(out, made->fault.bytes, made->fault.length);
-    }
+    return status;
 }
 
 /* Writes bytes to standard output, and all of them, or says why not. */
@@ -306,7 +721,7 @@ static size_t line_before(const struct text *text, size_t at)
 }
 
 /* Says on standard error the fault that a text ends with, which has room for a byte more, and returns the status. A line
- * of a context may follow it. A token line that is too long is no fault of the YAML: its mark counts tokens. */
+ * of a context may follow it. */
 static int say_fault(const char *name, struct text *text)
 {
     size_t start = line_before(text, text->length), line, column;
@@ -317,33 +732,8 @@ static int say_fault(const char *name, struct text *text)
         start = line_before(text, start);
     if (sscanf((const char *)text->bytes + start, "FAULT %15s %*u:%zu:%zu %255[^\n]", finder, &line, &column, problem) != 4)
         return FAULTED;
-    if (strcmp(finder, "reader") == 0 && strcmp(problem, "line too long") == 0) {
-        fprintf(stderr, "yaml: %s: line too long, after %zu token%s: a limit of this program, no fault of the YAML\n",
-                name, line, line == 1 ? "" : "s");
-        return FAILED;
-    }
     fprintf(stderr, "yaml: %s: line %zu, column %zu: %s (%s)\n", name, line + 1, column + 1, problem, finder);
     return FAULTED;
-}
-
-/* Makes the lines of a text, and writes them where memory was found for all. Among tokens no fault stands. */
-static int write_lines(run_t *run, const char *name, struct scan *made, struct text *out)
-{
-    struct text *lines = &made->tokens, *fault = &made->fault;
-    int outcome = made->fault.length == 0 ? ENDED : FAULTED;
-
-    if (run != NULL) {
-        uint32_t ended = run_whole(run, &made->tokens, out);
-        if (ended == POKHVIZI_LINES_NO_MEMORY)
-            return out_of_memory();
-        tell_fault(out, made);
-        outcome = ended == POKHVIZI_LINES_ENDED ? ENDED : FAULTED;
-        lines = fault = out;
-    }
-    if (out->failed || (outcome != ENDED && !reserve(fault, 1)))
-        return out_of_memory();
-    int written = write_out(lines);
-    return written != ENDED || outcome == ENDED ? written : say_fault(name, fault);
 }
 
 /* Reads a whole file. */
@@ -371,18 +761,26 @@ static int read_text(const char *name, struct text *yaml)
     return status;
 }
 
-static int show(run_t *run, const char *name)
+/* Writes the lines of a file where memory was found for all. Among tokens no fault stands. */
+static int show(const char *mode, const char *name)
 {
-    struct text yaml = {0}, out = {0};
-    struct scan made = {0};
-    int status = read_text(name, &yaml);
+    int wants_tokens = strcmp(mode, "tokens") == 0;
+    struct text yaml = {0}, fault = {0};
+    struct run run = {0};
+    struct text *told = wants_tokens ? &fault : &run.out;
+    int status = read_text(name, &yaml), is_read = status == ENDED;
 
-    if (status == ENDED)
-        status = scan(&yaml, &made) ? write_lines(run, name, &made, &out) : out_of_memory();
+    if (is_read)
+        status = begin(&run, strcmp(mode, "nodes") == 0) ? scan(&yaml, &run, wants_tokens, told) : FAILED;
+    if (is_read && (status == FAILED || (status == FAULTED && !reserve(told, 1)))) {
+        status = out_of_memory();
+    } else if (is_read) {
+        int written = write_out(&run.out);
+        status = written != ENDED || status == ENDED ? written : say_fault(name, told);
+    }
     free(yaml.bytes);
-    free(made.tokens.bytes);
-    free(made.fault.bytes);
-    free(out.bytes);
+    free(fault.bytes);
+    end(&run);
     return status;
 }
 
@@ -391,12 +789,8 @@ int main(int count, char **words)
 #ifdef SIGPIPE
     signal(SIGPIPE, SIG_IGN);
 #endif
-    if (count == 3 && strcmp(words[1], "tokens") == 0)
-        return show(NULL, words[2]);
-    if (count == 3 && strcmp(words[1], "events") == 0)
-        return show(pokhvizi_event_lines, words[2]);
-    if (count == 3 && strcmp(words[1], "nodes") == 0)
-        return show(pokhvizi_node_lines, words[2]);
+    if (count == 3 && (strcmp(words[1], "tokens") == 0 || strcmp(words[1], "events") == 0 || strcmp(words[1], "nodes") == 0))
+        return show(words[1], words[2]);
     fputs(USAGE, stderr);
     return WRONG_WORDS;
 }

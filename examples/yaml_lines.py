@@ -1,10 +1,10 @@
 #!/usr/bin/env python3
-"""YAML text to lines of tokens, events or nodes: by PyYAML's scanner, and then `yamltokens` or its library."""
+"""YAML text to lines of tokens, events or nodes: by PyYAML's scanner, and then `yamltokens`."""
 import sys
 
 USAGE = """\
 usage: yaml_lines.py tokens FILE
-       yaml_lines.py events|nodes FILE [--program PATH | --library PATH]
+       yaml_lines.py events|nodes FILE [--program PATH]
 
 Reads a YAML text through PyYAML's scanner (Debian: python3-yaml), libyaml's where PyYAML has its C part.
 FILE - is standard input.
@@ -16,7 +16,6 @@ FILE - is standard input.
 Events and nodes are made by the program yamltokens, and are at most those of 1,000,000 tokens:
 
   --program PATH   where it is; without it, crates/yamltokens/out/yamltokens or else the first in the path
-  --library PATH   the runs as a shared library in its place, with no limit of tokens
 
 A line of a token is 1,048,576 bytes at most, where each byte of a text that is no visible ASCII counts as three. Where
 the YAML is beyond a limit, that is no fault of the YAML: the last line says `line too long` or `too many tokens`, and
@@ -35,7 +34,6 @@ if sys.version_info < (3, 8):
     sys.stderr.write("yaml_lines.py: needs Python 3.8 or later, and this is %d.%d\n" % sys.version_info[:2])
     sys.exit(3)
 
-import ctypes
 import itertools
 import os
 import re
@@ -50,8 +48,6 @@ TOKENS_AT_ONCE = 2048
 BYTES_AT_ONCE = 1 << 16
 LONGEST_FAULT = 4096
 HOW_TO_BUILD = "(cd crates/yamltokens && rt run -- events) < examples/list.tokens"
-NO_MEMORY = 2
-NO_LIMIT = (1 << 64) - 1
 
 
 class WrongWords(Exception):
@@ -236,50 +232,6 @@ class Program:
         self.process.wait()
 
 
-class Library:
-    """A run of the shared library, over all tokens at once."""
-
-    FUNCTIONS = {"events": "pokhvizi_event_lines", "nodes": "pokhvizi_node_lines"}
-
-    def __init__(self, mode, path):
-        try:
-            self.function = getattr(ctypes.CDLL(path), self.FUNCTIONS[mode])
-        except (OSError, AttributeError) as error:
-            raise Failure("cannot use %s: %s" % (path, error))
-        size = ctypes.POINTER(ctypes.c_size_t)
-        self.function.argtypes = [ctypes.c_char_p, ctypes.c_size_t, ctypes.c_void_p, ctypes.c_size_t, ctypes.c_uint64,
-                                  size, size]
-        self.function.restype = ctypes.c_uint32
-        self.pieces = []
-
-    def give(self, lines):
-        self.pieces.append(lines)
-        return True
-
-    def end(self, scanners):
-        """Runs, with as much room as the run before wanted; returns the fault that stands."""
-        tokens = b"".join(self.pieces)
-        room = 2 * len(tokens) + LONGEST_FAULT
-        written, wanted = ctypes.c_size_t(), ctypes.c_size_t(room)
-        while True:
-            out = bytearray(room)
-            lent = (ctypes.c_char * room).from_buffer(out)
-            outcome = self.function(tokens, len(tokens), lent, room, NO_LIMIT, ctypes.byref(written),
-                                    ctypes.byref(wanted))
-            if outcome == NO_MEMORY or wanted.value <= room:
-                break
-            room = wanted.value
-        output = Output()
-        output.write(memoryview(out)[: written.value])
-        fault = output.end(scanners)
-        if outcome == NO_MEMORY:
-            raise MemoryError
-        return fault
-
-    def close(self):
-        pass
-
-
 UNSAFE = re.compile("[^!-$&-~]").search
 INVISIBLE = re.compile("[^!-~]+")
 
@@ -422,7 +374,7 @@ def read_words(words):
     """Returns the mode, the file's name, and what makes the run."""
     options, names, words = {}, [], iter(words)
     for word in words:
-        if word in ("--program", "--library"):
+        if word == "--program":
             options[word] = next(words, None)
         elif word[0:1] == "-" != word:
             raise WrongWords
@@ -435,8 +387,6 @@ def read_words(words):
         if options:
             raise WrongWords
         return names[1], Tokens
-    if "--library" in options:
-        return names[1], lambda: Library(names[0], options["--library"])
     return names[1], lambda: Program(names[0], options.get("--program"))
 
 
@@ -471,7 +421,7 @@ def told(words):
     try:
         status, message = main(words)
     except WrongWords:
-        status, message = 2, "usage: yaml_lines.py tokens|events|nodes FILE [--program PATH | --library PATH]; or --help"
+        status, message = 2, "usage: yaml_lines.py tokens|events|nodes FILE [--program PATH]; or --help"
     except Failure as failure:
         status, message = 3, failure
     except MemoryError:

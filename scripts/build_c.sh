@@ -3,8 +3,8 @@
 #
 #     sh scripts/build_c.sh DIR [ci] [aarch64]
 #
-#     libpokhvizi.a        one object a header of bindings/c/include/pokhvizi: steps.o, compose.o and lines.o, whose only global
-#                          names are those of its header; lines.o has the toolchain's allocator
+#     libpokhvizi.a        one object a header of bindings/c/include/pokhvizi: steps.o and compose.o, whose only global names are
+#                          those of its header; neither allocates
 #     libpokhvizi.so       the same as a shared library, libpokhvizi.so.N: N rises when a struct or a function changes
 #     NAME_module.o        the objects that the prover's compiler wrote, of which NAME.o is made
 #     yaml                 examples/yaml.c over libpokhvizi.a; CFLAGS are taken from the environment
@@ -59,10 +59,10 @@ build_over_kept() {
         --toolchain "$kit/toolchain" --backend llvm -o "$archive"
 }
 
-# Makes NAME.o of a crate, and of an allocator, if any: its only global names are these.
+# Makes NAME.o of a crate: its only global names are these.
 build_door() {
-    door=$1 crate=$2 beside=$3
-    shift 3
+    door=$1 crate=$2
+    shift 2
     wanted=$(printf '%s\n' "$@" | sort)
     archive=$dir/lib$crate.a
     echo "building $door of crates/$crate; what it says goes to $dir/rt_lib.log"
@@ -74,7 +74,7 @@ build_door() {
     fi
     (cd "$dir" && "${tools}ar" x "$archive" && mv "$crate.o" "${door}_module.o")
     rm -f "$archive"
-    "${tools}ld" -r -o "$dir/$door.o" "$dir/${door}_module.o" $beside
+    "${tools}ld" -r -o "$dir/$door.o" "$dir/${door}_module.o"
     for name in $wanted; do
         set -- "$@" "--keep-global-symbol=$name"
         shift
@@ -89,16 +89,8 @@ names_of() {
     sed -n 's/^[a-z].*\b\(pokhvizi_[a-z_]*\)(.*/\1/p' "bindings/c/include/pokhvizi/$1.h" | grep -v -x pokhvizi_problem | sort -u
 }
 
-case $machine in
-x86_64) allocator="--whole-archive $kit/c/liblibc_c.a" ;;
-aarch64)
-    "$cc" -O2 -fPIC -Wall -Wextra -c -o "$dir/heap.o" bindings/llvm/heap.c
-    allocator=$dir/heap.o
-    ;;
-esac
-build_door steps token_steps_c '' $(names_of steps)
-build_door compose document_steps_c '' $(names_of compose)
-build_door lines token_lines_c "$allocator" $(names_of lines)
+build_door steps token_steps_c $(names_of steps)
+build_door compose document_steps_c $(names_of compose)
 for door in steps compose; do
     if "${tools}nm" -u "$dir/$door.o" | grep -v -w -E 'U (memcmp|memcpy|memmove|memset)' | grep .; then
         echo "$door.o needs more than memory in place" >&2
@@ -108,11 +100,11 @@ done
 
 cd "$dir"
 rm -f libpokhvizi.a libpokhvizi.so*
-"${tools}ar" rcsD libpokhvizi.a steps.o compose.o lines.o
-names=$(cd "$top" && for door in steps compose lines; do names_of $door; done | sort)
+"${tools}ar" rcsD libpokhvizi.a steps.o compose.o
+names=$(cd "$top" && for door in steps compose; do names_of $door; done | sort)
 { echo "POKHVIZI_$abi {"; echo "global:"; printf '%s;\n' $names; echo "local: *; };"; } > pokhvizi.map
 "$cc" -shared -nostartfiles -Wl,-soname,"libpokhvizi.so.$abi" -Wl,--version-script,pokhvizi.map -Wl,-z,relro,-z,now,-z,noexecstack \
-    -Wl,--gc-sections -Wl,--build-id=sha1 -Wl,-z,defs -o "libpokhvizi.so.$abi" steps.o compose.o lines.o
+    -Wl,--gc-sections -Wl,--build-id=sha1 -Wl,-z,defs -o "libpokhvizi.so.$abi" steps.o compose.o
 "${tools}strip" --strip-unneeded "libpokhvizi.so.$abi"
 ln -s "libpokhvizi.so.$abi" libpokhvizi.so
 shared=$("${tools}nm" -D --defined-only libpokhvizi.so | awk 'NF == 3 && $2 == "T" { sub(/@.*/, "", $3); print $3 }' | sort)

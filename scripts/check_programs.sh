@@ -110,8 +110,8 @@ check differential python3 cc yaml.h $yamltokens -- env JOBS=4 sh scripts/differ
 check libraries_for_c rt cc ld objcopy ar nm yaml.h -- sh scripts/build_c.sh "$libraries" $ci
 check faults_of_yaml.c PyYAML "$yaml" -- python3 scripts/compare_faults.py "$yaml"
 check fronts PyYAML $yamltokens "$yaml" -- python3 scripts/compare_fronts.py "$yaml"
-check python PyYAML timeout truncate $yamltokens "$yaml" -- sh scripts/doors/python_checks.sh $yamltokens "$libraries/libpokhvizi.so"
-check lines cc c++ readelf valgrind yaml.h "$yaml" -- sh scripts/doors/lines_checks.sh "$libraries"
+check python PyYAML timeout truncate $yamltokens -- sh scripts/doors/python_checks.sh $yamltokens
+check yaml.c cc valgrind yaml.h "$yaml" -- sh scripts/doors/yaml_checks.sh "$libraries"
 check compose cc c++ python3 readelf valgrind yaml.h "$libraries/libpokhvizi.a" -- sh scripts/doors/compose_checks.sh "$libraries"
 check steps cc c++ python3 readelf valgrind yaml.h "$libraries/libpokhvizi.a" -- sh scripts/doors/steps_checks.sh "$libraries"
 check release cc c++ make pkg-config readelf python3 yaml.h "$libraries/libpokhvizi.a" -- sh scripts/release_checks.sh "$libraries" $all

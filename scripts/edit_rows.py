@@ -38,7 +38,6 @@ PROGRAMS = {
     "token_lines": ["yamltokens", "rows_lines"],
     "yamltokens_program": ["yamltokens", "rows_lines"],
     "example_source": ["rows_hostile"],
-    "token_lines_c": [],
     "yaml_path": ["example_paths"],
 }
 # Tables that take minutes without proof: they are tried only for an edit of which the page names them.

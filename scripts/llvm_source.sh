@@ -1,5 +1,5 @@
 #!/bin/sh
-# Writes into DIR the LLVM modules that the prover's compiler makes of the libraries for C, as steps.ll, compose.ll and lines.ll,
+# Writes into DIR the LLVM modules that the prover's compiler makes of the libraries for C, as steps.ll and compose.ll,
 # and beside them the objects that its clang makes of these, as NAME_module.o:
 #
 #     sh scripts/llvm_source.sh DIR
@@ -52,4 +52,3 @@ module() {
 
 module steps token_steps_c
 module compose document_steps_c
-module lines token_lines_c

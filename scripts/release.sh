@@ -74,10 +74,10 @@ proof_note() {
     echo "Pokhvizi $version, commit $commit"
     rt version
     echo
-    echo "SHA-256 of the objects that the prover's compiler wrote, before they were linked with its allocator ($1):"
-    (cd "$(folder_of "$1")" && sha256sum steps_module.o compose_module.o lines_module.o)
+    echo "SHA-256 of the objects that the prover's compiler wrote, ($1):"
+    (cd "$(folder_of "$1")" && sha256sum steps_module.o compose_module.o)
     echo
-    echo "The prover's last lines for each of them, steps, compose and lines:"
+    echo "The prover's last lines for each of them, steps and compose:"
     grep -E '^(fn|axioms|logic[ =])' "$(folder_of "$1")/rt_lib.log" | sed "s#/[^ ]*/rattle/logic/#rattle/logic/#"
 }
 
@@ -98,7 +98,7 @@ c_archive() {
     install -m 755 bindings/c/proved-libyaml "$tree/bin"
     if ! "$(tools_of "$machine")gcc" -O2 -Wall -Wextra -shared -fPIC -fvisibility=hidden -Ibindings/c/include -Wl,--exclude-libs,ALL \
         -Wl,-z,relro,-z,now -Wl,--build-id=sha1 -ffile-prefix-map="$top=." -o "$work/preload.so" bindings/c/libyaml_preload.c \
-        "$folder/steps.o" -lyaml 2> "$work/said"; then
+        "$folder/steps.o" "$folder/compose.o" -lyaml 2> "$work/said"; then
         [ "$machine" != x86_64 ] || { cat "$work/said" >&2; exit 1; }
         echo "no preload library for $machine: $(tail -n 1 "$work/said")"
         rm -r "$tree/bin" "$tree/lib/pokhvizi"
@@ -165,7 +165,7 @@ modules() {
         rm "$tree/${door}_module.o"
     done
     cp -R bindings/c/include/pokhvizi "$tree/include"
-    cp bindings/llvm/Makefile bindings/llvm/README.md bindings/llvm/heap.c bindings/llvm/lower.py LICENSE "$work/NOTICES" "$built/pokhvizi.map" "$tree"
+    cp bindings/llvm/Makefile bindings/llvm/README.md bindings/llvm/lower.py LICENSE "$work/NOTICES" "$built/pokhvizi.map" "$tree"
     cp "$work/pokhvizi-$version-x86_64-linux/share/doc/pokhvizi/PROOF" "$tree"
     pack "$tree" "$out/pokhvizi-$version-llvm.tar.gz"
 }

@@ -116,7 +116,7 @@ if has "pokhvizi-$version-aarch64-linux.tar.gz" aarch64; then
         readelf -h w/pokhvizi/libpokhvizi.so | grep -q AArch64 && echo ELF 64-bit, AArch64"
 fi
 if has "pokhvizi-$version-llvm.tar.gz" 'the LLVM modules'; then
-    want 'the objects of the modules, by clang-22' 'steps_module.o: OK compose_module.o: OK lines_module.o: OK' \
+    want 'the objects of the modules, by clang-22' 'steps_module.o: OK compose_module.o: OK' \
         "tar xzf pokhvizi-$version-llvm.tar.gz && make -s -C pokhvizi-$version-llvm check 2>&1 | tr '\n' ' ' | sed 's/ \$//'"
     want 'the library of the modules' "$kinds" "make -s -C pokhvizi-$version-llvm > said 2>&1 || tail -n 3 said
         gcc -O2 kinds.c -o kinds -Ipokhvizi-$version-llvm/include pokhvizi-$version-llvm/libpokhvizi.a && ./kinds"

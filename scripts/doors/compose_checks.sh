@@ -70,7 +70,7 @@ check "the same, sanitizers" "$work/sanitized" "$@"
 check "the same, valgrind" $memory "$work/driver" examples/*.yaml scripts/broken/*.yaml
 check "threads" "$work/driver" threads "$@"
 check "the same, helgrind" valgrind -q --tool=helgrind --error-exitcode=9 "$work/driver" threads examples/list.yaml
-check "examples/compose.c" sh -c "printf 'a: &x [b, *x]\n...\nc\n' | '$work/compose' | tr '\n' ' ' | grep '1 mapping 2:3 2 scalar a 3 sequence 4 3 4 scalar b ... 1 scalar c ...'"
+check "examples/compose.c" sh -c "printf 'a: &x [b, *x]\n--- c\n' | '$work/compose' | tr '\n' ' ' | grep '1 mapping 2:3 2 scalar a 3 sequence 4 3 4 scalar b ... 1 scalar c ...'"
 ! printf '&a [&a b]\n' | "$work/compose" > /dev/null 2>&1 || complain "examples/compose.c: a fault is not told"
 echo "$wrong wrong"
 [ $wrong -eq 0 ]

@@ -1,4 +1,4 @@
-/* Makes the Nth allocation of a program fail, for scripts/allocation_failures.sh and scripts/doors/lines_checks.sh. Where the program
+/* Makes the Nth allocation of a program fail, for scripts/allocation_failures.sh and scripts/doors/yaml_checks.sh. Where the program
  * makes fewer, it says so. Where N is 0 none fails, and it says how many the program made.
  *
  *     cc -O2 -fPIC -shared -o fail_allocation.so fail_allocation.c

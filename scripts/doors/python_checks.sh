@@ -1,17 +1,15 @@
 #!/bin/sh
 # Tries examples/yaml_lines.py in every way that it may be refused, and says what it saw:
 #
-#     sh scripts/doors/python_checks.sh [PROGRAM [LIBRARY]]
+#     sh scripts/doors/python_checks.sh [PROGRAM]
 #
-# PROGRAM is yamltokens, LIBRARY the shared library of scripts/build_c.sh, which is left out where it is not named. Each
-# case has one line on standard error and its status. The exit status is 0 where all are as they should be. Needs
+# PROGRAM is yamltokens. Each case has one line on standard error and its status. The exit status is 0 where all are as they should be. Needs
 # python3 with PyYAML, and GNU's timeout and truncate.
 set -u
 cd "$(dirname "$0")/../.." || exit 2
 program=$(realpath "${1:-crates/yamltokens/out/yamltokens}") && [ -x "$program" ] || { echo "no program" >&2; exit 2; }
-library=${2:+$(realpath "$2")}
 examples=$PWD/examples
-export front="$examples/yaml_lines.py" program library
+export front="$examples/yaml_lines.py" program
 work=$(mktemp -d) || exit 2
 trap 'rm -rf "$work"' EXIT
 cd "$work" || exit 2
@@ -80,9 +78,6 @@ for mode in events nodes; do
         [ -f "$examples/$name.$mode" ] || continue
         expect 0 '' "python3 $front $mode $examples/$name.yaml --program $program"
         same "$examples/$name.$mode"
-        [ -z "$library" ] && continue
-        expect 0 '' "python3 $front $mode --library $library $examples/$name.yaml"
-        same "$examples/$name.$mode"
     done
 done
 for name in list compose; do
@@ -130,7 +125,7 @@ expect 0 '' "PYTHONPATH=$examples:$examples/../bindings/python/src python3 -B -c
 
 usage='yaml_lines.py: usage: yaml_lines.py tokens|events|nodes FILE *'
 for words in '' tokens 'tokens a b' 'words ok.yaml' '--wrong' 'events ok.yaml --program' 'tokens ok.yaml --program x' \
-    'events ok.yaml --program x --library y' '-x ok.yaml'; do
+    '-x ok.yaml'; do
     expect 2 "$usage" "python3 $front $words"
 done
 
@@ -169,8 +164,6 @@ mkdir alone && cp "$front" alone
 expect 3 'yaml_lines.py: cannot run yamltokens: No such file or directory; to build it: (cd crates/yamltokens && rt run*' \
     "PATH=$work $(python3 -c 'import sys; print(sys.executable)') alone/yaml_lines.py events ok.yaml"
 expect 3 'yaml_lines.py: cannot run /: Permission denied' "python3 $front nodes --program / ok.yaml"
-expect 3 'yaml_lines.py: cannot use ./ok.yaml: *' "python3 $front nodes --library ./ok.yaml ok.yaml"
-expect 3 'yaml_lines.py: cannot use ./nosuch.so: *' "python3 $front nodes --library ./nosuch.so ok.yaml"
 
 # A Python that is too old has to read the file to its end before it can say so.
 python3 -c 'import ast, sys; ast.parse(open(sys.argv[1]).read(), feature_version=(3, 4))' "$front" || complain "new syntax"

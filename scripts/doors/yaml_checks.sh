@@ -1,13 +1,13 @@
 #!/bin/sh
 # Tries examples/yaml.c in every way that no proof covers, and says what it saw:
 #
-#     sh scripts/doors/lines_checks.sh [DIR]
+#     sh scripts/doors/yaml_checks.sh [DIR]
 #
 # DIR has the library that build_c.sh made there; without it, that is run first.
 #
 # The samples and a file with each kind of broken text, under the address and undefined behaviour sanitizers and under
-# valgrind; each allocation refused in turn; an output that is full or closed; the header in C of 1989 and in C++; the shared
-# library. The status is 0 where all is as it should be. Needs what build_c.sh needs, and valgrind and c++.
+# valgrind; each allocation refused in turn; an output that is full or closed. The status is 0 where all is as it should be.
+# Needs what build_c.sh needs, and valgrind.
 set -u
 cd "$(dirname "$0")/../.." || exit 2
 work=$(mktemp -d) || exit 2
@@ -69,12 +69,6 @@ check_failures() {
         expect 0 sh -c "'$yaml' $mode - < examples/list.yaml"
         cmp -s "$work/out" examples/list.$mode || complain "$mode of standard input"
     done
-    head -c 1100000 /dev/zero | tr '\0' a > "$work/wide.yaml"
-    for mode in events nodes; do
-        expect_message 3 "$yaml" $mode "$work/wide.yaml"
-        grep -q ': line too long, after 1 token: a limit of this program' "$work/err" || complain "a long line: $(cat "$work/err")"
-        [ "$(tail -n 1 "$work/out")" = 'FAULT reader 1:1:0 line too long' ] || complain "a long line: $(tail -n 1 "$work/out")"
-    done
     expect 2 "$yaml" events
     expect 2 "$yaml" lines examples/list.yaml
     expect 2 "$yaml"
@@ -118,24 +112,12 @@ check_refused() {
 
 [ $# -eq 1 ] || sh scripts/build_c.sh "$work/plain" || exit 2
 library=${1:-$work/plain}/libpokhvizi.a
-shared=${library%.a}.so
 yaml=$work/yaml
 sanitized=$work/sanitized
 build="${CC:-cc} -O1 -g -Wall -Wextra -Werror -Ibindings/c/include examples/yaml.c $library -lyaml"
 $build -o "$yaml" || exit 2
 $build -fsanitize=address,undefined -fno-sanitize-recover=all -o "$sanitized" || exit 2
 ${CC:-cc} -O2 -Wall -Wextra -fPIC -shared -o "$work/fail_allocation.so" scripts/doors/fail_allocation.c || exit 2
-# The header, in C of 1989 and in C++, and a program over the shared library, which it names without a path.
-printf '%s\n' '#include <pokhvizi/lines.h>' 'int main(void) { size_t w, n; uint8_t t = 0, o = 0;' \
-    'return pokhvizi_event_lines(&t, 0, &o, 1, 9, &w, &n) == POKHVIZI_LINES_FAULTED && w == 1 && n == 34 ? 0 : 1; }' \
-    > "$work/header.c"
-cp "$work/header.c" "$work/header.cpp"
-strict='-Wall -Wextra -Werror -pedantic -Ibindings/c/include'
-${CC:-cc} -std=c89 $strict "$work/header.c" "$library" -o "$work/header" && "$work/header" || complain "the header in C of 1989"
-${CXX:-c++} $strict "$work/header.cpp" "$library" -o "$work/header" && "$work/header" || complain "the header in C++"
-${CC:-cc} $strict "$work/header.c" "$shared" -o "$work/header" && LD_LIBRARY_PATH=${shared%/*} "$work/header" ||
-    complain "a program over the shared library"
-readelf -d "$work/header" | grep -q 'NEEDED.*\[libpokhvizi\.so\.[0-9]*\]' || complain "the shared library has no name of its own"
 
 check_texts plain "$yaml"
 check_texts sanitizers "$sanitized"
