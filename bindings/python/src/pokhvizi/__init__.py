@@ -8,7 +8,7 @@
 Scanner, composer, resolver and constructor are PyYAML's (Debian: python3-yaml), and so are the events, nodes, marks and
 errors: an error has the text and the snippet of PyYAML without its C part. `Parser` before any loader of that form
 makes another: `class Mine(Parser, yaml.FullLoader): pass`. The library is libpokhvizi.so in this
-package, or without it libpokhvizi.so.0 where the system looks for libraries; the environment's POKHVIZI_LIBRARY names
+package, or without it libpokhvizi.so.1 where the system looks for libraries; the environment's POKHVIZI_LIBRARY names
 another, and so does `use_library(PATH)`.
 
 Each event takes as many tokens of the scanner as PyYAML's parser takes. What is other than with that parser:
@@ -20,6 +20,8 @@ Each event takes as many tokens of the scanner as PyYAML's parser takes. What is
 - A directive that is neither YAML nor TAG is left out: the document starts at the next directive or `---`.
 
 A loader is for one thread; several loaders may be used at once. An error is raised again by each later call for an event.
+
+`CSafeLoader` and the others of `pokhvizi.cyaml` are PyYAML's loaders in C, over an extension that is in the wheels.
 """
 import ctypes
 import os
@@ -63,7 +65,7 @@ class Library:
     def get(cls):
         """Returns the library, which the first use opens."""
         if cls.used is None:
-            there = cls.PLACE if os.path.exists(cls.PLACE) else "libpokhvizi.so.0"
+            there = cls.PLACE if os.path.exists(cls.PLACE) else "libpokhvizi.so.1"
             cls.used = cls(os.environ.get("POKHVIZI_LIBRARY") or there)
         return cls.used
 
@@ -412,3 +414,14 @@ class Loader(Parser, yaml.Loader):
 
 class SafeLoader(Parser, yaml.SafeLoader):
     """As `yaml.SafeLoader`."""
+
+
+# ---- Loaders in C ----
+
+try:
+    from .cyaml import CBaseLoader, CFullLoader, CLoader, CParser, CSafeLoader, CUnsafeLoader
+except ModuleNotFoundError as error:
+    if error.name != "pokhvizi._yaml":
+        raise
+else:
+    __all__ += ["CBaseLoader", "CFullLoader", "CLoader", "CParser", "CSafeLoader", "CUnsafeLoader"]

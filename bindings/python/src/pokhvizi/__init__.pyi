@@ -4,6 +4,9 @@ from typing import Union
 import yaml
 from yaml.parser import Parser as _Parser
 
+from .cyaml import CBaseLoader as CBaseLoader, CFullLoader as CFullLoader, CLoader as CLoader
+from .cyaml import CParser as CParser, CSafeLoader as CSafeLoader, CUnsafeLoader as CUnsafeLoader
+
 __version__: str
 
 class LibraryError(Exception): ...

@@ -1,0 +1,20 @@
+#!/bin/sh
+# Builds the extension of the Python package, DIR/_yaml.abi3.so, over DIR/libpokhvizi.a, which scripts/build_c.sh made there:
+#
+#     sh bindings/python/build_extension.sh DIR
+#
+# Needs gcc, binutils, libyaml.a with its header (Debian's libyaml-dev) and Python's headers, of 3.8 or later: those that
+# PYTHON_INCLUDE names, or of python3. It serves each Python from 3.8 on; libyaml is part of it.
+set -eu
+dir=$(cd "${1:?usage: sh bindings/python/build_extension.sh DIR}" && pwd)
+cd "$(dirname "$0")/../.."
+python=${PYTHON_INCLUDE:-$(python3 -c 'import sysconfig; print(sysconfig.get_path("include"))')}
+cc=${CC:-gcc}
+echo '{ global: PyInit__yaml; local: *; };' > "$dir/_yaml.map"
+"$cc" -std=c11 -O2 -Wall -Wextra -Werror -fPIC -I"$python" -Ibindings/c/include \
+    -c -o "$dir/_yaml.o" bindings/python/src/_yaml.c
+"$cc" -shared -Wl,--version-script,"$dir/_yaml.map" -Wl,-z,relro,-z,now,-z,noexecstack -Wl,--gc-sections -Wl,--build-id=sha1 \
+    -o "$dir/_yaml.abi3.so" "$dir/_yaml.o" "$dir/libpokhvizi.a" -Wl,-Bstatic -lyaml -Wl,-Bdynamic
+"${STRIP:-strip}" --strip-unneeded "$dir/_yaml.abi3.so"
+made=$(nm -D --defined-only "$dir/_yaml.abi3.so" | awk 'NF == 3 && $2 != "A" { print $3 }')
+[ "$made" = PyInit__yaml ] || { printf 'other names are exported:\n%s\n' "$made" >&2; exit 1; }
