@@ -5,7 +5,7 @@
 #
 #     pokhvizi-VERSION-MACHINE-linux.tar.gz      for C and C++: headers, static and shared library, pkg-config, the preload
 #                                                library with its starter, samples, pages, PROOF
-#     pokhvizi-VERSION-py3-none-MACHINE.whl      for Python
+#     pokhvizi-VERSION-cp38-abi3-MACHINE.whl     for Python; py3-none where it has no extension
 #     pokhvizi-unsafe-libyaml-VERSION.tar.gz     for Rust, to be named by [patch.crates-io]; it has the library for both machines
 #                                                and the original crate, which ORIGINAL names
 #     pokhvizi-VERSION-llvm.tar.gz               the LLVM modules, to be compiled
@@ -16,7 +16,7 @@
 # in /usr/share/cargo/registry; without one there is no archive for Rust, which is said. Times are those of the last commit, so
 # two runs over one commit write the same bytes.
 #
-# Needs the kit, gcc, binutils, python3, libyaml-dev, and for aarch64 gcc-aarch64-linux-gnu with libyaml's library for that machine
+# Needs the kit, gcc, binutils, python3 with its headers, libyaml-dev, and for aarch64 gcc-aarch64-linux-gnu with libyaml's library for that machine
 # (Debian: libyaml-dev:arm64), without which that archive has no preload library, which is said.
 set -eu
 case ${1-} in '' | -*) echo "usage: sh scripts/release.sh OUTDIR [BUILT]" >&2; exit 2 ;; esac
@@ -122,12 +122,21 @@ c_archive() {
 wheel() {
     machine=$1
     tree=$work/pokhvizi-$version-$machine-linux
-    needs=$("$(tools_of "$machine")objdump" -T "$tree/lib/libpokhvizi.so" | grep -o 'GLIBC_[0-9.]*' | sed s/GLIBC_// | sort -Vu | tail -n 1)
+    tools=$(tools_of "$machine")
+    extension=$(folder_of "$machine")/_yaml.abi3.so
+    if ! CC="${tools}gcc" STRIP="${tools}strip" sh bindings/python/build_extension.sh "${extension%/*}" > "$work/said" 2>&1; then
+        [ "$machine" != x86_64 ] || { cat "$work/said" >&2; exit 1; }
+        echo "the wheel for $machine has no extension: $(tail -n 1 "$work/said")"
+        extension=-
+    fi
+    needs=$(for file in "$tree/lib/libpokhvizi.so" "$extension"; do
+        [ ! -e "$file" ] || "${tools}objdump" -T "$file"
+    done | grep -o 'GLIBC_[0-9.]*' | sed s/GLIBC_// | sort -Vu | tail -n 1)
     case $needs in
     2.[0-9] | 2.[0-9].* | 2.1[0-7]) tag=manylinux_2_17_$machine.manylinux2014_$machine ;;
     *) tag=manylinux_$(echo "$needs" | tr . _)_$machine ;;
     esac
-    python3 bindings/python/wheel.py "$tree/lib/libpokhvizi.so.$version" "$tree/share/doc/pokhvizi" "$version" "$tag" "$out"
+    python3 bindings/python/wheel.py "$tree/lib/libpokhvizi.so.$version" "$extension" "$tree/share/doc/pokhvizi" "$version" "$tag" "$out"
 }
 
 # ---- Rust ----

@@ -1,11 +1,11 @@
 #!/usr/bin/env python3
 """Writes a wheel of the package, with no tool beside Python:
 
-    wheel.py LIBRARY PAGES VERSION TAG OUTDIR
+    wheel.py LIBRARY EXTENSION PAGES VERSION TAG OUTDIR
 
-LIBRARY is libpokhvizi.so for the machine that TAG names, as manylinux_2_17_x86_64. PAGES is the folder of its LICENSE, NOTICES
-and PROOF. Times are SOURCE_DATE_EPOCH's, so two runs
-write the same bytes."""
+LIBRARY is libpokhvizi.so for the machine that TAG names, as manylinux_2_17_x86_64; EXTENSION is the _yaml.abi3.so of
+build_extension.sh for it, or `-` where there is none. PAGES is the folder of its LICENSE, NOTICES and PROOF. Times are
+SOURCE_DATE_EPOCH's, so two runs write the same bytes."""
 import base64
 import hashlib
 import os
@@ -22,6 +22,7 @@ Summary: PyYAML's loaders over a proved parser
 License: MIT
 License-File: LICENSE
 License-File: NOTICES
+License-File: LICENSE.libyaml
 Requires-Python: >=3.8
 Requires-Dist: PyYAML>=5.1
 Classifier: License :: OSI Approved :: MIT License
@@ -37,26 +38,30 @@ def checksum(data):
     return "sha256=" + base64.urlsafe_b64encode(hashlib.sha256(data).digest()).rstrip(b"=").decode()
 
 
-def package_files(library):
+def package_files(library, extension):
     """The files of the package, by their names in the wheel."""
     parts = [path for path in (HERE / "src" / "pokhvizi").iterdir() if path.suffix in (".py", ".pyi") or path.name == "py.typed"]
     files = {f"pokhvizi/{path.name}": path.read_bytes() for path in parts}
     files["pokhvizi/libpokhvizi.so"] = Path(library).read_bytes()
+    if extension != "-":
+        files["pokhvizi/_yaml.abi3.so"] = Path(extension).read_bytes()
     return files
 
 
-def main(library, pages, version, tag, out):
+def main(library, extension, pages, version, tag, out):
     info = f"pokhvizi-{version}.dist-info"
-    files = package_files(library)
+    files = package_files(library, extension)
+    python = "py3-none" if extension == "-" else "cp38-abi3"
     for page in ("LICENSE", "NOTICES", "PROOF"):
         files[f"{info}/{page}"] = (Path(pages) / page).read_bytes()
+    files[f"{info}/LICENSE.libyaml"] = (HERE / "LICENSE.libyaml").read_bytes()
     files[f"{info}/METADATA"] = METADATA.format(version=version, readme=(HERE / "README.md").read_text()).encode()
-    tags = "".join(f"Tag: py3-none-{one}\n" for one in tag.split("."))
+    tags = "".join(f"Tag: {python}-{one}\n" for one in tag.split("."))
     files[f"{info}/WHEEL"] = f"Wheel-Version: 1.0\nGenerator: wheel.py\nRoot-Is-Purelib: false\n{tags}".encode()
     record = "".join(f"{name},{checksum(data)},{len(data)}\n" for name, data in sorted(files.items()))
     files[f"{info}/RECORD"] = (record + f"{info}/RECORD,,\n").encode()
     date = time.gmtime(int(os.environ["SOURCE_DATE_EPOCH"]))[:6]
-    with zipfile.ZipFile(Path(out) / f"pokhvizi-{version}-py3-none-{tag}.whl", "w", zipfile.ZIP_DEFLATED) as wheel:
+    with zipfile.ZipFile(Path(out) / f"pokhvizi-{version}-{python}-{tag}.whl", "w", zipfile.ZIP_DEFLATED) as wheel:
         for name, data in sorted(files.items(), key=lambda item: (info in item[0], item[0])):
             entry = zipfile.ZipInfo(name, date)
             entry.compress_type, entry.create_system = zipfile.ZIP_DEFLATED, 3
@@ -65,6 +70,6 @@ def main(library, pages, version, tag, out):
 
 
 if __name__ == "__main__":
-    if len(sys.argv) != 6:
+    if len(sys.argv) != 7:
         sys.exit(__doc__)
     main(*sys.argv[1:])

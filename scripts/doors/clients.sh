@@ -17,6 +17,9 @@
 #     pyyaml_pure        PyYAML's own tests of its form in Python, over bindings/python
 #     loaders            the SafeLoader of bindings/python and PyYAML's over the test suite, PyYAML's test data and broken texts
 #     pipe_python        events before a slow pipe's end, by that SafeLoader
+#     pyyaml_ext         PyYAML's own tests of its C form, over the extension of bindings/python
+#     cloaders           the C loaders of bindings/python and PyYAML's over YAML files of this machine, PyYAML's test data, the
+#                        test suite and broken texts, with all fields
 #     crate              the tests of bindings/rust
 #     pipe_rust          events before a slow pipe's end, by that crate
 #     yaml_test_suite    the parser of unsafe-libyaml's own tests over the YAML test suite
@@ -75,6 +78,7 @@ is_there() {
     yaml.h) echo '#include <yaml.h>' | cc -E - ;;
     PyYAML) (cd / && "$python" -c 'import yaml; yaml.CLoader') ;;
     libyaml_preload.so) [ -e "$preloaded" ] || build_preload ;;
+    _yaml.abi3.so) [ -e "$work/python/pokhvizi/_yaml.abi3.so" ] || build_extension ;;
     events) [ -e "$work/events" ] || cc -O2 -Wall -Wextra -Werror -o "$work/events" scripts/doors/clients/events.c -lyaml ;;
     psych) $ruby -e 'require "psych"; Psych::LIBYAML_VERSION' ;;
     unsafe-libyaml | serde_yaml | serde_derive | anyhow | indoc) set -- "$crates/$1-"*/Cargo.toml && [ -e "$1" ] ;;
@@ -265,6 +269,30 @@ pipe_python() {
     pipe "$@" proved -- "$@" late
 }
 
+build_extension() {
+    PYTHON_INCLUDE=${PYTHON_INCLUDE:-$("$python" -c 'import sysconfig; print(sysconfig.get_path("include"))')} \
+        sh bindings/python/build_extension.sh "$dir" && cp "$dir/_yaml.abi3.so" "$work/python/pokhvizi"
+}
+
+pyyaml_ext() {
+    pyyaml_tests "$python $lists/pyyaml_ext.py plain" "$python $lists/pyyaml_ext.py proved" pyyaml_c
+}
+
+cloaders() {
+    name_files > "$work/files"
+    (cd "$suite" && find . -name in.yaml | sort) > "$work/cases"
+    find "$tests/data" "$top/scripts/broken" "$top/scripts/whole" "$top/examples" -type f ! -name '*.py' | sort > "$work/texts"
+    : > "$work/differ"
+    for list in files cases texts; do
+        (cd "$suite" && PYTHONPATH=$work/python "$python" "$lists/cloaders.py" < "$work/$list") > "$work/made" 2> "$work/count" ||
+            { cat "$work/count"; return 1; }
+        cut -f 1 "$work/made" | sed -E 's#^\./(.*)/in.yaml$#\1#; s#^/.*/##' >> "$work/differ"
+    done
+    tail -n 1 "$work/texts" | PYTHONPATH=$work/python "$python" "$lists/cloaders.py" --turned > "$work/turned" 2> "$work/count"
+    [ -s "$work/turned" ] || { echo "what is turned doesn't differ"; return 1; }
+    as_listed "$work/differ" cloaders "$(wc -l < "$work/files") files, $(cat "$work/cases" "$work/texts" | wc -l) cases and texts"
+}
+
 # ---- Rust ----
 
 # Has cargo take crates from Debian's folder, and puts the original into a copy of the crate that takes its place.
@@ -357,7 +385,7 @@ serde_yaml() {
 
 wanted=$*
 for word in $wanted; do
-    case " preload events pipe_c pyyaml_c psych pyyaml_pure loaders pipe_python crate pipe_rust yaml_test_suite serde_yaml " in
+    case " preload events pipe_c pyyaml_c psych pyyaml_pure loaders pipe_python pyyaml_ext cloaders crate pipe_rust yaml_test_suite serde_yaml " in
     *" $word "*) ;;
     *) echo "no check has the name $word" >&2; exit 2 ;;
     esac
@@ -372,6 +400,8 @@ check psych cc yaml.h libyaml_preload.so psych libyaml-pp-perl -- psych
 check pyyaml_pure PyYAML pyyaml -- pyyaml_pure
 check loaders PyYAML pyyaml libyaml-pp-perl -- loaders
 check pipe_python PyYAML -- pipe_python
+check pyyaml_ext PyYAML cc yaml.h pyyaml _yaml.abi3.so -- pyyaml_ext
+check cloaders PyYAML cc yaml.h pyyaml libyaml-pp-perl _yaml.abi3.so -- cloaders
 check crate cargo unsafe-libyaml -- crate
 check pipe_rust cargo unsafe-libyaml -- pipe_rust
 check yaml_test_suite cargo unsafe-libyaml libyaml-pp-perl -- yaml_test_suite
