@@ -20,7 +20,7 @@ PAGES = [*ROOT.glob("docs/*.md"), ROOT / "README.md", ROOT / "CONTRIBUTING.md", 
 FOLDERS = ["crates", "scripts", "examples", "bindings", "bench"]
 TEXTS = [".rt", ".antt", ".edit", ".py", ".sh", ".c", ".h", ".rs", ".txt", ""]
 # Names of other software, of the prover, and of what a reader makes.
-OUTSIDE = {"dac8208d650f15bf", "malloc_consolidate", "my_program", "yaml_buffer_t", "yaml_queue_t", "yaml_stack_t"}
+OUTSIDE = {"dac8208d650f15bf", "malloc_consolidate", "my_program", "raw_parse", "raw_scan", "yaml_buffer_t", "yaml_queue_t", "yaml_stack_t"}
 NAME = re.compile(r"`([A-Za-z_]\w*(?:(?:::|\.)\w+)*)`")
 WORD = re.compile(r"[^\s(){}\[\],;]+")
 USE = re.compile(r"^(?:ghost |pub )*use (Rattle\.[\w.]+?)(?:\.\{(.*)\})?(?: as (\w+))?;?$")
