@@ -13,6 +13,7 @@ use libyaml_events::{
 };
 use std::alloc::AllocError;
 use std::marker::Model;
+use std::mem;
 
 /// Makes a copy of a token in a slot.
 pub trait Copier {
@@ -139,38 +140,202 @@ pub fn no_token() -> yaml_token_t {
 pub fn copy_into(token: &yaml_token_t, slot: &mut yaml_token_t) -> Result<(), AllocError> {
     slot.start_mark = token.start_mark;
     slot.end_mark = token.end_mark;
-    copy_content(&token.content, &mut slot.content)
+    match &token.content {
+        unnamed_yaml_token_t_data::Scalar(scalar) => copy_scalar(scalar, &mut slot.content),
+        content => copy_other(content, &mut slot.content),
+    }
+}
+
+/// Puts a content in the place of another. Which one that is is asked for by comparisons alone.
+#[inline(always)]
+pub(crate) fn put(content: unnamed_yaml_token_t_data, slot: &mut unnamed_yaml_token_t_data) {
+    if !is_rare(slot) {
+        mem::forget(mem::replace(slot, content));
+        return;
+    }
+    let text = match slot {
+        unnamed_yaml_token_t_data::Scalar(scalar) => &mut scalar.value,
+        unnamed_yaml_token_t_data::Alias(alias) => &mut alias.value,
+        unnamed_yaml_token_t_data::Anchor(anchor) => &mut anchor.value,
+        _ => return put_any(content, slot),
+    };
+    let alloc = *text.allocator();
+    let text = mem::replace(text, String::new(alloc));
+    mem::forget(mem::replace(slot, content));
+    mem::drop(text);
+}
+
+/// Drops a text in its place.
+#[inline(always)]
+fn drop_text(text: &mut String) {
+    let alloc = *text.allocator();
+    let text = mem::replace(text, String::new(alloc));
+    mem::drop(text);
 }
 
 #[inline(never)]
-fn copy_content(
+fn put_any(content: unnamed_yaml_token_t_data, slot: &mut unnamed_yaml_token_t_data) {
+    match slot {
+        unnamed_yaml_token_t_data::Tag(tag) => {
+            drop_text(&mut tag.handle);
+            drop_text(&mut tag.suffix);
+        }
+        unnamed_yaml_token_t_data::TagDirective(directive) => {
+            drop_text(&mut directive.handle);
+            drop_text(&mut directive.prefix);
+        }
+        _ => {}
+    }
+    mem::forget(mem::replace(slot, content));
+}
+
+#[inline(never)]
+fn copy_scalar(
+    scalar: &unnamed_yaml_token_t_data_scalar,
+    slot: &mut unnamed_yaml_token_t_data,
+) -> Result<(), AllocError> {
+    let value = scalar.value.clone()?;
+    let style = scalar.style;
+    if let unnamed_yaml_token_t_data::Tag(tag) = slot {
+        drop_text(&mut tag.handle);
+        drop_text(&mut tag.suffix);
+        mem::forget(mem::replace(
+            slot,
+            unnamed_yaml_token_t_data::Scalar(unnamed_yaml_token_t_data_scalar { value, style }),
+        ));
+        return Ok(());
+    }
+    put(
+        unnamed_yaml_token_t_data::Scalar(unnamed_yaml_token_t_data_scalar { value, style }),
+        slot,
+    );
+    Ok(())
+}
+
+/// Returns a copy of a content without fields.
+#[inline(always)]
+pub(crate) fn bare(content: &unnamed_yaml_token_t_data) -> unnamed_yaml_token_t_data {
+    use unnamed_yaml_token_t_data as Content;
+    match content {
+        Content::DocumentStart => Content::DocumentStart,
+        Content::DocumentEnd => Content::DocumentEnd,
+        Content::BlockSequenceStart => Content::BlockSequenceStart,
+        Content::BlockMappingStart => Content::BlockMappingStart,
+        Content::BlockEnd => Content::BlockEnd,
+        Content::FlowSequenceStart => Content::FlowSequenceStart,
+        Content::FlowSequenceEnd => Content::FlowSequenceEnd,
+        Content::FlowMappingStart => Content::FlowMappingStart,
+        Content::FlowMappingEnd => Content::FlowMappingEnd,
+        Content::BlockEntry => Content::BlockEntry,
+        Content::FlowEntry => Content::FlowEntry,
+        Content::Key => Content::Key,
+        _ => Content::Value,
+    }
+}
+
+/// Returns whether a content has fields, or ends the stream.
+#[inline(always)]
+pub(crate) fn is_rare(content: &unnamed_yaml_token_t_data) -> bool {
+    use unnamed_yaml_token_t_data as Content;
+    match content {
+        Content::DocumentStart
+        | Content::DocumentEnd
+        | Content::BlockSequenceStart
+        | Content::BlockMappingStart
+        | Content::BlockEnd
+        | Content::FlowSequenceStart
+        | Content::FlowSequenceEnd
+        | Content::FlowMappingStart
+        | Content::FlowMappingEnd
+        | Content::BlockEntry
+        | Content::FlowEntry
+        | Content::Key
+        | Content::Value => false,
+        _ => true,
+    }
+}
+
+#[inline(never)]
+fn copy_other(
     content: &unnamed_yaml_token_t_data,
     slot: &mut unnamed_yaml_token_t_data,
 ) -> Result<(), AllocError> {
-    use unnamed_yaml_token_t_data as Content;
-    match content {
-        Content::StreamEnd => *slot = Content::StreamEnd,
-        Content::DocumentStart => *slot = Content::DocumentStart,
-        Content::DocumentEnd => *slot = Content::DocumentEnd,
-        Content::BlockSequenceStart => *slot = Content::BlockSequenceStart,
-        Content::BlockMappingStart => *slot = Content::BlockMappingStart,
-        Content::BlockEnd => *slot = Content::BlockEnd,
-        Content::FlowSequenceStart => *slot = Content::FlowSequenceStart,
-        Content::FlowSequenceEnd => *slot = Content::FlowSequenceEnd,
-        Content::FlowMappingStart => *slot = Content::FlowMappingStart,
-        Content::FlowMappingEnd => *slot = Content::FlowMappingEnd,
-        Content::BlockEntry => *slot = Content::BlockEntry,
-        Content::FlowEntry => *slot = Content::FlowEntry,
-        Content::Key => *slot = Content::Key,
-        Content::Value => *slot = Content::Value,
-        Content::Scalar(scalar) => {
-            *slot = Content::Scalar(unnamed_yaml_token_t_data_scalar {
-                value: scalar.value.clone()?,
-                style: scalar.style,
-            });
-        }
-        _ => *slot = copied_rare(content)?,
+    if !is_rare(content) {
+        put(bare(content), slot);
+        return Ok(());
     }
+    match content {
+        unnamed_yaml_token_t_data::Alias(alias) => copy_alias(alias, slot),
+        unnamed_yaml_token_t_data::Anchor(anchor) => copy_anchor(anchor, slot),
+        unnamed_yaml_token_t_data::Tag(tag) => copy_tag_into(tag, slot),
+        unnamed_yaml_token_t_data::TagDirective(directive) => copy_directive_into(directive, slot),
+        _ => copy_rare(content, slot),
+    }
+}
+
+#[inline(never)]
+fn copy_alias(
+    alias: &unnamed_yaml_token_t_data_alias,
+    slot: &mut unnamed_yaml_token_t_data,
+) -> Result<(), AllocError> {
+    let value = alias.value.clone()?;
+    put(
+        unnamed_yaml_token_t_data::Alias(unnamed_yaml_token_t_data_alias { value }),
+        slot,
+    );
+    Ok(())
+}
+
+#[inline(never)]
+fn copy_directive_into(
+    directive: &unnamed_yaml_token_t_data_tag_directive,
+    slot: &mut unnamed_yaml_token_t_data,
+) -> Result<(), AllocError> {
+    let handle = directive.handle.clone()?;
+    let prefix = directive.prefix.clone()?;
+    put(
+        unnamed_yaml_token_t_data::TagDirective(unnamed_yaml_token_t_data_tag_directive {
+            handle,
+            prefix,
+        }),
+        slot,
+    );
+    Ok(())
+}
+
+#[inline(never)]
+fn copy_tag_into(
+    tag: &unnamed_yaml_token_t_data_tag,
+    slot: &mut unnamed_yaml_token_t_data,
+) -> Result<(), AllocError> {
+    let handle = tag.handle.clone()?;
+    let suffix = tag.suffix.clone()?;
+    put(
+        unnamed_yaml_token_t_data::Tag(unnamed_yaml_token_t_data_tag { handle, suffix }),
+        slot,
+    );
+    Ok(())
+}
+
+#[inline(never)]
+fn copy_anchor(
+    anchor: &unnamed_yaml_token_t_data_anchor,
+    slot: &mut unnamed_yaml_token_t_data,
+) -> Result<(), AllocError> {
+    let value = anchor.value.clone()?;
+    put(
+        unnamed_yaml_token_t_data::Anchor(unnamed_yaml_token_t_data_anchor { value }),
+        slot,
+    );
+    Ok(())
+}
+
+#[inline(never)]
+fn copy_rare(
+    content: &unnamed_yaml_token_t_data,
+    slot: &mut unnamed_yaml_token_t_data,
+) -> Result<(), AllocError> {
+    *slot = copied_rare(content)?;
     Ok(())
 }
 
@@ -209,6 +374,7 @@ pub(crate) fn copied_small(content: &unnamed_yaml_token_t_data) -> unnamed_yaml_
             let version = unnamed_yaml_token_t_data_version_directive { major, minor };
             Content::VersionDirective(version)
         }
+        Content::StreamEnd => Content::StreamEnd,
         _ => Content::NoToken,
     }
 }

@@ -1,7 +1,7 @@
 //! A copier that makes a text in the memory of an earlier one, as the parser hands it back in the token's
 //! slot.
 
-use crate::copying::{Copier, copied_small, copy_directive};
+use crate::copying::{Copier, bare, copied_small, copy_directive, is_rare, put};
 use libyaml_events::{
     unnamed_yaml_token_t_data, unnamed_yaml_token_t_data_alias, unnamed_yaml_token_t_data_anchor,
     unnamed_yaml_token_t_data_scalar, unnamed_yaml_token_t_data_tag, yaml_token_t,
@@ -61,10 +61,10 @@ impl Reusing {
         self.keep_texts(slot);
         let value = copied(&scalar.value, &mut self.text)?;
         let style = scalar.style;
-        *slot = unnamed_yaml_token_t_data::Scalar(unnamed_yaml_token_t_data_scalar {
-            value,
-            style,
-        });
+        put(
+            unnamed_yaml_token_t_data::Scalar(unnamed_yaml_token_t_data_scalar { value, style }),
+            slot,
+        );
         Ok(())
     }
 
@@ -76,28 +76,19 @@ impl Reusing {
         slot: &mut unnamed_yaml_token_t_data,
     ) -> Result<(), AllocError> {
         use unnamed_yaml_token_t_data as Content;
-        self.keep_texts(slot);
-        match content {
-            Content::StreamEnd => *slot = Content::StreamEnd,
-            Content::DocumentStart => *slot = Content::DocumentStart,
-            Content::DocumentEnd => *slot = Content::DocumentEnd,
-            Content::BlockSequenceStart => *slot = Content::BlockSequenceStart,
-            Content::BlockMappingStart => *slot = Content::BlockMappingStart,
-            Content::BlockEnd => *slot = Content::BlockEnd,
-            Content::FlowSequenceStart => *slot = Content::FlowSequenceStart,
-            Content::FlowSequenceEnd => *slot = Content::FlowSequenceEnd,
-            Content::FlowMappingStart => *slot = Content::FlowMappingStart,
-            Content::FlowMappingEnd => *slot = Content::FlowMappingEnd,
-            Content::BlockEntry => *slot = Content::BlockEntry,
-            Content::FlowEntry => *slot = Content::FlowEntry,
-            Content::Key => *slot = Content::Key,
-            Content::Value => *slot = Content::Value,
-            Content::Alias(alias) => return self.copy_alias(alias, slot),
-            Content::Anchor(anchor) => return self.copy_anchor(anchor, slot),
-            Content::Tag(tag) => return self.copy_tag(tag, slot),
-            _ => return copy_rare(content, slot),
+        if is_rare(slot) {
+            self.keep_texts(slot);
         }
-        Ok(())
+        if !is_rare(content) {
+            put(bare(content), slot);
+            return Ok(());
+        }
+        match content {
+            Content::Alias(alias) => self.copy_alias(alias, slot),
+            Content::Anchor(anchor) => self.copy_anchor(anchor, slot),
+            Content::Tag(tag) => self.copy_tag(tag, slot),
+            _ => copy_rare(content, slot),
+        }
     }
 
     #[inline(never)]
@@ -107,7 +98,10 @@ impl Reusing {
         slot: &mut unnamed_yaml_token_t_data,
     ) -> Result<(), AllocError> {
         let value = copied(&alias.value, &mut self.text)?;
-        *slot = unnamed_yaml_token_t_data::Alias(unnamed_yaml_token_t_data_alias { value });
+        put(
+            unnamed_yaml_token_t_data::Alias(unnamed_yaml_token_t_data_alias { value }),
+            slot,
+        );
         Ok(())
     }
 
@@ -118,7 +112,10 @@ impl Reusing {
         slot: &mut unnamed_yaml_token_t_data,
     ) -> Result<(), AllocError> {
         let value = copied(&anchor.value, &mut self.text)?;
-        *slot = unnamed_yaml_token_t_data::Anchor(unnamed_yaml_token_t_data_anchor { value });
+        put(
+            unnamed_yaml_token_t_data::Anchor(unnamed_yaml_token_t_data_anchor { value }),
+            slot,
+        );
         Ok(())
     }
 
@@ -130,7 +127,10 @@ impl Reusing {
     ) -> Result<(), AllocError> {
         let handle = copied(&tag.handle, &mut self.handle)?;
         let suffix = copied(&tag.suffix, &mut self.suffix)?;
-        *slot = unnamed_yaml_token_t_data::Tag(unnamed_yaml_token_t_data_tag { handle, suffix });
+        put(
+            unnamed_yaml_token_t_data::Tag(unnamed_yaml_token_t_data_tag { handle, suffix }),
+            slot,
+        );
         Ok(())
     }
 }

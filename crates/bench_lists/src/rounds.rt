@@ -160,7 +160,7 @@ fn parse<S: yaml_token_source_t + Drop, T: Tally>(
     Some(())
 }
 
-#[inline(never)]
+#[inline(always)]
 fn parse_next<S: yaml_token_source_t>(
     parser: &mut yaml_parser_t<S>,
     event: &mut yaml_event_t,
