@@ -25,22 +25,106 @@ use std::mem;
 /// The largest text that is kept, in bytes.
 const MAX_SPARE: usize = 1 << 16;
 
-/// Keeps a text that is to be dropped, where it has more room than the one that was kept: a later text may
-/// take its memory. A text beyond `MAX_SPARE` is not kept.
+/// Takes the memory of a text that is to be replaced.
 #[inline(always)]
-fn keep(spare: &mut String, text: &mut String) {
-    let room = text.capacity();
+fn take_memory(alloc: Global, text: &mut String) -> String
+    ensures taken { string_bytes result ≡ [] }
+    ensures left { string_bytes text.new ≡ [] }
+{
+    let mut taken = mem::replace(text, String::new(alloc));
+    taken.clear();
+    taken
+}
+
+/// The same text. Reading its length lets the compiler move it word by word, as it was written, and not by a
+/// copy of three words, which waits for those writes.
+#[inline(always)]
+fn in_words(text: String) -> String
+    ensures { string_bytes result ≡ string_bytes text }
+{
+    let mut same = text;
+    if same.is_empty() {
+        same.clear();
+    }
+    same
+}
+
+/// Keeps the memory of a text, where it has more room than what was kept: a later text may take it. A text
+/// beyond `MAX_SPARE` is not kept.
+#[inline(always)]
+fn let_go(spare: &mut String, text: &mut String) {
+    let taken = take_memory(*spare.allocator(), text);
+    let room = taken.capacity();
     if room > spare.capacity() && room <= MAX_SPARE {
-        mem::swap(text, spare);
+        *spare = taken;
     }
 }
 
-/// Keeps the text of a scalar that is to be replaced.
+/// Returns whether a content has no memory but that of a scalar's text.
 #[inline(always)]
-fn keep_text(spare: &mut String, content: &mut unnamed_yaml_event_t_data) {
-    if let unnamed_yaml_event_t_data::Scalar(event) = content {
-        keep(spare, &mut event.value);
+fn is_light(content: &unnamed_yaml_event_t_data) -> bool {
+    let (anchor, tag) = match content {
+        unnamed_yaml_event_t_data::Scalar(event) => (&event.anchor, &event.tag),
+        unnamed_yaml_event_t_data::SequenceStart(event) => (&event.anchor, &event.tag),
+        unnamed_yaml_event_t_data::MappingStart(event) => (&event.anchor, &event.tag),
+        unnamed_yaml_event_t_data::DocumentStart(event) => {
+            return event.tag_directives.capacity() == 0;
+        }
+        unnamed_yaml_event_t_data::Alias(_) => return false,
+        _ => return true,
+    };
+    anchor.is_none() && tag.is_none()
+}
+
+/// Leaves no memory with a content that is to be replaced. One text is kept.
+#[inline(always)]
+pub(super) fn make_light(spare: &mut String, content: &mut unnamed_yaml_event_t_data) {
+    if !is_light(content) {
+        let_go_texts(spare, content);
+        return;
     }
+    if let unnamed_yaml_event_t_data::Scalar(event) = content {
+        let_go(spare, &mut event.value);
+    }
+}
+
+#[inline(never)]
+fn let_go_texts(spare: &mut String, content: &mut unnamed_yaml_event_t_data) {
+    match content {
+        unnamed_yaml_event_t_data::Scalar(event) => {
+            let_go(spare, &mut event.value);
+            drop_option(&mut event.anchor);
+            drop_option(&mut event.tag);
+        }
+        unnamed_yaml_event_t_data::Alias(event) => let_go(spare, &mut event.anchor),
+        unnamed_yaml_event_t_data::SequenceStart(event) => {
+            drop_option(&mut event.anchor);
+            drop_option(&mut event.tag);
+        }
+        unnamed_yaml_event_t_data::MappingStart(event) => {
+            drop_option(&mut event.anchor);
+            drop_option(&mut event.tag);
+        }
+        _ => *content = unnamed_yaml_event_t_data::NoEvent,
+    }
+}
+
+/// Drops a text.
+#[inline(always)]
+fn drop_option(text: &mut Option<String>)
+    ensures { text.new ≡ None }
+{
+    if text.is_some() {
+        *text = None;
+    }
+}
+
+/// Puts a content in the place of one without memory.
+#[inline(always)]
+pub(super) fn put_over(content: &mut unnamed_yaml_event_t_data, new: unnamed_yaml_event_t_data)
+    ensures { content.new ≡ new }
+{
+    mem::forget(mem::replace(content, new));
 }
 
 /// Drops a text, and keeps its memory.
@@ -49,7 +133,7 @@ fn drop_text(spare: &mut String, text: &mut Option<String>)
     ensures { text.new ≡ None }
 {
     if let Some(text) = text {
-        keep(spare, text);
+        let_go(spare, text);
     }
     *text = None;
 }
@@ -62,14 +146,6 @@ fn drop_properties(spare: &mut String, anchor: &mut Option<String>, tag: &mut Op
 {
     drop_text(spare, anchor);
     drop_text(spare, tag);
-}
-
-/// Puts the text that is kept into the place of one without memory, where a source may use it.
-#[inline(always)]
-fn hand_out(spare: &mut String, text: &mut String) {
-    if text.capacity() == 0 {
-        mem::swap(spare, text);
-    }
 }
 
 /// Puts a scalar without properties into `content`. Its text is moved out of its token, into whose place the
@@ -107,15 +183,37 @@ fn replace_by_scalar(
     ensures { content.new ≡ scalar None None token.old.value (plain_flag None token.old.style)
         (quoted_flag None token.old.style) token.old.style }
 {
-    replace_by_empty_scalar(*spare.allocator(), content);
+    let alloc = *spare.allocator();
+    if let unnamed_yaml_event_t_data::Alias(event) = content {
+        let text = take_memory(alloc, &mut event.anchor);
+        put_scalar_over(alloc, text, token, content);
+        return;
+    }
+    make_light(spare, content);
+    let text = take_memory(alloc, spare);
+    put_scalar_over(alloc, text, token, content);
+}
+
+/// Puts a scalar without properties over a content without memory, and this text into the token's place.
+#[inline(always)]
+fn put_scalar_over(
+    alloc: Global,
+    text: String,
+    token: &mut unnamed_yaml_token_t_data_scalar,
+    content: &mut unnamed_yaml_event_t_data,
+)
+    ensures { content.new ≡ scalar None None token.old.value (plain_flag None token.old.style)
+        (quoted_flag None token.old.style) token.old.style }
+{
+    put_over(content, plain_scalar(None, None, String::new(alloc), true));
     if let unnamed_yaml_event_t_data::Scalar(event) = content {
+        let value = in_words(mem::replace(&mut token.value, text));
+        mem::forget(mem::replace(&mut event.value, value));
         let plain_implicit = is_plain(token.style);
-        mem::swap(&mut event.value, &mut token.value);
         event.plain_implicit = plain_implicit;
         event.quoted_implicit = !plain_implicit;
         event.style = token.style;
     }
-    hand_out(spare, &mut token.value);
 }
 
 /// Puts a scalar after properties into `content`. Its anchor is moved out of what was read, and its text out
@@ -162,7 +260,7 @@ fn put_text(spare: &mut String, text: Option<String>, place: &mut Option<String>
     ensures { option_map string_bytes place.new ≡ option_map string_bytes text }
 {
     if let Some(earlier) = place {
-        keep(spare, earlier);
+        let_go(spare, earlier);
     }
     *place = text;
 }
@@ -211,47 +309,17 @@ pub(super) fn put_empty_scalar(spare: &mut String, content: &mut unnamed_yaml_ev
         event.value = String::new(*spare.allocator());
         return;
     }
-    any_by_empty_scalar(*spare.allocator(), content);
+    replace_by_empty_scalar(spare, content);
 }
 
-/// Puts a scalar without a text in the place of `content`, in the memory of an alias's name.
-#[inline(always)]
-fn replace_by_empty_scalar(alloc: Global, content: &mut unnamed_yaml_event_t_data)
-    ensures { content.new ≡ empty_scalar }
-{
-    match content {
-        unnamed_yaml_event_t_data::SequenceStart(event)
-            if event.anchor.is_none() && event.tag.is_none() => {
-            *content = plain_scalar(None, None, String::new(alloc), true);
-        }
-        unnamed_yaml_event_t_data::MappingStart(event)
-            if event.anchor.is_none() && event.tag.is_none() => {
-            *content = plain_scalar(None, None, String::new(alloc), true);
-        }
-        unnamed_yaml_event_t_data::Alias(event) => {
-            let mut text = mem::replace(&mut event.anchor, String::new(alloc));
-            text.clear();
-            *content = plain_scalar(None, None, text, true);
-        }
-        unnamed_yaml_event_t_data::NoEvent => {
-            *content = plain_scalar(None, None, String::new(alloc), true);
-        }
-        unnamed_yaml_event_t_data::SequenceEnd => {
-            *content = plain_scalar(None, None, String::new(alloc), true);
-        }
-        unnamed_yaml_event_t_data::MappingEnd => {
-            *content = plain_scalar(None, None, String::new(alloc), true);
-        }
-        _ => any_by_empty_scalar(alloc, content),
-    }
-}
-
-/// Puts a scalar that is left out in the place of a content that is to be dropped.
+/// Puts a scalar that is left out in the place of `content`.
 #[inline(never)]
-fn any_by_empty_scalar(alloc: Global, content: &mut unnamed_yaml_event_t_data)
+fn replace_by_empty_scalar(spare: &mut String, content: &mut unnamed_yaml_event_t_data)
     ensures { content.new ≡ empty_scalar }
 {
-    *content = plain_scalar(None, None, String::new(alloc), true);
+    make_light(spare, content);
+    let text = String::new(*spare.allocator());
+    put_over(content, plain_scalar(None, None, text, true));
 }
 
 /// Puts the start of a sequence without properties into `content`.
@@ -283,29 +351,8 @@ fn replace_by_sequence_start(
 )
     ensures { content.new ≡ sequence_start None None style }
 {
-    keep_text(spare, content);
-    match content {
-        unnamed_yaml_event_t_data::Scalar(event) if event.anchor.is_none() && event.tag.is_none() =>
-            {
-                *content = sequence_start(None, None, style);
-            }
-        unnamed_yaml_event_t_data::MappingStart(event)
-            if event.anchor.is_none() && event.tag.is_none() => {
-            *content = sequence_start(None, None, style);
-        }
-        unnamed_yaml_event_t_data::NoEvent => *content = sequence_start(None, None, style),
-        unnamed_yaml_event_t_data::SequenceEnd => *content = sequence_start(None, None, style),
-        unnamed_yaml_event_t_data::MappingEnd => *content = sequence_start(None, None, style),
-        _ => any_by_sequence_start(style, content),
-    }
-}
-
-/// Puts the start of a sequence in the place of a content that is to be dropped.
-#[inline(never)]
-fn any_by_sequence_start(style: yaml_sequence_style_t, content: &mut unnamed_yaml_event_t_data)
-    ensures { content.new ≡ sequence_start None None style }
-{
-    *content = sequence_start(None, None, style);
+    make_light(spare, content);
+    put_over(content, sequence_start(None, None, style));
 }
 
 /// Puts the start of a mapping without properties into `content`.
@@ -337,29 +384,8 @@ fn replace_by_mapping_start(
 )
     ensures { content.new ≡ mapping_start None None style }
 {
-    keep_text(spare, content);
-    match content {
-        unnamed_yaml_event_t_data::Scalar(event) if event.anchor.is_none() && event.tag.is_none() =>
-            {
-                *content = mapping_start(None, None, style);
-            }
-        unnamed_yaml_event_t_data::SequenceStart(event)
-            if event.anchor.is_none() && event.tag.is_none() => {
-            *content = mapping_start(None, None, style);
-        }
-        unnamed_yaml_event_t_data::NoEvent => *content = mapping_start(None, None, style),
-        unnamed_yaml_event_t_data::SequenceEnd => *content = mapping_start(None, None, style),
-        unnamed_yaml_event_t_data::MappingEnd => *content = mapping_start(None, None, style),
-        _ => any_by_mapping_start(style, content),
-    }
-}
-
-/// Puts the start of a mapping in the place of a content that is to be dropped.
-#[inline(never)]
-fn any_by_mapping_start(style: yaml_mapping_style_t, content: &mut unnamed_yaml_event_t_data)
-    ensures { content.new ≡ mapping_start None None style }
-{
-    *content = mapping_start(None, None, style);
+    make_light(spare, content);
+    put_over(content, mapping_start(None, None, style));
 }
 
 /// Puts the end of a sequence into `content`.
@@ -378,32 +404,8 @@ pub(super) fn put_sequence_end(spare: &mut String, content: &mut unnamed_yaml_ev
 fn replace_by_sequence_end(spare: &mut String, content: &mut unnamed_yaml_event_t_data)
     ensures { content.new ≡ SequenceEnd }
 {
-    keep_text(spare, content);
-    match content {
-        unnamed_yaml_event_t_data::Scalar(event) if event.anchor.is_none() && event.tag.is_none() =>
-            {
-                *content = unnamed_yaml_event_t_data::SequenceEnd;
-            }
-        unnamed_yaml_event_t_data::SequenceStart(event)
-            if event.anchor.is_none() && event.tag.is_none() => {
-            *content = unnamed_yaml_event_t_data::SequenceEnd;
-        }
-        unnamed_yaml_event_t_data::MappingStart(event)
-            if event.anchor.is_none() && event.tag.is_none() => {
-            *content = unnamed_yaml_event_t_data::SequenceEnd;
-        }
-        unnamed_yaml_event_t_data::NoEvent => *content = unnamed_yaml_event_t_data::SequenceEnd,
-        unnamed_yaml_event_t_data::MappingEnd => *content = unnamed_yaml_event_t_data::SequenceEnd,
-        _ => any_by_sequence_end(content),
-    }
-}
-
-/// Puts the end of a sequence in the place of a content that is to be dropped.
-#[inline(never)]
-fn any_by_sequence_end(content: &mut unnamed_yaml_event_t_data)
-    ensures { content.new ≡ SequenceEnd }
-{
-    *content = unnamed_yaml_event_t_data::SequenceEnd;
+    make_light(spare, content);
+    put_over(content, unnamed_yaml_event_t_data::SequenceEnd);
 }
 
 /// Puts the end of a mapping into `content`.
@@ -422,32 +424,8 @@ pub(super) fn put_mapping_end(spare: &mut String, content: &mut unnamed_yaml_eve
 fn replace_by_mapping_end(spare: &mut String, content: &mut unnamed_yaml_event_t_data)
     ensures { content.new ≡ MappingEnd }
 {
-    keep_text(spare, content);
-    match content {
-        unnamed_yaml_event_t_data::Scalar(event) if event.anchor.is_none() && event.tag.is_none() =>
-            {
-                *content = unnamed_yaml_event_t_data::MappingEnd;
-            }
-        unnamed_yaml_event_t_data::SequenceStart(event)
-            if event.anchor.is_none() && event.tag.is_none() => {
-            *content = unnamed_yaml_event_t_data::MappingEnd;
-        }
-        unnamed_yaml_event_t_data::MappingStart(event)
-            if event.anchor.is_none() && event.tag.is_none() => {
-            *content = unnamed_yaml_event_t_data::MappingEnd;
-        }
-        unnamed_yaml_event_t_data::NoEvent => *content = unnamed_yaml_event_t_data::MappingEnd,
-        unnamed_yaml_event_t_data::SequenceEnd => *content = unnamed_yaml_event_t_data::MappingEnd,
-        _ => any_by_mapping_end(content),
-    }
-}
-
-/// Puts the end of a mapping in the place of a content that is to be dropped.
-#[inline(never)]
-fn any_by_mapping_end(content: &mut unnamed_yaml_event_t_data)
-    ensures { content.new ≡ MappingEnd }
-{
-    *content = unnamed_yaml_event_t_data::MappingEnd;
+    make_light(spare, content);
+    put_over(content, unnamed_yaml_event_t_data::MappingEnd);
 }
 
 /// Puts an alias into `content`. Its name is moved out of its token, into whose place the text of an earlier
@@ -467,7 +445,7 @@ pub(super) fn put_alias(
     replace_by_alias(spare, token, content);
 }
 
-/// Puts an alias in the place of `content`.
+/// Puts an alias in the place of `content`. The memory of an earlier text goes into the token's place.
 #[inline(never)]
 fn replace_by_alias(
     spare: &mut String,
@@ -476,50 +454,34 @@ fn replace_by_alias(
 )
     ensures { content.new ≡ Alias (record { anchor = token.old.value }) }
 {
+    let alloc = *spare.allocator();
     if let unnamed_yaml_event_t_data::Scalar(event) = content {
-        if event.anchor.is_some() {
-            drop_text(spare, &mut event.anchor);
-        }
-        if event.tag.is_some() {
-            drop_text(spare, &mut event.tag);
-        }
+        drop_option(&mut event.anchor);
+        drop_option(&mut event.tag);
+        let text = take_memory(alloc, &mut event.value);
+        put_alias_over(alloc, text, token, content);
+        return;
     }
-    replace_by_empty_alias(*spare.allocator(), content);
-    if let unnamed_yaml_event_t_data::Alias(event) = content {
-        mem::swap(&mut event.anchor, &mut token.value);
-    }
-    hand_out(spare, &mut token.value);
+    make_light(spare, content);
+    let text = take_memory(alloc, spare);
+    put_alias_over(alloc, text, token, content);
 }
 
-/// Puts an alias without a name in the place of `content`, in the memory of a scalar's text.
+/// Puts an alias over a content without memory, and this text into the token's place.
 #[inline(always)]
-fn replace_by_empty_alias(alloc: Global, content: &mut unnamed_yaml_event_t_data)
-    ensures { content.new ≡ Alias (record { anchor = [] }) }
+fn put_alias_over(
+    alloc: Global,
+    text: String,
+    token: &mut unnamed_yaml_token_t_data_alias,
+    content: &mut unnamed_yaml_event_t_data,
+)
+    ensures { content.new ≡ Alias (record { anchor = token.old.value }) }
 {
-    match content {
-        unnamed_yaml_event_t_data::Scalar(event) if event.anchor.is_none() && event.tag.is_none() =>
-            {
-                let mut text = mem::replace(&mut event.value, String::new(alloc));
-                text.clear();
-                *content = alias_of(text);
-            }
-        unnamed_yaml_event_t_data::SequenceStart(event)
-            if event.anchor.is_none() && event.tag.is_none() => {
-            *content = alias_of(String::new(alloc));
-        }
-        unnamed_yaml_event_t_data::NoEvent => *content = alias_of(String::new(alloc)),
-        unnamed_yaml_event_t_data::SequenceEnd => *content = alias_of(String::new(alloc)),
-        unnamed_yaml_event_t_data::MappingEnd => *content = alias_of(String::new(alloc)),
-        _ => any_by_empty_alias(alloc, content),
+    put_over(content, alias_of(String::new(alloc)));
+    if let unnamed_yaml_event_t_data::Alias(event) = content {
+        let name = in_words(mem::replace(&mut token.value, text));
+        mem::forget(mem::replace(&mut event.anchor, name));
     }
-}
-
-/// Puts an alias without a name in the place of a content that is to be dropped.
-#[inline(never)]
-fn any_by_empty_alias(alloc: Global, content: &mut unnamed_yaml_event_t_data)
-    ensures { content.new ≡ Alias (record { anchor = [] }) }
-{
-    *content = alias_of(String::new(alloc));
 }
 
 fn alias_of(anchor: String) -> unnamed_yaml_event_t_data
