@@ -170,6 +170,11 @@ pub(super) fn put_bare_scalar(
         }
         return;
     }
+    if let unnamed_yaml_event_t_data::NoEvent = content {
+        let alloc = *spare.allocator();
+        put_scalar_over(alloc, take_memory(alloc, spare), token, content);
+        return;
+    }
     replace_by_scalar(spare, token, content);
 }
 
@@ -339,6 +344,10 @@ pub(super) fn put_sequence_start(
         }
         return;
     }
+    if let unnamed_yaml_event_t_data::NoEvent = content {
+        put_over(content, sequence_start(None, None, style));
+        return;
+    }
     replace_by_sequence_start(style, spare, content);
 }
 
@@ -372,6 +381,10 @@ pub(super) fn put_mapping_start(
         }
         return;
     }
+    if let unnamed_yaml_event_t_data::NoEvent = content {
+        put_over(content, mapping_start(None, None, style));
+        return;
+    }
     replace_by_mapping_start(style, spare, content);
 }
 
@@ -395,6 +408,7 @@ pub(super) fn put_sequence_end(spare: &mut String, content: &mut unnamed_yaml_ev
 {
     match content {
         unnamed_yaml_event_t_data::SequenceEnd => {}
+        unnamed_yaml_event_t_data::NoEvent => put_over(content, unnamed_yaml_event_t_data::SequenceEnd),
         _ => replace_by_sequence_end(spare, content),
     }
 }
@@ -415,6 +429,7 @@ pub(super) fn put_mapping_end(spare: &mut String, content: &mut unnamed_yaml_eve
 {
     match content {
         unnamed_yaml_event_t_data::MappingEnd => {}
+        unnamed_yaml_event_t_data::NoEvent => put_over(content, unnamed_yaml_event_t_data::MappingEnd),
         _ => replace_by_mapping_end(spare, content),
     }
 }
