@@ -1,26 +1,41 @@
 use Rattle.std.proofs.Common.{inl}
 use Rattle.std.proofs.Common.{refl}
+use Rattle.libyaml_types.specs.declared.enums.yaml_token_type_t.TheVariants as tok
 use Rattle.libyaml_automaton.specs.Numbers.{next_of}
 use Rattle.libyaml_automaton.proofs.Undone.{bare_full, full_states_where, full_marks_where, full_of, undone_at}
 use Rattle.libyaml_automaton.proofs.machine.Machine.step.Goals as goal
 
-pub returns-in-Enter-clause-full_states : goal.returns-in-Enter-clause-full_states
-returns-in-Enter-clause-full_states c =
-    let g = c.in-Enter.ensures.goes in
-    full_states_where (next_of c.args.read.now.next) c.args.kind _ c.enter.result c.args.self.now _ c.args.states.now
-    c.args.marks.now g.1.0 g.1.1.0 g.1.1.1.1.0 c.enter.ensures.full_states
-
-pub returns-in-Enter-clause-full_marks : goal.returns-in-Enter-clause-full_marks
-returns-in-Enter-clause-full_marks c =
-    let g = c.in-Enter.ensures.goes in
-    full_marks_where (next_of c.args.read.now.next) c.args.kind _ c.enter.result c.args.self.now _ c.args.marks.now
-    g.1.1.0 g.1.1.1.1.0 c.enter.ensures.full_marks
-
-pub returns-in-Enter-clause-undone : goal.returns-in-Enter-clause-undone
-returns-in-Enter-clause-undone c = λ u.
+pub returns-in-YAML_ANCHOR_TOKEN-clause-undone : goal.returns-in-YAML_ANCHOR_TOKEN-clause-undone
+returns-in-YAML_ANCHOR_TOKEN-clause-undone c = λ u.
     let g = c.in-Enter.ensures.goes in
     undone_at _ _ _ _ _ _ _ _ _ _ _ _ _ _ _ g.1.1.0 g.1.1.1.1.0 g.1.1.1.1.1.0
-    (full_of c.enter.result c.args.kind c.enter.new.read c.enter.ensures.fits u) (c.enter.ensures.undone)
+    (full_of c.enter.result tok.YAML_ANCHOR_TOKEN c.enter.new.read c.enter.ensures.fits u) (c.enter.ensures.undone)
+
+pub returns-in-YAML_TAG_TOKEN-clause-undone : goal.returns-in-YAML_TAG_TOKEN-clause-undone
+returns-in-YAML_TAG_TOKEN-clause-undone c = λ u.
+    let g = c.in-Enter.ensures.goes in
+    let e = c.enter-in-YAML_TAG_TOKEN in
+    undone_at _ _ _ _ _ _ _ _ _ _ _ _ _ _ _ g.1.1.0 g.1.1.1.1.0 g.1.1.1.1.1.0
+    (full_of e.result tok.YAML_TAG_TOKEN e.new.read e.ensures.fits u) (e.ensures.undone)
+
+pub returns-in_default-kind-clause-full_states : goal.returns-in_default-kind-clause-full_states
+returns-in_default-kind-clause-full_states c =
+    let g = c.in-Enter.ensures.goes in
+    full_states_where (next_of c.args.read.now.next) c.args.kind _ c.enter-in_default-kind.result c.args.self.now _
+    c.args.states.now c.args.marks.now g.1.0 g.1.1.0 g.1.1.1.1.0 c.enter-in_default-kind.ensures.full_states
+
+pub returns-in_default-kind-clause-full_marks : goal.returns-in_default-kind-clause-full_marks
+returns-in_default-kind-clause-full_marks c =
+    let g = c.in-Enter.ensures.goes in
+    full_marks_where (next_of c.args.read.now.next) c.args.kind _ c.enter-in_default-kind.result c.args.self.now _
+    c.args.marks.now g.1.1.0 g.1.1.1.1.0 c.enter-in_default-kind.ensures.full_marks
+
+pub returns-in_default-kind-clause-undone : goal.returns-in_default-kind-clause-undone
+returns-in_default-kind-clause-undone c = λ u.
+    let g = c.in-Enter.ensures.goes in
+    let e = c.enter-in_default-kind in
+    undone_at _ _ _ _ _ _ _ _ _ _ _ _ _ _ _ g.1.1.0 g.1.1.1.1.0 g.1.1.1.1.1.0
+    (full_of e.result c.args.kind e.new.read e.ensures.fits u) (e.ensures.undone)
 
 pub returns-in-Node-clause-undone : goal.returns-in-Node-clause-undone
 returns-in-Node-clause-undone c = λ u.
