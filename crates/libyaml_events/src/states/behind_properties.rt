@@ -2,6 +2,7 @@
 ghost use Rattle.std.specs.Prelude.{◌≡◌, ◌⊎◌, ℕ, None, Ok, IfErr, IfOk, List, Option, OnOk, option_map};
 ghost use Rattle.std.specs.Prelude.{string_bytes, true};
 ghost use Rattle.libyaml_types.specs.Types.{token_type};
+ghost use Rattle.libyaml_grammar.specs.sentences.Events.{event};
 ghost use Rattle.libyaml_types.specs.declared.enums.yaml_token_type_t.TheVariants.{YAML_SCALAR_TOKEN};
 ghost use Rattle.libyaml_automaton.specs.Numbers.{flag, place_of};
 ghost use Rattle.libyaml_automaton.specs.Fits.{FitsContent, IsFull, opens_at};
@@ -15,15 +16,14 @@ ghost use Rattle.libyaml_events.specs.automaton.Led.{ReadsTag, RefusesTag, SaysC
 
 use crate::parser::Machine;
 use crate::pending::Pending;
-use crate::states::contents::{put_anchored_scalar, put_scalar};
-use crate::states::give;
+use crate::states::contents::{make_light, put_anchored_scalar, put_over, put_scalar};
 use crate::states::node_events::{collection_start, is_missing, plain_scalar, sequence_start};
 use crate::states::properties::{forget_earlier, take_anchor};
 use crate::step::Step;
 use libyaml_automaton::Answer;
 use libyaml_types::{
-    unnamed_yaml_token_t_data, yaml_error_type_t, yaml_event_t, yaml_mark_t, yaml_sequence_style_t,
-    yaml_token_t,
+    unnamed_yaml_event_t_data, unnamed_yaml_token_t_data, yaml_error_type_t, yaml_event_t,
+    yaml_mark_t, yaml_sequence_style_t, yaml_token_t,
 };
 
 impl Machine {
@@ -145,14 +145,10 @@ impl Machine {
         }
         let start_mark = pending.reading.start_mark;
         let tag_mark = pending.reading.tag_mark;
-        let tag = match &mut pending.properties.tag {
-            None => return Ok(None),
-            Some(read) => self.resolve_tag(read, &start_mark, &tag_mark)?,
-        };
-        // Its handle and suffix are dropped here: where they stay, a list of nodes may not grow where it
-        // lies.
-        pending.properties.tag = None;
-        Ok(Some(tag))
+        match &mut pending.properties.tag {
+            None => Ok(None),
+            Some(read) => Ok(Some(self.resolve_tag(read, &start_mark, &tag_mark)?)),
+        }
     }
 
     /// Does a step of the parser without texts, after a node's properties.
@@ -246,6 +242,24 @@ impl Machine {
         }
     }
 
+    /// Puts a node with these marks into `out`. What its earlier content held is dropped, but for one text.
+    #[inline(always)]
+    fn put_node(
+        &mut self,
+        content: unnamed_yaml_event_t_data,
+        start_mark: &yaml_mark_t,
+        end_mark: &yaml_mark_t,
+        out: &mut yaml_event_t,
+    )
+        ensures same { self.new ≡ self.old }
+        ensures put { out.new ≡ event content start_mark.now end_mark.now }
+    {
+        make_light(&mut self.spare, &mut out.content);
+        put_over(&mut out.content, content);
+        out.start_mark = *start_mark;
+        out.end_mark = *end_mark;
+    }
+
     /// Puts a node of properties alone.
     #[inline(never)]
     fn put_empty_behind(
@@ -265,7 +279,7 @@ impl Machine {
         let text = String::new(self.allocator());
         let anchor = take_anchor(pending);
         let content = plain_scalar(anchor, tag, text, implicit);
-        give(out, content, *start_mark, *end_mark);
+        self.put_node(content, start_mark, end_mark, out);
         self.keep(token);
     }
 
@@ -287,7 +301,7 @@ impl Machine {
         let style = yaml_sequence_style_t::YAML_BLOCK_SEQUENCE_STYLE;
         let anchor = take_anchor(pending);
         let content = sequence_start(anchor, tag, style);
-        give(out, content, *start_mark, token.end_mark);
+        self.put_node(content, start_mark, &token.end_mark, out);
         self.keep(token);
     }
 
@@ -311,6 +325,6 @@ impl Machine {
     {
         let anchor = take_anchor(pending);
         let content = collection_start(anchor, tag, &token.content);
-        give(out, content, *start_mark, token.end_mark);
+        self.put_node(content, start_mark, &token.end_mark, out);
     }
 }

@@ -27,7 +27,7 @@ const MAX_SPARE: usize = 1 << 16;
 
 /// Takes the memory of a text that is to be replaced.
 #[inline(always)]
-fn take_memory(alloc: Global, text: &mut String) -> String
+pub(super) fn take_memory(alloc: Global, text: &mut String) -> String
     ensures taken { string_bytes result ≡ [] }
     ensures left { string_bytes text.new ≡ [] }
 {
@@ -39,7 +39,7 @@ fn take_memory(alloc: Global, text: &mut String) -> String
 /// The same text. Reading its length lets the compiler move it word by word, as it was written, and not by a
 /// copy of three words, which waits for those writes.
 #[inline(always)]
-fn in_words(text: String) -> String
+pub(super) fn in_words(text: String) -> String
     ensures { string_bytes result ≡ string_bytes text }
 {
     let mut same = text;
@@ -248,15 +248,17 @@ pub(super) fn put_scalar(
     }
     let plain_implicit = is_plain_implicit(&tag, token.style);
     let quoted_implicit = is_quoted_implicit(&tag, token.style);
-    let later = mem::replace(spare, String::new(*spare.allocator()));
-    *content = unnamed_yaml_event_t_data::Scalar(unnamed_yaml_event_t_data_scalar {
+    make_light(spare, content);
+    let later = take_memory(*spare.allocator(), spare);
+    let scalar = unnamed_yaml_event_t_data_scalar {
         anchor: anchor.take(),
         tag,
         value: mem::replace(&mut token.value, later),
         plain_implicit,
         quoted_implicit,
         style: token.style,
-    });
+    };
+    put_over(content, unnamed_yaml_event_t_data::Scalar(scalar));
 }
 
 /// Puts a text into the place of another.
@@ -267,7 +269,7 @@ fn put_text(spare: &mut String, text: Option<String>, place: &mut Option<String>
     if let Some(earlier) = place {
         let_go(spare, earlier);
     }
-    *place = text;
+    mem::forget(mem::replace(place, text));
 }
 
 /// Moves a text, where there is one, into the place of another.
@@ -295,7 +297,7 @@ pub(super) fn put_anchored_scalar(
 {
     put_bare_scalar(spare, token, content);
     if let unnamed_yaml_event_t_data::Scalar(event) = content {
-        mem::swap(&mut event.anchor, anchor);
+        mem::forget(mem::replace(&mut event.anchor, anchor.take()));
     }
 }
 
@@ -408,7 +410,10 @@ pub(super) fn put_sequence_end(spare: &mut String, content: &mut unnamed_yaml_ev
 {
     match content {
         unnamed_yaml_event_t_data::SequenceEnd => {}
-        unnamed_yaml_event_t_data::NoEvent => put_over(content, unnamed_yaml_event_t_data::SequenceEnd),
+        unnamed_yaml_event_t_data::NoEvent => put_over(
+            content,
+            unnamed_yaml_event_t_data::SequenceEnd,
+        ),
         _ => replace_by_sequence_end(spare, content),
     }
 }
@@ -429,7 +434,10 @@ pub(super) fn put_mapping_end(spare: &mut String, content: &mut unnamed_yaml_eve
 {
     match content {
         unnamed_yaml_event_t_data::MappingEnd => {}
-        unnamed_yaml_event_t_data::NoEvent => put_over(content, unnamed_yaml_event_t_data::MappingEnd),
+        unnamed_yaml_event_t_data::NoEvent => put_over(
+            content,
+            unnamed_yaml_event_t_data::MappingEnd,
+        ),
         _ => replace_by_mapping_end(spare, content),
     }
 }

@@ -7,6 +7,7 @@ ghost use Rattle.libyaml_events.specs.automaton.Led.{with_anchor, with_tag};
 
 use crate::parser::Machine;
 use crate::pending::Pending;
+use crate::states::contents::{in_words, take_memory};
 use libyaml_types::{
     unnamed_yaml_token_t_data, unnamed_yaml_token_t_data_anchor, unnamed_yaml_token_t_data_tag,
     yaml_token_t,
@@ -27,12 +28,12 @@ fn put_anchor(
     if held.is_some() {
         forget_anchor(held);
     }
-    let alloc = *spare.allocator();
-    mem::swap(&mut anchor.value, spare);
-    *held = Some(mem::replace(spare, String::new(alloc)));
+    let text = take_memory(*spare.allocator(), spare);
+    let name = in_words(mem::replace(&mut anchor.value, text));
+    mem::forget(mem::replace(held, Some(name)));
 }
 
-/// Puts the tag of a token, moved out of it, into `held`.
+/// Puts the tag of a token, moved out of it, into `held`, whose earlier texts go into the token's place.
 #[inline(always)]
 fn put_tag(
     alloc: Global,
@@ -41,9 +42,25 @@ fn put_tag(
 )
     ensures { held.new ≡ Some tag.old }
 {
-    if held.is_some() {
-        forget_tag(held);
+    match held {
+        Some(earlier) => {
+            mem::swap(&mut earlier.handle, &mut tag.handle);
+            mem::swap(&mut earlier.suffix, &mut tag.suffix);
+        }
+        None => put_first_tag(alloc, tag, held),
     }
+}
+
+/// Puts the tag of a token, moved out of it, into `held`, where no tag was put yet.
+#[cold]
+#[inline(never)]
+fn put_first_tag(
+    alloc: Global,
+    tag: &mut unnamed_yaml_token_t_data_tag,
+    held: &mut Option<unnamed_yaml_token_t_data_tag>,
+)
+    ensures { held.new ≡ Some tag.old }
+{
     *held = Some(unnamed_yaml_token_t_data_tag {
         handle: mem::replace(&mut tag.handle, String::new(alloc)),
         suffix: mem::replace(&mut tag.suffix, String::new(alloc)),
@@ -56,14 +73,6 @@ fn forget_anchor(anchor: &mut Option<String>)
     ensures { option_map string_bytes anchor.new ≡ None }
 {
     *anchor = None;
-}
-
-/// Forgets a tag.
-#[cold]
-fn forget_tag(tag: &mut Option<unnamed_yaml_token_t_data_tag>)
-    ensures { tag.new ≡ None }
-{
-    *tag = None;
 }
 
 /// Forgets the anchor of an earlier node.
