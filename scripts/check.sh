@@ -40,6 +40,7 @@ check python3 scripts/definitions.py --check
 check python3 scripts/unused_dependencies.py
 check python3 scripts/lent.py
 check python3 scripts/passed_on.py
+check python3 scripts/imports.py --check
 check python3 scripts/doubles.py
 check python3 scripts/doors/abi.py
 check sh scripts/wrong_words.sh

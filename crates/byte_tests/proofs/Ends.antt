@@ -1,6 +1,5 @@
 -- the last bytes of a text, as a word that is shifted
-use Rattle.std.proofs.Common.{◌≡◌, ℕ, zero, suc, ◌+◌, ◌-◌, ◌*◌, ◌/◌, ◌^◌, ◌<◌, ◌≤◌, List, [], ◌∷◌, length, length-drop}
-use Rattle.std.proofs.Common.{drop, get_or, refl, ap, sym, ◌∙◌, arith}
+use Rattle.std.proofs.Common.{◌≡◌, ℕ, zero, suc, ◌+◌, ◌-◌, ◌*◌, ◌/◌, ◌^◌, ◌<◌, ◌≤◌, List, [], ◌∷◌, length, length-drop, drop, get_or, refl, ap, sym, ◌∙◌, arith}
 use Rattle.std.proofs.lemmas.List.{get_or-drop, drop-drop}
 use Rattle.std.specs.Slice.Scan.{little_endian}
 use native.Mathlib.Nat.{pow-suc, mul_comm, mul-suc, div-div-eq-div-mul, div-one, zero-div}

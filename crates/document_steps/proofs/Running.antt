@@ -1,6 +1,5 @@
 -- A run of calls leads where the loader's machine does.
-use Rattle.std.proofs.Common.{◌≡◌, ◌++◌, ◌∷◌, List, [], ℕ, length, refl, sym, ap, subst, ◌∙◌}
-use Rattle.std.proofs.Common.{Option, Some, None, Bool, true, false, Err, true≢false, append-nil}
+use Rattle.std.proofs.Common.{◌≡◌, ◌++◌, ◌∷◌, List, [], ℕ, length, refl, sym, ap, subst, ◌∙◌, Option, Some, None, Bool, true, false, Err, true≢false, append-nil}
 use Rattle.std.specs.Cmp.Lexicographic.{slice_cmp, nat_list_cmp_total}
 use Rattle.std.specs.FinMap.{from_entries, get, get-from_entries}
 use Rattle.libyaml_types.specs.Types.{event_type}
@@ -9,8 +8,7 @@ use Rattle.libyaml_types.specs.declared.event.unnamed_yaml_event_t_data.{unnamed
 use Rattle.libyaml_grammar.specs.sentences.Events.{Event}
 use Rattle.libyaml_grammar.specs.runs.Runs.{Ending}
 use Rattle.libyaml_documents.specs.Documents.{Document}
-use Rattle.libyaml_graphs.specs.graphs.GraphParts.{Closing, Opening, Part, closing_in, closing_of, opening_in, opening_of}
-use Rattle.libyaml_graphs.specs.graphs.GraphParts.{part_in, part_of}
+use Rattle.libyaml_graphs.specs.graphs.GraphParts.{Closing, Opening, Part, closing_in, closing_of, opening_in, opening_of, part_in, part_of}
 use Rattle.libyaml_graphs.specs.loads.Bounds.{bounded_loads}
 use Rattle.libyaml_graphs.specs.loads.Loads.{Load, document, last_load}
 use Rattle.libyaml_graphs.specs.machine.Loader as machine
@@ -21,15 +19,12 @@ use Rattle.libyaml_composer.specs.declared.deed.Deed.TheVariants as deed
 use Rattle.libyaml_composer.specs.declared.records.open_t.{open_t}
 use Rattle.libyaml_composer.specs.declared.records.place_t.{place_t}
 use Rattle.libyaml_composer.specs.Composing.{Composer, Told, between_step, composer_of, step, step_in, told, within_step}
-use Rattle.libyaml_composer.specs.Held.{Held, applied, applied_part, fact_of, fault_by, given, loader_of}
-use Rattle.libyaml_composer.specs.Held.{nothing_held, state_in, state_of}
+use Rattle.libyaml_composer.specs.Held.{Held, applied, applied_part, fact_of, fault_by, given, loader_of, nothing_held, state_in, state_of, IsRefused}
 use Rattle.libyaml_graphs.specs.loads.Leads.{Leads, as_loads, loads_from}
-use Rattle.libyaml_composer.specs.Held.{IsRefused}
 use Rattle.document_steps.specs.Runs.{ComposeCalls, IsTaken, Run, begins, moves, takes}
 use Rattle.libyaml_composer.specs.Standing.{IsCarried, IsPart, Standing}
 use Rattle.libyaml_composer.proofs.lent.Follows.{Follows, fails, follows, full, goes}
-use Rattle.libyaml_graphs.proofs.lent.Leading.{closes_there, from_none, goes_there, leads_both, leads_none, opens_there, passes_by}
-use Rattle.libyaml_graphs.proofs.lent.Leading.{refused_there}
+use Rattle.libyaml_graphs.proofs.lent.Leading.{closes_there, from_none, goes_there, leads_both, leads_none, opens_there, passes_by, refused_there}
 
 -- where a caller stands after these events
 pub record Stood (most : ℕ) (c : Composer) (h : Held) (es : List Event) (ds : List Document) : Type 0 where

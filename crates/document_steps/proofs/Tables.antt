@@ -1,6 +1,5 @@
 -- A table of anchors has those that are held, and goes on so.
-use Rattle.std.proofs.Common.{◌≡◌, ◌++◌, ◌∷◌, ◌+◌, ◌≤◌, List, [], ℕ, ℤ, pos, length, arith, refl, sym, ap, ◌∙◌}
-use Rattle.std.proofs.Common.{Option, Some, None, Bool, true, false, cond, drop, take}
+use Rattle.std.proofs.Common.{◌≡◌, ◌++◌, ◌∷◌, ◌+◌, ◌≤◌, List, [], ℕ, ℤ, pos, length, arith, refl, sym, ap, ◌∙◌, Option, Some, None, Bool, true, false, cond, drop, take}
 use Rattle.std.proofs.lemmas.List.{length-drop, drop-append-le, take-append-le}
 use Rattle.std.proofs.lemmas.Slice.Eq.{bytes_eq-Decides}
 use Rattle.std.specs.Prelude.{bytes_eq}

@@ -1,7 +1,5 @@
 -- A child handed to its parent, in the record and in the machine.
-use Rattle.std.proofs.Common.{◌≡◌, ◌<◌, ◌≤◌, ◌++◌, ◌∷◌, List, [], ℕ, suc, ℤ, pos, length, arith, refl, sym, ap, subst, ◌∙◌}
-use Rattle.std.proofs.Common.{Option, Some, None, Bool, true, false, slice_get, option_map, map, nat_lt, length-append}
-use Rattle.std.proofs.Common.{if◌then◌else◌, true≢false}
+use Rattle.std.proofs.Common.{◌≡◌, ◌<◌, ◌≤◌, ◌++◌, ◌∷◌, List, [], ℕ, suc, ℤ, pos, length, arith, refl, sym, ap, subst, ◌∙◌, Option, Some, None, Bool, true, false, slice_get, option_map, map, nat_lt, length-append, if◌then◌else◌, true≢false}
 use Rattle.std.proofs.lemmas.Int.{ints}
 use Rattle.libyaml_types.specs.declared.enums.yaml_node_type_t.TheVariants.{YAML_SEQUENCE_NODE, YAML_MAPPING_NODE}
 use Rattle.libyaml_documents.specs.LoadedNodes.{children_at, children_of, children_of_node}

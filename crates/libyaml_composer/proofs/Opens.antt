@@ -1,6 +1,5 @@
 -- The collections that are open are nodes of their kinds with so many children, and an inner one has a larger id.
-use Rattle.std.proofs.Common.{◌≡◌, ◌<◌, ◌≤◌, ◌++◌, ◌∷◌, List, [], ℕ, zero, suc, ℤ, pos, length, arith, refl, sym, ap, subst}
-use Rattle.std.proofs.Common.{Option, Some, None, Bool, true, false, slice_get, option_map}
+use Rattle.std.proofs.Common.{◌≡◌, ◌<◌, ◌≤◌, ◌++◌, ◌∷◌, List, [], ℕ, zero, suc, ℤ, pos, length, arith, refl, sym, ap, subst, Option, Some, None, Bool, true, false, slice_get, option_map}
 use Rattle.std.proofs.lemmas.Int.{ints}
 use Rattle.libyaml_documents.specs.Nodes.{IsIdUpTo, changed_at}
 use Rattle.libyaml_documents.specs.declared.node.yaml_node_t.{yaml_node_t}

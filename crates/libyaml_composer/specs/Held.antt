@@ -1,6 +1,5 @@
 -- What a caller keeps of the document that it composes, and what it does with it.
-use Rattle.std.specs.Prelude.{◌∷◌, ◌++◌, ℕ, ℤ, pos, negsuc, List, [], map, Option, None, Some, Bool, true, false}
-use Rattle.std.specs.Prelude.{if◌then◌else◌}
+use Rattle.std.specs.Prelude.{◌∷◌, ◌++◌, ℕ, ℤ, pos, negsuc, List, [], map, Option, None, Some, Bool, true, false, if◌then◌else◌}
 use Rattle.std.specs.FinMap.{get, insert}
 use Rattle.libyaml_types.specs.Fault.{Fault, memory_fault}
 use Rattle.libyaml_grammar.specs.sentences.Events.{Event}
@@ -10,8 +9,7 @@ use Rattle.libyaml_documents.specs.LoadedNodes.{with_end}
 use Rattle.libyaml_documents.specs.Nodes.{with_changed, with_item, with_pair}
 use Rattle.libyaml_documents.specs.declared.node.yaml_node_t.{yaml_node_t}
 use Rattle.libyaml_graphs.specs.graphs.ComposerFaults.{repeated_anchor, undefined_alias}
-use Rattle.libyaml_graphs.specs.graphs.GraphParts.{Closing, Opening, Part, alias_part, closing_of, end_part, leaf_part}
-use Rattle.libyaml_graphs.specs.graphs.GraphParts.{opening_of, part_of, start_part}
+use Rattle.libyaml_graphs.specs.graphs.GraphParts.{Closing, Opening, Part, alias_part, closing_of, end_part, leaf_part, opening_of, part_of, start_part}
 use Rattle.libyaml_graphs.specs.graphs.Graphs.{Carrier, id_or}
 use Rattle.libyaml_graphs.specs.loads.Loads.{document}
 use Rattle.libyaml_graphs.specs.machine.Loader.{Anchors, Loader, OpenNode, State, between, no_anchors, within}

@@ -1,6 +1,5 @@
 -- What the record says of the nodes and anchors that a caller holds, and what it may rely on where it puts a child.
-use Rattle.std.specs.Prelude.{◌≡◌, ◌<◌, ◌≤◌, ◌≤ℤ◌, ◌∷◌, ℕ, suc, ℤ, pos, List, [], length, Option, None, Some, Bool, true, false}
-use Rattle.std.specs.Prelude.{slice_get}
+use Rattle.std.specs.Prelude.{◌≡◌, ◌<◌, ◌≤◌, ◌≤ℤ◌, ◌∷◌, ℕ, suc, ℤ, pos, List, [], length, Option, None, Some, Bool, true, false, slice_get}
 use Rattle.std.specs.FinMap.{get}
 use Rattle.libyaml_types.specs.declared.enums.yaml_node_type_t.TheVariants.{YAML_SEQUENCE_NODE, YAML_MAPPING_NODE}
 use Rattle.libyaml_documents.specs.Nodes.{IsIdUpTo, type_at}

@@ -1,7 +1,5 @@
 -- A child put into a node at its place, as a change of the document.
-use Rattle.std.proofs.Common.{◌≡◌, ℕ, zero, suc, ◌<◌, ℤ, pos, List, [], ◌∷◌, length, set, get_or, nat_lt, refl, ap, sym}
-use Rattle.std.proofs.Common.{subst, arith, ◌∙◌, Option, Some, None}
-use Rattle.std.proofs.Common.{inl, inr, Result, Ok, Err}
+use Rattle.std.proofs.Common.{◌≡◌, ℕ, zero, suc, ◌<◌, ℤ, pos, List, [], ◌∷◌, length, set, get_or, nat_lt, refl, ap, sym, subst, arith, ◌∙◌, Option, Some, None, inl, inr, Result, Ok, Err}
 use Rattle.std.proofs.lemmas.Int.{ints}
 use Rattle.std.specs.Prelude.{IfSome, OnErr, slice_get}
 use Rattle.libyaml_documents.specs.declared.node.ChildRole.{ChildRole}

@@ -4,9 +4,7 @@ use Rattle.std.specs.Bool.{Decides}
 use Rattle.std.specs.Cmp.{booleans_Decides}
 use Rattle.std.specs.Cmp.Lexicographic.{bytes_decides}
 use Rattle.libyaml_documents.proofs.Choices.{both, through, no_field, one_field, enum_decides, ◌then◌}
-use Rattle.libyaml_documents.proofs.Fields.{mark_decides, text_decides, encoding_decides, scalar_style_decides}
-use Rattle.libyaml_documents.proofs.Fields.{sequence_style_decides, mapping_style_decides}
-use Rattle.libyaml_documents.proofs.Fields.{versions_decide, directives_decide}
+use Rattle.libyaml_documents.proofs.Fields.{mark_decides, text_decides, encoding_decides, scalar_style_decides, sequence_style_decides, mapping_style_decides, versions_decide, directives_decide}
 use Rattle.libyaml_types.specs.declared.event.unnamed_yaml_event_t_data_stream_start.{unnamed_yaml_event_t_data_stream_start}
 use Rattle.libyaml_types.specs.contracts.event.unnamed_yaml_event_t_data_stream_startPartialEq.TheImpl as stream_start_eq
 use Rattle.libyaml_types.specs.declared.event.unnamed_yaml_event_t_data_document_start.{unnamed_yaml_event_t_data_document_start}

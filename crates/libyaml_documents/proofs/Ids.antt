@@ -1,7 +1,5 @@
 -- Ids stay ids of nodes where nodes and children are put after others.
-use Rattle.std.proofs.Common.{◌≡◌, ℕ, zero, suc, ◌<◌, ◌≤◌, ℤ, pos, negsuc, List, [], ◌∷◌, ◌++◌, length, set, get_or}
-use Rattle.std.proofs.Common.{refl, ap, sym, subst}
-use Rattle.std.proofs.Common.{arith, length-append, ◌∙◌}
+use Rattle.std.proofs.Common.{◌≡◌, ℕ, zero, suc, ◌<◌, ◌≤◌, ℤ, pos, negsuc, List, [], ◌∷◌, ◌++◌, length, set, get_or, refl, ap, sym, subst, arith, length-append, ◌∙◌}
 use Rattle.std.proofs.lemmas.Int.{ints}
 use Rattle.std.proofs.lemmas.List.Elements.{All-nil, All-push, All-weaker, All-get_or, All-set}
 use Rattle.std.proofs.lemmas.List.{length-set}
@@ -11,9 +9,7 @@ use Rattle.libyaml_documents.specs.declared.node.yaml_node_t.{yaml_node_t}
 use Rattle.libyaml_documents.specs.declared.pairs.yaml_node_pair_t.{yaml_node_pair_t}
 use Rattle.libyaml_documents.specs.declared.node.unnamed_yaml_node_t_data.{unnamed_yaml_node_t_data}
 use Rattle.libyaml_documents.specs.declared.node.unnamed_yaml_node_t_data.TheVariants.{Scalar, Sequence, Mapping}
-use Rattle.libyaml_documents.specs.Nodes.{ids_of, ids_of_pairs, IsIdUpTo, EveryIdNamesANode, node_type, type_of}
-use Rattle.libyaml_documents.specs.Nodes.{type_at, KeepsTypes, changed_at, item_behind}
-use Rattle.libyaml_documents.specs.Nodes.{pair_behind}
+use Rattle.libyaml_documents.specs.Nodes.{ids_of, ids_of_pairs, IsIdUpTo, EveryIdNamesANode, node_type, type_of, type_at, KeepsTypes, changed_at, item_behind, pair_behind}
 use Rattle.libyaml_documents.specs.Documents.{Document, AreNodes, most_nodes, with_changed_node}
 use Rattle.std.specs.Prelude.{Bool, true, false, cond, slice_get, All}
 

@@ -1,7 +1,5 @@
 -- Each id and each pair of a node of the document names its nodes.
-use Rattle.std.proofs.Common.{◌≡◌, zero, suc, ◌<◌, ℤ, pos, negsuc, List, [], ◌∷◌, All, Contains, Option, Some, None}
-use Rattle.std.proofs.Common.{true, false}
-use Rattle.std.proofs.Common.{length, map, refl, ap, arith}
+use Rattle.std.proofs.Common.{◌≡◌, zero, suc, ◌<◌, ℤ, pos, negsuc, List, [], ◌∷◌, All, Contains, Option, Some, None, true, false, length, map, refl, ap, arith}
 use Rattle.std.specs.Option.{IsSome, is_some}
 use Rattle.std.specs.List.{AllByRecursion}
 use Rattle.std.proofs.lemmas.Int.{ints}
@@ -11,9 +9,7 @@ use Rattle.libyaml_documents.specs.declared.pairs.yaml_node_pair_t.{yaml_node_pa
 use Rattle.libyaml_documents.specs.declared.node.yaml_node_t.{yaml_node_t}
 use Rattle.libyaml_documents.specs.declared.node.unnamed_yaml_node_t_data.{unnamed_yaml_node_t_data}
 use Rattle.libyaml_documents.specs.declared.node.unnamed_yaml_node_t_data.TheVariants.{Scalar, Sequence, Mapping}
-use Rattle.libyaml_documents.specs.Nodes.{ids_of, ids_of_pairs, items_of, pairs_of, node_at, pair_at, both_nodes}
-use Rattle.libyaml_documents.specs.Nodes.{up_to_none, nodes_named, pairs_named}
-use Rattle.libyaml_documents.specs.Nodes.{IsIdUpTo, EveryIdNamesANode}
+use Rattle.libyaml_documents.specs.Nodes.{ids_of, ids_of_pairs, items_of, pairs_of, node_at, pair_at, both_nodes, up_to_none, nodes_named, pairs_named, IsIdUpTo, EveryIdNamesANode}
 
 -- a list without `None` has no first one
 none_left : {A : Type 0} (xs : List (Option A)) → AllByRecursion (λ x. IsSome x) xs → map (λ x. Some x) (up_to_none xs) ≡ xs

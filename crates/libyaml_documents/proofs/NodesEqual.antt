@@ -3,8 +3,7 @@ use Rattle.std.proofs.Common.{◌≡◌}
 use Rattle.std.specs.Bool.{Decides}
 use Rattle.std.specs.Cmp.Lexicographic.{bytes_decides}
 use Rattle.libyaml_documents.proofs.Choices.{both, through, one_field, enum_decides, ◌then◌}
-use Rattle.libyaml_documents.proofs.Fields.{mark_decides, scalar_style_decides, sequence_style_decides}
-use Rattle.libyaml_documents.proofs.Fields.{mapping_style_decides, items_decide, pairs_decide}
+use Rattle.libyaml_documents.proofs.Fields.{mark_decides, scalar_style_decides, sequence_style_decides, mapping_style_decides, items_decide, pairs_decide}
 use Rattle.libyaml_documents.specs.declared.node.unnamed_yaml_node_t_data_scalar.{unnamed_yaml_node_t_data_scalar}
 use Rattle.libyaml_documents.specs.contracts.node.Unnamed_yaml_node_t_data_scalarPartialEq.TheImpl as scalar_eq
 use Rattle.libyaml_documents.specs.declared.node.unnamed_yaml_node_t_data_sequence.{unnamed_yaml_node_t_data_sequence}

@@ -1,7 +1,6 @@
 -- A child put into a node by a loader: what it is to the node, and where it may be refused.
 use Rattle.std.specs.Prelude.{◌≡◌, ◌⊎◌, ℕ, ℤ, suc, nat_lt, List, Option, None, Some, true, false}
-use Rattle.libyaml_types.specs.declared.enums.yaml_node_type_t.TheVariants.{YAML_SCALAR_NODE, YAML_SEQUENCE_NODE}
-use Rattle.libyaml_types.specs.declared.enums.yaml_node_type_t.TheVariants.{YAML_MAPPING_NODE}
+use Rattle.libyaml_types.specs.declared.enums.yaml_node_type_t.TheVariants.{YAML_SCALAR_NODE, YAML_SEQUENCE_NODE, YAML_MAPPING_NODE}
 use Rattle.libyaml_documents.specs.declared.node.ChildRole.{ChildRole}
 use Rattle.libyaml_documents.specs.declared.node.ChildRole.TheVariants as role
 use Rattle.libyaml_documents.specs.declared.node.yaml_node_t.{yaml_node_t}

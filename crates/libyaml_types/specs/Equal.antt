@@ -4,8 +4,7 @@ use Rattle.std.specs.Bool.{beq}
 use Rattle.std.specs.Option.{option_eq}
 use Rattle.std.specs.Cmp.{IsEquivalence, and_equiv, on_equiv, bool_eq_equiv}
 use Rattle.std.specs.Cmp.Lexicographic.{pointwise, lists_equiv, options_equiv, nat_list_eq_equiv}
-use Rattle.libyaml_types.specs.Models.{TagDirective, TagDirectiveToken, AliasToken, AnchorToken, TagToken, ScalarToken}
-use Rattle.libyaml_types.specs.Models.{DocumentStart, Alias, Scalar, SequenceStart, MappingStart}
+use Rattle.libyaml_types.specs.Models.{TagDirective, TagDirectiveToken, AliasToken, AnchorToken, TagToken, ScalarToken, DocumentStart, Alias, Scalar, SequenceStart, MappingStart}
 use Rattle.libyaml_types.specs.contracts.directive.yaml_version_directive_tPartialEq.TheImpl as version_eq
 use Rattle.libyaml_types.specs.contracts.directive.yaml_version_directive_tEq.TheImpl.Laws as version_laws
 use Rattle.libyaml_types.specs.contracts.enums.yaml_scalar_style_tPartialEq.TheImpl as scalar_style_eq

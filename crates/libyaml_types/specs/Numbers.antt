@@ -1,88 +1,32 @@
 -- The numbers of the enums: their order in libyaml, from 0 (docs/DEFINITIONS.md, "Numbers").
 use Rattle.std.specs.Prelude.{ℕ}
 use Rattle.libyaml_types.specs.declared.enums.yaml_encoding_t.{yaml_encoding_t}
-use Rattle.libyaml_types.specs.declared.enums.yaml_encoding_t.TheVariants.{YAML_ANY_ENCODING, YAML_UTF8_ENCODING}
-use Rattle.libyaml_types.specs.declared.enums.yaml_encoding_t.TheVariants.{YAML_UTF16LE_ENCODING, YAML_UTF16BE_ENCODING}
+use Rattle.libyaml_types.specs.declared.enums.yaml_encoding_t.TheVariants.{YAML_ANY_ENCODING, YAML_UTF8_ENCODING, YAML_UTF16LE_ENCODING, YAML_UTF16BE_ENCODING}
 use Rattle.libyaml_types.specs.declared.enums.yaml_break_t.{yaml_break_t}
-use Rattle.libyaml_types.specs.declared.enums.yaml_break_t.TheVariants.{YAML_ANY_BREAK, YAML_CR_BREAK, YAML_LN_BREAK}
-use Rattle.libyaml_types.specs.declared.enums.yaml_break_t.TheVariants.{YAML_CRLN_BREAK}
+use Rattle.libyaml_types.specs.declared.enums.yaml_break_t.TheVariants.{YAML_ANY_BREAK, YAML_CR_BREAK, YAML_LN_BREAK, YAML_CRLN_BREAK}
 use Rattle.libyaml_types.specs.declared.enums.yaml_error_type_t.{yaml_error_type_t}
-use Rattle.libyaml_types.specs.declared.enums.yaml_error_type_t.TheVariants.{YAML_NO_ERROR, YAML_MEMORY_ERROR}
-use Rattle.libyaml_types.specs.declared.enums.yaml_error_type_t.TheVariants.{YAML_READER_ERROR, YAML_SCANNER_ERROR}
-use Rattle.libyaml_types.specs.declared.enums.yaml_error_type_t.TheVariants.{YAML_PARSER_ERROR, YAML_COMPOSER_ERROR}
-use Rattle.libyaml_types.specs.declared.enums.yaml_error_type_t.TheVariants.{YAML_WRITER_ERROR, YAML_EMITTER_ERROR}
+use Rattle.libyaml_types.specs.declared.enums.yaml_error_type_t.TheVariants.{YAML_NO_ERROR, YAML_MEMORY_ERROR, YAML_READER_ERROR, YAML_SCANNER_ERROR, YAML_PARSER_ERROR, YAML_COMPOSER_ERROR, YAML_WRITER_ERROR, YAML_EMITTER_ERROR}
 use Rattle.libyaml_types.specs.declared.enums.yaml_scalar_style_t.{yaml_scalar_style_t}
-use Rattle.libyaml_types.specs.declared.enums.yaml_scalar_style_t.TheVariants.{YAML_ANY_SCALAR_STYLE}
-use Rattle.libyaml_types.specs.declared.enums.yaml_scalar_style_t.TheVariants.{YAML_PLAIN_SCALAR_STYLE}
-use Rattle.libyaml_types.specs.declared.enums.yaml_scalar_style_t.TheVariants.{YAML_SINGLE_QUOTED_SCALAR_STYLE}
-use Rattle.libyaml_types.specs.declared.enums.yaml_scalar_style_t.TheVariants.{YAML_DOUBLE_QUOTED_SCALAR_STYLE}
-use Rattle.libyaml_types.specs.declared.enums.yaml_scalar_style_t.TheVariants.{YAML_LITERAL_SCALAR_STYLE}
-use Rattle.libyaml_types.specs.declared.enums.yaml_scalar_style_t.TheVariants.{YAML_FOLDED_SCALAR_STYLE}
+use Rattle.libyaml_types.specs.declared.enums.yaml_scalar_style_t.TheVariants.{YAML_ANY_SCALAR_STYLE, YAML_PLAIN_SCALAR_STYLE, YAML_SINGLE_QUOTED_SCALAR_STYLE, YAML_DOUBLE_QUOTED_SCALAR_STYLE, YAML_LITERAL_SCALAR_STYLE, YAML_FOLDED_SCALAR_STYLE}
 use Rattle.libyaml_types.specs.declared.enums.yaml_sequence_style_t.{yaml_sequence_style_t}
-use Rattle.libyaml_types.specs.declared.enums.yaml_sequence_style_t.TheVariants.{YAML_ANY_SEQUENCE_STYLE}
-use Rattle.libyaml_types.specs.declared.enums.yaml_sequence_style_t.TheVariants.{YAML_BLOCK_SEQUENCE_STYLE}
-use Rattle.libyaml_types.specs.declared.enums.yaml_sequence_style_t.TheVariants.{YAML_FLOW_SEQUENCE_STYLE}
+use Rattle.libyaml_types.specs.declared.enums.yaml_sequence_style_t.TheVariants.{YAML_ANY_SEQUENCE_STYLE, YAML_BLOCK_SEQUENCE_STYLE, YAML_FLOW_SEQUENCE_STYLE}
 use Rattle.libyaml_types.specs.declared.enums.yaml_mapping_style_t.{yaml_mapping_style_t}
-use Rattle.libyaml_types.specs.declared.enums.yaml_mapping_style_t.TheVariants.{YAML_ANY_MAPPING_STYLE}
-use Rattle.libyaml_types.specs.declared.enums.yaml_mapping_style_t.TheVariants.{YAML_BLOCK_MAPPING_STYLE}
-use Rattle.libyaml_types.specs.declared.enums.yaml_mapping_style_t.TheVariants.{YAML_FLOW_MAPPING_STYLE}
+use Rattle.libyaml_types.specs.declared.enums.yaml_mapping_style_t.TheVariants.{YAML_ANY_MAPPING_STYLE, YAML_BLOCK_MAPPING_STYLE, YAML_FLOW_MAPPING_STYLE}
 use Rattle.libyaml_types.specs.declared.enums.yaml_token_type_t.{yaml_token_type_t}
-use Rattle.libyaml_types.specs.declared.enums.yaml_token_type_t.TheVariants.{YAML_NO_TOKEN, YAML_STREAM_START_TOKEN}
-use Rattle.libyaml_types.specs.declared.enums.yaml_token_type_t.TheVariants.{YAML_STREAM_END_TOKEN}
-use Rattle.libyaml_types.specs.declared.enums.yaml_token_type_t.TheVariants.{YAML_VERSION_DIRECTIVE_TOKEN}
-use Rattle.libyaml_types.specs.declared.enums.yaml_token_type_t.TheVariants.{YAML_TAG_DIRECTIVE_TOKEN}
-use Rattle.libyaml_types.specs.declared.enums.yaml_token_type_t.TheVariants.{YAML_DOCUMENT_START_TOKEN}
-use Rattle.libyaml_types.specs.declared.enums.yaml_token_type_t.TheVariants.{YAML_DOCUMENT_END_TOKEN}
-use Rattle.libyaml_types.specs.declared.enums.yaml_token_type_t.TheVariants.{YAML_BLOCK_SEQUENCE_START_TOKEN}
-use Rattle.libyaml_types.specs.declared.enums.yaml_token_type_t.TheVariants.{YAML_BLOCK_MAPPING_START_TOKEN}
-use Rattle.libyaml_types.specs.declared.enums.yaml_token_type_t.TheVariants.{YAML_BLOCK_END_TOKEN}
-use Rattle.libyaml_types.specs.declared.enums.yaml_token_type_t.TheVariants.{YAML_FLOW_SEQUENCE_START_TOKEN}
-use Rattle.libyaml_types.specs.declared.enums.yaml_token_type_t.TheVariants.{YAML_FLOW_SEQUENCE_END_TOKEN}
-use Rattle.libyaml_types.specs.declared.enums.yaml_token_type_t.TheVariants.{YAML_FLOW_MAPPING_START_TOKEN}
-use Rattle.libyaml_types.specs.declared.enums.yaml_token_type_t.TheVariants.{YAML_FLOW_MAPPING_END_TOKEN}
-use Rattle.libyaml_types.specs.declared.enums.yaml_token_type_t.TheVariants.{YAML_BLOCK_ENTRY_TOKEN}
-use Rattle.libyaml_types.specs.declared.enums.yaml_token_type_t.TheVariants.{YAML_FLOW_ENTRY_TOKEN}
-use Rattle.libyaml_types.specs.declared.enums.yaml_token_type_t.TheVariants.{YAML_KEY_TOKEN, YAML_VALUE_TOKEN}
-use Rattle.libyaml_types.specs.declared.enums.yaml_token_type_t.TheVariants.{YAML_ALIAS_TOKEN, YAML_ANCHOR_TOKEN}
-use Rattle.libyaml_types.specs.declared.enums.yaml_token_type_t.TheVariants.{YAML_TAG_TOKEN, YAML_SCALAR_TOKEN}
+use Rattle.libyaml_types.specs.declared.enums.yaml_token_type_t.TheVariants.{YAML_NO_TOKEN, YAML_STREAM_START_TOKEN, YAML_STREAM_END_TOKEN, YAML_VERSION_DIRECTIVE_TOKEN, YAML_TAG_DIRECTIVE_TOKEN, YAML_DOCUMENT_START_TOKEN, YAML_DOCUMENT_END_TOKEN, YAML_BLOCK_SEQUENCE_START_TOKEN}
+use Rattle.libyaml_types.specs.declared.enums.yaml_token_type_t.TheVariants.{YAML_BLOCK_MAPPING_START_TOKEN, YAML_BLOCK_END_TOKEN, YAML_FLOW_SEQUENCE_START_TOKEN, YAML_FLOW_SEQUENCE_END_TOKEN, YAML_FLOW_MAPPING_START_TOKEN, YAML_FLOW_MAPPING_END_TOKEN, YAML_BLOCK_ENTRY_TOKEN, YAML_FLOW_ENTRY_TOKEN}
+use Rattle.libyaml_types.specs.declared.enums.yaml_token_type_t.TheVariants.{YAML_KEY_TOKEN, YAML_VALUE_TOKEN, YAML_ALIAS_TOKEN, YAML_ANCHOR_TOKEN, YAML_TAG_TOKEN, YAML_SCALAR_TOKEN}
 use Rattle.libyaml_types.specs.declared.enums.yaml_event_type_t.{yaml_event_type_t}
-use Rattle.libyaml_types.specs.declared.enums.yaml_event_type_t.TheVariants.{YAML_NO_EVENT, YAML_STREAM_START_EVENT}
-use Rattle.libyaml_types.specs.declared.enums.yaml_event_type_t.TheVariants.{YAML_STREAM_END_EVENT}
-use Rattle.libyaml_types.specs.declared.enums.yaml_event_type_t.TheVariants.{YAML_DOCUMENT_START_EVENT}
-use Rattle.libyaml_types.specs.declared.enums.yaml_event_type_t.TheVariants.{YAML_DOCUMENT_END_EVENT, YAML_ALIAS_EVENT}
-use Rattle.libyaml_types.specs.declared.enums.yaml_event_type_t.TheVariants.{YAML_SCALAR_EVENT}
-use Rattle.libyaml_types.specs.declared.enums.yaml_event_type_t.TheVariants.{YAML_SEQUENCE_START_EVENT}
-use Rattle.libyaml_types.specs.declared.enums.yaml_event_type_t.TheVariants.{YAML_SEQUENCE_END_EVENT}
-use Rattle.libyaml_types.specs.declared.enums.yaml_event_type_t.TheVariants.{YAML_MAPPING_START_EVENT}
-use Rattle.libyaml_types.specs.declared.enums.yaml_event_type_t.TheVariants.{YAML_MAPPING_END_EVENT}
+use Rattle.libyaml_types.specs.declared.enums.yaml_event_type_t.TheVariants.{YAML_NO_EVENT, YAML_STREAM_START_EVENT, YAML_STREAM_END_EVENT, YAML_DOCUMENT_START_EVENT, YAML_DOCUMENT_END_EVENT, YAML_ALIAS_EVENT, YAML_SCALAR_EVENT, YAML_SEQUENCE_START_EVENT, YAML_SEQUENCE_END_EVENT}
+use Rattle.libyaml_types.specs.declared.enums.yaml_event_type_t.TheVariants.{YAML_MAPPING_START_EVENT, YAML_MAPPING_END_EVENT}
 use Rattle.libyaml_types.specs.declared.enums.yaml_node_type_t.{yaml_node_type_t}
-use Rattle.libyaml_types.specs.declared.enums.yaml_node_type_t.TheVariants.{YAML_NO_NODE, YAML_SCALAR_NODE}
-use Rattle.libyaml_types.specs.declared.enums.yaml_node_type_t.TheVariants.{YAML_SEQUENCE_NODE, YAML_MAPPING_NODE}
+use Rattle.libyaml_types.specs.declared.enums.yaml_node_type_t.TheVariants.{YAML_NO_NODE, YAML_SCALAR_NODE, YAML_SEQUENCE_NODE, YAML_MAPPING_NODE}
 use Rattle.libyaml_types.specs.declared.enums.yaml_parser_state_t.{yaml_parser_state_t}
-use Rattle.libyaml_types.specs.declared.enums.yaml_parser_state_t.TheVariants.{YAML_PARSE_STREAM_START_STATE}
-use Rattle.libyaml_types.specs.declared.enums.yaml_parser_state_t.TheVariants.{YAML_PARSE_IMPLICIT_DOCUMENT_START_STATE}
-use Rattle.libyaml_types.specs.declared.enums.yaml_parser_state_t.TheVariants.{YAML_PARSE_DOCUMENT_START_STATE}
-use Rattle.libyaml_types.specs.declared.enums.yaml_parser_state_t.TheVariants.{YAML_PARSE_DOCUMENT_CONTENT_STATE}
-use Rattle.libyaml_types.specs.declared.enums.yaml_parser_state_t.TheVariants.{YAML_PARSE_DOCUMENT_END_STATE}
-use Rattle.libyaml_types.specs.declared.enums.yaml_parser_state_t.TheVariants.{YAML_PARSE_BLOCK_NODE_STATE}
-use Rattle.libyaml_types.specs.declared.enums.yaml_parser_state_t.TheVariants.{YAML_PARSE_BLOCK_NODE_OR_INDENTLESS_SEQUENCE_STATE}
-use Rattle.libyaml_types.specs.declared.enums.yaml_parser_state_t.TheVariants.{YAML_PARSE_FLOW_NODE_STATE}
-use Rattle.libyaml_types.specs.declared.enums.yaml_parser_state_t.TheVariants.{YAML_PARSE_BLOCK_SEQUENCE_FIRST_ENTRY_STATE}
-use Rattle.libyaml_types.specs.declared.enums.yaml_parser_state_t.TheVariants.{YAML_PARSE_BLOCK_SEQUENCE_ENTRY_STATE}
-use Rattle.libyaml_types.specs.declared.enums.yaml_parser_state_t.TheVariants.{YAML_PARSE_INDENTLESS_SEQUENCE_ENTRY_STATE}
-use Rattle.libyaml_types.specs.declared.enums.yaml_parser_state_t.TheVariants.{YAML_PARSE_BLOCK_MAPPING_FIRST_KEY_STATE}
-use Rattle.libyaml_types.specs.declared.enums.yaml_parser_state_t.TheVariants.{YAML_PARSE_BLOCK_MAPPING_KEY_STATE}
-use Rattle.libyaml_types.specs.declared.enums.yaml_parser_state_t.TheVariants.{YAML_PARSE_BLOCK_MAPPING_VALUE_STATE}
-use Rattle.libyaml_types.specs.declared.enums.yaml_parser_state_t.TheVariants.{YAML_PARSE_FLOW_SEQUENCE_FIRST_ENTRY_STATE}
-use Rattle.libyaml_types.specs.declared.enums.yaml_parser_state_t.TheVariants.{YAML_PARSE_FLOW_SEQUENCE_ENTRY_STATE}
-use Rattle.libyaml_types.specs.declared.enums.yaml_parser_state_t.TheVariants.{YAML_PARSE_FLOW_SEQUENCE_ENTRY_MAPPING_KEY_STATE}
-use Rattle.libyaml_types.specs.declared.enums.yaml_parser_state_t.TheVariants.{YAML_PARSE_FLOW_SEQUENCE_ENTRY_MAPPING_VALUE_STATE}
-use Rattle.libyaml_types.specs.declared.enums.yaml_parser_state_t.TheVariants.{YAML_PARSE_FLOW_SEQUENCE_ENTRY_MAPPING_END_STATE}
-use Rattle.libyaml_types.specs.declared.enums.yaml_parser_state_t.TheVariants.{YAML_PARSE_FLOW_MAPPING_FIRST_KEY_STATE}
-use Rattle.libyaml_types.specs.declared.enums.yaml_parser_state_t.TheVariants.{YAML_PARSE_FLOW_MAPPING_KEY_STATE}
-use Rattle.libyaml_types.specs.declared.enums.yaml_parser_state_t.TheVariants.{YAML_PARSE_FLOW_MAPPING_VALUE_STATE}
-use Rattle.libyaml_types.specs.declared.enums.yaml_parser_state_t.TheVariants.{YAML_PARSE_FLOW_MAPPING_EMPTY_VALUE_STATE}
-use Rattle.libyaml_types.specs.declared.enums.yaml_parser_state_t.TheVariants.{YAML_PARSE_END_STATE}
+use Rattle.libyaml_types.specs.declared.enums.yaml_parser_state_t.TheVariants.{YAML_PARSE_STREAM_START_STATE, YAML_PARSE_IMPLICIT_DOCUMENT_START_STATE, YAML_PARSE_DOCUMENT_START_STATE, YAML_PARSE_DOCUMENT_CONTENT_STATE, YAML_PARSE_DOCUMENT_END_STATE, YAML_PARSE_BLOCK_NODE_STATE}
+use Rattle.libyaml_types.specs.declared.enums.yaml_parser_state_t.TheVariants.{YAML_PARSE_BLOCK_NODE_OR_INDENTLESS_SEQUENCE_STATE, YAML_PARSE_FLOW_NODE_STATE, YAML_PARSE_BLOCK_SEQUENCE_FIRST_ENTRY_STATE, YAML_PARSE_BLOCK_SEQUENCE_ENTRY_STATE, YAML_PARSE_INDENTLESS_SEQUENCE_ENTRY_STATE}
+use Rattle.libyaml_types.specs.declared.enums.yaml_parser_state_t.TheVariants.{YAML_PARSE_BLOCK_MAPPING_FIRST_KEY_STATE, YAML_PARSE_BLOCK_MAPPING_KEY_STATE, YAML_PARSE_BLOCK_MAPPING_VALUE_STATE, YAML_PARSE_FLOW_SEQUENCE_FIRST_ENTRY_STATE, YAML_PARSE_FLOW_SEQUENCE_ENTRY_STATE}
+use Rattle.libyaml_types.specs.declared.enums.yaml_parser_state_t.TheVariants.{YAML_PARSE_FLOW_SEQUENCE_ENTRY_MAPPING_KEY_STATE, YAML_PARSE_FLOW_SEQUENCE_ENTRY_MAPPING_VALUE_STATE, YAML_PARSE_FLOW_SEQUENCE_ENTRY_MAPPING_END_STATE, YAML_PARSE_FLOW_MAPPING_FIRST_KEY_STATE}
+use Rattle.libyaml_types.specs.declared.enums.yaml_parser_state_t.TheVariants.{YAML_PARSE_FLOW_MAPPING_KEY_STATE, YAML_PARSE_FLOW_MAPPING_VALUE_STATE, YAML_PARSE_FLOW_MAPPING_EMPTY_VALUE_STATE, YAML_PARSE_END_STATE}
 use Rattle.libyaml_types.specs.declared.refusal.yaml_refusal_t.{yaml_refusal_t}
 use Rattle.libyaml_types.specs.declared.refusal.yaml_refusal_t.TheVariants.{NotUtf8, Memory, TooManyNodes}
 

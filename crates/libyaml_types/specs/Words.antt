@@ -4,23 +4,12 @@ use Rattle.std.specs.Prelude.{ℕ, ◌+◌, ◌++◌, List, codes}
 use Rattle.std.specs.Fmt.{decimal}
 use Rattle.libyaml_types.specs.declared.mark.yaml_mark_t.{yaml_mark_t}
 use Rattle.libyaml_types.specs.declared.enums.yaml_error_type_t.{yaml_error_type_t}
-use Rattle.libyaml_types.specs.declared.enums.yaml_error_type_t.TheVariants.{YAML_NO_ERROR, YAML_MEMORY_ERROR}
-use Rattle.libyaml_types.specs.declared.enums.yaml_error_type_t.TheVariants.{YAML_READER_ERROR, YAML_SCANNER_ERROR}
-use Rattle.libyaml_types.specs.declared.enums.yaml_error_type_t.TheVariants.{YAML_PARSER_ERROR, YAML_COMPOSER_ERROR}
-use Rattle.libyaml_types.specs.declared.enums.yaml_error_type_t.TheVariants.{YAML_WRITER_ERROR, YAML_EMITTER_ERROR}
+use Rattle.libyaml_types.specs.declared.enums.yaml_error_type_t.TheVariants.{YAML_NO_ERROR, YAML_MEMORY_ERROR, YAML_READER_ERROR, YAML_SCANNER_ERROR, YAML_PARSER_ERROR, YAML_COMPOSER_ERROR, YAML_WRITER_ERROR, YAML_EMITTER_ERROR}
 use Rattle.libyaml_types.specs.declared.enums.yaml_event_type_t.{yaml_event_type_t}
-use Rattle.libyaml_types.specs.declared.enums.yaml_event_type_t.TheVariants.{YAML_NO_EVENT, YAML_STREAM_START_EVENT}
-use Rattle.libyaml_types.specs.declared.enums.yaml_event_type_t.TheVariants.{YAML_STREAM_END_EVENT}
-use Rattle.libyaml_types.specs.declared.enums.yaml_event_type_t.TheVariants.{YAML_DOCUMENT_START_EVENT}
-use Rattle.libyaml_types.specs.declared.enums.yaml_event_type_t.TheVariants.{YAML_DOCUMENT_END_EVENT, YAML_ALIAS_EVENT}
-use Rattle.libyaml_types.specs.declared.enums.yaml_event_type_t.TheVariants.{YAML_SCALAR_EVENT}
-use Rattle.libyaml_types.specs.declared.enums.yaml_event_type_t.TheVariants.{YAML_SEQUENCE_START_EVENT}
-use Rattle.libyaml_types.specs.declared.enums.yaml_event_type_t.TheVariants.{YAML_SEQUENCE_END_EVENT}
-use Rattle.libyaml_types.specs.declared.enums.yaml_event_type_t.TheVariants.{YAML_MAPPING_START_EVENT}
-use Rattle.libyaml_types.specs.declared.enums.yaml_event_type_t.TheVariants.{YAML_MAPPING_END_EVENT}
+use Rattle.libyaml_types.specs.declared.enums.yaml_event_type_t.TheVariants.{YAML_NO_EVENT, YAML_STREAM_START_EVENT, YAML_STREAM_END_EVENT, YAML_DOCUMENT_START_EVENT, YAML_DOCUMENT_END_EVENT, YAML_ALIAS_EVENT, YAML_SCALAR_EVENT, YAML_SEQUENCE_START_EVENT, YAML_SEQUENCE_END_EVENT}
+use Rattle.libyaml_types.specs.declared.enums.yaml_event_type_t.TheVariants.{YAML_MAPPING_START_EVENT, YAML_MAPPING_END_EVENT}
 use Rattle.libyaml_types.specs.declared.enums.yaml_node_type_t.{yaml_node_type_t}
-use Rattle.libyaml_types.specs.declared.enums.yaml_node_type_t.TheVariants.{YAML_NO_NODE, YAML_SCALAR_NODE}
-use Rattle.libyaml_types.specs.declared.enums.yaml_node_type_t.TheVariants.{YAML_SEQUENCE_NODE, YAML_MAPPING_NODE}
+use Rattle.libyaml_types.specs.declared.enums.yaml_node_type_t.TheVariants.{YAML_NO_NODE, YAML_SCALAR_NODE, YAML_SEQUENCE_NODE, YAML_MAPPING_NODE}
 
 abbrev pub error_words : yaml_error_type_t → List ℕ
 error_words YAML_NO_ERROR = codes "no error"

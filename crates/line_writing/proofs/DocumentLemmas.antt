@@ -1,6 +1,5 @@
 -- How the fields and lines that are appended one by one make a document's text.
-use Rattle.std.proofs.Common.{◌≡◌, ◌++◌, ◌+◌, ◌<◌, ℕ, List, [], ◌∷◌, length, get_or, take, drop, map, refl, ap, ◌∙◌}
-use Rattle.std.proofs.Common.{sym, arith, Option}
+use Rattle.std.proofs.Common.{◌≡◌, ◌++◌, ◌+◌, ◌<◌, ℕ, List, [], ◌∷◌, length, get_or, take, drop, map, refl, ap, ◌∙◌, sym, arith, Option}
 use Rattle.std.specs.List.{concat}
 use Rattle.std.specs.Io.KnownBytes.{Appends}
 use Rattle.std.proofs.KnownBytes.{Appends-nil, Appends-trans}

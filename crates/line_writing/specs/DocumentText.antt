@@ -8,9 +8,7 @@ use Rattle.libyaml_documents.specs.declared.node.unnamed_yaml_node_t_data.{unnam
 use Rattle.libyaml_documents.specs.declared.node.unnamed_yaml_node_t_data.TheVariants.{Scalar, Sequence, Mapping}
 use Rattle.libyaml_documents.specs.declared.pairs.yaml_node_pair_t.{yaml_node_pair_t}
 use Rattle.libyaml_documents.specs.Documents.{Document}
-use Rattle.line_writing.specs.FieldTexts.{line_text, mark_text, flag_text, optional_version_text, string_text}
-use Rattle.line_writing.specs.FieldTexts.{directive_texts, scalar_style_text}
-use Rattle.line_writing.specs.FieldTexts.{sequence_style_text, mapping_style_text}
+use Rattle.line_writing.specs.FieldTexts.{line_text, mark_text, flag_text, optional_version_text, string_text, directive_texts, scalar_style_text, sequence_style_text, mapping_style_text}
 
 -- the fields of a document that follow its marks
 abbrev pub document_fields : Document → List (List ℕ)

@@ -2,8 +2,7 @@
 use Rattle.std.specs.Prelude.{◌≡◌, ℕ, ◌+◌, ◌-◌, ◌*◌, ◌<◌, Ok, Err}
 use Rattle.unsafe_libyaml.specs.Fault.{Fault, Answer, memory_fault}
 use Rattle.rows_hostile.specs.declared.growing.list.GrowingList.{GrowingList}
-use Rattle.rows_hostile.specs.declared.growing.list.GrowingList.TheVariants.{NestedSequences, NestedPairs, DocumentEnds}
-use Rattle.rows_hostile.specs.declared.growing.list.GrowingList.TheVariants.{Documents, Aliases, TagDirectives}
+use Rattle.rows_hostile.specs.declared.growing.list.GrowingList.TheVariants.{NestedSequences, NestedPairs, DocumentEnds, Documents, Aliases, TagDirectives}
 
 -- what is seen of it: how many tokens are left, and the fault after them
 pub record Computed : Type 0 where

@@ -8,8 +8,7 @@ use Rattle.libyaml_types.specs.declared.enums.yaml_token_type_t.TheVariants as t
 use Rattle.libyaml_types.specs.declared.enums.yaml_parser_state_t.{yaml_parser_state_t}
 use Rattle.libyaml_types.specs.declared.enums.yaml_parser_state_t.TheVariants as st
 use Rattle.libyaml_automaton.specs.declared.node_place.NodePlace.{NodePlace}
-use Rattle.libyaml_automaton.specs.declared.node_place.NodePlace.TheVariants.{Block}
-use Rattle.libyaml_automaton.specs.declared.node_place.NodePlace.TheVariants.{BlockOrIndentlessSequence, Flow}
+use Rattle.libyaml_automaton.specs.declared.node_place.NodePlace.TheVariants.{Block, BlockOrIndentlessSequence, Flow}
 use Rattle.libyaml_automaton.specs.declared.slot.Slot.{Slot}
 use Rattle.libyaml_automaton.specs.declared.slot.Slot.TheVariants as slot
 use Rattle.libyaml_automaton.specs.Automaton as a

@@ -1,11 +1,9 @@
 -- A look-up over records is one in the map that they stand for.
 use Rattle.std.specs.Prelude.{bytes_eq}
-use Rattle.std.proofs.Common.{◌≡◌, ◌≤◌, ◌+◌, ◌++◌, ℕ, List, [], ◌∷◌, Some, None, refl, sym, ap, ◌∙◌}
-use Rattle.std.proofs.Common.{Bool, cond, nat_cmp, length, drop, take, arith}
+use Rattle.std.proofs.Common.{◌≡◌, ◌≤◌, ◌+◌, ◌++◌, ℕ, List, [], ◌∷◌, Some, None, refl, sym, ap, ◌∙◌, Bool, cond, nat_cmp, length, drop, take, arith}
 use Rattle.std.proofs.lemmas.List.{length-drop, drop-append-le, take-append-le}
 use Rattle.std.specs.Cmp.Lexicographic.{slice_cmp, nat_list_cmp_total}
-use Rattle.std.specs.FinMap.{find, get, insert, from_entries, from_entries_push, get-from_entries}
-use Rattle.std.specs.FinMap.{slice_cmp-IsAntisymmetric, nat_cmp-IsAntisymmetric}
+use Rattle.std.specs.FinMap.{find, get, insert, from_entries, from_entries_push, get-from_entries, slice_cmp-IsAntisymmetric, nat_cmp-IsAntisymmetric}
 use Rattle.token_steps.specs.declared.tags.handles.text_t.{text_t}
 use Rattle.token_steps.specs.declared.tags.handles.handle_t.{handle_t}
 use Rattle.token_steps.specs.Handles.{bytes_at, entries_at, handles_at, prefix_in, AllWithin}

@@ -1,6 +1,5 @@
 -- What a caller keeps by the kinds of tokens is what the parser holds.
-use Rattle.std.proofs.Common.{◌≡◌, ◌∙◌, [], None, Bool, true, false, ℕ, refl, sym, ap}
-use Rattle.std.proofs.Common.{is_some}
+use Rattle.std.proofs.Common.{◌≡◌, ◌∙◌, [], None, Bool, true, false, ℕ, refl, sym, ap, is_some}
 use Rattle.libyaml_types.specs.Types.{token_type}
 use Rattle.libyaml_types.specs.declared.mark.yaml_mark_t.{yaml_mark_t}
 use Rattle.libyaml_types.specs.declared.token.unnamed_yaml_token_t_data.{unnamed_yaml_token_t_data}

@@ -7,8 +7,7 @@ use Rattle.libyaml_automaton.specs.Automaton as a
 use Rattle.libyaml_automaton.specs.Automaton.{Properties, Step}
 use Rattle.libyaml_automaton.specs.Config.{Config}
 use Rattle.libyaml_automaton.specs.Numbers.{flag}
-use Rattle.token_steps.specs.Facts.{Progressed, TagRead, NoTag, EmptyTag, Bang, OtherTag, Undefined, Token, Want}
-use Rattle.token_steps.specs.Facts.{content_behind, put, seen, step, tag_if, with_facts}
+use Rattle.token_steps.specs.Facts.{Progressed, TagRead, NoTag, EmptyTag, Bang, OtherTag, Undefined, Token, Want, content_behind, put, seen, step, tag_if, with_facts}
 use Rattle.token_steps.specs.Numbers.{IsFaultNumber}
 use Rattle.token_steps.specs.Tells.{Tells}
 use Rattle.token_steps.specs.declared.did.Did.{Did}

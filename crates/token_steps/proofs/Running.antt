@@ -1,6 +1,5 @@
 -- A run of calls is what a parser was handed and gave.
-use Rattle.std.proofs.Common.{◌≡◌, ◌∙◌, ◌∷◌, ◌++◌, ◌==◌, List, [], ℕ, true, false, Option, None, Some, Ok}
-use Rattle.std.proofs.Common.{refl, sym, ap, subst}
+use Rattle.std.proofs.Common.{◌≡◌, ◌∙◌, ◌∷◌, ◌++◌, ◌==◌, List, [], ℕ, true, false, Option, None, Some, Ok, refl, sym, ap, subst}
 use Rattle.libyaml_types.specs.Fault.{no_fault}
 use Rattle.libyaml_types.specs.declared.mark.yaml_mark_t.{yaml_mark_t}
 use Rattle.libyaml_grammar.specs.sentences.Tokens.{Token}

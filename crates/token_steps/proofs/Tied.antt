@@ -1,7 +1,6 @@
 -- With texts, what a call is told is what the parser does.
 use Rattle.std.specs.Prelude.{bytes_eq, codes}
-use Rattle.std.proofs.Common.{◌≡◌, ◌∙◌, ◌∷◌, ℕ, List, [], Option, None, Some, Bool, true, false, Ok, Err, refl, sym, ap}
-use Rattle.std.proofs.Common.{cond, is_some, not, if◌then◌else◌}
+use Rattle.std.proofs.Common.{◌≡◌, ◌∙◌, ◌∷◌, ℕ, List, [], Option, None, Some, Bool, true, false, Ok, Err, refl, sym, ap, cond, is_some, not, if◌then◌else◌}
 use Rattle.std.specs.FinMap.{get}
 use Rattle.libyaml_types.specs.Types.{token_type}
 use Rattle.libyaml_types.specs.Fault.{no_fault}
@@ -27,14 +26,11 @@ use Rattle.libyaml_events.specs.machine.Machine as parser
 use Rattle.libyaml_events.specs.machine.Machine.{declared_by, fault_with, lookahead_after, resolve}
 use Rattle.libyaml_events.specs.machine.Want as parser_want
 use Rattle.libyaml_events.specs.machine.Want.{Texts}
-use Rattle.token_steps.specs.Facts.{Given, Progressed, TagRead, NoTag, Want, Wants, put, seen, step, tag_for, tag_if}
-use Rattle.token_steps.specs.Facts.{content_behind, shape_with, tag_read, with_facts}
+use Rattle.token_steps.specs.Facts.{Given, Progressed, TagRead, NoTag, Want, Wants, put, seen, step, tag_for, tag_if, content_behind, shape_with, tag_read, with_facts}
 use Rattle.token_steps.specs.Facts as told
 use Rattle.token_steps.specs.Records.{is_undefined}
-use Rattle.token_steps.specs.Texts.{bit, content_with, event_with, fact_of, handles_after, kept_behind, only_if, tag_fact}
-use Rattle.token_steps.specs.Texts.{tag_in, tag_of, token_of, token_with}
-use Rattle.token_steps.proofs.Follows.{no, Keeping, properties, keeping, Content, Follows, GivesWith, follows}
-use Rattle.token_steps.proofs.Follows.{node_content}
+use Rattle.token_steps.specs.Texts.{bit, content_with, event_with, fact_of, handles_after, kept_behind, only_if, tag_fact, tag_in, tag_of, token_of, token_with}
+use Rattle.token_steps.proofs.Follows.{no, Keeping, properties, keeping, Content, Follows, GivesWith, follows, node_content}
 use Rattle.token_steps.proofs.Kept.{Holds, declares, keeps, tag_by, tag_for_by, tags}
 use Rattle.token_steps.proofs.Told.{defined}
 

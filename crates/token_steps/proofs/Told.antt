@@ -16,14 +16,12 @@ use Rattle.libyaml_automaton.specs.Answers.{Says, outcome}
 use Rattle.libyaml_automaton.specs.Automaton as automaton
 use Rattle.libyaml_automaton.specs.Automaton.{AsksContent, Properties, Step}
 use Rattle.libyaml_automaton.specs.Config.{Config, config_of}
-use Rattle.libyaml_automaton.specs.Fits.{FitsStep, FitsDocument, FitsContent, Part, Nodes, Documents}
-use Rattle.libyaml_automaton.specs.Fits.{is_simple, opens_at}
+use Rattle.libyaml_automaton.specs.Fits.{FitsStep, FitsDocument, FitsContent, Part, Nodes, Documents, is_simple, opens_at}
 use Rattle.libyaml_automaton.specs.Growth.{HasNoRoom, opens, stack_part_of, pushes, pushes_in_documents}
 use Rattle.libyaml_automaton.specs.Numbers.{flag, next_of}
 use Rattle.libyaml_automaton.specs.Problems as problem
 use Rattle.libyaml_automaton.specs.Wanted.{wanted, wanted_by}
-use Rattle.token_steps.specs.Facts.{Progressed, TagRead, NoTag, EmptyTag, Bang, OtherTag, Undefined, Token}
-use Rattle.token_steps.specs.Facts.{content_behind, put, seen, step, with_facts}
+use Rattle.token_steps.specs.Facts.{Progressed, TagRead, NoTag, EmptyTag, Bang, OtherTag, Undefined, Token, content_behind, put, seen, step, with_facts}
 use Rattle.token_steps.specs.Growth.{content_opens, pushes_by, pushes_mark, pushes_state}
 use Rattle.token_steps.specs.Records.{is_undefined}
 use Rattle.token_steps.proofs.Follows.{no}

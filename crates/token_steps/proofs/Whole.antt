@@ -1,6 +1,5 @@
 -- The fact of two texts in one.
-use Rattle.std.proofs.Common.{◌≡◌, ◌≢◌, ◌++◌, ◌&&◌, ℕ, List, [], ◌∷◌, Some, Bool, true, false}
-use Rattle.std.proofs.Common.{refl, length, nat_eq, cond}
+use Rattle.std.proofs.Common.{◌≡◌, ◌≢◌, ◌++◌, ◌&&◌, ℕ, List, [], ◌∷◌, Some, Bool, true, false, refl, length, nat_eq, cond}
 use Rattle.token_steps.specs.Texts.{tag_fact}
 
 no_way : (b : Bool) → ◌≡◌ {A = ℕ} 3 (cond (b && false) 2 3)

@@ -1,6 +1,5 @@
 -- The texts that a caller keeps beside the automaton, and the facts of tokens.
-use Rattle.std.specs.Prelude.{ℕ, List, [], ◌∷◌, ◌++◌, Option, None, Some, Bool, true, false, bytes_eq, codes, is_some}
-use Rattle.std.specs.Prelude.{if◌then◌else◌}
+use Rattle.std.specs.Prelude.{ℕ, List, [], ◌∷◌, ◌++◌, Option, None, Some, Bool, true, false, bytes_eq, codes, is_some, if◌then◌else◌}
 use Rattle.std.specs.FinMap.{get}
 use Rattle.libyaml_types.specs.Types.{token_type}
 use Rattle.libyaml_types.specs.declared.enums.yaml_scalar_style_t.{yaml_scalar_style_t}
@@ -15,8 +14,7 @@ use Rattle.libyaml_grammar.specs.sentences.Events as grammar
 use Rattle.libyaml_grammar.specs.sentences.Events.{event, is_plain}
 use Rattle.libyaml_grammar.specs.sentences.Order.{is_accepted}
 use Rattle.libyaml_events.specs.machine.Config.{Handles, no_handles}
-use Rattle.libyaml_events.specs.machine.Machine.{resolve, text_in, style_in, encoding_in, sequence_style, mapping_style}
-use Rattle.libyaml_events.specs.machine.Machine.{document_with, document_end}
+use Rattle.libyaml_events.specs.machine.Machine.{resolve, text_in, style_in, encoding_in, sequence_style, mapping_style, document_with, document_end}
 use Rattle.libyaml_events.specs.machine.Want.{Texts}
 use Rattle.token_steps.specs.Facts.{Token, TagRead, NoTag, tag_read, Shape, Event}
 use Rattle.token_steps.specs.Facts as told

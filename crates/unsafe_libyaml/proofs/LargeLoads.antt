@@ -1,6 +1,5 @@
 -- All documents of a source are together at most twice as large as their events, and at most eight for each token.
-use Rattle.std.proofs.Common.{◌≤◌, ◌*◌, arith, List, [], ◌∷◌, length, length-append, ap, sym, ◌∙◌}
-use Rattle.std.proofs.Common.{subst}
+use Rattle.std.proofs.Common.{◌≤◌, ◌*◌, arith, List, [], ◌∷◌, length, length-append, ap, sym, ◌∙◌, subst}
 use Rattle.std.proofs.lemmas.List.{append-nil}
 use Rattle.libyaml_types.specs.Fault.{Answer, no_fault}
 use Rattle.libyaml_grammar.specs.runs.Runs.{IsRun}

@@ -1,7 +1,5 @@
 -- How the documents of a whole run are gathered, load by load.
-use Rattle.std.proofs.Common.{◌≡◌, ◌≢◌, ◌<◌, ◌⊎◌, ◌++◌, ℕ, pos, List, [], ◌∷◌, map, Option}
-use Rattle.std.proofs.Common.{Some, None, Ok, Err}
-use Rattle.std.proofs.Common.{true, false, append_assoc, refl, sym, ap, ap₂, ◌∙◌, subst, inl, inr, ⊎_elim}
+use Rattle.std.proofs.Common.{◌≡◌, ◌≢◌, ◌<◌, ◌⊎◌, ◌++◌, ℕ, pos, List, [], ◌∷◌, map, Option, Some, None, Ok, Err, true, false, append_assoc, refl, sym, ap, ap₂, ◌∙◌, subst, inl, inr, ⊎_elim}
 use Rattle.std.proofs.lemmas.List.{append-nil}
 use Rattle.libyaml_types.specs.declared.enums.yaml_error_type_t.{yaml_error_type_t}
 use Rattle.libyaml_types.specs.declared.enums.yaml_error_type_t.TheVariants.{YAML_MEMORY_ERROR}
@@ -29,9 +27,7 @@ use Rattle.libyaml_graphs.proofs.lent.LoadLists.{roots_behind}
 use Rattle.libyaml_graphs.proofs.lent.Roots.{fault_of, last_of, roots_follow}
 use Rattle.libyaml_graphs.proofs.lent.RunLoads.{sentence_loads}
 use Rattle.libyaml_loader.specs.document.Ids.{magnitude}
-use Rattle.libyaml_loader.specs.loads.Loading.{DocumentOrError, KeptBy, LoadFails, Loads, LoadsFrom, ParserFails, Took}
-use Rattle.libyaml_loader.specs.loads.Loading.{at_end, by_loader}
-use Rattle.libyaml_loader.specs.loads.Loading.{by_memory, by_parser, whole}
+use Rattle.libyaml_loader.specs.loads.Loading.{DocumentOrError, KeptBy, LoadFails, Loads, LoadsFrom, ParserFails, Took, at_end, by_loader, by_memory, by_parser, whole}
 use Rattle.libyaml_loader.proofs.lent.LoadsInTurn.{LoadedInTurn, none_in_turn, one_more}
 use Rattle.unsafe_libyaml.specs.WholeRun.{ending_of}
 use Rattle.unsafe_libyaml.specs.WholeLoads.{GathersLoads, LoadsTo, as_whole_loads}

@@ -1,6 +1,5 @@
 -- How the events of a whole run are gathered, call by call.
-use Rattle.std.proofs.Common.{◌≡◌, ◌≢◌, ◌⊎◌, ◌++◌, List, [], ◌∷◌, Option, Some, None, Result, Ok, Err, IfOk, true, sym}
-use Rattle.std.proofs.Common.{ap, ◌∙◌, subst, inl, refl, ⊎_elim}
+use Rattle.std.proofs.Common.{◌≡◌, ◌≢◌, ◌⊎◌, ◌++◌, List, [], ◌∷◌, Option, Some, None, Result, Ok, Err, IfOk, true, sym, ap, ◌∙◌, subst, inl, refl, ⊎_elim}
 use Rattle.std.proofs.lemmas.List.{append-nil}
 use Rattle.std.specs.declared.alloc.AllocError.{AllocError}
 use Rattle.libyaml_types.specs.declared.enums.yaml_error_type_t.TheVariants.{YAML_MEMORY_ERROR}
@@ -27,8 +26,7 @@ use Rattle.libyaml_events.proofs.lent.CallsInTurn.{both_calls, gave_then, no_cal
 use Rattle.libyaml_events.proofs.lent.RunStops.{answers_both}
 use Rattle.libyaml_events.proofs.lent.Histories as histories
 use Rattle.libyaml_events.proofs.lent.KnownTokens.{asked_front, failed_known, short_known, whole_known}
-use Rattle.unsafe_libyaml.specs.WholeRun.{Asked, Gathers, RunsTo, StoppedBy, whole, broken_off, ending_of, of_grammar}
-use Rattle.unsafe_libyaml.specs.WholeRun.{of_source}
+use Rattle.unsafe_libyaml.specs.WholeRun.{Asked, Gathers, RunsTo, StoppedBy, whole, broken_off, ending_of, of_grammar, of_source}
 use Rattle.unsafe_libyaml.specs.declared.parse_all.yaml_run_t.{yaml_run_t}
 
 -- what a parser over this source gave since it was made

@@ -1,6 +1,5 @@
 -- The ids of items and values name nodes of their document.
-use Rattle.std.proofs.Common.{◌≡◌, ℕ, zero, suc, ℤ, pos, negsuc, List, [], ◌∷◌, All, IfSome, Option, Some, None, Bool}
-use Rattle.std.proofs.Common.{true, false, cond, length, slice_get, sym, subst}
+use Rattle.std.proofs.Common.{◌≡◌, ℕ, zero, suc, ℤ, pos, negsuc, List, [], ◌∷◌, All, IfSome, Option, Some, None, Bool, true, false, cond, length, slice_get, sym, subst}
 use Rattle.std.specs.List.{AllByRecursion, find}
 use Rattle.std.specs.Option.{option_map}
 use Rattle.std.specs.Prelude.{option_and_then}

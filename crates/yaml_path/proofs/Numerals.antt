@@ -1,6 +1,5 @@
 -- What `parse` reads is the number of a word of decimal digits.
-use Rattle.std.proofs.Common.{◌≡◌, ◌≢◌, ℕ, ◌^◌, ◌<◌, nat_lt, ◌&&◌, if◌then◌else◌, lt-ltb, ltb-true, get_or, List, []}
-use Rattle.std.proofs.Common.{◌∷◌, Some, None, Result, Ok, Err, Bool, true, false, length, refl, ap, sym, ◌∙◌, arith}
+use Rattle.std.proofs.Common.{◌≡◌, ◌≢◌, ℕ, ◌^◌, ◌<◌, nat_lt, ◌&&◌, if◌then◌else◌, lt-ltb, ltb-true, get_or, List, [], ◌∷◌, Some, None, Result, Ok, Err, Bool, true, false, length, refl, ap, sym, ◌∙◌, arith}
 use Rattle.std.specs.Result.{OkIff, result_ok}
 use Rattle.std.specs.Bool.{MatchBool}
 use Rattle.std.specs.Str.{all_ascii_digits, IsCharBoundary}

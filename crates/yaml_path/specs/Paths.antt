@@ -1,6 +1,5 @@
 -- Paths into a document (docs/DEFINITIONS.md, "Paths into a document").
-use Rattle.std.specs.Prelude.{ℕ, ◌^◌, ℤ, pos, List, [], ◌∷◌, Option, Some, None, Bool, false, ◌&&◌, nat_lt, bytes_eq}
-use Rattle.std.specs.Prelude.{slice_get, find, option_and_then, if◌then◌else◌}
+use Rattle.std.specs.Prelude.{ℕ, ◌^◌, ℤ, pos, List, [], ◌∷◌, Option, Some, None, Bool, false, ◌&&◌, nat_lt, bytes_eq, slice_get, find, option_and_then, if◌then◌else◌}
 use Rattle.std.specs.Option.{option_map, option_or}
 use Rattle.std.specs.Str.{all_ascii_digits}
 use Rattle.std.specs.Str.Parse.{digits_value}

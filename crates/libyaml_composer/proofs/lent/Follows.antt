@@ -1,7 +1,5 @@
 -- A call follows the loader's machine at each event within a document.
-use Rattle.std.proofs.Common.{◌≡◌, ◌<◌, ◌≤◌, ◌++◌, ◌∷◌, List, [], ℕ, zero, suc, ℤ, pos, length, arith, refl, sym, ap, subst, ◌∙◌}
-use Rattle.std.proofs.Common.{true≢false, Option, Some, None, Bool, true, false, slice_get, map, nat_le, nat_lt, length-append, append-nil}
-use Rattle.std.proofs.Common.{cond, nat_cmp}
+use Rattle.std.proofs.Common.{◌≡◌, ◌<◌, ◌≤◌, ◌++◌, ◌∷◌, List, [], ℕ, zero, suc, ℤ, pos, length, arith, refl, sym, ap, subst, ◌∙◌, true≢false, Option, Some, None, Bool, true, false, slice_get, map, nat_le, nat_lt, length-append, append-nil, cond, nat_cmp}
 use Rattle.std.proofs.lemmas.Int.{ints}
 use Rattle.std.specs.Cmp.Lexicographic.{slice_cmp, nat_list_cmp_total}
 use Rattle.std.specs.FinMap.{get, get-insert, insert}
@@ -17,20 +15,15 @@ use Rattle.libyaml_documents.specs.Nodes.{IsIdUpTo, with_changed}
 use Rattle.libyaml_documents.specs.declared.node.yaml_node_t.{yaml_node_t}
 use Rattle.libyaml_graphs.specs.graphs.ComposerFaults.{repeated_anchor}
 use Rattle.libyaml_graphs.specs.graphs.Graphs.{Carrier, id_or}
-use Rattle.libyaml_graphs.specs.graphs.GraphParts.{Opening, Part, alias_part, closing_in, closing_of, end_part, leaf_part, part_in}
-use Rattle.libyaml_graphs.specs.graphs.GraphParts.{part_of, start_part}
-use Rattle.libyaml_graphs.specs.machine.Loader.{Anchors, Loader, Loading, OpenNode, Registered, bounded_option, failed, going}
-use Rattle.libyaml_graphs.specs.machine.Loader.{if_child_fits, known, on_alias, on_node, parent_full, register, registered}
-use Rattle.libyaml_graphs.specs.machine.Loader.{unless_full}
+use Rattle.libyaml_graphs.specs.graphs.GraphParts.{Opening, Part, alias_part, closing_in, closing_of, end_part, leaf_part, part_in, part_of, start_part}
+use Rattle.libyaml_graphs.specs.machine.Loader.{Anchors, Loader, Loading, OpenNode, Registered, bounded_option, failed, going, if_child_fits, known, on_alias, on_node, parent_full, register, registered, unless_full}
 use Rattle.libyaml_composer.specs.declared.deed.Deed.{Deed}
 use Rattle.libyaml_composer.specs.declared.deed.Deed.TheVariants as deed
 use Rattle.libyaml_composer.specs.declared.records.open_t.{open_t}
 use Rattle.libyaml_composer.specs.declared.records.place_t.{place_t}
-use Rattle.libyaml_composer.specs.Composing.{Composer, Told, adding, at_carrier, at_start, deed_for, deed_in, ended, handed}
-use Rattle.libyaml_composer.specs.Composing.{if_placed, list_full, opened, place_in, told, unless, within_step}
+use Rattle.libyaml_composer.specs.Composing.{Composer, Told, adding, at_carrier, at_start, deed_for, deed_in, ended, handed, if_placed, list_full, opened, place_in, told, unless, within_step}
 use Rattle.libyaml_composer.specs.Numbers.{flag, is_id}
-use Rattle.libyaml_composer.specs.Held.{Held, anchor_in, anchored, applied_part, carrier_of, fact_by, fact_of, fault_part}
-use Rattle.libyaml_composer.specs.Held.{IsRefused, first_mark, loader_of, node_of, with_node, open_of, placed, with_child, with_nodes}
+use Rattle.libyaml_composer.specs.Held.{Held, anchor_in, anchored, applied_part, carrier_of, fact_by, fact_of, fault_part, IsRefused, first_mark, loader_of, node_of, with_node, open_of, placed, with_child, with_nodes}
 use Rattle.libyaml_composer.proofs.Children.{Handing, hands_child}
 use Rattle.libyaml_composer.proofs.Opens.{get_last, length_changed, opens_more, opens_other, opens_wider}
 use Rattle.libyaml_composer.specs.Standing.{Fits, IsAlike, IsCarried, IsChild, IsClosed, IsNode, IsOpen, IsPart, IsPut, Opens, Standing, Takes}

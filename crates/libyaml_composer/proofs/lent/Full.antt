@@ -6,8 +6,7 @@ use Rattle.libyaml_composer.specs.declared.deed.Deed.{Deed}
 use Rattle.libyaml_composer.specs.declared.deed.Deed.TheVariants as deed
 use Rattle.libyaml_composer.specs.declared.records.open_t.{open_t}
 use Rattle.libyaml_composer.specs.declared.records.place_t.{place_t}
-use Rattle.libyaml_composer.specs.Composing.{Composer, Told, adding, at_carrier, at_start, between_step, deed_for, deed_in}
-use Rattle.libyaml_composer.specs.Composing.{ended, if_placed, is_start, opened, step, step_in, told, unless, within_step}
+use Rattle.libyaml_composer.specs.Composing.{Composer, Told, adding, at_carrier, at_start, between_step, deed_for, deed_in, ended, if_placed, is_start, opened, step, step_in, told, unless, within_step}
 use Rattle.libyaml_composer.specs.Numbers.{flag, is_id}
 
 child_not_full : (s : List open_t) → deed_for s ≡ deed.FullStack → ⊥

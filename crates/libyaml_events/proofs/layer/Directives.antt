@@ -1,6 +1,5 @@
 -- What the automaton's step says of the parser's, in the stream and its documents.
-use Rattle.std.proofs.Common.{◌≡◌, ◌∙◌, ◌∷◌, ◌++◌, ℕ, List, [], Option, Some, None, Bool, true, false, Ok, Err, refl, sym, ap, subst}
-use Rattle.std.proofs.Common.{is_some}
+use Rattle.std.proofs.Common.{◌≡◌, ◌∙◌, ◌∷◌, ◌++◌, ℕ, List, [], Option, Some, None, Bool, true, false, Ok, Err, refl, sym, ap, subst, is_some}
 use Rattle.std.specs.FinMap.{get}
 use Rattle.libyaml_types.specs.Fault.{Fault}
 use Rattle.libyaml_types.specs.Types.{token_type}

@@ -1,23 +1,17 @@
 -- What the machine makes of directives and handles is what the grammar says of them.
 use Rattle.std.specs.Prelude.{◌||◌, not, bytes_eq}
-use Rattle.std.proofs.Common.{◌≡◌, ℕ, ◌++◌, List, [], ◌∷◌, Option, Some, None, refl, sym, ap, ◌∙◌, Bool, true, false}
-use Rattle.std.proofs.Common.{cond, codes, is_some}
-use Rattle.std.proofs.Common.{append_assoc}
+use Rattle.std.proofs.Common.{◌≡◌, ℕ, ◌++◌, List, [], ◌∷◌, Option, Some, None, refl, sym, ap, ◌∙◌, Bool, true, false, cond, codes, is_some, append_assoc}
 use Rattle.std.specs.Cmp.Lexicographic.{nat_list_eq_equiv, nat_list_cmp_total}
 use Rattle.std.specs.FinMap.{get, insert, get-from_entries}
 use Rattle.libyaml_events.specs.machine.Machine as mach
 use Rattle.libyaml_grammar.specs.cuts.CutFaults.{directive_fault}
-use Rattle.libyaml_grammar.specs.sentences.Tokens.{HandleDeclared, Mark, Marks, TagDirective, TagName, Token}
-use Rattle.libyaml_grammar.specs.sentences.Tokens.{VersionAsked, VersionDirective, tok}
+use Rattle.libyaml_grammar.specs.sentences.Tokens.{HandleDeclared, Mark, Marks, TagDirective, TagName, Token, VersionAsked, VersionDirective, tok}
 use Rattle.libyaml_grammar.specs.sentences.Trees.{Directives, directive, no_directives, tag_directive, version}
-use Rattle.libyaml_grammar.specs.sentences.Events.{Event, declaration, prefix_of, resolved}
-use Rattle.libyaml_grammar.specs.sentences.Events.{tag_directives_of, tag_directives_then}
-use Rattle.libyaml_grammar.specs.sentences.Events.{tag_from, version_of}
+use Rattle.libyaml_grammar.specs.sentences.Events.{Event, declaration, prefix_of, resolved, tag_directives_of, tag_directives_then, tag_from, version_of}
 use Rattle.libyaml_grammar.specs.sentences.Order.{declares, is_known, is_accepted, no_version}
 use Rattle.libyaml_grammar.proofs.lent.Reading.{keeps_order}
-use Rattle.libyaml_events.specs.machine.Config.{Config, Handles}
+use Rattle.libyaml_events.specs.machine.Config.{Config, Handles, config_of}
 use Rattle.libyaml_events.specs.machine.Machine.{put, machine, or_default, resolve, seen, with_prefix}
-use Rattle.libyaml_events.specs.machine.Config.{config_of}
 use Rattle.libyaml_events.proofs.machine.Link.{End, after, behind_directives, directive_ends, directive_texts, handles_of, waits}
 use Rattle.libyaml_grammar.proofs.lent.TextMaps.{inserted}
 use Rattle.libyaml_automaton.specs.Automaton.{BehindDirective}

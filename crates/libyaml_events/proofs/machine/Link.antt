@@ -1,36 +1,20 @@
 -- What the parser keeps at each position, once the tokens before it are consumed; and all that one token makes it do.
 use Rattle.std.proofs.Common.{ℕ, zero, suc, List, [], ◌∷◌, Option, Some, None, Ok, Err, Bool, true, false, is_some}
 use Rattle.std.specs.FinMap.{insert}
-use Rattle.libyaml_grammar.specs.cuts.CutTrees.{declared, open_collection}
+use Rattle.libyaml_grammar.specs.cuts.CutTrees.{declared, open_collection, BlockPlace, Open, PartPlace, Place, Root, block, declared_block, declared_open, declared_part, entry, explicit_root, flow_entry, flow_key, flow_value, implicit_root, indentless_entry, part_place, root, slot}
 use Rattle.libyaml_types.specs.Fault.{no_fault, Fault}
 use Rattle.libyaml_grammar.specs.cuts.FaultTexts.{document_start_fault}
-use Rattle.libyaml_grammar.specs.sentences.Tokens.{Content, Mark, Marks, TagDirective, TagName, Token, VersionDirective}
-use Rattle.libyaml_grammar.specs.sentences.Tokens.{marks_of, tok}
-use Rattle.libyaml_grammar.specs.sentences.Trees.{Before, Directive, Directives, Documents, FlowMember, Free, Parts}
-use Rattle.libyaml_grammar.specs.sentences.Trees.{Properties, Role, Stream, anchor}
-use Rattle.libyaml_grammar.specs.sentences.Trees.{anchor_tag, behind, directive, ended, explicit, free, implicit, key}
-use Rattle.libyaml_grammar.specs.sentences.Trees.{mapping, no_directives, no_parts}
-use Rattle.libyaml_grammar.specs.sentences.Trees.{no_value, opened, pair, part, sequence, single, tag, tag_anchor}
-use Rattle.libyaml_grammar.specs.sentences.Trees.{tag_directive, value, version, whole}
-use Rattle.libyaml_grammar.specs.sentences.Trees.{with_value}
-use Rattle.libyaml_grammar.specs.sentences.Events.{Event, directive_start, first_directive, tag_directives_of, version_of}
-use Rattle.libyaml_grammar.specs.sentences.Events.{anchor_of, first_of_properties, last_of_properties}
-use Rattle.libyaml_grammar.specs.cuts.CutTrees.{BlockPlace, Open, PartPlace, Place, Root, block, declared_block}
-use Rattle.libyaml_grammar.specs.cuts.CutTrees.{declared_open, declared_part, entry}
-use Rattle.libyaml_grammar.specs.cuts.CutTrees.{explicit_root, flow_entry, flow_key, flow_value, implicit_root}
-use Rattle.libyaml_grammar.specs.cuts.CutTrees.{indentless_entry, part_place, root, slot}
+use Rattle.libyaml_grammar.specs.sentences.Tokens.{Content, Mark, Marks, TagDirective, TagName, Token, VersionDirective, marks_of, tok}
+use Rattle.libyaml_grammar.specs.sentences.Trees.{Before, Directive, Directives, Documents, FlowMember, Free, Parts, Properties, Role, Stream, anchor, anchor_tag, behind, directive, ended, explicit, free, implicit, key, mapping, no_directives, no_parts, no_value, opened, pair, part, sequence}
+use Rattle.libyaml_grammar.specs.sentences.Trees.{single, tag, tag_anchor, tag_directive, value, version, whole, with_value}
+use Rattle.libyaml_grammar.specs.sentences.Events.{Event, directive_start, first_directive, tag_directives_of, version_of, anchor_of, first_of_properties, last_of_properties}
 use Rattle.libyaml_grammar.specs.cuts.CutFaults.{directive_fault, fault}
-use Rattle.libyaml_grammar.proofs.lent.Positions.{Position, between, done, due, flow_behind, flow_due, flow_keyed}
-use Rattle.libyaml_grammar.proofs.lent.Positions.{headed, in_indentless, in_mapping}
-use Rattle.libyaml_grammar.proofs.lent.Positions.{in_sequence, unopened}
+use Rattle.libyaml_grammar.proofs.lent.Positions.{Position, between, done, due, flow_behind, flow_due, flow_keyed, headed, in_indentless, in_mapping, in_sequence, unopened}
 use Rattle.libyaml_grammar.proofs.lent.Reading.{Step, bad, goes, keeps_order, over, pending, step}
 use Rattle.libyaml_events.specs.machine.Config.{Config, Handles, no_handles, taken}
 use Rattle.libyaml_events.specs.machine.Machine.{Progressed, machine}
 use Rattle.libyaml_events.specs.machine.Want.{Want, Texts, no_texts, AtState, Given, Wants}
-use Rattle.libyaml_automaton.specs.Automaton.{BehindDirective, BehindProperties, BehindBlockEntry}
-use Rattle.libyaml_automaton.specs.Automaton.{BehindIndentlessEntry, BehindKey, BehindValue}
-use Rattle.libyaml_automaton.specs.Automaton.{BehindFlowSequenceValue, BehindFlowMappingKey}
-use Rattle.libyaml_automaton.specs.Automaton.{BehindFlowMappingValue}
+use Rattle.libyaml_automaton.specs.Automaton.{BehindDirective, BehindProperties, BehindBlockEntry, BehindIndentlessEntry, BehindKey, BehindValue, BehindFlowSequenceValue, BehindFlowMappingKey, BehindFlowMappingValue}
 use Rattle.libyaml_automaton.specs.Automaton as automaton
 use Rattle.libyaml_types.specs.Events.{zero_mark}
 use Rattle.libyaml_automaton.specs.declared.node_place.NodePlace.{NodePlace}

@@ -1,35 +1,24 @@
 -- What a step of the machine does: its outcome, and beside it the outcome over further states and marks below the stacks.
-use Rattle.std.proofs.Common.{◌≡◌, ◌<◌, ◌≤◌, ◌⊎◌, if◌then◌else◌, ◌++◌, ℕ, suc, arith, inl, inr, List, Option, Some}
-use Rattle.std.proofs.Common.{None, Bool, true, false, Err, refl}
+use Rattle.std.proofs.Common.{◌≡◌, ◌<◌, ◌≤◌, ◌⊎◌, if◌then◌else◌, ◌++◌, ℕ, suc, arith, inl, inr, List, Option, Some, None, Bool, true, false, Err, refl, is_some, ◌∷◌, Ok, subst}
 use Rattle.libyaml_types.specs.declared.enums.yaml_parser_state_t.{yaml_parser_state_t}
 use Rattle.libyaml_types.specs.declared.enums.yaml_parser_state_t.TheVariants as st
 use Rattle.libyaml_types.specs.declared.event.unnamed_yaml_event_t_data.{unnamed_yaml_event_t_data}
 use Rattle.libyaml_types.specs.declared.event.unnamed_yaml_event_t_data.TheVariants as ev
-use Rattle.libyaml_types.specs.declared.event.unnamed_yaml_event_t_data_document_end.{}
 use Rattle.libyaml_types.specs.declared.event.unnamed_yaml_event_t_data_document_end.{unnamed_yaml_event_t_data_document_end}
-use Rattle.libyaml_types.specs.declared.event.unnamed_yaml_event_t_data_document_start.{}
 use Rattle.libyaml_types.specs.declared.event.unnamed_yaml_event_t_data_document_start.{unnamed_yaml_event_t_data_document_start}
-use Rattle.libyaml_types.specs.declared.event.unnamed_yaml_event_t_data_mapping_start.{}
 use Rattle.libyaml_types.specs.declared.event.unnamed_yaml_event_t_data_mapping_start.{unnamed_yaml_event_t_data_mapping_start}
 use Rattle.libyaml_types.specs.declared.event.unnamed_yaml_event_t_data_scalar.{unnamed_yaml_event_t_data_scalar}
-use Rattle.libyaml_types.specs.declared.event.unnamed_yaml_event_t_data_sequence_start.{}
 use Rattle.libyaml_types.specs.declared.event.unnamed_yaml_event_t_data_sequence_start.{unnamed_yaml_event_t_data_sequence_start}
-use Rattle.libyaml_types.specs.declared.event.unnamed_yaml_event_t_data_stream_start.{}
 use Rattle.libyaml_types.specs.declared.event.unnamed_yaml_event_t_data_stream_start.{unnamed_yaml_event_t_data_stream_start}
 use Rattle.libyaml_grammar.specs.cuts.FaultTexts.{item_fault, mapping_fault, part_fault, sequence_fault}
 use Rattle.libyaml_types.specs.Fault.{Fault}
-use Rattle.libyaml_grammar.specs.sentences.Tokens.{Alias, Anchor, AnchorName, BlockEnd, BlockEntry, BlockMappingStart}
-use Rattle.libyaml_grammar.specs.sentences.Tokens.{BlockSequenceStart, Content, DocumentEnd}
-use Rattle.libyaml_grammar.specs.sentences.Tokens.{DocumentStart, FlowEntry, FlowMappingEnd, FlowMappingStart}
-use Rattle.libyaml_grammar.specs.sentences.Tokens.{FlowSequenceEnd, FlowSequenceStart, Key, Mark}
-use Rattle.libyaml_grammar.specs.sentences.Tokens.{Scalar, StreamEnd, StreamStart, Tag, TagDirective, TagName, Token}
-use Rattle.libyaml_grammar.specs.sentences.Tokens.{Value, VersionDirective}
+use Rattle.libyaml_grammar.specs.sentences.Tokens.{Alias, Anchor, AnchorName, BlockEnd, BlockEntry, BlockMappingStart, BlockSequenceStart, Content, DocumentEnd, DocumentStart, FlowEntry, FlowMappingEnd, FlowMappingStart, FlowSequenceEnd, FlowSequenceStart, Key, Mark, Scalar, StreamEnd, StreamStart}
+use Rattle.libyaml_grammar.specs.sentences.Tokens.{Tag, TagDirective, TagName, Token, Value, VersionDirective}
 use Rattle.libyaml_automaton.specs.declared.node_place.NodePlace.{NodePlace}
 use Rattle.libyaml_events.specs.parsers.EventsLeft.{rank}
 use Rattle.libyaml_events.specs.parsers.Pops.{raised}
 use Rattle.std.specs.FinMap.{get}
 use Rattle.libyaml_types.specs.declared.token.unnamed_yaml_token_t_data_tag_directive.{unnamed_yaml_token_t_data_tag_directive}
-use Rattle.std.proofs.Common.{is_some, ◌∷◌, Ok, subst}
 use Rattle.libyaml_types.specs.Types.{token_type}
 use Rattle.libyaml_types.specs.declared.event.unnamed_yaml_event_t_data_alias.{unnamed_yaml_event_t_data_alias}
 use Rattle.libyaml_grammar.specs.sentences.Events.{event}
@@ -39,13 +28,9 @@ use Rattle.libyaml_automaton.specs.declared.slot.Slot.TheVariants as slot
 use Rattle.libyaml_automaton.specs.Slots.{is_nothing_before}
 use Rattle.libyaml_automaton.specs.Config as automaton_config
 use Rattle.libyaml_automaton.specs.Automaton as automaton
-use Rattle.libyaml_automaton.specs.Automaton.{BehindBlockEntry, BehindDirective, BehindFlowMappingKey, BehindFlowMappingValue}
-use Rattle.libyaml_automaton.specs.Automaton.{BehindFlowSequenceValue, BehindIndentlessEntry, BehindKey, BehindProperties}
-use Rattle.libyaml_automaton.specs.Automaton.{BehindValue}
-use Rattle.libyaml_events.specs.machine.Config.{Config, at, config_of, config_with, keep, no_handles, popped, popped_mark}
-use Rattle.libyaml_events.specs.machine.Config.{pushed, pushed_mark, top_mark, with_handle}
-use Rattle.libyaml_events.specs.machine.Machine.{Progressed, content_behind, content_resolved, empty_scalar, machine, put}
-use Rattle.libyaml_events.specs.machine.Machine.{is_accepted_in, resolve, seen, with_texts}
+use Rattle.libyaml_automaton.specs.Automaton.{BehindBlockEntry, BehindDirective, BehindFlowMappingKey, BehindFlowMappingValue, BehindFlowSequenceValue, BehindIndentlessEntry, BehindKey, BehindProperties, BehindValue}
+use Rattle.libyaml_events.specs.machine.Config.{Config, at, config_of, config_with, keep, no_handles, popped, popped_mark, pushed, pushed_mark, top_mark, with_handle}
+use Rattle.libyaml_events.specs.machine.Machine.{Progressed, content_behind, content_resolved, empty_scalar, machine, put, is_accepted_in, resolve, seen, with_texts}
 use Rattle.libyaml_events.specs.machine.Want.{Want, Given, Texts, Wants}
 
 -- The kinds of places that states stand for: before the stream, between documents, where a node is due that the

@@ -1,7 +1,6 @@
 -- The parser as a machine that is fed one token at a time (docs/DEFINITIONS.md, "The parser as a machine"): the automaton,
 -- with texts. In each function k is the content of the token t.
-use Rattle.std.specs.Prelude.{◌∷◌, ◌++◌, ℕ, List, [], Option, None, Some, Bool, true, false, Result, Ok, Err, codes}
-use Rattle.std.specs.Prelude.{bytes_eq, cond, is_some, ◌==◌, if◌then◌else◌}
+use Rattle.std.specs.Prelude.{◌∷◌, ◌++◌, ℕ, List, [], Option, None, Some, Bool, true, false, Result, Ok, Err, codes, bytes_eq, cond, is_some, ◌==◌, if◌then◌else◌}
 use Rattle.std.specs.FinMap.{get, insert}
 use Rattle.libyaml_types.specs.Types.{token_type}
 use Rattle.libyaml_types.specs.Fault.{Fault, no_fault}
@@ -19,11 +18,9 @@ use Rattle.libyaml_types.specs.declared.enums.yaml_encoding_t.TheVariants.{YAML_
 use Rattle.libyaml_types.specs.declared.enums.yaml_scalar_style_t.{yaml_scalar_style_t}
 use Rattle.libyaml_types.specs.declared.enums.yaml_scalar_style_t.TheVariants.{YAML_PLAIN_SCALAR_STYLE}
 use Rattle.libyaml_types.specs.declared.enums.yaml_sequence_style_t.{yaml_sequence_style_t}
-use Rattle.libyaml_types.specs.declared.enums.yaml_sequence_style_t.TheVariants.{YAML_BLOCK_SEQUENCE_STYLE}
-use Rattle.libyaml_types.specs.declared.enums.yaml_sequence_style_t.TheVariants.{YAML_FLOW_SEQUENCE_STYLE}
+use Rattle.libyaml_types.specs.declared.enums.yaml_sequence_style_t.TheVariants.{YAML_BLOCK_SEQUENCE_STYLE, YAML_FLOW_SEQUENCE_STYLE}
 use Rattle.libyaml_types.specs.declared.enums.yaml_mapping_style_t.{yaml_mapping_style_t}
-use Rattle.libyaml_types.specs.declared.enums.yaml_mapping_style_t.TheVariants.{YAML_BLOCK_MAPPING_STYLE}
-use Rattle.libyaml_types.specs.declared.enums.yaml_mapping_style_t.TheVariants.{YAML_FLOW_MAPPING_STYLE}
+use Rattle.libyaml_types.specs.declared.enums.yaml_mapping_style_t.TheVariants.{YAML_BLOCK_MAPPING_STYLE, YAML_FLOW_MAPPING_STYLE}
 use Rattle.libyaml_grammar.specs.cuts.FaultTexts as fault
 use Rattle.libyaml_grammar.specs.sentences.Events.{event, is_missing, plain_flag, quoted_flag}
 use Rattle.libyaml_grammar.specs.sentences.Order.{is_accepted}

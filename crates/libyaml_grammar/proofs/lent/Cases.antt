@@ -1,24 +1,18 @@
 -- All that one token may do at a position that is met.
 use Rattle.std.proofs.Common.{◌≡◌, List, Some, None, refl, sym, ap, ◌∙◌, subst, Bool, true, false}
 use Rattle.std.specs.Prelude.{Option}
-use Rattle.libyaml_grammar.specs.sentences.Tokens.{Content, HandleDeclared, Mark, Marks, Tag, TagDirective, TagName}
-use Rattle.libyaml_grammar.specs.sentences.Tokens.{VersionAsked, VersionDirective, tok}
-use Rattle.libyaml_grammar.specs.sentences.Trees.{Directive, Directives, FlowNode, alone, anchor_tag, no_directives}
-use Rattle.libyaml_grammar.specs.sentences.Trees.{tag, tag_directive, version}
+use Rattle.libyaml_grammar.specs.sentences.Tokens.{Content, HandleDeclared, Mark, Marks, Tag, TagDirective, TagName, VersionAsked, VersionDirective, tok}
+use Rattle.libyaml_grammar.specs.sentences.Trees.{Directive, Directives, FlowNode, alone, anchor_tag, no_directives, tag, tag_directive, version}
 use Rattle.libyaml_grammar.specs.sentences.Events.{Event, directive_start}
 use Rattle.libyaml_grammar.specs.sentences.Order.{is_known}
-use Rattle.libyaml_grammar.specs.cuts.CutTrees.{Cut, Place, at_directive, block, declared, implicit_root, part_place}
-use Rattle.libyaml_grammar.specs.cuts.CutTrees.{root, slot}
+use Rattle.libyaml_grammar.specs.cuts.CutTrees.{Cut, Place, at_directive, block, declared, implicit_root, part_place, root, slot}
 use Rattle.libyaml_grammar.specs.cuts.CutEvents.{shown_cut}
 use Rattle.libyaml_grammar.proofs.lent.Positions.{Position, due, headed, shown}
-use Rattle.libyaml_grammar.proofs.lent.Reading.{Step, bad, checked, fill_flow, goes, is_legal, leave, over, pending}
-use Rattle.libyaml_grammar.proofs.lent.Reading.{reads, step}
+use Rattle.libyaml_grammar.proofs.lent.Reading.{Step, bad, checked, fill_flow, goes, is_legal, leave, over, pending, reads, step}
 use Rattle.libyaml_grammar.proofs.lent.Given.{gives}
 use Rattle.libyaml_grammar.proofs.lent.Shows.{Shows, step_shows}
 use Rattle.libyaml_grammar.proofs.lent.StepsMeet.{IsMet, Meets, step_met}
-use Rattle.libyaml_grammar.proofs.lent.ReadSteps.{Moves, ReadStep, a_tag, fails, first_handle, first_version, is_alone}
-use Rattle.libyaml_grammar.proofs.lent.ReadSteps.{is_past, leaves, moves}
-use Rattle.libyaml_grammar.proofs.lent.ReadSteps.{next_handle, next_version, read_step, tag_behind_anchor}
+use Rattle.libyaml_grammar.proofs.lent.ReadSteps.{Moves, ReadStep, a_tag, fails, first_handle, first_version, is_alone, is_past, leaves, moves, next_handle, next_version, read_step, tag_behind_anchor}
 
 -- a tag that grammar takes is held
 abbrev pub IsTagHeld : Position → Bool → Marks → Type 0

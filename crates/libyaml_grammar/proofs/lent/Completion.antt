@@ -2,22 +2,12 @@
 -- stream tree.
 use Rattle.std.proofs.Common.{◌≡◌, List, [], ◌∷◌, ◌++◌, refl, sym, ap, ◌∙◌, subst, ◌⊎◌, inl, inr, Bool, true, append-nil}
 use Rattle.libyaml_grammar.specs.sentences.Tokens.{Marks, Token, empty_plain, zero_marks}
-use Rattle.libyaml_grammar.specs.sentences.Trees.{BlockNode, FlowNode, Stream, behind, block_mapping, block_sequence}
-use Rattle.libyaml_grammar.specs.sentences.Trees.{collection, directive, explicit}
-use Rattle.libyaml_grammar.specs.sentences.Trees.{flow, flow_node, free, implicit, indentless, item, last, mapping}
-use Rattle.libyaml_grammar.specs.sentences.Trees.{no_directives, no_last, no_value, node}
-use Rattle.libyaml_grammar.specs.sentences.Trees.{nothing, opened, pair, part, scalar, sequence, single, slot_of}
-use Rattle.libyaml_grammar.specs.sentences.Trees.{tokens, whole, with_value}
+use Rattle.libyaml_grammar.specs.sentences.Trees.{BlockNode, FlowNode, Stream, behind, block_mapping, block_sequence, collection, directive, explicit, flow, flow_node, free, implicit, indentless, item, last, mapping, no_directives, no_last, no_value, node, nothing, opened, pair, part, scalar}
+use Rattle.libyaml_grammar.specs.sentences.Trees.{sequence, single, slot_of, tokens, whole, with_value}
 use Rattle.libyaml_grammar.specs.sentences.Sentences.{IsBeginning, IsSentence}
-use Rattle.libyaml_grammar.specs.cuts.CutTrees.{BlockPlace, Cut, Place, at_directive, block, cut_in_order, cut_tokens}
-use Rattle.libyaml_grammar.specs.cuts.CutTrees.{entry, explicit_root, flow_entry}
-use Rattle.libyaml_grammar.specs.cuts.CutTrees.{flow_key, flow_value, implicit_root, indentless_entry, open_collection}
-use Rattle.libyaml_grammar.specs.cuts.CutTrees.{part_place, root, slot}
+use Rattle.libyaml_grammar.specs.cuts.CutTrees.{BlockPlace, Cut, Place, at_directive, block, cut_in_order, cut_tokens, entry, explicit_root, flow_entry, flow_key, flow_value, implicit_root, indentless_entry, open_collection, part_place, root, slot}
 use Rattle.libyaml_grammar.specs.cuts.Rest.{any_encoding, rest, rest_block_place, rest_place}
-use Rattle.libyaml_grammar.proofs.lent.Positions.{Position, between, done, due, flow_behind, flow_due, flow_keyed}
-use Rattle.libyaml_grammar.proofs.lent.Positions.{headed, in_indentless, in_mapping}
-use Rattle.libyaml_grammar.proofs.lent.Positions.{in_sequence, position_in_order, position_rest, position_tokens, stand}
-use Rattle.libyaml_grammar.proofs.lent.Positions.{unopened}
+use Rattle.libyaml_grammar.proofs.lent.Positions.{Position, between, done, due, flow_behind, flow_due, flow_keyed, headed, in_indentless, in_mapping, in_sequence, position_in_order, position_rest, position_tokens, stand, unopened}
 use Rattle.libyaml_grammar.proofs.lent.Reading.{Step, bad, feeds, fill, fill_flow, goes, over, reads, reads_all, then_all}
 use Rattle.libyaml_grammar.proofs.lent.Keeps.{feeds_keep}
 use Rattle.libyaml_grammar.proofs.lent.Orders.{feeds_order, reads_from, reads_to, tests}

@@ -1,25 +1,18 @@
 -- Where reading stops with a cut tree, it has the tokens read, and fits.
-use Rattle.std.proofs.Common.{◌≡◌, List, [], ◌∷◌, ◌++◌, refl, sym, ap, ◌∙◌, subst, ◌⊎◌, inl, inr, Bool, true, false}
-use Rattle.std.proofs.Common.{append-nil}
+use Rattle.std.proofs.Common.{◌≡◌, List, [], ◌∷◌, ◌++◌, refl, sym, ap, ◌∙◌, subst, ◌⊎◌, inl, inr, Bool, true, false, append-nil}
 use Rattle.libyaml_grammar.specs.sentences.Tokens.{Content, Marks, Token, marks_of, tok}
 use Rattle.libyaml_grammar.specs.sentences.Trees.{Stream}
 use Rattle.libyaml_grammar.specs.sentences.Events.{Event}
-use Rattle.libyaml_grammar.specs.cuts.CutTrees.{Cut, at_tag, at_tag_behind, before_stream, cut_in_order, cut_tokens}
-use Rattle.libyaml_grammar.specs.cuts.CutTrees.{declared}
+use Rattle.libyaml_grammar.specs.cuts.CutTrees.{Cut, at_tag, at_tag_behind, before_stream, cut_in_order, cut_tokens, declared}
 use Rattle.libyaml_grammar.specs.cuts.Fits.{Fits, FitsTag, IsUnknown, IsUnknownTag}
 use Rattle.libyaml_grammar.proofs.lent.Positions.{Position, done, position_in_order, position_tokens, unopened}
-use Rattle.libyaml_grammar.proofs.lent.Reading.{Step, bad, bad_same, broken, checked, feed, feeds, goes, goes_same}
-use Rattle.libyaml_grammar.proofs.lent.Reading.{is_legal, over, reads, reads_all, step}
-use Rattle.libyaml_grammar.proofs.lent.Reading.{then_all}
+use Rattle.libyaml_grammar.proofs.lent.Reading.{Step, bad, bad_same, broken, checked, feed, feeds, goes, goes_same, is_legal, over, reads, reads_all, step, then_all}
 use Rattle.libyaml_grammar.proofs.lent.Keeps.{ToldAlike, feeds_keep, leave_keeps, moved_keeps}
 use Rattle.libyaml_grammar.proofs.lent.Completion.{not_done, read_order, reads_append}
 use Rattle.libyaml_grammar.proofs.lent.Orders.{reads_to}
-use Rattle.libyaml_grammar.proofs.lent.ReadSteps.{IsNotDone, ReadStep, a_tag, fails, first_handle, first_version}
-use Rattle.libyaml_grammar.proofs.lent.ReadSteps.{is_past, leaves, moved_open, moves}
-use Rattle.libyaml_grammar.proofs.lent.ReadSteps.{next_handle, next_version, no_stream, read_step, tag_behind_anchor}
+use Rattle.libyaml_grammar.proofs.lent.ReadSteps.{IsNotDone, ReadStep, a_tag, fails, first_handle, first_version, is_past, leaves, moved_open, moves, next_handle, next_version, no_stream, read_step, tag_behind_anchor}
 use Rattle.libyaml_grammar.proofs.trees.Edge.{cut_reads, reached}
-use Rattle.libyaml_grammar.proofs.trees.Existence.{IsTagCut, StopsAt, gives_content, gives_directive, gives_empty_end}
-use Rattle.libyaml_grammar.proofs.trees.Existence.{gives_tag}
+use Rattle.libyaml_grammar.proofs.trees.Existence.{IsTagCut, StopsAt, gives_content, gives_directive, gives_empty_end, gives_tag}
 
 -- no token is bad at a tag for grammar alone
 abbrev pub NotTagCut : Cut → Type 0

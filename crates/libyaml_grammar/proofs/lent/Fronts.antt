@@ -2,9 +2,7 @@
 use Rattle.std.proofs.Common.{◌≡◌, List, [], ◌∷◌, ◌++◌, Option, Some, None, true, false, refl, sym, ap, ◌∙◌, subst}
 use Rattle.libyaml_grammar.specs.sentences.Tokens.{Marks, NoToken, Token, marks_of, tok}
 use Rattle.libyaml_grammar.specs.sentences.Trees.{Properties, Stream, alone, free}
-use Rattle.libyaml_grammar.specs.cuts.CutTrees.{Cut, Place, at_directive, at_tag, at_tag_behind, block, content_due}
-use Rattle.libyaml_grammar.specs.cuts.CutTrees.{document_due, implicit_root}
-use Rattle.libyaml_grammar.specs.cuts.CutTrees.{indentless_entry, part_place, root, slot, start_due}
+use Rattle.libyaml_grammar.specs.cuts.CutTrees.{Cut, Place, at_directive, at_tag, at_tag_behind, block, content_due, document_due, implicit_root, indentless_entry, part_place, root, slot, start_due}
 use Rattle.libyaml_grammar.specs.cuts.Fits.{EndsEmpty, Fits, FitsDirective, FitsTag, WantsContent, ends_empty, last_empty}
 use Rattle.libyaml_grammar.specs.cuts.Settled.{IsFront, IsFrontPlace}
 use Rattle.libyaml_grammar.proofs.lent.Positions.{Position, between, done, due, in_indentless, unopened}

@@ -1,6 +1,5 @@
 -- A list whose only STREAM-END is its last token runs to its tree's events, or to its cut tree's events and fault.
-use Rattle.std.proofs.Common.{◌≡◌, List, [], ◌∷◌, ◌++◌, refl, sym, ap, ◌∙◌, subst, Bool, true, false, inl, inr}
-use Rattle.std.proofs.Common.{append-nil}
+use Rattle.std.proofs.Common.{◌≡◌, List, [], ◌∷◌, ◌++◌, refl, sym, ap, ◌∙◌, subst, Bool, true, false, inl, inr, append-nil}
 use Rattle.libyaml_types.specs.Fault.{Fault}
 use Rattle.libyaml_grammar.specs.sentences.Tokens.{Anchor, Content, Marks, StreamEnd, Tag, Token, tok}
 use Rattle.libyaml_grammar.specs.sentences.Trees.{Directives, tokens}
@@ -10,8 +9,7 @@ use Rattle.libyaml_grammar.specs.cuts.CutEvents.{cut_events}
 use Rattle.libyaml_grammar.specs.cuts.CutFaults.{fault}
 use Rattle.libyaml_grammar.specs.cuts.Fits.{Fits, IsUnknown}
 use Rattle.libyaml_grammar.specs.sentences.Sentences.{is_end, has_end}
-use Rattle.libyaml_grammar.specs.runs.Runs.{Ends, Fails, IsRun, has_token, is_behind, is_behind_properties, RunsWhole}
-use Rattle.libyaml_grammar.specs.runs.Runs.{to_its_end, to_its_fault}
+use Rattle.libyaml_grammar.specs.runs.Runs.{Ends, Fails, IsRun, has_token, is_behind, is_behind_properties, RunsWhole, to_its_end, to_its_fault}
 use Rattle.libyaml_grammar.proofs.lent.Running.{sentence_run, cut_run}
 use Rattle.libyaml_grammar.proofs.trees.TreeOrCut.{sentence_or_cut}
 

@@ -1,18 +1,13 @@
 -- The events of each run begin events that nest, so they nest as far as they go.
-use Rattle.std.proofs.Common.{◌≡◌, ◌⊎◌, inl, inr, List, [], ◌∷◌, ◌++◌, refl, sym, ap, ◌∙◌, subst, append_assoc}
-use Rattle.std.proofs.Common.{append-nil}
+use Rattle.std.proofs.Common.{◌≡◌, ◌⊎◌, inl, inr, List, [], ◌∷◌, ◌++◌, refl, sym, ap, ◌∙◌, subst, append_assoc, append-nil}
 use Rattle.libyaml_types.specs.declared.event.unnamed_yaml_event_t_data.TheVariants as ev
 use Rattle.libyaml_grammar.specs.cuts.CutEvents.{cut_events, shown_cut, sort_of}
 use Rattle.libyaml_grammar.specs.cuts.CutTrees.{Cut, at_directive, document_due, open_collection, part_due, separator_due}
 use Rattle.libyaml_grammar.specs.sentences.Events.{Event, document_end_at, event, events, stream_end_at, stream_start_at}
 use Rattle.libyaml_types.specs.Fault.{Fault}
 use Rattle.libyaml_grammar.proofs.lent.Given.{gives_all}
-use Rattle.libyaml_grammar.specs.sentences.Nesting.{BeginsValue, IsNested, IsOpenDocument, NestsSoFar, Texts}
-use Rattle.libyaml_grammar.specs.sentences.Nesting.{TextsHavePairs, has_begun, no_texts}
-use Rattle.libyaml_grammar.specs.sentences.Nesting.{none_open, not_begun, one_open, text_behind, texts_events}
-use Rattle.libyaml_grammar.specs.sentences.Nesting.{value_events, whole}
-use Rattle.libyaml_grammar.proofs.lent.Positions.{Position, between, done, flow_behind, in_mapping, position_rest}
-use Rattle.libyaml_grammar.proofs.lent.Positions.{shown, stand}
+use Rattle.libyaml_grammar.specs.sentences.Nesting.{BeginsValue, IsNested, IsOpenDocument, NestsSoFar, Texts, TextsHavePairs, has_begun, no_texts, none_open, not_begun, one_open, text_behind, texts_events, value_events, whole}
+use Rattle.libyaml_grammar.proofs.lent.Positions.{Position, between, done, flow_behind, in_mapping, position_rest, shown, stand}
 use Rattle.libyaml_grammar.specs.runs.Runs.{Ending, Ends, IsRun, amid_properties, of_beginning, of_cut_tree, of_sentence}
 use Rattle.libyaml_grammar.specs.sentences.Tokens.{Mark, Marks, Token, marks_of}
 use Rattle.libyaml_grammar.specs.sentences.Trees.{Stream, behind, free, no_directives, sequence}
@@ -20,8 +15,7 @@ use Rattle.libyaml_grammar.proofs.lent.Completion.{position_ends}
 use Rattle.libyaml_grammar.proofs.lent.Nesting.{events_nest_proof}
 use Rattle.libyaml_grammar.proofs.lent.Run.{first_mark, given_shown}
 use Rattle.libyaml_grammar.proofs.lent.Running.{ended_run}
-use Rattle.libyaml_grammar.proofs.lent.Splits.{Splits, both_split, event_splits, member_end_splits}
-use Rattle.libyaml_grammar.proofs.lent.Splits.{missing_value_splits, position_splits, value_splits}
+use Rattle.libyaml_grammar.proofs.lent.Splits.{Splits, both_split, event_splits, member_end_splits, missing_value_splits, position_splits, value_splits}
 
 -- what a cut tree shows stands before the events after it
 cut_splits : (c : Cut) (m : Mark) → Splits (shown_cut c m)

@@ -1,39 +1,19 @@
 -- Where a cut tree fits, reading stops at its bad token with that cut tree; so one cut tree fits.
 use Rattle.std.proofs.Common.{◌≡◌, List, [], ◌∷◌, ◌++◌, Some, None, refl, sym, ap, ◌∙◌, subst, inl, inr, Bool, true, false}
-use Rattle.libyaml_grammar.specs.sentences.Tokens.{AnchorName, Content, HandleDeclared, Marks, Tag, TagDirective}
-use Rattle.libyaml_grammar.specs.sentences.Tokens.{TagName, Token, VersionAsked}
-use Rattle.libyaml_grammar.specs.sentences.Tokens.{VersionDirective, marks_of, tok}
-use Rattle.libyaml_grammar.specs.sentences.Trees.{Before, BlockNode, Directives, Documents, FlowNode, Properties, alone}
-use Rattle.libyaml_grammar.specs.sentences.Trees.{anchor, anchor_tag, behind}
-use Rattle.libyaml_grammar.specs.sentences.Trees.{directive, empty, explicit, flow, flow_node, flow_node_tokens}
-use Rattle.libyaml_grammar.specs.sentences.Trees.{flow_nothing, free, implicit, indentless}
-use Rattle.libyaml_grammar.specs.sentences.Trees.{item, no_directives, no_parts, no_value, node, nothing, pair, part}
-use Rattle.libyaml_grammar.specs.sentences.Trees.{sequence, single, slot_of, tag}
-use Rattle.libyaml_grammar.specs.sentences.Trees.{tag_directive, version, with_value}
+use Rattle.libyaml_grammar.specs.sentences.Tokens.{AnchorName, Content, HandleDeclared, Marks, Tag, TagDirective, TagName, Token, VersionAsked, VersionDirective, marks_of, tok}
+use Rattle.libyaml_grammar.specs.sentences.Trees.{Before, BlockNode, Directives, Documents, FlowNode, Properties, alone, anchor, anchor_tag, behind, directive, empty, explicit, flow, flow_node, flow_node_tokens, flow_nothing, free, implicit, indentless, item, no_directives, no_parts, no_value, node}
+use Rattle.libyaml_grammar.specs.sentences.Trees.{nothing, pair, part, sequence, single, slot_of, tag, tag_directive, version, with_value}
 use Rattle.libyaml_grammar.specs.sentences.Order.{flow_node_in_order, is_known}
 use Rattle.libyaml_grammar.specs.sentences.Events.{Event}
-use Rattle.libyaml_grammar.specs.cuts.CutTrees.{BlockPlace, Cut, Place, at_directive, at_tag, at_tag_behind}
-use Rattle.libyaml_grammar.specs.cuts.CutTrees.{before_stream, block, content_due}
-use Rattle.libyaml_grammar.specs.cuts.CutTrees.{cut_in_order, cut_tokens, declared, declared_open, document_due, entry}
-use Rattle.libyaml_grammar.specs.cuts.CutTrees.{entry_due, explicit_root}
-use Rattle.libyaml_grammar.specs.cuts.CutTrees.{flow_entry, flow_key, flow_value, implicit_root, indentless_entry}
-use Rattle.libyaml_grammar.specs.cuts.CutTrees.{open_collection, part_due, part_place}
-use Rattle.libyaml_grammar.specs.cuts.CutTrees.{place_in_order, place_tokens, root, separator_due, slot, start_due}
-use Rattle.libyaml_grammar.specs.cuts.Fits.{EndsEmpty, Fits, FitsDirective, FitsTag, IsUnknown, IsUnknownTag}
-use Rattle.libyaml_grammar.specs.cuts.Fits.{WantsContent, ends_empty, is_directive}
-use Rattle.libyaml_grammar.specs.cuts.Fits.{last_empty}
-use Rattle.libyaml_grammar.proofs.lent.Positions.{Position, between, due, flow_due, headed, in_mapping, in_sequence}
-use Rattle.libyaml_grammar.proofs.lent.Positions.{unopened}
-use Rattle.libyaml_grammar.proofs.lent.Reading.{Step, bad, bad_same, broken, checked, feed, feeds, fill, fill_flow}
-use Rattle.libyaml_grammar.proofs.lent.Reading.{goes, goes_same, is_legal, keeps_order}
-use Rattle.libyaml_grammar.proofs.lent.Reading.{on_due, over, reads, reads_all, then_all}
+use Rattle.libyaml_grammar.specs.cuts.CutTrees.{BlockPlace, Cut, Place, at_directive, at_tag, at_tag_behind, before_stream, block, content_due, cut_in_order, cut_tokens, declared, declared_open, document_due, entry, entry_due, explicit_root, flow_entry, flow_key, flow_value, implicit_root}
+use Rattle.libyaml_grammar.specs.cuts.CutTrees.{indentless_entry, open_collection, part_due, part_place, place_in_order, place_tokens, root, separator_due, slot, start_due}
+use Rattle.libyaml_grammar.specs.cuts.Fits.{EndsEmpty, Fits, FitsDirective, FitsTag, IsUnknown, IsUnknownTag, WantsContent, ends_empty, is_directive, last_empty}
+use Rattle.libyaml_grammar.proofs.lent.Positions.{Position, between, due, flow_due, headed, in_mapping, in_sequence, unopened}
+use Rattle.libyaml_grammar.proofs.lent.Reading.{Step, bad, bad_same, broken, checked, feed, feeds, fill, fill_flow, goes, goes_same, is_legal, keeps_order, on_due, over, reads, reads_all, then_all}
 use Rattle.libyaml_grammar.proofs.lent.Completion.{reached_begins, reads_append}
 use Rattle.libyaml_grammar.proofs.lent.Orders.{feeds_order, reads_from}
-use Rattle.libyaml_grammar.proofs.lent.ReadSteps.{IsNotDone, Moves, ReadStep, a_tag, begins_entry, begins_root, fails}
-use Rattle.libyaml_grammar.proofs.lent.ReadSteps.{filled, filled_block, first_handle}
-use Rattle.libyaml_grammar.proofs.lent.ReadSteps.{first_version, front, is_alone, is_past, leaves, moved_open, moves}
-use Rattle.libyaml_grammar.proofs.lent.ReadSteps.{next_handle, next_version}
-use Rattle.libyaml_grammar.proofs.lent.ReadSteps.{no_content, no_stream, not_past, read_step, tag_behind_anchor}
+use Rattle.libyaml_grammar.proofs.lent.ReadSteps.{IsNotDone, Moves, ReadStep, a_tag, begins_entry, begins_root, fails, filled, filled_block, first_handle, first_version, front, is_alone, is_past, leaves, moved_open, moves, next_handle, next_version, no_content, no_stream, not_past, read_step}
+use Rattle.libyaml_grammar.proofs.lent.ReadSteps.{tag_behind_anchor}
 use Rattle.libyaml_grammar.proofs.trees.Edge.{cut_reads, edge_documents, reached}
 use Rattle.libyaml_grammar.proofs.trees.Complete.{directive_feed, edge_block, edge_flow, heads, home}
 use Rattle.libyaml_grammar.proofs.trees.Append.{edge_told}

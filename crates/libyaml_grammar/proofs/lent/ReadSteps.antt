@@ -1,46 +1,19 @@
 -- What one token makes of a position: each kind of step of the reader, with the events that it gives and whether the token
 -- keeps the order. What holds of each step is proved by these kinds.
 use Rattle.std.proofs.Common.{Bool, List, None, Option, Some, false, refl, true, ◌∷◌, ◌≡◌}
-use Rattle.libyaml_grammar.specs.sentences.Tokens.{Alias, AliasName, Anchor, AnchorName, BlockEnd, BlockEntry}
-use Rattle.libyaml_grammar.specs.sentences.Tokens.{BlockMappingStart, BlockSequenceStart}
-use Rattle.libyaml_grammar.specs.sentences.Tokens.{Content, DocumentEnd, DocumentStart, FlowEntry, FlowMappingEnd}
-use Rattle.libyaml_grammar.specs.sentences.Tokens.{FlowMappingStart, FlowSequenceEnd}
-use Rattle.libyaml_grammar.specs.sentences.Tokens.{FlowSequenceStart, HandleDeclared, Key, Mark, Marks, Scalar}
-use Rattle.libyaml_grammar.specs.sentences.Tokens.{ScalarText, StreamEnd, StreamHead}
-use Rattle.libyaml_grammar.specs.sentences.Tokens.{StreamStart, Tag, TagDirective, TagName, Value, VersionAsked}
-use Rattle.libyaml_grammar.specs.sentences.Tokens.{VersionDirective}
-use Rattle.libyaml_grammar.specs.sentences.Trees.{Before, BlockItems, BlockNode, BlockSlot, Directive, Directives}
-use Rattle.libyaml_grammar.specs.sentences.Trees.{Documents, Ended, FlowItems, FlowMember}
-use Rattle.libyaml_grammar.specs.sentences.Trees.{FlowNode, FlowSlot, Free, Parts, Properties, Role, Sort, Stream}
-use Rattle.libyaml_grammar.specs.sentences.Trees.{again, alias, alone, anchor, anchor_tag}
-use Rattle.libyaml_grammar.specs.sentences.Trees.{behind, block_mapping, block_sequence, collection, directive, empty}
-use Rattle.libyaml_grammar.specs.sentences.Trees.{ended, flow, flow_nothing, free}
-use Rattle.libyaml_grammar.specs.sentences.Trees.{indentless, item, key, last, mapping, more_items, no_directives}
-use Rattle.libyaml_grammar.specs.sentences.Trees.{no_items, no_last, no_parts, no_value}
-use Rattle.libyaml_grammar.specs.sentences.Trees.{nothing, once, opened, pair, part, scalar, sequence, tag, tag_anchor}
-use Rattle.libyaml_grammar.specs.sentences.Trees.{tag_directive, value, version}
-use Rattle.libyaml_grammar.specs.sentences.Trees.{whole}
-use Rattle.libyaml_grammar.specs.sentences.Events.{Event, alias_at, alone_of, block_layout, document_end_at}
-use Rattle.libyaml_grammar.specs.sentences.Events.{document_start_at, empty_at, end_at, end_of}
-use Rattle.libyaml_grammar.specs.sentences.Events.{first_directive, flow_layout, member_end, missing_key, missing_value}
-use Rattle.libyaml_grammar.specs.sentences.Events.{opens_pair, scalar_of, start_of}
-use Rattle.libyaml_grammar.specs.sentences.Events.{stream_end_at, stream_start_at}
+use Rattle.libyaml_grammar.specs.sentences.Tokens.{Alias, AliasName, Anchor, AnchorName, BlockEnd, BlockEntry, BlockMappingStart, BlockSequenceStart, Content, DocumentEnd, DocumentStart, FlowEntry, FlowMappingEnd, FlowMappingStart, FlowSequenceEnd, FlowSequenceStart, HandleDeclared, Key, Mark}
+use Rattle.libyaml_grammar.specs.sentences.Tokens.{Marks, Scalar, ScalarText, StreamEnd, StreamHead, StreamStart, Tag, TagDirective, TagName, Value, VersionAsked, VersionDirective}
+use Rattle.libyaml_grammar.specs.sentences.Trees.{Before, BlockItems, BlockNode, BlockSlot, Directive, Directives, Documents, Ended, FlowItems, FlowMember, FlowNode, FlowSlot, Free, Parts, Properties, Role, Sort, Stream, again, alias, alone, anchor, anchor_tag, behind, block_mapping, block_sequence}
+use Rattle.libyaml_grammar.specs.sentences.Trees.{collection, directive, empty, ended, flow, flow_nothing, free, indentless, item, key, last, mapping, more_items, no_directives, no_items, no_last, no_parts, no_value, nothing, once, opened, pair, part, scalar, sequence, tag, tag_anchor}
+use Rattle.libyaml_grammar.specs.sentences.Trees.{tag_directive, value, version, whole}
+use Rattle.libyaml_grammar.specs.sentences.Events.{Event, alias_at, alone_of, block_layout, document_end_at, document_start_at, empty_at, end_at, end_of, first_directive, flow_layout, member_end, missing_key, missing_value, opens_pair, scalar_of, start_of, stream_end_at, stream_start_at}
 use Rattle.libyaml_grammar.specs.sentences.Order.{is_known}
-use Rattle.libyaml_grammar.specs.cuts.CutTrees.{BlockPlace, Cut, Open, PartPlace, Place, before_stream, block}
-use Rattle.libyaml_grammar.specs.cuts.CutTrees.{content_due, declared, declared_block}
-use Rattle.libyaml_grammar.specs.cuts.CutTrees.{declared_part, document_due, entry, entry_due, explicit_root}
-use Rattle.libyaml_grammar.specs.cuts.CutTrees.{flow_entry, flow_key, flow_value}
-use Rattle.libyaml_grammar.specs.cuts.CutTrees.{implicit_root, indentless_entry, open_collection, part_due, part_place}
-use Rattle.libyaml_grammar.specs.cuts.CutTrees.{root, separator_due, slot}
-use Rattle.libyaml_grammar.specs.cuts.CutTrees.{start_due}
+use Rattle.libyaml_grammar.specs.cuts.CutTrees.{BlockPlace, Cut, Open, PartPlace, Place, before_stream, block, content_due, declared, declared_block, declared_part, document_due, entry, entry_due, explicit_root, flow_entry, flow_key, flow_value, implicit_root, indentless_entry, open_collection}
+use Rattle.libyaml_grammar.specs.cuts.CutTrees.{part_due, part_place, root, separator_due, slot, start_due}
 use Rattle.libyaml_grammar.specs.cuts.Fits.{ends_empty, is_directive}
 use Rattle.libyaml_grammar.specs.cuts.CutEvents.{sort_of}
-use Rattle.libyaml_grammar.proofs.lent.Positions.{Position, between, done, due, flow_behind, flow_due, flow_keyed}
-use Rattle.libyaml_grammar.proofs.lent.Positions.{headed, in_indentless, in_mapping}
-use Rattle.libyaml_grammar.proofs.lent.Positions.{in_sequence, unopened}
-use Rattle.libyaml_grammar.proofs.lent.Reading.{Step, bad, behind_whole, fill, fill_flow, goes, is_legal, keeps_order}
-use Rattle.libyaml_grammar.proofs.lent.Reading.{leave, on_due, or_bad, over, step}
-use Rattle.libyaml_grammar.proofs.lent.Reading.{without}
+use Rattle.libyaml_grammar.proofs.lent.Positions.{Position, between, done, due, flow_behind, flow_due, flow_keyed, headed, in_indentless, in_mapping, in_sequence, unopened}
+use Rattle.libyaml_grammar.proofs.lent.Reading.{Step, bad, behind_whole, fill, fill_flow, goes, is_legal, keeps_order, leave, on_due, or_bad, over, step, without}
 use Rattle.libyaml_grammar.proofs.lent.Given.{empty_mark, given_behind_whole, given_on_due, given_without, gives, if_goes}
 
 -- the events that end the document before a token, if one is open

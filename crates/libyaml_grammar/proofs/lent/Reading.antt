@@ -3,35 +3,15 @@
 -- and the collection around it. A node is nothing exactly where the token is taken after it.
 use Rattle.std.specs.Prelude.{◌&&◌, not}
 use Rattle.std.proofs.Common.{◌≡◌, List, [], ◌∷◌, Option, Some, None, Bool, true, false, sym, subst, refl}
-use Rattle.libyaml_grammar.specs.sentences.Tokens.{Alias, AliasName, Anchor, AnchorName, BlockEnd, BlockEntry}
-use Rattle.libyaml_grammar.specs.sentences.Tokens.{BlockMappingStart, BlockSequenceStart}
-use Rattle.libyaml_grammar.specs.sentences.Tokens.{Content, DocumentEnd, DocumentStart, FlowEntry, FlowMappingEnd}
-use Rattle.libyaml_grammar.specs.sentences.Tokens.{FlowMappingStart, FlowSequenceEnd}
-use Rattle.libyaml_grammar.specs.sentences.Tokens.{FlowSequenceStart, Key, Marks, Scalar, StreamEnd, StreamStart, Tag}
-use Rattle.libyaml_grammar.specs.sentences.Tokens.{TagDirective, TagName, Token, Value}
-use Rattle.libyaml_grammar.specs.sentences.Tokens.{VersionDirective, marks_of}
-use Rattle.libyaml_grammar.specs.sentences.Trees.{Before, BlockItems, BlockNode, BlockSlot, Directive, Directives}
-use Rattle.libyaml_grammar.specs.sentences.Trees.{Documents, FlowLast, FlowMember}
-use Rattle.libyaml_grammar.specs.sentences.Trees.{FlowNode, FlowSlot, Free, Parts, Properties, Slot, Sort, again, alias}
-use Rattle.libyaml_grammar.specs.sentences.Trees.{alone, anchor, anchor_tag, behind}
-use Rattle.libyaml_grammar.specs.sentences.Trees.{block_mapping, block_sequence, collection, directive, empty, ended}
-use Rattle.libyaml_grammar.specs.sentences.Trees.{explicit, flow, flow_node}
-use Rattle.libyaml_grammar.specs.sentences.Trees.{flow_nothing, free, implicit, indentless, item, key, last, mapping}
-use Rattle.libyaml_grammar.specs.sentences.Trees.{more_items, no_directives, no_items}
-use Rattle.libyaml_grammar.specs.sentences.Trees.{no_last, no_parts, no_value, node, nothing, once, opened, pair, part}
-use Rattle.libyaml_grammar.specs.sentences.Trees.{scalar, sequence, single, slot_of}
-use Rattle.libyaml_grammar.specs.sentences.Trees.{tag, tag_anchor, tag_directive, value, version, whole, with_value}
+use Rattle.libyaml_grammar.specs.sentences.Tokens.{Alias, AliasName, Anchor, AnchorName, BlockEnd, BlockEntry, BlockMappingStart, BlockSequenceStart, Content, DocumentEnd, DocumentStart, FlowEntry, FlowMappingEnd, FlowMappingStart, FlowSequenceEnd, FlowSequenceStart, Key, Marks, Scalar, StreamEnd}
+use Rattle.libyaml_grammar.specs.sentences.Tokens.{StreamStart, Tag, TagDirective, TagName, Token, Value, VersionDirective, marks_of}
+use Rattle.libyaml_grammar.specs.sentences.Trees.{Before, BlockItems, BlockNode, BlockSlot, Directive, Directives, Documents, FlowLast, FlowMember, FlowNode, FlowSlot, Free, Parts, Properties, Slot, Sort, again, alias, alone, anchor, anchor_tag, behind, block_mapping, block_sequence, collection}
+use Rattle.libyaml_grammar.specs.sentences.Trees.{directive, empty, ended, explicit, flow, flow_node, flow_nothing, free, implicit, indentless, item, key, last, mapping, more_items, no_directives, no_items, no_last, no_parts, no_value, node, nothing, once, opened, pair, part, scalar, sequence}
+use Rattle.libyaml_grammar.specs.sentences.Trees.{single, slot_of, tag, tag_anchor, tag_directive, value, version, whole, with_value}
 use Rattle.libyaml_grammar.specs.sentences.Order.{declares, is_accepted, is_known, no_version}
-use Rattle.libyaml_grammar.specs.cuts.CutTrees.{BlockPlace, Cut, Open, PartPlace, Place, at_directive, at_tag}
-use Rattle.libyaml_grammar.specs.cuts.CutTrees.{at_tag_behind, before_stream, block}
-use Rattle.libyaml_grammar.specs.cuts.CutTrees.{content_due, declared, declared_open, document_due, entry, entry_due}
-use Rattle.libyaml_grammar.specs.cuts.CutTrees.{explicit_root, flow_entry, flow_key}
-use Rattle.libyaml_grammar.specs.cuts.CutTrees.{flow_value, implicit_root, indentless_entry, open_collection, part_due}
-use Rattle.libyaml_grammar.specs.cuts.CutTrees.{part_place, root, separator_due}
-use Rattle.libyaml_grammar.specs.cuts.CutTrees.{slot, start_due}
-use Rattle.libyaml_grammar.proofs.lent.Positions.{Position, between, done, due, flow_behind, flow_due, flow_keyed}
-use Rattle.libyaml_grammar.proofs.lent.Positions.{headed, in_indentless, in_mapping}
-use Rattle.libyaml_grammar.proofs.lent.Positions.{in_sequence, unopened}
+use Rattle.libyaml_grammar.specs.cuts.CutTrees.{BlockPlace, Cut, Open, PartPlace, Place, at_directive, at_tag, at_tag_behind, before_stream, block, content_due, declared, declared_open, document_due, entry, entry_due, explicit_root, flow_entry, flow_key, flow_value, implicit_root, indentless_entry}
+use Rattle.libyaml_grammar.specs.cuts.CutTrees.{open_collection, part_due, part_place, root, separator_due, slot, start_due}
+use Rattle.libyaml_grammar.proofs.lent.Positions.{Position, between, done, due, flow_behind, flow_due, flow_keyed, headed, in_indentless, in_mapping, in_sequence, unopened}
 
 -- The next position, or the place at which the token is bad; after the stream end no token is looked at.
 pub data Step : Type 0 where

@@ -1,26 +1,17 @@
 -- What a front tree settles is what its sentences' events have in common.
-use Rattle.std.proofs.Common.{◌≡◌, ◌↔◌, ℕ, List, [], ◌∷◌, ◌++◌, None, true, false, refl, sym, ap, ◌∙◌, subst}
-use Rattle.std.proofs.Common.{append_assoc, arith, append-nil}
+use Rattle.std.proofs.Common.{◌≡◌, ◌↔◌, ℕ, List, [], ◌∷◌, ◌++◌, None, true, false, refl, sym, ap, ◌∙◌, subst, append_assoc, arith, append-nil}
 use Rattle.std.proofs.lemmas.Bool.{false_from_ne_true}
 use Rattle.libyaml_types.specs.Events.{zero_mark}
 use Rattle.libyaml_grammar.specs.sentences.Events.{Event, events, first_block, first_flow}
 use Rattle.libyaml_grammar.specs.sentences.Order.{in_order}
 use Rattle.libyaml_grammar.specs.sentences.Sentences.{IsBeginning, has_end}
 use Rattle.libyaml_grammar.specs.sentences.Tokens.{Mark, Marks, Token}
-use Rattle.libyaml_grammar.specs.sentences.Trees.{BlockNode, FlowNode, Stream, alone, explicit, flow, flow_node}
-use Rattle.libyaml_grammar.specs.sentences.Trees.{flow_nothing, implicit, indentless, item}
-use Rattle.libyaml_grammar.specs.sentences.Trees.{no_value, node, nothing, pair, part, single, slot_of, tokens, with_value}
+use Rattle.libyaml_grammar.specs.sentences.Trees.{BlockNode, FlowNode, Stream, alone, explicit, flow, flow_node, flow_nothing, implicit, indentless, item, no_value, node, nothing, pair, part, single, slot_of, tokens, with_value}
 use Rattle.libyaml_grammar.specs.cuts.CutEvents.{shown_block, shown_place}
-use Rattle.libyaml_grammar.specs.cuts.CutTrees.{BlockPlace, Cut, Place, at_directive, at_tag, at_tag_behind}
-use Rattle.libyaml_grammar.specs.cuts.CutTrees.{before_stream, block, content_due, declared}
-use Rattle.libyaml_grammar.specs.cuts.CutTrees.{declared_block, document_due, entry, entry_due, explicit_root}
-use Rattle.libyaml_grammar.specs.cuts.CutTrees.{flow_entry, flow_key, flow_value}
-use Rattle.libyaml_grammar.specs.cuts.CutTrees.{implicit_root, indentless_entry, part_due, part_place, root}
-use Rattle.libyaml_grammar.specs.cuts.CutTrees.{separator_due, slot}
+use Rattle.libyaml_grammar.specs.cuts.CutTrees.{BlockPlace, Cut, Place, at_directive, at_tag, at_tag_behind, before_stream, block, content_due, declared, declared_block, document_due, entry, entry_due, explicit_root, flow_entry, flow_key, flow_value, implicit_root, indentless_entry, part_due}
+use Rattle.libyaml_grammar.specs.cuts.CutTrees.{part_place, root, separator_due, slot}
 use Rattle.libyaml_grammar.specs.cuts.Fits.{last_empty}
-use Rattle.libyaml_grammar.specs.cuts.Settled.{Begins, BeginsEach, IsFront, IsFrontPlace, IsOpen, IsSettled, next_event}
-use Rattle.libyaml_grammar.specs.cuts.Settled.{sure, sure_block_node}
-use Rattle.libyaml_grammar.specs.cuts.Settled.{sure_flow_node}
+use Rattle.libyaml_grammar.specs.cuts.Settled.{Begins, BeginsEach, IsFront, IsFrontPlace, IsOpen, IsSettled, next_event, sure, sure_block_node, sure_flow_node}
 use Rattle.libyaml_grammar.specs.cuts.Rest.{rest}
 use Rattle.libyaml_grammar.proofs.lent.Given.{gives_all}
 use Rattle.libyaml_grammar.proofs.lent.Positions.{Position, done, position_rest, shown, unopened}

@@ -3,20 +3,15 @@
 use Rattle.std.proofs.Common.{◌≡◌, List, ◌∷◌, refl, ◌∙◌, Bool, true}
 use Rattle.libyaml_grammar.specs.sentences.Tokens.{Content, Mark, Marks}
 use Rattle.libyaml_grammar.specs.sentences.Trees.{BlockNode, FlowNode, alone, flow, free}
-use Rattle.libyaml_grammar.specs.sentences.Events.{Event, block_node_events, empty_at, first_block, first_flow}
-use Rattle.libyaml_grammar.specs.sentences.Events.{flow_node_events}
-use Rattle.libyaml_grammar.specs.cuts.CutTrees.{BlockPlace, Place, block, declared, declared_block, flow_entry}
-use Rattle.libyaml_grammar.specs.cuts.CutTrees.{implicit_root, part_place, root, slot}
+use Rattle.libyaml_grammar.specs.sentences.Events.{Event, block_node_events, empty_at, first_block, first_flow, flow_node_events}
+use Rattle.libyaml_grammar.specs.cuts.CutTrees.{BlockPlace, Place, block, declared, declared_block, flow_entry, implicit_root, part_place, root, slot}
 use Rattle.libyaml_grammar.specs.cuts.CutEvents.{shown_block, shown_cut, shown_place}
 use Rattle.libyaml_grammar.specs.cuts.Fits.{ends_empty}
 use Rattle.libyaml_grammar.proofs.lent.Positions.{Position, shown}
 use Rattle.libyaml_grammar.proofs.lent.Reading.{Step, bad, fill, fill_flow, goes, leave, over, step}
 use Rattle.libyaml_grammar.proofs.lent.Given.{empty_mark, gives}
-use Rattle.libyaml_grammar.proofs.lent.ReadSteps.{Moves, ReadStep, a_scalar, an_alias, begins_explicit}
-use Rattle.libyaml_grammar.proofs.lent.ReadSteps.{closes_at_mapping, closes_at_sequence, closes_mapping}
-use Rattle.libyaml_grammar.proofs.lent.ReadSteps.{closes_sequence, ends_mapping, ends_sequence, ends_stream, fails}
-use Rattle.libyaml_grammar.proofs.lent.ReadSteps.{first_handle, first_version, is_alone}
-use Rattle.libyaml_grammar.proofs.lent.ReadSteps.{is_past, leaves, moves, no_stream, read_step}
+use Rattle.libyaml_grammar.proofs.lent.ReadSteps.{Moves, ReadStep, a_scalar, an_alias, begins_explicit, closes_at_mapping, closes_at_sequence, closes_mapping, closes_sequence, ends_mapping, ends_sequence, ends_stream, fails, first_handle, first_version, is_alone, is_past, leaves, moves, no_stream}
+use Rattle.libyaml_grammar.proofs.lent.ReadSteps.{read_step}
 
 -- what a step says of the events
 abbrev pub Shows : Step → Position → Marks → (List Event → List Event) → Type 0

@@ -1,13 +1,10 @@
 -- Two completions of one position with different marks differ in their first event.
 use Rattle.std.proofs.Common.{◌≡◌, [], Some, refl, ap}
 use Rattle.libyaml_grammar.specs.sentences.Tokens.{Marks}
-use Rattle.libyaml_grammar.specs.sentences.Trees.{Stream, free, key, mapping, no_parts, no_value, pair, part, sequence}
-use Rattle.libyaml_grammar.specs.sentences.Trees.{single}
+use Rattle.libyaml_grammar.specs.sentences.Trees.{Stream, free, key, mapping, no_parts, no_value, pair, part, sequence, single}
 use Rattle.libyaml_grammar.specs.sentences.Events.{Event}
 use Rattle.libyaml_grammar.specs.cuts.CutTrees.{open_collection, part_place}
-use Rattle.libyaml_grammar.proofs.lent.Positions.{Position, between, done, due, flow_behind, flow_due, flow_keyed}
-use Rattle.libyaml_grammar.proofs.lent.Positions.{headed, in_indentless, in_mapping}
-use Rattle.libyaml_grammar.proofs.lent.Positions.{position_rest}
+use Rattle.libyaml_grammar.proofs.lent.Positions.{Position, between, done, due, flow_behind, flow_due, flow_keyed, headed, in_indentless, in_mapping, position_rest}
 use Rattle.libyaml_grammar.proofs.lent.Given.{gives_all}
 use Rattle.libyaml_grammar.specs.cuts.Settled.{next_event}
 

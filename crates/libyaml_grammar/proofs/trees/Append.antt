@@ -2,24 +2,13 @@
 -- followed by the list.
 use Rattle.std.proofs.Common.{◌≡◌, List, [], ◌++◌, refl, sym, ap, ◌∙◌, Bool}
 use Rattle.std.proofs.lemmas.List.{append_cancel_right}
-use Rattle.libyaml_grammar.specs.sentences.Trees.{BlockNode, BlockSlot, Documents, FlowNode, FlowSlot, alone, behind}
-use Rattle.libyaml_grammar.specs.sentences.Trees.{block_node_tokens, block_slot_tokens}
-use Rattle.libyaml_grammar.specs.sentences.Trees.{documents_tokens, explicit, flow, flow_node, flow_node_tokens}
-use Rattle.libyaml_grammar.specs.sentences.Trees.{flow_nothing, flow_slot_tokens, free}
-use Rattle.libyaml_grammar.specs.sentences.Trees.{implicit, indentless, item, no_directives, no_value, node, nothing}
-use Rattle.libyaml_grammar.specs.sentences.Trees.{pair, part, single, slot_of}
-use Rattle.libyaml_grammar.specs.sentences.Trees.{with_value}
-use Rattle.libyaml_grammar.specs.cuts.CutTrees.{BlockPlace, Cut, Place, at_directive, at_tag, block}
-use Rattle.libyaml_grammar.specs.cuts.CutTrees.{block_place_in_order, block_place_tokens, content_due}
-use Rattle.libyaml_grammar.specs.cuts.CutTrees.{cut_in_order, cut_tokens, declared, declared_block, document_due, entry}
-use Rattle.libyaml_grammar.specs.cuts.CutTrees.{entry_due, explicit_root}
-use Rattle.libyaml_grammar.specs.cuts.CutTrees.{flow_entry, flow_key, flow_value, implicit_root, indentless_entry}
-use Rattle.libyaml_grammar.specs.cuts.CutTrees.{part_due, part_place, place_in_order}
-use Rattle.libyaml_grammar.specs.cuts.CutTrees.{place_tokens, root, separator_due, slot}
+use Rattle.libyaml_grammar.specs.sentences.Trees.{BlockNode, BlockSlot, Documents, FlowNode, FlowSlot, alone, behind, block_node_tokens, block_slot_tokens, documents_tokens, explicit, flow, flow_node, flow_node_tokens, flow_nothing, flow_slot_tokens, free, implicit, indentless, item, no_directives}
+use Rattle.libyaml_grammar.specs.sentences.Trees.{no_value, node, nothing, pair, part, single, slot_of, with_value}
+use Rattle.libyaml_grammar.specs.cuts.CutTrees.{BlockPlace, Cut, Place, at_directive, at_tag, block, block_place_in_order, block_place_tokens, content_due, cut_in_order, cut_tokens, declared, declared_block, document_due, entry, entry_due, explicit_root, flow_entry, flow_key, flow_value}
+use Rattle.libyaml_grammar.specs.cuts.CutTrees.{implicit_root, indentless_entry, part_due, part_place, place_in_order, place_tokens, root, separator_due, slot}
 use Rattle.libyaml_grammar.specs.sentences.Tokens.{Token}
 use Rattle.libyaml_grammar.proofs.lent.Keeps.{Told, feeds_keep, fill_flow_keeps, fill_keeps}
-use Rattle.libyaml_grammar.specs.sentences.Order.{block_node_in_order, block_slot_in_order, documents_in_order}
-use Rattle.libyaml_grammar.specs.sentences.Order.{flow_node_in_order, flow_slot_in_order}
+use Rattle.libyaml_grammar.specs.sentences.Order.{block_node_in_order, block_slot_in_order, documents_in_order, flow_node_in_order, flow_slot_in_order}
 use Rattle.libyaml_grammar.proofs.trees.Edge.{cut_reads, edge_documents, edge_flow_slot, edge_slot, reached}
 use Rattle.libyaml_grammar.proofs.trees.Complete.{edge_block, edge_flow, home}
 use Rattle.libyaml_grammar.proofs.lent.Positions.{unopened}

@@ -1,43 +1,17 @@
 -- Reading is complete: fed with the tokens of a tree, a position leads to its place filled with that tree, wherever the
 -- next token is taken there. So a stream's tokens lead to the stream.
 use Rattle.std.proofs.Common.{◌≡◌, List, [], ◌∷◌, Option, Some, None, refl, sym, ap, ◌∙◌, subst, Bool}
-use Rattle.libyaml_grammar.specs.sentences.Tokens.{Alias, Anchor, BlockEnd, BlockEntry, BlockMappingStart}
-use Rattle.libyaml_grammar.specs.sentences.Tokens.{BlockSequenceStart, Content, DocumentEnd}
-use Rattle.libyaml_grammar.specs.sentences.Tokens.{DocumentStart, FlowEntry, FlowMappingEnd, FlowMappingStart}
-use Rattle.libyaml_grammar.specs.sentences.Tokens.{FlowSequenceEnd, FlowSequenceStart, Key}
-use Rattle.libyaml_grammar.specs.sentences.Tokens.{Marks, Scalar, StreamEnd, Tag, TagDirective, Token, Value}
-use Rattle.libyaml_grammar.specs.sentences.Tokens.{VersionDirective, marks_of, tok}
-use Rattle.libyaml_grammar.specs.sentences.Trees.{Before, BlockItems, BlockNode, BlockSlot, Directive, Directives}
-use Rattle.libyaml_grammar.specs.sentences.Trees.{Documents, Ended, FlowItems, FlowLast}
-use Rattle.libyaml_grammar.specs.sentences.Trees.{FlowMember, FlowNode, FlowSlot, Free, Parts, Properties, Slot, Sort}
-use Rattle.libyaml_grammar.specs.sentences.Trees.{Stream, again, alias, alone, anchor}
-use Rattle.libyaml_grammar.specs.sentences.Trees.{before_tokens, behind, block_mapping, block_node_tokens}
-use Rattle.libyaml_grammar.specs.sentences.Trees.{block_sequence, block_slot_tokens, closing}
-use Rattle.libyaml_grammar.specs.sentences.Trees.{collection, directive, directive_token, directives_tokens}
-use Rattle.libyaml_grammar.specs.sentences.Trees.{documents_tokens, empty, ended, ended_tokens}
-use Rattle.libyaml_grammar.specs.sentences.Trees.{explicit, flow, flow_items_tokens, flow_last_tokens}
-use Rattle.libyaml_grammar.specs.sentences.Trees.{flow_member_tokens, flow_node, flow_node_tokens}
-use Rattle.libyaml_grammar.specs.sentences.Trees.{flow_nothing, flow_slot_tokens, free, free_tokens, implicit}
-use Rattle.libyaml_grammar.specs.sentences.Trees.{indentless, item, items_tokens, key, last}
-use Rattle.libyaml_grammar.specs.sentences.Trees.{mapping, more_items, no_directives, no_items, no_last, no_parts}
-use Rattle.libyaml_grammar.specs.sentences.Trees.{no_value, node, nothing, once, opened}
-use Rattle.libyaml_grammar.specs.sentences.Trees.{opening, option_tokens, pair, part, parts_tokens, properties_tokens}
-use Rattle.libyaml_grammar.specs.sentences.Trees.{scalar, sequence, single, slot_of}
-use Rattle.libyaml_grammar.specs.sentences.Trees.{slot_tokens, tokens, value, version, whole, with_value}
+use Rattle.libyaml_grammar.specs.sentences.Tokens.{Alias, Anchor, BlockEnd, BlockEntry, BlockMappingStart, BlockSequenceStart, Content, DocumentEnd, DocumentStart, FlowEntry, FlowMappingEnd, FlowMappingStart, FlowSequenceEnd, FlowSequenceStart, Key, Marks, Scalar, StreamEnd, Tag, TagDirective}
+use Rattle.libyaml_grammar.specs.sentences.Tokens.{Token, Value, VersionDirective, marks_of, tok}
+use Rattle.libyaml_grammar.specs.sentences.Trees.{Before, BlockItems, BlockNode, BlockSlot, Directive, Directives, Documents, Ended, FlowItems, FlowLast, FlowMember, FlowNode, FlowSlot, Free, Parts, Properties, Slot, Sort, Stream, again, alias, alone, anchor, before_tokens, behind, block_mapping}
+use Rattle.libyaml_grammar.specs.sentences.Trees.{block_node_tokens, block_sequence, block_slot_tokens, closing, collection, directive, directive_token, directives_tokens, documents_tokens, empty, ended, ended_tokens, explicit, flow, flow_items_tokens, flow_last_tokens, flow_member_tokens}
+use Rattle.libyaml_grammar.specs.sentences.Trees.{flow_node, flow_node_tokens, flow_nothing, flow_slot_tokens, free, free_tokens, implicit, indentless, item, items_tokens, key, last, mapping, more_items, no_directives, no_items, no_last, no_parts, no_value, node, nothing, once, opened, opening}
+use Rattle.libyaml_grammar.specs.sentences.Trees.{option_tokens, pair, part, parts_tokens, properties_tokens, scalar, sequence, single, slot_of, slot_tokens, tokens, value, version, whole, with_value}
 use Rattle.libyaml_grammar.specs.sentences.Events.{Event}
-use Rattle.libyaml_grammar.specs.cuts.CutTrees.{BlockPlace, Cut, Open, PartPlace, Place, block, content_due, entry}
-use Rattle.libyaml_grammar.specs.cuts.CutTrees.{explicit_root, flow_entry, flow_key}
-use Rattle.libyaml_grammar.specs.cuts.CutTrees.{flow_value, implicit_root, indentless_entry, open_collection}
-use Rattle.libyaml_grammar.specs.cuts.CutTrees.{part_place, root, slot}
-use Rattle.libyaml_grammar.proofs.lent.Positions.{Position, between, done, due, flow_behind, flow_due, flow_keyed}
-use Rattle.libyaml_grammar.proofs.lent.Positions.{headed, in_indentless, in_mapping}
-use Rattle.libyaml_grammar.proofs.lent.Positions.{in_sequence, unopened}
-use Rattle.libyaml_grammar.proofs.lent.Reading.{Step, bad, behind_whole, feed, feeds, fill, fill_block_slot, fill_flow}
-use Rattle.libyaml_grammar.proofs.lent.Reading.{fill_flow_slot, fill_part, goes}
-use Rattle.libyaml_grammar.proofs.lent.Reading.{leave, on_due, or_bad, over, step, then_all}
-use Rattle.libyaml_grammar.proofs.lent.ReadSteps.{ReadStep, begins_explicit, ends_indentless, ends_stream, fails}
-use Rattle.libyaml_grammar.proofs.lent.ReadSteps.{first_handle, first_version, is_past}
-use Rattle.libyaml_grammar.proofs.lent.ReadSteps.{lacks_value, moves, no_stream, read_step}
+use Rattle.libyaml_grammar.specs.cuts.CutTrees.{BlockPlace, Cut, Open, PartPlace, Place, block, content_due, entry, explicit_root, flow_entry, flow_key, flow_value, implicit_root, indentless_entry, open_collection, part_place, root, slot}
+use Rattle.libyaml_grammar.proofs.lent.Positions.{Position, between, done, due, flow_behind, flow_due, flow_keyed, headed, in_indentless, in_mapping, in_sequence, unopened}
+use Rattle.libyaml_grammar.proofs.lent.Reading.{Step, bad, behind_whole, feed, feeds, fill, fill_block_slot, fill_flow, fill_flow_slot, fill_part, goes, leave, on_due, or_bad, over, step, then_all}
+use Rattle.libyaml_grammar.proofs.lent.ReadSteps.{ReadStep, begins_explicit, ends_indentless, ends_stream, fails, first_handle, first_version, is_past, lacks_value, moves, no_stream, read_step}
 
 -- the token is taken
 abbrev pub Takes : Step → Type 0

@@ -1,34 +1,14 @@
 -- The position that a cut tree's tokens lead to: its right edge, with all that is open around it.
 use Rattle.std.proofs.Common.{◌≡◌, List, ◌∷◌, Option, Some, None, refl, ◌∙◌}
-use Rattle.libyaml_grammar.specs.sentences.Tokens.{Anchor, BlockEntry, BlockMappingStart, BlockSequenceStart, Key}
-use Rattle.libyaml_grammar.specs.sentences.Tokens.{Marks, Token, Value, tok}
-use Rattle.libyaml_grammar.specs.sentences.Trees.{Before, BlockItems, BlockSlot, Directive, Directives, Documents}
-use Rattle.libyaml_grammar.specs.sentences.Trees.{FlowMember, FlowSlot, Parts, Properties}
-use Rattle.libyaml_grammar.specs.sentences.Trees.{Sort, anchor, before_tokens, behind, block_node_tokens}
-use Rattle.libyaml_grammar.specs.sentences.Trees.{block_slot_tokens, directive, directive_token}
-use Rattle.libyaml_grammar.specs.sentences.Trees.{directives_tokens, documents_tokens, empty, explicit, flow_node}
-use Rattle.libyaml_grammar.specs.sentences.Trees.{flow_node_tokens, flow_nothing}
-use Rattle.libyaml_grammar.specs.sentences.Trees.{flow_slot_tokens, free, implicit, indentless, item, key}
-use Rattle.libyaml_grammar.specs.sentences.Trees.{no_directives, no_items, no_parts, no_value}
-use Rattle.libyaml_grammar.specs.sentences.Trees.{node, nothing, opening, option_tokens, pair, part, single, slot_of}
-use Rattle.libyaml_grammar.specs.sentences.Trees.{value, with_value}
-use Rattle.libyaml_grammar.specs.cuts.CutTrees.{BlockPlace, Cut, Open, PartPlace, Place, at_directive, at_tag}
-use Rattle.libyaml_grammar.specs.cuts.CutTrees.{at_tag_behind, before_stream, block}
-use Rattle.libyaml_grammar.specs.cuts.CutTrees.{block_place_tokens, content_due, cut_tokens, document_due, entry}
-use Rattle.libyaml_grammar.specs.cuts.CutTrees.{entry_due, explicit_root, flow_entry}
-use Rattle.libyaml_grammar.specs.cuts.CutTrees.{flow_key, flow_value, implicit_root, indentless_entry, open_collection}
-use Rattle.libyaml_grammar.specs.cuts.CutTrees.{open_tokens, part_due, part_place}
-use Rattle.libyaml_grammar.specs.cuts.CutTrees.{part_place_tokens, place_tokens, root, separator_due, slot, start_due}
-use Rattle.libyaml_grammar.proofs.lent.Positions.{Position, between, due, flow_due, headed, in_mapping, in_sequence}
-use Rattle.libyaml_grammar.proofs.lent.Positions.{unopened}
+use Rattle.libyaml_grammar.specs.sentences.Tokens.{Anchor, BlockEntry, BlockMappingStart, BlockSequenceStart, Key, Marks, Token, Value, tok}
+use Rattle.libyaml_grammar.specs.sentences.Trees.{Before, BlockItems, BlockSlot, Directive, Directives, Documents, FlowMember, FlowSlot, Parts, Properties, Sort, anchor, before_tokens, behind, block_node_tokens, block_slot_tokens, directive, directive_token, directives_tokens, documents_tokens}
+use Rattle.libyaml_grammar.specs.sentences.Trees.{empty, explicit, flow_node, flow_node_tokens, flow_nothing, flow_slot_tokens, free, implicit, indentless, item, key, no_directives, no_items, no_parts, no_value, node, nothing, opening, option_tokens, pair, part, single, slot_of, value, with_value}
+use Rattle.libyaml_grammar.specs.cuts.CutTrees.{BlockPlace, Cut, Open, PartPlace, Place, at_directive, at_tag, at_tag_behind, before_stream, block, block_place_tokens, content_due, cut_tokens, document_due, entry, entry_due, explicit_root, flow_entry, flow_key, flow_value, implicit_root}
+use Rattle.libyaml_grammar.specs.cuts.CutTrees.{indentless_entry, open_collection, open_tokens, part_due, part_place, part_place_tokens, place_tokens, root, separator_due, slot, start_due}
+use Rattle.libyaml_grammar.proofs.lent.Positions.{Position, between, due, flow_due, headed, in_mapping, in_sequence, unopened}
 use Rattle.libyaml_grammar.proofs.lent.Reading.{feeds}
-use Rattle.libyaml_grammar.proofs.trees.Complete.{before_reads, block_node_begins, block_node_edge, directive_feeds}
-use Rattle.libyaml_grammar.proofs.trees.Complete.{directive_ready, directives_read}
-use Rattle.libyaml_grammar.proofs.trees.Complete.{directives_ready, edge_block, edge_flow, entries_read}
-use Rattle.libyaml_grammar.proofs.trees.Complete.{flow_items_read, flow_node_begins, flow_node_edge}
-use Rattle.libyaml_grammar.proofs.trees.Complete.{flow_slot_reads, free_reads, home, home_feeds, items_read}
-use Rattle.libyaml_grammar.proofs.trees.Complete.{opening_begins, opening_feeds, option_begins}
-use Rattle.libyaml_grammar.proofs.trees.Complete.{option_feeds, parts_read, start_feeds, start_ready}
+use Rattle.libyaml_grammar.proofs.trees.Complete.{before_reads, block_node_begins, block_node_edge, directive_feeds, directive_ready, directives_read, directives_ready, edge_block, edge_flow, entries_read, flow_items_read, flow_node_begins, flow_node_edge, flow_slot_reads, free_reads, home}
+use Rattle.libyaml_grammar.proofs.trees.Complete.{home_feeds, items_read, opening_begins, opening_feeds, option_begins, option_feeds, parts_read, start_feeds, start_ready}
 
 -- the position after the last token of a place that is filled
 abbrev pub edge_slot : BlockPlace → BlockSlot → Position

@@ -1,35 +1,21 @@
 -- Where reading stops with a cut tree, the rules name that one: what ends it, what its place wants, and whether its
 -- token is a directive or a TAG.
 use Rattle.std.specs.Prelude.{◌&&◌, not}
-use Rattle.std.proofs.Common.{◌≡◌, List, [], ◌∷◌, Option, Some, None, refl, sym, ap, ◌∙◌, subst, ◌⊎◌, inl, inr, ⊎_elim}
-use Rattle.std.proofs.Common.{Bool, true, false}
+use Rattle.std.proofs.Common.{◌≡◌, List, [], ◌∷◌, Option, Some, None, refl, sym, ap, ◌∙◌, subst, ◌⊎◌, inl, inr, ⊎_elim, Bool, true, false}
 use Rattle.std.proofs.lemmas.Bool.{true_from_ne_false}
-use Rattle.libyaml_grammar.specs.sentences.Tokens.{Anchor, AnchorName, Content, DocumentEnd, DocumentStart, Marks}
-use Rattle.libyaml_grammar.specs.sentences.Tokens.{StreamEnd, TagDirective, Token}
-use Rattle.libyaml_grammar.specs.sentences.Tokens.{VersionDirective, tok}
-use Rattle.libyaml_grammar.specs.sentences.Trees.{Before, Directive, Directives, Documents, Free, Properties, anchor}
-use Rattle.libyaml_grammar.specs.sentences.Trees.{anchor_tag, behind, directive}
-use Rattle.libyaml_grammar.specs.sentences.Trees.{explicit, flow_nothing, free, implicit, indentless, item}
-use Rattle.libyaml_grammar.specs.sentences.Trees.{no_directives, no_value, node, nothing, pair}
-use Rattle.libyaml_grammar.specs.sentences.Trees.{part, slot_of, tag, tag_directive, version, with_value}
+use Rattle.libyaml_grammar.specs.sentences.Tokens.{Anchor, AnchorName, Content, DocumentEnd, DocumentStart, Marks, StreamEnd, TagDirective, Token, VersionDirective, tok}
+use Rattle.libyaml_grammar.specs.sentences.Trees.{Before, Directive, Directives, Documents, Free, Properties, anchor, anchor_tag, behind, directive, explicit, flow_nothing, free, implicit, indentless, item, no_directives, no_value, node, nothing, pair, part, slot_of, tag, tag_directive, version}
+use Rattle.libyaml_grammar.specs.sentences.Trees.{with_value}
 use Rattle.libyaml_grammar.specs.sentences.Order.{declares, is_accepted, is_known, no_version}
 use Rattle.libyaml_grammar.specs.sentences.Events.{Event}
-use Rattle.libyaml_grammar.specs.cuts.CutTrees.{Cut, Place, at_directive, at_tag, at_tag_behind, before_stream, block}
-use Rattle.libyaml_grammar.specs.cuts.CutTrees.{content_due, declared, document_due}
-use Rattle.libyaml_grammar.specs.cuts.CutTrees.{entry, entry_due, explicit_root, flow_key, flow_value, implicit_root}
-use Rattle.libyaml_grammar.specs.cuts.CutTrees.{indentless_entry, part_due}
-use Rattle.libyaml_grammar.specs.cuts.CutTrees.{part_place, place_tokens, root, separator_due, slot, start_due}
-use Rattle.libyaml_grammar.specs.cuts.Fits.{EndsEmpty, FitsDirective, IsUnknownTag, WantsContent, empty_root}
-use Rattle.libyaml_grammar.specs.cuts.Fits.{ends_empty, ends_empty_document}
-use Rattle.libyaml_grammar.specs.cuts.Fits.{is_directive, last_empty}
+use Rattle.libyaml_grammar.specs.cuts.CutTrees.{Cut, Place, at_directive, at_tag, at_tag_behind, before_stream, block, content_due, declared, document_due, entry, entry_due, explicit_root, flow_key, flow_value, implicit_root, indentless_entry, part_due, part_place, place_tokens, root, separator_due}
+use Rattle.libyaml_grammar.specs.cuts.CutTrees.{slot, start_due}
+use Rattle.libyaml_grammar.specs.cuts.Fits.{EndsEmpty, FitsDirective, IsUnknownTag, WantsContent, empty_root, ends_empty, ends_empty_document, is_directive, last_empty}
 use Rattle.libyaml_grammar.proofs.lent.Positions.{Position, between, due, headed, unopened}
-use Rattle.libyaml_grammar.proofs.lent.Reading.{Step, bad, bad_same, broken, checked, feeds, goes, goes_same, is_legal}
-use Rattle.libyaml_grammar.proofs.lent.Reading.{over, reads, reads_all, step}
+use Rattle.libyaml_grammar.proofs.lent.Reading.{Step, bad, bad_same, broken, checked, feeds, goes, goes_same, is_legal, over, reads, reads_all, step}
 use Rattle.libyaml_grammar.proofs.lent.OneCut.{content_fails, step_cut, stops_at_tag, stops_at_tag_behind}
 use Rattle.libyaml_grammar.proofs.lent.Orders.{reads_to}
-use Rattle.libyaml_grammar.proofs.lent.ReadSteps.{ReadStep, a_tag, fails, leaves, moves, no_document, no_document_start}
-use Rattle.libyaml_grammar.proofs.lent.ReadSteps.{no_stream, read_step}
-use Rattle.libyaml_grammar.proofs.lent.ReadSteps.{tag_behind_anchor}
+use Rattle.libyaml_grammar.proofs.lent.ReadSteps.{ReadStep, a_tag, fails, leaves, moves, no_document, no_document_start, no_stream, read_step, tag_behind_anchor}
 use Rattle.libyaml_grammar.proofs.trees.Edge.{cut_reads, edge_documents, place_reads, reached}
 use Rattle.libyaml_grammar.proofs.trees.Complete.{home}
 

@@ -1,25 +1,10 @@
 -- The tokens of each production determine it, with the same tokens after it: it is put into a stream.
 use Rattle.std.proofs.Common.{◌≡◌, List, [], ◌∷◌, None, refl, sym, ap, ◌∙◌}
-use Rattle.libyaml_grammar.specs.sentences.Tokens.{BlockEnd, BlockMappingStart, BlockSequenceStart, DocumentStart}
-use Rattle.libyaml_grammar.specs.sentences.Tokens.{FlowSequenceEnd, FlowSequenceStart, Key}
-use Rattle.libyaml_grammar.specs.sentences.Tokens.{StreamEnd, StreamStart, Token, Value, tok, zero_marks}
-use Rattle.libyaml_grammar.specs.sentences.Trees.{Before, BlockItems, BlockNode, BlockSlot, Directives, Documents}
-use Rattle.libyaml_grammar.specs.sentences.Trees.{FlowItems, FlowLast, FlowMember}
-use Rattle.libyaml_grammar.specs.sentences.Trees.{FlowNode, FlowSlot, Parts, Properties, Slot, Stream, alone}
-use Rattle.libyaml_grammar.specs.sentences.Trees.{before_tokens, behind, block_mapping}
-use Rattle.libyaml_grammar.specs.sentences.Trees.{block_node_tokens, block_sequence, block_slot_tokens, collection}
-use Rattle.libyaml_grammar.specs.sentences.Trees.{directives_tokens, documents_tokens}
-use Rattle.libyaml_grammar.specs.sentences.Trees.{explicit, flow, flow_items_tokens, flow_last_tokens}
-use Rattle.libyaml_grammar.specs.sentences.Trees.{flow_member_tokens, flow_node_tokens}
-use Rattle.libyaml_grammar.specs.sentences.Trees.{flow_slot_tokens, free, items_tokens, last, no_directives, no_items}
-use Rattle.libyaml_grammar.specs.sentences.Trees.{no_last, no_parts, no_value, node}
-use Rattle.libyaml_grammar.specs.sentences.Trees.{nothing, opened, pair, part, parts_tokens, properties_tokens}
-use Rattle.libyaml_grammar.specs.sentences.Trees.{sequence, slot_tokens, tokens, value}
-use Rattle.libyaml_grammar.specs.sentences.Trees.{whole}
-use Rattle.libyaml_grammar.specs.cuts.CutTrees.{BlockPlace, Cut, Place, at_directive, block, content_due, cut_tokens}
-use Rattle.libyaml_grammar.specs.cuts.CutTrees.{document_due, entry_due}
-use Rattle.libyaml_grammar.specs.cuts.CutTrees.{explicit_root, flow_entry, implicit_root, open_collection, part_due}
-use Rattle.libyaml_grammar.specs.cuts.CutTrees.{place_tokens, root, separator_due}
+use Rattle.libyaml_grammar.specs.sentences.Tokens.{BlockEnd, BlockMappingStart, BlockSequenceStart, DocumentStart, FlowSequenceEnd, FlowSequenceStart, Key, StreamEnd, StreamStart, Token, Value, tok, zero_marks}
+use Rattle.libyaml_grammar.specs.sentences.Trees.{Before, BlockItems, BlockNode, BlockSlot, Directives, Documents, FlowItems, FlowLast, FlowMember, FlowNode, FlowSlot, Parts, Properties, Slot, Stream, alone, before_tokens, behind, block_mapping, block_node_tokens, block_sequence, block_slot_tokens}
+use Rattle.libyaml_grammar.specs.sentences.Trees.{collection, directives_tokens, documents_tokens, explicit, flow, flow_items_tokens, flow_last_tokens, flow_member_tokens, flow_node_tokens, flow_slot_tokens, free, items_tokens, last, no_directives, no_items, no_last, no_parts, no_value, node}
+use Rattle.libyaml_grammar.specs.sentences.Trees.{nothing, opened, pair, part, parts_tokens, properties_tokens, sequence, slot_tokens, tokens, value, whole}
+use Rattle.libyaml_grammar.specs.cuts.CutTrees.{BlockPlace, Cut, Place, at_directive, block, content_due, cut_tokens, document_due, entry_due, explicit_root, flow_entry, implicit_root, open_collection, part_due, place_tokens, root, separator_due}
 use Rattle.libyaml_grammar.specs.cuts.Rest.{any_encoding}
 use Rattle.libyaml_grammar.proofs.lent.Positions.{Position, between, due, flow_due, unopened}
 use Rattle.libyaml_grammar.proofs.lent.Reading.{feeds, goes_same}

@@ -1,6 +1,5 @@
 -- Each list is a sentence or a beginning, or a cut tree fits it, and not both.
-use Rattle.std.proofs.Common.{◌≡◌, List, [], ◌∷◌, ◌++◌, refl, sym, ap, ◌∙◌, subst, true, false, ◌⊎◌, inl, inr}
-use Rattle.std.proofs.Common.{append-nil}
+use Rattle.std.proofs.Common.{◌≡◌, List, [], ◌∷◌, ◌++◌, refl, sym, ap, ◌∙◌, subst, true, false, ◌⊎◌, inl, inr, append-nil}
 use Rattle.std.proofs.lemmas.Bool.{false≢true, or_from, or_parts}
 use Rattle.libyaml_grammar.specs.sentences.Tokens.{Marks, StreamEnd, Token, tok, zero_marks}
 use Rattle.libyaml_grammar.specs.sentences.Trees.{Stream}
@@ -11,8 +10,7 @@ use Rattle.libyaml_grammar.specs.cuts.Fits.{Fits, HasCut}
 use Rattle.libyaml_grammar.proofs.lent.Positions.{Position, done, unopened}
 use Rattle.libyaml_grammar.proofs.lent.Reading.{Step, bad, goes, over, reads, reads_all, then_all}
 use Rattle.libyaml_grammar.proofs.trees.Append.{cut_append}
-use Rattle.libyaml_grammar.proofs.lent.Completion.{Stops, cut_begins_proof, goes_or_stops, reached_begins}
-use Rattle.libyaml_grammar.proofs.lent.Completion.{read_sentence, reads_append}
+use Rattle.libyaml_grammar.proofs.lent.Completion.{Stops, cut_begins_proof, goes_or_stops, reached_begins, read_sentence, reads_append}
 use Rattle.libyaml_grammar.proofs.trees.Ending.{ends_done, stays_open}
 use Rattle.libyaml_grammar.proofs.lent.Fitting.{read_over, stops_fits}
 

@@ -1,24 +1,10 @@
 -- No collection's tokens begin those of another, and no sentence another.
 use Rattle.std.proofs.Common.{◌≡◌, ℕ, zero, suc, List, [], ◌∷◌, ◌++◌, Option, Some, None, refl, sym, ap, ◌∙◌, subst}
 use Rattle.std.proofs.lemmas.List.{append_cancel_left}
-use Rattle.libyaml_grammar.specs.sentences.Tokens.{BlockEnd, BlockEntry, BlockMappingStart, BlockSequenceStart, Content}
-use Rattle.libyaml_grammar.specs.sentences.Tokens.{FlowEntry, FlowMappingEnd}
-use Rattle.libyaml_grammar.specs.sentences.Tokens.{FlowMappingStart, FlowSequenceEnd, FlowSequenceStart, Marks, Scalar}
-use Rattle.libyaml_grammar.specs.sentences.Tokens.{Token, tok}
-use Rattle.libyaml_grammar.specs.sentences.Trees.{BlockItems, BlockNode, BlockSlot, FlowItems, FlowLast, FlowMember}
-use Rattle.libyaml_grammar.specs.sentences.Trees.{FlowNode, FlowSlot, FlowValue}
-use Rattle.libyaml_grammar.specs.sentences.Trees.{IsCollection, Parts, Properties, Role, Slot, Sort, alias, alone}
-use Rattle.libyaml_grammar.specs.sentences.Trees.{anchor, block_mapping}
-use Rattle.libyaml_grammar.specs.sentences.Trees.{block_node_tokens, block_sequence, block_slot_tokens, closing}
-use Rattle.libyaml_grammar.specs.sentences.Trees.{collection, empty, flow, flow_items_tokens}
-use Rattle.libyaml_grammar.specs.sentences.Trees.{flow_last_tokens, flow_member_tokens, flow_node, flow_node_tokens}
-use Rattle.libyaml_grammar.specs.sentences.Trees.{flow_nothing, flow_slot_tokens}
-use Rattle.libyaml_grammar.specs.sentences.Trees.{flow_value_tokens, indentless, item, items_tokens, key, last, mapping}
-use Rattle.libyaml_grammar.specs.sentences.Trees.{more_items, no_items, no_last}
-use Rattle.libyaml_grammar.specs.sentences.Trees.{no_parts, no_value, node, nothing, opening, option_tokens, pair, part}
-use Rattle.libyaml_grammar.specs.sentences.Trees.{parts_tokens, properties_tokens}
-use Rattle.libyaml_grammar.specs.sentences.Trees.{role_token, scalar, sequence, single, slot_of, slot_tokens, value}
-use Rattle.libyaml_grammar.specs.sentences.Trees.{with_value}
+use Rattle.libyaml_grammar.specs.sentences.Tokens.{BlockEnd, BlockEntry, BlockMappingStart, BlockSequenceStart, Content, FlowEntry, FlowMappingEnd, FlowMappingStart, FlowSequenceEnd, FlowSequenceStart, Marks, Scalar, Token, tok}
+use Rattle.libyaml_grammar.specs.sentences.Trees.{BlockItems, BlockNode, BlockSlot, FlowItems, FlowLast, FlowMember, FlowNode, FlowSlot, FlowValue, IsCollection, Parts, Properties, Role, Slot, Sort, alias, alone, anchor, block_mapping, block_node_tokens, block_sequence, block_slot_tokens, closing}
+use Rattle.libyaml_grammar.specs.sentences.Trees.{collection, empty, flow, flow_items_tokens, flow_last_tokens, flow_member_tokens, flow_node, flow_node_tokens, flow_nothing, flow_slot_tokens, flow_value_tokens, indentless, item, items_tokens, key, last, mapping, more_items, no_items, no_last}
+use Rattle.libyaml_grammar.specs.sentences.Trees.{no_parts, no_value, node, nothing, opening, option_tokens, pair, part, parts_tokens, properties_tokens, role_token, scalar, sequence, single, slot_of, slot_tokens, value, with_value}
 use Rattle.libyaml_grammar.specs.sentences.Sentences.{IsSentence}
 use Rattle.libyaml_grammar.specs.runs.StreamEnds.{up_to_end}
 use Rattle.libyaml_grammar.proofs.lent.Positions.{done, unopened}

@@ -3,19 +3,10 @@
 use Rattle.std.specs.Prelude.{List, [], ◌∷◌, true, false}
 use Rattle.libyaml_grammar.specs.sentences.Tokens.{Mark, Token}
 use Rattle.libyaml_grammar.specs.sentences.Trees.{Sort, directive, mapping, no_directives, sequence}
-use Rattle.libyaml_grammar.specs.sentences.Events.{Event, before_events, before_part, block_layout, document_end_at}
-use Rattle.libyaml_grammar.specs.sentences.Events.{document_start_at, documents_events}
-use Rattle.libyaml_grammar.specs.sentences.Events.{first_directive, first_block_entry, first_of, flow_items_events}
-use Rattle.libyaml_grammar.specs.sentences.Events.{flow_layout, flow_member_events}
-use Rattle.libyaml_grammar.specs.sentences.Events.{flow_slot_events, free_events, items_events, member_end}
-use Rattle.libyaml_grammar.specs.sentences.Events.{missing_value, opens_pair, parts_events, start_of}
-use Rattle.libyaml_grammar.specs.cuts.CutTrees.{BlockPlace, Cut, Open, PartPlace, Place, Root, at_directive, at_tag}
-use Rattle.libyaml_grammar.specs.cuts.CutTrees.{at_tag_behind, before_stream, block}
-use Rattle.libyaml_grammar.specs.cuts.CutTrees.{content_due, declared, declared_block, declared_open, declared_part}
-use Rattle.libyaml_grammar.specs.cuts.CutTrees.{document_due, entry, entry_due}
-use Rattle.libyaml_grammar.specs.cuts.CutTrees.{explicit_root, flow_entry, flow_key, flow_value, implicit_root}
-use Rattle.libyaml_grammar.specs.cuts.CutTrees.{indentless_entry, open_collection, part_due}
-use Rattle.libyaml_grammar.specs.cuts.CutTrees.{part_place, root, separator_due, slot, start_due}
+use Rattle.libyaml_grammar.specs.sentences.Events.{Event, before_events, before_part, block_layout, document_end_at, document_start_at, documents_events, first_directive, first_block_entry, first_of, flow_items_events, flow_layout, flow_member_events, flow_slot_events, free_events, items_events}
+use Rattle.libyaml_grammar.specs.sentences.Events.{member_end, missing_value, opens_pair, parts_events, start_of}
+use Rattle.libyaml_grammar.specs.cuts.CutTrees.{BlockPlace, Cut, Open, PartPlace, Place, Root, at_directive, at_tag, at_tag_behind, before_stream, block, content_due, declared, declared_block, declared_open, declared_part, document_due, entry, entry_due, explicit_root, flow_entry, flow_key}
+use Rattle.libyaml_grammar.specs.cuts.CutTrees.{flow_value, implicit_root, indentless_entry, open_collection, part_due, part_place, root, separator_due, slot, start_due}
 
 abbrev pub sort_of : Open → Sort
 sort_of (open_collection p o k m is) = k

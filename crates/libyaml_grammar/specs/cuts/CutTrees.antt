@@ -1,20 +1,10 @@
 -- Cut trees (docs/DEFINITIONS.md, "Cut trees"): a stream tree broken off at one place of its right edge. All to the
 -- left of the place is whole, and the collections and the document around it are open.
 use Rattle.std.specs.Prelude.{List, ◌∷◌, Option, Bool, ◌&&◌}
-use Rattle.libyaml_grammar.specs.sentences.Tokens.{Anchor, AnchorName, BlockEntry, BlockMappingStart}
-use Rattle.libyaml_grammar.specs.sentences.Tokens.{BlockSequenceStart, DocumentStart, Key, Marks, Token}
-use Rattle.libyaml_grammar.specs.sentences.Tokens.{Value, tok}
-use Rattle.libyaml_grammar.specs.sentences.Trees.{Before, BlockItems, Directive, Directives, Documents, FlowItems}
-use Rattle.libyaml_grammar.specs.sentences.Trees.{FlowMember, FlowSlot, Free, Parts}
-use Rattle.libyaml_grammar.specs.sentences.Trees.{Properties, Role, Sort, before_tokens, directive_token}
-use Rattle.libyaml_grammar.specs.sentences.Trees.{directives_tokens, documents_tokens}
-use Rattle.libyaml_grammar.specs.sentences.Trees.{flow_items_tokens, flow_member_tokens, flow_slot_tokens, free_tokens}
-use Rattle.libyaml_grammar.specs.sentences.Trees.{items_tokens, no_directives, opening}
-use Rattle.libyaml_grammar.specs.sentences.Trees.{option_tokens, parts_tokens, role_token}
-use Rattle.libyaml_grammar.specs.sentences.Order.{admits, before_in_order, directives_in_order}
-use Rattle.libyaml_grammar.specs.sentences.Order.{documents_in_order, flow_items_in_order}
-use Rattle.libyaml_grammar.specs.sentences.Order.{flow_member_in_order, flow_slot_in_order, free_in_order}
-use Rattle.libyaml_grammar.specs.sentences.Order.{items_in_order, option_in_order, parts_in_order}
+use Rattle.libyaml_grammar.specs.sentences.Tokens.{Anchor, AnchorName, BlockEntry, BlockMappingStart, BlockSequenceStart, DocumentStart, Key, Marks, Token, Value, tok}
+use Rattle.libyaml_grammar.specs.sentences.Trees.{Before, BlockItems, Directive, Directives, Documents, FlowItems, FlowMember, FlowSlot, Free, Parts, Properties, Role, Sort, before_tokens, directive_token, directives_tokens, documents_tokens, flow_items_tokens, flow_member_tokens, flow_slot_tokens}
+use Rattle.libyaml_grammar.specs.sentences.Trees.{free_tokens, items_tokens, no_directives, opening, option_tokens, parts_tokens, role_token}
+use Rattle.libyaml_grammar.specs.sentences.Order.{admits, before_in_order, directives_in_order, documents_in_order, flow_items_in_order, flow_member_in_order, flow_slot_in_order, free_in_order, items_in_order, option_in_order, parts_in_order}
 
 -- where a document's root is expected: after what stands before it, with its head if it has one
 pub data Root : Type 0 where

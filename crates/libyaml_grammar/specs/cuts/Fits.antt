@@ -1,22 +1,10 @@
 -- When a cut tree fits a list with the token after it (docs/DEFINITIONS.md, "When a cut tree fits").
 use Rattle.std.specs.Prelude.{◌≡◌, ◌⊎◌, List, [], ◌∷◌, ◌++◌, Option, Some, None, Bool, true, false}
-use Rattle.libyaml_grammar.specs.sentences.Tokens.{Anchor, AnchorName, BlockEnd, BlockEntry, Content, DocumentEnd}
-use Rattle.libyaml_grammar.specs.sentences.Tokens.{DocumentStart, FlowEntry, FlowMappingEnd}
-use Rattle.libyaml_grammar.specs.sentences.Tokens.{FlowSequenceEnd, Key, Marks, StreamEnd, Tag, TagDirective, Token}
-use Rattle.libyaml_grammar.specs.sentences.Tokens.{Value, VersionDirective, tok}
-use Rattle.libyaml_grammar.specs.sentences.Trees.{BlockItems, Directives, Documents, FlowMember, FlowSlot, Properties}
-use Rattle.libyaml_grammar.specs.sentences.Trees.{Slot, behind, explicit, flow_node}
-use Rattle.libyaml_grammar.specs.sentences.Trees.{flow_nothing, indentless, item, mapping, no_directives, no_value}
-use Rattle.libyaml_grammar.specs.sentences.Trees.{nothing, pair, part, sequence, single}
-use Rattle.libyaml_grammar.specs.sentences.Trees.{slot_of, with_value}
+use Rattle.libyaml_grammar.specs.sentences.Tokens.{Anchor, AnchorName, BlockEnd, BlockEntry, Content, DocumentEnd, DocumentStart, FlowEntry, FlowMappingEnd, FlowSequenceEnd, Key, Marks, StreamEnd, Tag, TagDirective, Token, Value, VersionDirective, tok}
+use Rattle.libyaml_grammar.specs.sentences.Trees.{BlockItems, Directives, Documents, FlowMember, FlowSlot, Properties, Slot, behind, explicit, flow_node, flow_nothing, indentless, item, mapping, no_directives, no_value, nothing, pair, part, sequence, single, slot_of, with_value}
 use Rattle.libyaml_grammar.specs.sentences.Order.{is_known}
-use Rattle.libyaml_grammar.specs.cuts.CutTrees.{BlockPlace, Cut, Open, PartPlace, Place, at_directive, at_tag}
-use Rattle.libyaml_grammar.specs.cuts.CutTrees.{at_tag_behind, block, content_due}
-use Rattle.libyaml_grammar.specs.cuts.CutTrees.{cut_in_order, cut_tokens, declared, document_due, entry, entry_due}
-use Rattle.libyaml_grammar.specs.cuts.CutTrees.{explicit_root, flow_entry, flow_key}
-use Rattle.libyaml_grammar.specs.cuts.CutTrees.{flow_value, implicit_root, indentless_entry, open_collection, part_due}
-use Rattle.libyaml_grammar.specs.cuts.CutTrees.{part_place, place_in_order}
-use Rattle.libyaml_grammar.specs.cuts.CutTrees.{place_tokens, root, separator_due, slot, start_due}
+use Rattle.libyaml_grammar.specs.cuts.CutTrees.{BlockPlace, Cut, Open, PartPlace, Place, at_directive, at_tag, at_tag_behind, block, content_due, cut_in_order, cut_tokens, declared, document_due, entry, entry_due, explicit_root, flow_entry, flow_key, flow_value, implicit_root, indentless_entry}
+use Rattle.libyaml_grammar.specs.cuts.CutTrees.{open_collection, part_due, part_place, place_in_order, place_tokens, root, separator_due, slot, start_due}
 use Rattle.libyaml_grammar.specs.sentences.Sentences.{IsBeginning}
 
 abbrev pub is_directive : Content → Bool

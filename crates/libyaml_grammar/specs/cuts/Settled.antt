@@ -2,25 +2,15 @@
 -- every sentence that begins so, as a relation, and as a function of the beginning's front tree.
 use Rattle.std.specs.Prelude.{◌≡◌, List, [], ◌∷◌, ◌++◌, Option, Some, None, true, false}
 use Rattle.libyaml_grammar.specs.cuts.CutEvents.{shown_block, shown_open, shown_place, sort_of}
-use Rattle.libyaml_grammar.specs.cuts.CutTrees.{Cut, Place, at_directive, at_tag, at_tag_behind, block, content_due}
-use Rattle.libyaml_grammar.specs.cuts.CutTrees.{cut_in_order, cut_tokens, declared_block}
-use Rattle.libyaml_grammar.specs.cuts.CutTrees.{declared_open, document_due, entry_due, implicit_root, part_due, root}
-use Rattle.libyaml_grammar.specs.cuts.CutTrees.{separator_due, start_due}
-use Rattle.libyaml_grammar.specs.sentences.Events.{Event, before_events, before_part, block_layout, block_node_events}
-use Rattle.libyaml_grammar.specs.sentences.Events.{directive_start, document_start_at}
-use Rattle.libyaml_grammar.specs.sentences.Events.{events, first_block, first_directive, first_block_entry, first_of}
-use Rattle.libyaml_grammar.specs.sentences.Events.{flow_node_events, flow_slot_events}
-use Rattle.libyaml_grammar.specs.sentences.Events.{free_events, items_events, opens_pair, parts_events, start_of}
+use Rattle.libyaml_grammar.specs.cuts.CutTrees.{Cut, Place, at_directive, at_tag, at_tag_behind, block, content_due, cut_in_order, cut_tokens, declared_block, declared_open, document_due, entry_due, implicit_root, part_due, root, separator_due, start_due}
+use Rattle.libyaml_grammar.specs.sentences.Events.{Event, before_events, before_part, block_layout, block_node_events, directive_start, document_start_at, events, first_block, first_directive, first_block_entry, first_of, flow_node_events, flow_slot_events, free_events, items_events, opens_pair}
+use Rattle.libyaml_grammar.specs.sentences.Events.{parts_events, start_of}
 use Rattle.libyaml_types.specs.Events.{zero_mark}
 use Rattle.libyaml_grammar.specs.cuts.Fits.{last_empty}
 use Rattle.libyaml_grammar.specs.sentences.Order.{in_order}
 use Rattle.libyaml_grammar.specs.sentences.Tokens.{Token}
-use Rattle.libyaml_grammar.specs.sentences.Trees.{BlockItems, BlockNode, BlockSlot, Directives, Documents, FlowMember}
-use Rattle.libyaml_grammar.specs.sentences.Trees.{FlowNode, FlowSlot, Parts, Slot, Sort}
-use Rattle.libyaml_grammar.specs.sentences.Trees.{Stream, alone, empty, explicit, flow, flow_node, flow_nothing}
-use Rattle.libyaml_grammar.specs.sentences.Trees.{implicit, indentless, item, mapping}
-use Rattle.libyaml_grammar.specs.sentences.Trees.{no_directives, no_parts, no_value, node, nothing, pair, part}
-use Rattle.libyaml_grammar.specs.sentences.Trees.{sequence, single, slot_of, tokens, with_value}
+use Rattle.libyaml_grammar.specs.sentences.Trees.{BlockItems, BlockNode, BlockSlot, Directives, Documents, FlowMember, FlowNode, FlowSlot, Parts, Slot, Sort, Stream, alone, empty, explicit, flow, flow_node, flow_nothing, implicit, indentless, item, mapping, no_directives, no_parts, no_value, node}
+use Rattle.libyaml_grammar.specs.sentences.Trees.{nothing, pair, part, sequence, single, slot_of, tokens, with_value}
 
 -- the first list of events begins the second
 abbrev pub Begins : List Event → List Event → Type 0

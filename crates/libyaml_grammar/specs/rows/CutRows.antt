@@ -3,18 +3,9 @@
 use Rattle.std.specs.Prelude.{◌∷◌, [], None, Some, true, false, codes}
 use Rattle.libyaml_types.specs.declared.enums.yaml_scalar_style_t.TheVariants.{YAML_PLAIN_SCALAR_STYLE}
 use Rattle.libyaml_types.specs.declared.event.unnamed_yaml_event_t_data.TheVariants as ev
-use Rattle.libyaml_types.specs.declared.token.unnamed_yaml_token_t_data.TheVariants.{NoToken, StreamEnd, DocumentStart}
-use Rattle.libyaml_types.specs.declared.token.unnamed_yaml_token_t_data.TheVariants.{DocumentEnd, BlockSequenceStart}
-use Rattle.libyaml_types.specs.declared.token.unnamed_yaml_token_t_data.TheVariants.{BlockMappingStart, BlockEnd}
-use Rattle.libyaml_types.specs.declared.token.unnamed_yaml_token_t_data.TheVariants.{FlowSequenceStart, FlowSequenceEnd}
-use Rattle.libyaml_types.specs.declared.token.unnamed_yaml_token_t_data.TheVariants.{FlowMappingStart, FlowMappingEnd}
-use Rattle.libyaml_types.specs.declared.token.unnamed_yaml_token_t_data.TheVariants.{BlockEntry, FlowEntry, Key, Value}
-use Rattle.libyaml_grammar.specs.rows.RowNotation.{ALIAS, ANCHOR, HANDLE, SCALAR, STREAM, TAG, VERSION, alias}
-use Rattle.libyaml_grammar.specs.rows.RowNotation.{asks_version, at, declaring, bare_document}
-use Rattle.libyaml_grammar.specs.rows.RowNotation.{explicit_end, flow_mapping, flow_sequence, flow_sequence_of}
-use Rattle.libyaml_grammar.specs.rows.RowNotation.{headed_document, list, mapping, mapping_of}
-use Rattle.libyaml_grammar.specs.rows.RowNotation.{no_document_end, no_more, nothing, says, says_while, scalar}
-use Rattle.libyaml_grammar.specs.rows.RowNotation.{sequence, sequence_of, stream, text}
+use Rattle.libyaml_types.specs.declared.token.unnamed_yaml_token_t_data.TheVariants.{NoToken, StreamEnd, DocumentStart, DocumentEnd, BlockSequenceStart, BlockMappingStart, BlockEnd, FlowSequenceStart, FlowSequenceEnd, FlowMappingStart, FlowMappingEnd, BlockEntry, FlowEntry, Key, Value}
+use Rattle.libyaml_grammar.specs.rows.RowNotation.{ALIAS, ANCHOR, HANDLE, SCALAR, STREAM, TAG, VERSION, alias, asks_version, at, declaring, bare_document, explicit_end, flow_mapping, flow_sequence, flow_sequence_of, headed_document, list, mapping, mapping_of, no_document_end, no_more, nothing, says}
+use Rattle.libyaml_grammar.specs.rows.RowNotation.{says_while, scalar, sequence, sequence_of, stream, text}
 use Rattle.libyaml_grammar.specs.runs.Runs.{Fails, IsRun}
 
 -- Each fault, and the events before it.

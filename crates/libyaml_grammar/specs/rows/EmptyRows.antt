@@ -1,18 +1,12 @@
 -- The table of the places where a node may be nothing (docs/DEFINITIONS.md, "Where a node may be nothing"): of a list with
 -- one token of each kind, those that may follow it.
 use Rattle.std.specs.Prelude.{◌≡◌, ◌∷◌, [], Option}
-use Rattle.libyaml_types.specs.declared.token.unnamed_yaml_token_t_data.TheVariants.{BlockEnd, BlockEntry, DocumentEnd}
-use Rattle.libyaml_types.specs.declared.token.unnamed_yaml_token_t_data.TheVariants.{DocumentStart, FlowEntry}
-use Rattle.libyaml_types.specs.declared.token.unnamed_yaml_token_t_data.TheVariants.{FlowMappingEnd, FlowSequenceEnd}
-use Rattle.libyaml_types.specs.declared.token.unnamed_yaml_token_t_data.TheVariants.{Key, StreamEnd, Value}
-use Rattle.libyaml_grammar.specs.cuts.CutTrees.{BlockPlace, Open, PartPlace, Place, block, entry, explicit_root}
-use Rattle.libyaml_grammar.specs.cuts.CutTrees.{flow_entry, flow_key, flow_value}
-use Rattle.libyaml_grammar.specs.cuts.CutTrees.{implicit_root, indentless_entry, open_collection, root, slot}
+use Rattle.libyaml_types.specs.declared.token.unnamed_yaml_token_t_data.TheVariants.{BlockEnd, BlockEntry, DocumentEnd, DocumentStart, FlowEntry, FlowMappingEnd, FlowSequenceEnd, Key, StreamEnd, Value}
+use Rattle.libyaml_grammar.specs.cuts.CutTrees.{BlockPlace, Open, PartPlace, Place, block, entry, explicit_root, flow_entry, flow_key, flow_value, implicit_root, indentless_entry, open_collection, root, slot}
 use Rattle.libyaml_grammar.specs.cuts.Fits.{ends_empty}
 use Rattle.libyaml_grammar.specs.rows.RowNotation.{HANDLE, VERSION, kinds, passing}
 use Rattle.libyaml_grammar.specs.sentences.Tokens.{Marks}
-use Rattle.libyaml_grammar.specs.sentences.Trees.{Before, BlockItems, Directives, FlowItems, FlowSlot, Free, Properties}
-use Rattle.libyaml_grammar.specs.sentences.Trees.{mapping, sequence}
+use Rattle.libyaml_grammar.specs.sentences.Trees.{Before, BlockItems, Directives, FlowItems, FlowSlot, Free, Properties, mapping, sequence}
 
 abbrev pub RowEmptyEntry : Type 0
 RowEmptyEntry = (c : BlockPlace) (o : Option Properties) (m : Marks) (is : BlockItems) (e : Marks)

@@ -1,25 +1,11 @@
 -- Worked rows of sentences: lists of tokens with their runs, in the notation of RowNotation (docs/DEFINITIONS.md,
 -- "Worked rows").
 use Rattle.std.specs.Prelude.{◌∷◌, [], None, Some, true, false, codes}
-use Rattle.libyaml_types.specs.declared.enums.yaml_scalar_style_t.TheVariants.{YAML_PLAIN_SCALAR_STYLE}
-use Rattle.libyaml_types.specs.declared.enums.yaml_scalar_style_t.TheVariants.{YAML_SINGLE_QUOTED_SCALAR_STYLE}
-use Rattle.libyaml_types.specs.declared.enums.yaml_scalar_style_t.TheVariants.{YAML_DOUBLE_QUOTED_SCALAR_STYLE}
-use Rattle.libyaml_types.specs.declared.enums.yaml_scalar_style_t.TheVariants.{YAML_LITERAL_SCALAR_STYLE}
-use Rattle.libyaml_types.specs.declared.enums.yaml_scalar_style_t.TheVariants.{YAML_FOLDED_SCALAR_STYLE}
+use Rattle.libyaml_types.specs.declared.enums.yaml_scalar_style_t.TheVariants.{YAML_PLAIN_SCALAR_STYLE, YAML_SINGLE_QUOTED_SCALAR_STYLE, YAML_DOUBLE_QUOTED_SCALAR_STYLE, YAML_LITERAL_SCALAR_STYLE, YAML_FOLDED_SCALAR_STYLE}
 use Rattle.libyaml_types.specs.declared.event.unnamed_yaml_event_t_data.TheVariants as ev
-use Rattle.libyaml_types.specs.declared.token.unnamed_yaml_token_t_data.TheVariants.{StreamEnd, DocumentStart}
-use Rattle.libyaml_types.specs.declared.token.unnamed_yaml_token_t_data.TheVariants.{DocumentEnd, BlockSequenceStart}
-use Rattle.libyaml_types.specs.declared.token.unnamed_yaml_token_t_data.TheVariants.{BlockMappingStart, BlockEnd}
-use Rattle.libyaml_types.specs.declared.token.unnamed_yaml_token_t_data.TheVariants.{FlowSequenceStart, FlowSequenceEnd}
-use Rattle.libyaml_types.specs.declared.token.unnamed_yaml_token_t_data.TheVariants.{FlowMappingStart, FlowMappingEnd}
-use Rattle.libyaml_types.specs.declared.token.unnamed_yaml_token_t_data.TheVariants.{BlockEntry, FlowEntry, Key, Value}
-use Rattle.libyaml_grammar.specs.rows.RowNotation.{ALIAS, ANCHOR, HANDLE, SCALAR, STREAM, STREAM_LE, STYLED, TAG}
-use Rattle.libyaml_grammar.specs.rows.RowNotation.{VERSION, alias, asks_version, at, declaring}
-use Rattle.libyaml_grammar.specs.rows.RowNotation.{bare_document, explicit_end, flow_mapping, flow_mapping_of, flow_sequence}
-use Rattle.libyaml_grammar.specs.rows.RowNotation.{flow_sequence_of, headed_document}
-use Rattle.libyaml_grammar.specs.rows.RowNotation.{list, mapping, mapping_of, no_document_end, no_more, nothing, scalar}
-use Rattle.libyaml_grammar.specs.rows.RowNotation.{sequence, sequence_of, stream}
-use Rattle.libyaml_grammar.specs.rows.RowNotation.{stream_le, text}
+use Rattle.libyaml_types.specs.declared.token.unnamed_yaml_token_t_data.TheVariants.{StreamEnd, DocumentStart, DocumentEnd, BlockSequenceStart, BlockMappingStart, BlockEnd, FlowSequenceStart, FlowSequenceEnd, FlowMappingStart, FlowMappingEnd, BlockEntry, FlowEntry, Key, Value}
+use Rattle.libyaml_grammar.specs.rows.RowNotation.{ALIAS, ANCHOR, HANDLE, SCALAR, STREAM, STREAM_LE, STYLED, TAG, VERSION, alias, asks_version, at, declaring, bare_document, explicit_end, flow_mapping, flow_mapping_of, flow_sequence, flow_sequence_of, headed_document, list, mapping, mapping_of}
+use Rattle.libyaml_grammar.specs.rows.RowNotation.{no_document_end, no_more, nothing, scalar, sequence, sequence_of, stream, stream_le, text}
 use Rattle.libyaml_grammar.specs.runs.Runs.{Ends, IsRun}
 
 -- A stream and its documents, and what ends them.

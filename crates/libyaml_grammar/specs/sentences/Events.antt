@@ -9,25 +9,13 @@ use Rattle.libyaml_types.specs.declared.directive.yaml_tag_directive_t.{yaml_tag
 use Rattle.libyaml_types.specs.declared.enums.yaml_scalar_style_t.{yaml_scalar_style_t}
 use Rattle.libyaml_types.specs.declared.enums.yaml_scalar_style_t.TheVariants.{YAML_PLAIN_SCALAR_STYLE}
 use Rattle.libyaml_types.specs.declared.enums.yaml_sequence_style_t.{yaml_sequence_style_t}
-use Rattle.libyaml_types.specs.declared.enums.yaml_sequence_style_t.TheVariants.{YAML_BLOCK_SEQUENCE_STYLE}
-use Rattle.libyaml_types.specs.declared.enums.yaml_sequence_style_t.TheVariants.{YAML_FLOW_SEQUENCE_STYLE}
+use Rattle.libyaml_types.specs.declared.enums.yaml_sequence_style_t.TheVariants.{YAML_BLOCK_SEQUENCE_STYLE, YAML_FLOW_SEQUENCE_STYLE}
 use Rattle.libyaml_types.specs.declared.enums.yaml_mapping_style_t.{yaml_mapping_style_t}
-use Rattle.libyaml_types.specs.declared.enums.yaml_mapping_style_t.TheVariants.{YAML_BLOCK_MAPPING_STYLE}
-use Rattle.libyaml_types.specs.declared.enums.yaml_mapping_style_t.TheVariants.{YAML_FLOW_MAPPING_STYLE}
+use Rattle.libyaml_types.specs.declared.enums.yaml_mapping_style_t.TheVariants.{YAML_BLOCK_MAPPING_STYLE, YAML_FLOW_MAPPING_STYLE}
 use Rattle.libyaml_grammar.specs.sentences.Tokens.{Mark, Marks, StreamHead, HandleDeclared, AliasName, TagName, ScalarText}
-use Rattle.libyaml_grammar.specs.sentences.Trees.{Properties, Sort, Role, FlowNode, FlowItems, FlowLast, FlowMember}
-use Rattle.libyaml_grammar.specs.sentences.Trees.{FlowSlot, BlockNode, BlockSlot}
-use Rattle.libyaml_grammar.specs.sentences.Trees.{BlockItems, Slot, Parts, Directive, Directives, Documents, Free}
-use Rattle.libyaml_grammar.specs.sentences.Trees.{Ended, Before, Stream, anchor, tag}
-use Rattle.libyaml_grammar.specs.sentences.Trees.{anchor_tag, tag_anchor, sequence, mapping, key, value, alias, alone}
-use Rattle.libyaml_grammar.specs.sentences.Trees.{scalar, collection, no_items}
-use Rattle.libyaml_grammar.specs.sentences.Trees.{more_items, no_last, last, single, pair, flow_nothing, flow_node}
-use Rattle.libyaml_grammar.specs.sentences.Trees.{no_value, with_value, flow}
-use Rattle.libyaml_grammar.specs.sentences.Trees.{block_sequence, block_mapping, nothing, node, empty, item, slot_of}
-use Rattle.libyaml_grammar.specs.sentences.Trees.{indentless, no_parts, part, version}
-use Rattle.libyaml_grammar.specs.sentences.Trees.{tag_directive, no_directives, directive, implicit, explicit, opened}
-use Rattle.libyaml_grammar.specs.sentences.Trees.{ended, once, again, free, behind}
-use Rattle.libyaml_grammar.specs.sentences.Trees.{whole}
+use Rattle.libyaml_grammar.specs.sentences.Trees.{Properties, Sort, Role, FlowNode, FlowItems, FlowLast, FlowMember, FlowSlot, BlockNode, BlockSlot, BlockItems, Slot, Parts, Directive, Directives, Documents, Free, Ended, Before, Stream, anchor, tag, anchor_tag, tag_anchor, sequence, mapping, key}
+use Rattle.libyaml_grammar.specs.sentences.Trees.{value, alias, alone, scalar, collection, no_items, more_items, no_last, last, single, pair, flow_nothing, flow_node, no_value, with_value, flow, block_sequence, block_mapping, nothing, node, empty, item, slot_of, indentless, no_parts, part, version}
+use Rattle.libyaml_grammar.specs.sentences.Trees.{tag_directive, no_directives, directive, implicit, explicit, opened, ended, once, again, free, behind, whole}
 
 abbrev pub Event : Type 0
 Event = yaml_event_t

@@ -13,19 +13,8 @@ use Rattle.libyaml_types.specs.declared.token.unnamed_yaml_token_t_data_anchor.{
 use Rattle.libyaml_types.specs.declared.token.unnamed_yaml_token_t_data_tag.{unnamed_yaml_token_t_data_tag}
 use Rattle.libyaml_types.specs.declared.token.unnamed_yaml_token_t_data_scalar.{unnamed_yaml_token_t_data_scalar}
 use Rattle.libyaml_types.specs.Events.{zero_mark}
-pub use Rattle.libyaml_types.specs.declared.token.unnamed_yaml_token_t_data.TheVariants.{NoToken, StreamStart}
-pub use Rattle.libyaml_types.specs.declared.token.unnamed_yaml_token_t_data.TheVariants.{StreamEnd, VersionDirective}
-pub use Rattle.libyaml_types.specs.declared.token.unnamed_yaml_token_t_data.TheVariants.{TagDirective}
-pub use Rattle.libyaml_types.specs.declared.token.unnamed_yaml_token_t_data.TheVariants.{DocumentStart, DocumentEnd}
-pub use Rattle.libyaml_types.specs.declared.token.unnamed_yaml_token_t_data.TheVariants.{BlockSequenceStart}
-pub use Rattle.libyaml_types.specs.declared.token.unnamed_yaml_token_t_data.TheVariants.{BlockMappingStart}
-pub use Rattle.libyaml_types.specs.declared.token.unnamed_yaml_token_t_data.TheVariants.{BlockEnd, FlowSequenceStart}
-pub use Rattle.libyaml_types.specs.declared.token.unnamed_yaml_token_t_data.TheVariants.{FlowSequenceEnd}
-pub use Rattle.libyaml_types.specs.declared.token.unnamed_yaml_token_t_data.TheVariants.{FlowMappingStart}
-pub use Rattle.libyaml_types.specs.declared.token.unnamed_yaml_token_t_data.TheVariants.{FlowMappingEnd, BlockEntry}
-pub use Rattle.libyaml_types.specs.declared.token.unnamed_yaml_token_t_data.TheVariants.{FlowEntry, Key, Value, Alias}
-pub use Rattle.libyaml_types.specs.declared.token.unnamed_yaml_token_t_data.TheVariants.{Anchor}
-pub use Rattle.libyaml_types.specs.declared.token.unnamed_yaml_token_t_data.TheVariants.{Tag, Scalar}
+pub use Rattle.libyaml_types.specs.declared.token.unnamed_yaml_token_t_data.TheVariants.{NoToken, StreamStart, StreamEnd, VersionDirective, TagDirective, DocumentStart, DocumentEnd, BlockSequenceStart, BlockMappingStart, BlockEnd, FlowSequenceStart, FlowSequenceEnd, FlowMappingStart, FlowMappingEnd}
+pub use Rattle.libyaml_types.specs.declared.token.unnamed_yaml_token_t_data.TheVariants.{BlockEntry, FlowEntry, Key, Value, Alias, Anchor, Tag, Scalar}
 
 abbrev pub Mark : Type 0
 Mark = yaml_mark_t

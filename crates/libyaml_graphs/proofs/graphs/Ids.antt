@@ -1,29 +1,20 @@
 -- The ids of a graph: each names a node, a node holds those of all its children, and children come later than their
 -- parents.
 use Rattle.std.specs.Prelude.{not}
-use Rattle.std.proofs.Common.{◌≡◌, ◌≤◌, ℕ, suc, ℤ, pos, List, [], ◌∷◌, ◌+◌, length, All, arith, add-zero, zero-add}
-use Rattle.std.proofs.Common.{Option, Some, None, Bool, true, false}
-use Rattle.std.proofs.Common.{refl, sym, ap, ◌∙◌, subst, le_refl, le_trans, le_of_lt, lt-suc_self, suc-le-suc, zero-le}
+use Rattle.std.proofs.Common.{◌≡◌, ◌≤◌, ℕ, suc, ℤ, pos, List, [], ◌∷◌, ◌+◌, length, All, arith, add-zero, zero-add, Option, Some, None, Bool, true, false, refl, sym, ap, ◌∙◌, subst, le_refl, le_trans, le_of_lt, lt-suc_self, suc-le-suc, zero-le}
 use Rattle.std.proofs.lemmas.Int.{ints}
 use Rattle.std.proofs.lemmas.List.Elements.{All-nil, All-cons}
 use Rattle.std.proofs.Math.Bool.{not-not}
 use Rattle.libyaml_grammar.specs.sentences.Events.{Event, Layout, end_at}
 use Rattle.libyaml_types.specs.Fault.{Fault}
-use Rattle.libyaml_grammar.specs.sentences.Nesting.{AllHavePairs, HasPairs, Texts, TextsHavePairs, Value, Values}
-use Rattle.libyaml_grammar.specs.sentences.Nesting.{alias_value, collection_value, first_value}
-use Rattle.libyaml_grammar.specs.sentences.Nesting.{is_even, no_texts, no_values, scalar_value, text_behind}
-use Rattle.libyaml_grammar.specs.sentences.Nesting.{value_events, values_events}
+use Rattle.libyaml_grammar.specs.sentences.Nesting.{AllHavePairs, HasPairs, Texts, TextsHavePairs, Value, Values, alias_value, collection_value, first_value, is_even, no_texts, no_values, scalar_value, text_behind, value_events, values_events}
 use Rattle.libyaml_grammar.specs.sentences.Tokens.{Mark}
 use Rattle.libyaml_grammar.specs.sentences.Trees.{Sort, mapping, sequence}
 use Rattle.libyaml_documents.specs.Nodes.{EveryIdNamesANode, IsIdUpTo, ids_of, ids_of_pairs}
 use Rattle.libyaml_documents.specs.declared.node.yaml_node_t.{yaml_node_t}
-use Rattle.libyaml_graphs.specs.graphs.ComposerFaults.{alias_fault, anchor_fault, composer_fault, heads, or_else}
-use Rattle.libyaml_graphs.specs.graphs.ComposerFaults.{composer_part_fault}
-use Rattle.libyaml_graphs.specs.loads.GraphLaws.{AllHoldTheirChildren, AllLater, ChildrenAreLater, EachHoldsItsChildren}
-use Rattle.libyaml_graphs.specs.loads.GraphLaws.{EachIsLater, HoldsItsChildren, IsLater}
-use Rattle.libyaml_graphs.specs.graphs.Graphs.{Carrier, Start, carrier, carries, collection_loaded, id_of, id_or}
-use Rattle.libyaml_graphs.specs.graphs.Graphs.{ids_of_all, items, nodes_of, nodes_of_all, pairs}
-use Rattle.libyaml_graphs.specs.graphs.Graphs.{starts_behind, starts_behind_all}
+use Rattle.libyaml_graphs.specs.graphs.ComposerFaults.{alias_fault, anchor_fault, composer_fault, heads, or_else, composer_part_fault}
+use Rattle.libyaml_graphs.specs.loads.GraphLaws.{AllHoldTheirChildren, AllLater, ChildrenAreLater, EachHoldsItsChildren, EachIsLater, HoldsItsChildren, IsLater}
+use Rattle.libyaml_graphs.specs.graphs.Graphs.{Carrier, Start, carrier, carries, collection_loaded, id_of, id_or, ids_of_all, items, nodes_of, nodes_of_all, pairs, starts_behind, starts_behind_all}
 use Rattle.libyaml_graphs.specs.graphs.GraphParts.{Part, alias_part, end_part, leaf_part, parts, carrier_start, start_part}
 
 one_more : (n : ℕ) → n ≤ suc n

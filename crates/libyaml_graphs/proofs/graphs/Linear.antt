@@ -1,6 +1,5 @@
 -- Each part of a document gives at most one node and one entry of one list.
-use Rattle.std.proofs.Common.{◌≡◌, ◌≤◌, ◌+◌, ◌*◌, ◌++◌, arith, ℕ, zero, suc, List, [], ◌∷◌, length, map, Option, Some}
-use Rattle.std.proofs.Common.{None, Ok, false, refl, sym, ap}
+use Rattle.std.proofs.Common.{◌≡◌, ◌≤◌, ◌+◌, ◌*◌, ◌++◌, arith, ℕ, zero, suc, List, [], ◌∷◌, length, map, Option, Some, None, Ok, false, refl, sym, ap}
 use Rattle.libyaml_types.specs.declared.event.unnamed_yaml_event_t_data.TheVariants as ev
 use Rattle.libyaml_types.specs.declared.event.unnamed_yaml_event_t_data.{unnamed_yaml_event_t_data}
 use Rattle.libyaml_grammar.specs.sentences.Events.{Event}
@@ -12,13 +11,9 @@ use Rattle.libyaml_documents.specs.LoadedNodes.{children_of}
 use Rattle.libyaml_documents.specs.declared.node.unnamed_yaml_node_t_data.{unnamed_yaml_node_t_data}
 use Rattle.libyaml_documents.specs.declared.node.unnamed_yaml_node_t_data.TheVariants.{Scalar, Sequence, Mapping}
 use Rattle.libyaml_graphs.specs.graphs.Graphs.{Start, carrier, id_or, items, pairs}
-use Rattle.libyaml_graphs.specs.graphs.GraphParts.{Closing, Opening, Part, alias_part, children, closing_of, end_part}
-use Rattle.libyaml_graphs.specs.graphs.GraphParts.{graph, if_outer, leaf_part}
-use Rattle.libyaml_graphs.specs.graphs.GraphParts.{opening_of, part_in, part_of, parts, carrier_start, start_part}
-use Rattle.libyaml_graphs.specs.graphs.GraphParts.{with_children, with_part}
+use Rattle.libyaml_graphs.specs.graphs.GraphParts.{Closing, Opening, Part, alias_part, children, closing_of, end_part, graph, if_outer, leaf_part, opening_of, part_in, part_of, parts, carrier_start, start_part, with_children, with_part}
 use Rattle.libyaml_graphs.specs.loads.Linear.{documents_size, size, total_size}
-use Rattle.libyaml_graphs.specs.loads.Loads.{Begun, Load, Stop, load_answer, behind_document, document, next_by, begun}
-use Rattle.libyaml_graphs.specs.loads.Loads.{begun_behind, end_of_document, last_load, load_then, loads_by}
+use Rattle.libyaml_graphs.specs.loads.Loads.{Begun, Load, Stop, load_answer, behind_document, document, next_by, begun, begun_behind, end_of_document, last_load, load_then, loads_by}
 
 -- a leaf has no children
 abbrev pub Bare : List Part → Type 0

@@ -8,12 +8,8 @@ use Rattle.libyaml_types.specs.declared.event.unnamed_yaml_event_t_data_document
 use Rattle.libyaml_types.specs.declared.event.unnamed_yaml_event_t_data_mapping_start.{unnamed_yaml_event_t_data_mapping_start}
 use Rattle.libyaml_types.specs.declared.event.unnamed_yaml_event_t_data_scalar.{unnamed_yaml_event_t_data_scalar}
 use Rattle.libyaml_types.specs.declared.event.unnamed_yaml_event_t_data_sequence_start.{unnamed_yaml_event_t_data_sequence_start}
-use Rattle.libyaml_grammar.specs.sentences.Events.{Event, Layout, block_layout, document_end_at, end_at, event}
-use Rattle.libyaml_grammar.specs.sentences.Events.{flow_layout, mapping_style, sequence_style}
-use Rattle.libyaml_grammar.specs.sentences.Events.{stream_end_at}
-use Rattle.libyaml_grammar.specs.sentences.Nesting.{IsNested, Texts, Value, Values, alias_value, collection_value}
-use Rattle.libyaml_grammar.specs.sentences.Nesting.{first_value, no_texts, no_values}
-use Rattle.libyaml_grammar.specs.sentences.Nesting.{scalar_value, text_behind, texts_events, value_events, values_events}
+use Rattle.libyaml_grammar.specs.sentences.Events.{Event, Layout, block_layout, document_end_at, end_at, event, flow_layout, mapping_style, sequence_style, stream_end_at}
+use Rattle.libyaml_grammar.specs.sentences.Nesting.{IsNested, Texts, Value, Values, alias_value, collection_value, first_value, no_texts, no_values, scalar_value, text_behind, texts_events, value_events, values_events}
 use Rattle.libyaml_grammar.specs.sentences.Tokens.{Mark}
 use Rattle.libyaml_grammar.specs.sentences.Trees.{Sort, mapping, sequence}
 use Rattle.libyaml_grammar.proofs.lent.Same.{head_same, tail_same}

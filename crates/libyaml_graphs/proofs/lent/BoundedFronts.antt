@@ -1,16 +1,13 @@
 -- The loads within a bound are a prefix of the loads, and then out of memory where the bound was met.
-use Rattle.std.proofs.Common.{◌≡◌, ◌⊎◌, ◌++◌, ◌∷◌, ℕ, List, [], length, map, nat_lt, Option, Some, None, Bool, true, false}
-use Rattle.std.proofs.Common.{Ok, Err, refl, sym, ap, subst, inl, inr}
+use Rattle.std.proofs.Common.{◌≡◌, ◌⊎◌, ◌++◌, ◌∷◌, ℕ, List, [], length, map, nat_lt, Option, Some, None, Bool, true, false, Ok, Err, refl, sym, ap, subst, inl, inr}
 use Rattle.libyaml_documents.specs.Documents.{Document}
 use Rattle.libyaml_types.specs.Fault.{memory_fault, Fault}
 use Rattle.libyaml_grammar.specs.runs.Runs.{Ending}
 use Rattle.libyaml_grammar.specs.sentences.Events.{Event}
-use Rattle.libyaml_graphs.specs.loads.Bounds.{NoneLacksMemory, bounded_loads, first_stop, if_above, if_wrong}
-use Rattle.libyaml_graphs.specs.loads.Bounds.{list_sizes, one_above}
+use Rattle.libyaml_graphs.specs.loads.Bounds.{NoneLacksMemory, bounded_loads, first_stop, if_above, if_wrong, list_sizes, one_above}
 use Rattle.libyaml_graphs.specs.graphs.ComposerFaults.{composer_fault, or_else, composer_part_fault}
 use Rattle.libyaml_graphs.specs.graphs.Graphs.{Start}
-use Rattle.libyaml_graphs.specs.loads.Loads.{Begun, Load, begun, document, end_of_document, last_load, load_then, loads}
-use Rattle.libyaml_graphs.specs.loads.Loads.{loads_by}
+use Rattle.libyaml_graphs.specs.loads.Loads.{Begun, Load, begun, document, end_of_document, last_load, load_then, loads, loads_by}
 use Rattle.libyaml_graphs.specs.graphs.GraphParts.{Closing, Part, behind, graph, parts}
 use Rattle.libyaml_graphs.proofs.loads.Room.{bound_exact}
 

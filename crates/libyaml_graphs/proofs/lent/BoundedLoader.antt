@@ -1,7 +1,5 @@
 -- The loader with its bound gives the next load within that bound.
-use Rattle.std.proofs.Common.{◌≡◌, ℕ, suc, List, [], ◌∷◌, ◌++◌, length, nat_lt, refl, sym, ap, ◌∙◌, append_assoc}
-use Rattle.std.proofs.Common.{append-nil, Option, Some, None, Bool, true}
-use Rattle.std.proofs.Common.{false, Ok, Err}
+use Rattle.std.proofs.Common.{◌≡◌, ℕ, suc, List, [], ◌∷◌, ◌++◌, length, nat_lt, refl, sym, ap, ◌∙◌, append_assoc, append-nil, Option, Some, None, Bool, true, false, Ok, Err}
 use Rattle.libyaml_grammar.specs.sentences.Events.{Event}
 use Rattle.libyaml_types.specs.Fault.{Fault}
 use Rattle.libyaml_grammar.specs.runs.Runs.{Ending}
@@ -9,18 +7,11 @@ use Rattle.libyaml_documents.specs.declared.node.yaml_node_t.{yaml_node_t}
 use Rattle.libyaml_graphs.specs.loads.Bounds.{first_stop, if_above, if_wrong, list_sizes, next_bounded, one_above, stop_at}
 use Rattle.libyaml_graphs.specs.graphs.ComposerFaults.{composer_part_fault}
 use Rattle.libyaml_graphs.specs.graphs.Graphs.{Start}
-use Rattle.libyaml_graphs.specs.machine.Loader.{Anchors, Loader, Loading, between, bounded_option, bounded_part, failed}
-use Rattle.libyaml_graphs.specs.machine.Loader.{fresh, going, if_child_fits}
-use Rattle.libyaml_graphs.specs.machine.Loader.{if_going, list_full, load_from, load_part, no_anchors, nodes_full}
-use Rattle.libyaml_graphs.specs.machine.Loader.{unless_full, within}
+use Rattle.libyaml_graphs.specs.machine.Loader.{Anchors, Loader, Loading, between, bounded_option, bounded_part, failed, fresh, going, if_child_fits, if_going, list_full, load_from, load_part, no_anchors, nodes_full, unless_full, within}
 use Rattle.libyaml_graphs.specs.loads.Loads.{Load, load_answer, begun, begun_behind, document, end_of_document, last_load, next_by}
-use Rattle.libyaml_graphs.specs.graphs.GraphParts.{Closing, Opening, Part, alias_part, behind, closing_of, end_part}
-use Rattle.libyaml_graphs.specs.graphs.GraphParts.{graph, leaf_part, opening_of, part_of, parts}
-use Rattle.libyaml_graphs.specs.graphs.GraphParts.{start_part, with_part}
-use Rattle.libyaml_graphs.proofs.machine.Built.{BeginsEmpty, Built, Held, build, build_finished, finished}
-use Rattle.libyaml_graphs.proofs.machine.Built.{finished_none, graph_nodes, held_graph, nodes_in, unbuilt}
-use Rattle.libyaml_graphs.proofs.machine.Following.{Agrees, Follows, Stands, build_stands, loader_of, nodes_length}
-use Rattle.libyaml_graphs.proofs.machine.Following.{none_known, part_follows, stands_unbuilt}
+use Rattle.libyaml_graphs.specs.graphs.GraphParts.{Closing, Opening, Part, alias_part, behind, closing_of, end_part, graph, leaf_part, opening_of, part_of, parts, start_part, with_part}
+use Rattle.libyaml_graphs.proofs.machine.Built.{BeginsEmpty, Built, Held, build, build_finished, finished, finished_none, graph_nodes, held_graph, nodes_in, unbuilt}
+use Rattle.libyaml_graphs.proofs.machine.Following.{Agrees, Follows, Stands, build_stands, loader_of, nodes_length, none_known, part_follows, stands_unbuilt}
 use Rattle.libyaml_graphs.proofs.machine.LoaderLoads.{Answering, IfBeginsEmpty, begins_empty, settled}
 use Rattle.libyaml_graphs.proofs.machine.Sizes.{AllBegin, graph_sizes, list_grows, none_below, sizes}
 

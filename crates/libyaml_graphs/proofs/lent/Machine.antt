@@ -1,23 +1,17 @@
 -- The loader as a machine, event by event: what whoever loops over events needs of it.
-use Rattle.std.proofs.Common.{◌≡◌, ℕ, zero, suc, ℤ, pos, negsuc, List, [], ◌∷◌, nat_lt, refl, sym, ap, subst, ◌∙◌}
-use Rattle.std.proofs.Common.{Option, Some, None, Bool, false, Ok, Err}
+use Rattle.std.proofs.Common.{◌≡◌, ℕ, zero, suc, ℤ, pos, negsuc, List, [], ◌∷◌, nat_lt, refl, sym, ap, subst, ◌∙◌, Option, Some, None, Bool, false, Ok, Err}
 use Rattle.std.specs.Prelude.{slice_get}
 use Rattle.libyaml_types.specs.declared.enums.yaml_node_type_t.{yaml_node_type_t}
-use Rattle.libyaml_types.specs.declared.enums.yaml_node_type_t.TheVariants.{YAML_NO_NODE}
-use Rattle.libyaml_types.specs.declared.enums.yaml_node_type_t.TheVariants.{YAML_SEQUENCE_NODE, YAML_MAPPING_NODE}
+use Rattle.libyaml_types.specs.declared.enums.yaml_node_type_t.TheVariants.{YAML_NO_NODE, YAML_SEQUENCE_NODE, YAML_MAPPING_NODE}
 use Rattle.libyaml_grammar.specs.sentences.Events.{Event}
 use Rattle.libyaml_types.specs.Fault.{Fault}
 use Rattle.libyaml_grammar.specs.runs.Runs.{Ending}
 use Rattle.libyaml_documents.specs.LoadedNodes.{children_at, children_of, children_of_node}
-use Rattle.libyaml_documents.specs.Nodes.{changed_at, item_behind, node_at, node_type, pair_behind, type_at, type_of}
-use Rattle.libyaml_documents.specs.Nodes.{with_changed, with_item, with_pair}
+use Rattle.libyaml_documents.specs.Nodes.{changed_at, item_behind, node_at, node_type, pair_behind, type_at, type_of, with_changed, with_item, with_pair}
 use Rattle.libyaml_documents.specs.declared.node.unnamed_yaml_node_t_data.{unnamed_yaml_node_t_data}
 use Rattle.libyaml_documents.specs.declared.node.unnamed_yaml_node_t_data.TheVariants.{Sequence, Mapping}
 use Rattle.libyaml_documents.specs.declared.node.yaml_node_t.{yaml_node_t}
-use Rattle.libyaml_graphs.specs.machine.Loader.{Loader, OpenNode, State, between, bounded_option, content_full}
-use Rattle.libyaml_graphs.specs.machine.Loader.{content_with, fresh, hand, handed, if_going}
-use Rattle.libyaml_graphs.specs.machine.Loader.{key_after, key_behind, left_from, load_from, node_full, parent_full}
-use Rattle.libyaml_graphs.specs.machine.Loader.{with_child, within}
+use Rattle.libyaml_graphs.specs.machine.Loader.{Loader, OpenNode, State, between, bounded_option, content_full, content_with, fresh, hand, handed, if_going, key_after, key_behind, left_from, load_from, node_full, parent_full, with_child, within}
 use Rattle.libyaml_graphs.specs.loads.Loads.{Begun, Load, begun, begun_behind, document, last_load, left_by}
 use Rattle.libyaml_graphs.specs.graphs.GraphParts.{Closing, Opening, Part, closing_of, opening_of, part_of}
 

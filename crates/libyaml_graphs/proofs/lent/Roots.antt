@@ -1,15 +1,10 @@
 -- A whole document has a root, so that a document without nodes is the one at the stream's end.
-use Rattle.std.proofs.Common.{◌≡◌, ◌≢◌, ◌++◌, ℕ, List, [], ◌∷◌, Option, Some, None, Bool, true, false, Ok, Err, nat_lt}
-use Rattle.std.proofs.Common.{refl, sym, ap, ◌∙◌, subst}
+use Rattle.std.proofs.Common.{◌≡◌, ◌≢◌, ◌++◌, ℕ, List, [], ◌∷◌, Option, Some, None, Bool, true, false, Ok, Err, nat_lt, refl, sym, ap, ◌∙◌, subst}
 use Rattle.libyaml_types.specs.declared.event.unnamed_yaml_event_t_data.{unnamed_yaml_event_t_data}
 use Rattle.libyaml_types.specs.declared.event.unnamed_yaml_event_t_data.TheVariants as ev
 use Rattle.libyaml_grammar.specs.sentences.Events.{Event, document_end_at, end_at, event, stream_end_at}
 use Rattle.libyaml_types.specs.Fault.{Fault}
-use Rattle.libyaml_grammar.specs.sentences.Nesting.{IsOpenDocument, NestsSoFar, Texts, Value, Values, alias_value}
-use Rattle.libyaml_grammar.specs.sentences.Nesting.{collection_value, first_value, has_begun}
-use Rattle.libyaml_grammar.specs.sentences.Nesting.{no_texts, no_values, none_open, not_begun, one_open, scalar_value}
-use Rattle.libyaml_grammar.specs.sentences.Nesting.{text_behind, texts_events}
-use Rattle.libyaml_grammar.specs.sentences.Nesting.{value_events, values_events, whole}
+use Rattle.libyaml_grammar.specs.sentences.Nesting.{IsOpenDocument, NestsSoFar, Texts, Value, Values, alias_value, collection_value, first_value, has_begun, no_texts, no_values, none_open, not_begun, one_open, scalar_value, text_behind, texts_events, value_events, values_events, whole}
 use Rattle.libyaml_grammar.specs.runs.Runs.{Ending, Ends, Fails}
 use Rattle.libyaml_grammar.specs.sentences.Tokens.{Mark}
 use Rattle.libyaml_grammar.specs.sentences.Trees.{mapping, sequence}
@@ -17,12 +12,8 @@ use Rattle.libyaml_grammar.proofs.lent.Same.{ok_same}
 use Rattle.libyaml_documents.specs.Documents.{Document}
 use Rattle.libyaml_graphs.specs.loads.Bounds.{bounded_loads, first_stop, if_above, next_bounded}
 use Rattle.libyaml_graphs.specs.loads.GraphLaws.{BeginsNode, RootFollows, RootsFollow}
-use Rattle.libyaml_graphs.specs.loads.Loads.{Begun, Load, load_answer, begun, begun_behind, behind_document, document}
-use Rattle.libyaml_graphs.specs.loads.Loads.{end_of_document, last_load, left_by, left_over}
-use Rattle.libyaml_graphs.specs.loads.Loads.{load_then, loads_by, next_by}
-use Rattle.libyaml_graphs.specs.graphs.GraphParts.{Closing, Opening, Part, alias_part, closing_in, closing_of}
-use Rattle.libyaml_graphs.specs.graphs.GraphParts.{end_part, graph, leaf_part, opening_of, part_in, part_of}
-use Rattle.libyaml_graphs.specs.graphs.GraphParts.{parts, start_part, with_part}
+use Rattle.libyaml_graphs.specs.loads.Loads.{Begun, Load, load_answer, begun, begun_behind, behind_document, document, end_of_document, last_load, left_by, left_over, load_then, loads_by, next_by}
+use Rattle.libyaml_graphs.specs.graphs.GraphParts.{Closing, Opening, Part, alias_part, closing_in, closing_of, end_part, graph, leaf_part, opening_of, part_in, part_of, parts, start_part, with_part}
 use Rattle.libyaml_graphs.proofs.loads.OneLoad.{Follow, follow}
 pub use Rattle.libyaml_graphs.proofs.loads.OneLoad.{left_behind}
 

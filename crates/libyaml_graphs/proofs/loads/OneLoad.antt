@@ -4,9 +4,7 @@ use Rattle.libyaml_grammar.specs.sentences.Events.{Event}
 use Rattle.libyaml_types.specs.Fault.{Fault}
 use Rattle.libyaml_grammar.specs.runs.Runs.{Ending, Ends, Fails}
 use Rattle.libyaml_graphs.specs.loads.GraphLaws.{load_at, unless_fault}
-use Rattle.libyaml_graphs.specs.loads.Loads.{Begun, Load, Stop, load_answer, begun, begun_behind, behind_document}
-use Rattle.libyaml_graphs.specs.loads.Loads.{end_of_document, last_load, left_by, load_then, loads_by}
-use Rattle.libyaml_graphs.specs.loads.Loads.{next_by}
+use Rattle.libyaml_graphs.specs.loads.Loads.{Begun, Load, Stop, load_answer, begun, begun_behind, behind_document, end_of_document, last_load, left_by, load_then, loads_by, next_by}
 use Rattle.libyaml_graphs.specs.graphs.GraphParts.{Closing, Opening, closing_of, graph, opening_of, parts}
 
 -- the documents after the first are those that begin in what its load leaves

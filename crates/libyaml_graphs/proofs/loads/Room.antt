@@ -1,9 +1,5 @@
 -- Where the lists of each document that a load begins have room, the bound changes nothing.
-use Rattle.std.proofs.Common.{◌≡◌, ◌≤◌, ◌+◌, ◌↔◌, ℕ, zero, suc, List, [], ◌∷◌, ◌++◌, length, nat_lt, All, Option, Some}
-use Rattle.std.proofs.Common.{None, Bool, true, false, refl, sym}
-use Rattle.std.proofs.Common.{ap, ◌∙◌, subst, append_assoc, append-nil, arith, zero-add, le_refl, le_trans, le_of_lt}
-use Rattle.std.proofs.Common.{lt-suc_self, suc-le-suc, zero-le}
-use Rattle.std.proofs.Common.{le-ltb, ltb-false}
+use Rattle.std.proofs.Common.{◌≡◌, ◌≤◌, ◌+◌, ◌↔◌, ℕ, zero, suc, List, [], ◌∷◌, ◌++◌, length, nat_lt, All, Option, Some, None, Bool, true, false, refl, sym, ap, ◌∙◌, subst, append_assoc, append-nil, arith, zero-add, le_refl, le_trans, le_of_lt, lt-suc_self, suc-le-suc, zero-le, le-ltb, ltb-false}
 use Rattle.std.proofs.lemmas.List.Elements.{All-cons, All-head, All-nil, All-tail}
 use Rattle.std.proofs.lemmas.Bool.{or_parts}
 use Rattle.libyaml_grammar.specs.sentences.Events.{Event}
@@ -11,15 +7,11 @@ use Rattle.libyaml_types.specs.Fault.{Fault}
 use Rattle.libyaml_grammar.specs.runs.Runs.{Ending}
 use Rattle.libyaml_documents.specs.declared.node.unnamed_yaml_node_t_data.{unnamed_yaml_node_t_data}
 use Rattle.libyaml_documents.specs.declared.node.unnamed_yaml_node_t_data.TheVariants.{Scalar, Sequence, Mapping}
-use Rattle.libyaml_graphs.specs.loads.Bounds.{HasRoom, HaveRoom, StaysWithin, bounded_loads, entries, first_stop}
-use Rattle.libyaml_graphs.specs.loads.Bounds.{if_above, if_wrong}
-use Rattle.libyaml_graphs.specs.loads.Bounds.{list_sizes, next_bounded, one_above, pairs_begun}
+use Rattle.libyaml_graphs.specs.loads.Bounds.{HasRoom, HaveRoom, StaysWithin, bounded_loads, entries, first_stop, if_above, if_wrong, list_sizes, next_bounded, one_above, pairs_begun}
 use Rattle.libyaml_graphs.specs.graphs.ComposerFaults.{composer_fault, or_else, composer_part_fault}
 use Rattle.libyaml_graphs.specs.graphs.Graphs.{Start, carrier, id_or}
-use Rattle.libyaml_graphs.specs.loads.Loads.{Begun, Load, load_answer, begun, end_of_document, last_load, load_then, loads}
-use Rattle.libyaml_graphs.specs.loads.Loads.{loads_by, next_by, next_load}
-use Rattle.libyaml_graphs.specs.graphs.GraphParts.{Closing, Part, alias_part, behind, children, end_part, graph}
-use Rattle.libyaml_graphs.specs.graphs.GraphParts.{if_outer, leaf_part, parts, carrier_start, start_part}
+use Rattle.libyaml_graphs.specs.loads.Loads.{Begun, Load, load_answer, begun, end_of_document, last_load, load_then, loads, loads_by, next_by, next_load}
+use Rattle.libyaml_graphs.specs.graphs.GraphParts.{Closing, Part, alias_part, behind, children, end_part, graph, if_outer, leaf_part, parts, carrier_start, start_part}
 use Rattle.libyaml_graphs.proofs.machine.Sizes.{either_none}
 use Rattle.libyaml_graphs.proofs.graphs.Ids.{moved}
 

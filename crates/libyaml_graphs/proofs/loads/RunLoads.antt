@@ -9,8 +9,7 @@ use Rattle.libyaml_types.specs.Fault.{Fault}
 use Rattle.libyaml_grammar.specs.cuts.Fits.{Fits}
 use Rattle.libyaml_grammar.specs.sentences.Nesting.{IsNested, Texts, Value, no_texts, text_behind, value_events}
 use Rattle.libyaml_grammar.specs.sentences.Order.{in_order}
-use Rattle.libyaml_grammar.specs.runs.Runs.{Ending, Ends, Fails, IsRun, RunsWhole, is_behind_properties, to_its_end}
-use Rattle.libyaml_grammar.specs.runs.Runs.{to_its_fault}
+use Rattle.libyaml_grammar.specs.runs.Runs.{Ending, Ends, Fails, IsRun, RunsWhole, is_behind_properties, to_its_end, to_its_fault}
 use Rattle.libyaml_grammar.specs.sentences.Sentences.{IsBeginning, has_end}
 use Rattle.libyaml_grammar.specs.cuts.Settled.{IsSettled}
 use Rattle.libyaml_grammar.specs.sentences.Tokens.{Marks, StreamEnd, Token, tok}
@@ -21,8 +20,7 @@ use Rattle.libyaml_grammar.proofs.lent.NestingSoFar.{run_nests_so_far}
 use Rattle.libyaml_grammar.proofs.lent.Running.{amid_run, begin_run, cut_run, one_run_proof, sentence_run, some_run_proof}
 use Rattle.libyaml_documents.specs.Nodes.{EveryIdNamesANode}
 use Rattle.libyaml_graphs.specs.graphs.ComposerFaults.{composer_fault}
-use Rattle.libyaml_graphs.specs.loads.GraphLaws.{EachIdNames, LoadsWhole, NestedLoads, fault_or, has_begun, not_begun}
-use Rattle.libyaml_graphs.specs.loads.GraphLaws.{open_load, whole}
+use Rattle.libyaml_graphs.specs.loads.GraphLaws.{EachIdNames, LoadsWhole, NestedLoads, fault_or, has_begun, not_begun, open_load, whole}
 use Rattle.libyaml_graphs.specs.loads.GraphLaws as law
 use Rattle.libyaml_graphs.specs.graphs.Graphs.{nodes_of}
 use Rattle.libyaml_graphs.specs.loads.Loads.{IsLoads, Load, last_load, load_then, loads, loads_of}

@@ -5,10 +5,7 @@ use Rattle.libyaml_graphs.specs.loads.GraphLaws as law
 use Rattle.libyaml_types.specs.declared.event.unnamed_yaml_event_t_data_document_start.{unnamed_yaml_event_t_data_document_start}
 use Rattle.libyaml_grammar.specs.sentences.Events.{Event, document_end_at, event, stream_end_at}
 use Rattle.libyaml_types.specs.Fault.{Fault}
-use Rattle.libyaml_grammar.specs.sentences.Nesting.{BeginsValue, HasBegun, IsNested, IsOpenDocument, NestsSoFar, Texts}
-use Rattle.libyaml_grammar.specs.sentences.Nesting.{Value, has_begun, no_texts}
-use Rattle.libyaml_grammar.specs.sentences.Nesting.{none_open, not_begun, one_open, text_behind, texts_events}
-use Rattle.libyaml_grammar.specs.sentences.Nesting.{value_events, whole}
+use Rattle.libyaml_grammar.specs.sentences.Nesting.{BeginsValue, HasBegun, IsNested, IsOpenDocument, NestsSoFar, Texts, Value, has_begun, no_texts, none_open, not_begun, one_open, text_behind, texts_events, value_events, whole}
 use Rattle.libyaml_grammar.specs.runs.Runs.{Ending, Ends}
 use Rattle.libyaml_grammar.specs.sentences.Tokens.{Mark}
 use Rattle.libyaml_documents.specs.declared.node.yaml_node_t.{yaml_node_t}
@@ -16,8 +13,7 @@ use Rattle.libyaml_graphs.specs.graphs.ComposerFaults.{composer_fault}
 use Rattle.libyaml_graphs.specs.graphs.Graphs.{nodes_of}
 use Rattle.libyaml_graphs.specs.loads.GraphLaws.{NestedLoads, fault_or, open_load}
 use Rattle.libyaml_graphs.specs.graphs.GraphParts.{Closing, Opening, Part, closing_of, graph, part_of, parts, with_part}
-use Rattle.libyaml_graphs.specs.loads.Loads.{Begun, Load, begun, begun_behind, end_of_document, last_load, load_then}
-use Rattle.libyaml_graphs.specs.loads.Loads.{loads, loads_by, loads_of}
+use Rattle.libyaml_graphs.specs.loads.Loads.{Begun, Load, begun, begun_behind, end_of_document, last_load, load_then, loads, loads_by, loads_of}
 use Rattle.libyaml_grammar.proofs.lent.Splits.{value_splits}
 use Rattle.libyaml_graphs.proofs.graphs.TreeGraphs.{value_graph}
 use Rattle.libyaml_graphs.proofs.lent.Roots.{value_keeps}

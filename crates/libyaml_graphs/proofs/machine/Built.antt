@@ -1,7 +1,6 @@
 -- A graph as it is built, part by part: the nodes so far, each with the key that waits in it, and the places of those that
 -- are open, the innermost first.
-use Rattle.std.proofs.Common.{◌≡◌, ℕ, zero, suc, ℤ, pos, List, [], ◌∷◌, ◌++◌, length, refl, sym, ap, ◌∙◌, append_assoc}
-use Rattle.std.proofs.Common.{append-nil, Option, None}
+use Rattle.std.proofs.Common.{◌≡◌, ℕ, zero, suc, ℤ, pos, List, [], ◌∷◌, ◌++◌, length, refl, sym, ap, ◌∙◌, append_assoc, append-nil, Option, None}
 use Rattle.libyaml_types.specs.declared.enums.yaml_mapping_style_t.{yaml_mapping_style_t}
 use Rattle.libyaml_types.specs.declared.enums.yaml_sequence_style_t.{yaml_sequence_style_t}
 use Rattle.libyaml_grammar.specs.sentences.Tokens.{Mark}
@@ -13,8 +12,7 @@ use Rattle.libyaml_documents.specs.declared.node.yaml_node_t.{yaml_node_t}
 use Rattle.libyaml_documents.specs.declared.pairs.yaml_node_pair_t.{yaml_node_pair_t}
 use Rattle.libyaml_graphs.specs.graphs.Graphs.{Start, carrier, id_or, items, pairs}
 use Rattle.libyaml_graphs.specs.machine.Loader.{content_with, key_behind, with_child}
-use Rattle.libyaml_graphs.specs.graphs.GraphParts.{Part, alias_part, behind, children, end_in, end_part, ended, graph}
-use Rattle.libyaml_graphs.specs.graphs.GraphParts.{leaf_part, carrier_start, start_part, with_children}
+use Rattle.libyaml_graphs.specs.graphs.GraphParts.{Part, alias_part, behind, children, end_in, end_part, ended, graph, leaf_part, carrier_start, start_part, with_children}
 
 pub record Held : Type 0 where
   pub node : yaml_node_t

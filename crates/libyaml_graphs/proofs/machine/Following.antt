@@ -1,8 +1,6 @@
 -- The loader follows the graph as it is built: its nodes are those built, and its stack is the open places with the
 -- keys that wait there.
-use Rattle.std.proofs.Common.{◌≡◌, ℕ, zero, suc, ℤ, pos, List, [], ◌∷◌, ◌++◌, length, refl, sym, ap, ◌∙◌, cond, Option}
-use Rattle.std.proofs.Common.{Some, None, Bool, true, false}
-use Rattle.std.proofs.Common.{nat_cmp}
+use Rattle.std.proofs.Common.{◌≡◌, ℕ, zero, suc, ℤ, pos, List, [], ◌∷◌, ◌++◌, length, refl, sym, ap, ◌∙◌, cond, Option, Some, None, Bool, true, false, nat_cmp}
 use Rattle.std.specs.Prelude.{slice_get, bytes_eq}
 use Rattle.std.specs.Ordering.{eq_by_cmp}
 use Rattle.std.specs.Cmp.Lexicographic.{slice_cmp, texts_ties, nat_list_eq_equiv, nat_list_cmp_total}
@@ -15,15 +13,9 @@ use Rattle.libyaml_documents.specs.Nodes.{changed_at}
 use Rattle.libyaml_documents.specs.declared.node.yaml_node_t.{yaml_node_t}
 use Rattle.libyaml_graphs.specs.graphs.ComposerFaults.{alias_fault, anchor_fault, known_fault, composer_part_fault, repeated_anchor}
 use Rattle.libyaml_graphs.specs.graphs.Graphs.{Carrier, Start, carrier, carries, id_or}
-use Rattle.libyaml_graphs.specs.machine.Loader.{Anchors, Loader, Loading, OpenNode, Registered, closed_by, failed, going}
-use Rattle.libyaml_graphs.specs.machine.Loader.{hand, handed, key_after, known}
-use Rattle.libyaml_graphs.specs.machine.Loader.{load_part, no_anchors, on_alias, on_node, outer, register, registered}
-use Rattle.libyaml_graphs.specs.machine.Loader.{with_child}
+use Rattle.libyaml_graphs.specs.machine.Loader.{Anchors, Loader, Loading, OpenNode, Registered, closed_by, failed, going, hand, handed, key_after, known, load_part, no_anchors, on_alias, on_node, outer, register, registered, with_child}
 use Rattle.libyaml_graphs.specs.graphs.GraphParts.{Part, alias_part, behind, end_part, leaf_part, carrier_start, start_part}
-use Rattle.libyaml_graphs.proofs.machine.Built.{AllHas, AllOf, Built, Has, Held, all_append, all_end, all_hold, all_of}
-use Rattle.libyaml_graphs.proofs.machine.Built.{bare, below, build, change, end_at}
-use Rattle.libyaml_graphs.proofs.machine.Built.{end_top, has_last, hold, hold_top, length_end, length_hold, length_more}
-use Rattle.libyaml_graphs.proofs.machine.Built.{nodes_in, unbuilt}
+use Rattle.libyaml_graphs.proofs.machine.Built.{AllHas, AllOf, Built, Has, Held, all_append, all_end, all_hold, all_of, bare, below, build, change, end_at, end_top, has_last, hold, hold_top, length_end, length_hold, length_more, nodes_in, unbuilt}
 
 -- the key that waits at a place, and a stack of places with their keys
 abbrev pub key_in : ℕ → List Held → Option ℤ

@@ -1,7 +1,5 @@
 -- How long the lists of what is built are: a pair counts from its key on.
-use Rattle.std.proofs.Common.{◌≡◌, ℕ, zero, suc, ℤ, pos, List, [], ◌∷◌, ◌++◌, length, nat_lt, le-ltb, zero-le, refl}
-use Rattle.std.proofs.Common.{sym, ap, ◌∙◌, Option, Some, None, Bool}
-use Rattle.std.proofs.Common.{false}
+use Rattle.std.proofs.Common.{◌≡◌, ℕ, zero, suc, ℤ, pos, List, [], ◌∷◌, ◌++◌, length, nat_lt, le-ltb, zero-le, refl, sym, ap, ◌∙◌, Option, Some, None, Bool, false}
 use Rattle.std.specs.Prelude.{slice_get, ◌||◌}
 use Rattle.std.proofs.lemmas.Bool.{or_parts}
 use Rattle.std.proofs.Math.Bool.{or-false}
@@ -13,13 +11,9 @@ use Rattle.libyaml_documents.specs.declared.node.yaml_node_t.{yaml_node_t}
 use Rattle.libyaml_documents.specs.declared.pairs.yaml_node_pair_t.{yaml_node_pair_t}
 use Rattle.libyaml_graphs.specs.loads.Bounds.{entries, list_sizes, one_above, pairs_begun}
 use Rattle.libyaml_graphs.specs.graphs.Graphs.{Start, carrier, id_or, items, pairs}
-use Rattle.libyaml_graphs.specs.machine.Loader.{Anchors, content_full, content_with, key_behind, list_full, node_full}
-use Rattle.libyaml_graphs.specs.machine.Loader.{parent_full}
-use Rattle.libyaml_graphs.specs.graphs.GraphParts.{Part, alias_part, children, end_part, leaf_part, carrier_start}
-use Rattle.libyaml_graphs.specs.graphs.GraphParts.{start_part, with_children}
-use Rattle.libyaml_graphs.proofs.machine.Built.{AllHas, BeginsEmpty, Built, Has, Held, bare, build, change, end_at}
-use Rattle.libyaml_graphs.proofs.machine.Built.{end_top, grown_key, held_graph, hold, hold_top}
-use Rattle.libyaml_graphs.proofs.machine.Built.{nodes_in, paired}
+use Rattle.libyaml_graphs.specs.machine.Loader.{Anchors, content_full, content_with, key_behind, list_full, node_full, parent_full}
+use Rattle.libyaml_graphs.specs.graphs.GraphParts.{Part, alias_part, children, end_part, leaf_part, carrier_start, start_part, with_children}
+use Rattle.libyaml_graphs.proofs.machine.Built.{AllHas, BeginsEmpty, Built, Has, Held, bare, build, change, end_at, end_top, grown_key, held_graph, hold, hold_top, nodes_in, paired}
 use Rattle.libyaml_graphs.proofs.machine.Following.{key_append, key_in, loader_of, stack_of}
 
 -- the entries of a node's list, with the key that waits

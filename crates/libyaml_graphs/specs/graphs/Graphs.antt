@@ -2,8 +2,7 @@
 -- than the nodes that start before it; es are the starts of those nodes, the newest first.
 use Rattle.std.specs.Prelude.{ℕ, suc, ℤ, pos, List, [], ◌∷◌, length, Option, Some, None, Bool, true, false, bytes_eq}
 use Rattle.libyaml_grammar.specs.sentences.Events.{Layout, mapping_style, sequence_style}
-use Rattle.libyaml_grammar.specs.sentences.Nesting.{Value, Values, alias_value, collection_value, first_value}
-use Rattle.libyaml_grammar.specs.sentences.Nesting.{no_values, scalar_value}
+use Rattle.libyaml_grammar.specs.sentences.Nesting.{Value, Values, alias_value, collection_value, first_value, no_values, scalar_value}
 use Rattle.libyaml_grammar.specs.sentences.Tokens.{Mark}
 use Rattle.libyaml_grammar.specs.sentences.Trees.{Sort, mapping, sequence}
 use Rattle.libyaml_documents.specs.LoadedNodes.{mapping_loaded, scalar_loaded, sequence_loaded}

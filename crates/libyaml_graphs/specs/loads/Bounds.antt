@@ -1,7 +1,6 @@
 -- Loads in which each list of a document has at most n entries: the list of its nodes, and the items or pairs of each node
 -- (docs/DEFINITIONS.md, "Loads within a bound").
-use Rattle.std.specs.Prelude.{◌≡◌, ◌≢◌, ◌≤◌, ℕ, suc, List, [], ◌∷◌, ◌++◌, length, nat_lt, Option, Some, None, All, Bool, ◌||◌}
-use Rattle.std.specs.Prelude.{true, false, Ok, Err}
+use Rattle.std.specs.Prelude.{◌≡◌, ◌≢◌, ◌≤◌, ℕ, suc, List, [], ◌∷◌, ◌++◌, length, nat_lt, Option, Some, None, All, Bool, ◌||◌, true, false, Ok, Err}
 use Rattle.libyaml_types.specs.declared.enums.yaml_error_type_t.TheVariants.{YAML_MEMORY_ERROR}
 use Rattle.libyaml_grammar.specs.sentences.Events.{Event}
 use Rattle.libyaml_types.specs.Fault.{Fault, memory_fault}
@@ -12,8 +11,7 @@ use Rattle.libyaml_documents.specs.declared.node.unnamed_yaml_node_t_data.TheVar
 use Rattle.libyaml_graphs.specs.graphs.ComposerFaults.{composer_fault, composer_part_fault}
 use Rattle.libyaml_graphs.specs.graphs.Graphs.{Start}
 use Rattle.libyaml_graphs.specs.loads.Loads.{AreLoads, Begun, Load, begun, loads_by, next_by}
-use Rattle.libyaml_graphs.specs.graphs.GraphParts.{Part, alias_part, behind, children, end_part, graph, leaf_part}
-use Rattle.libyaml_graphs.specs.graphs.GraphParts.{parts, carrier_start, start_part}
+use Rattle.libyaml_graphs.specs.graphs.GraphParts.{Part, alias_part, behind, children, end_part, graph, leaf_part, parts, carrier_start, start_part}
 
 -- the pairs that children begin: one at each key, also where its value is still to come
 abbrev pub pairs_begun : List ℕ → ℕ

@@ -6,9 +6,7 @@ use Rattle.libyaml_grammar.specs.cuts.CutTrees.{Cut}
 use Rattle.libyaml_grammar.specs.sentences.Events.{Event, events}
 use Rattle.libyaml_types.specs.Fault.{Fault}
 use Rattle.libyaml_grammar.specs.cuts.Fits.{Fits}
-use Rattle.libyaml_grammar.specs.sentences.Nesting.{HasBegun, IsNested, Texts, Value, Values, alias_value}
-use Rattle.libyaml_grammar.specs.sentences.Nesting.{collection_value, first_value, no_texts, no_values}
-use Rattle.libyaml_grammar.specs.sentences.Nesting.{scalar_value, text_behind}
+use Rattle.libyaml_grammar.specs.sentences.Nesting.{HasBegun, IsNested, Texts, Value, Values, alias_value, collection_value, first_value, no_texts, no_values, scalar_value, text_behind}
 use Rattle.libyaml_grammar.specs.sentences.Order.{in_order}
 use Rattle.libyaml_grammar.specs.runs.Runs.{Ending, Ends, Fails}
 use Rattle.libyaml_grammar.specs.sentences.Tokens.{Token}
@@ -17,8 +15,7 @@ use Rattle.libyaml_documents.specs.Nodes.{EveryIdNamesANode, ids_of}
 use Rattle.libyaml_graphs.specs.graphs.ComposerFaults.{composer_fault}
 use Rattle.libyaml_graphs.specs.graphs.Graphs.{Start, collection_loaded, id_of, ids_of_all, items, starts_behind}
 use Rattle.libyaml_graphs.specs.loads.Loads.{IsLoads, Load, last_load, loads_of}
-use Rattle.libyaml_graphs.specs.graphs.GraphParts.{Opening, Part, alias_part, end_part, leaf_part, opening_of, part_of}
-use Rattle.libyaml_graphs.specs.graphs.GraphParts.{parts, start_part}
+use Rattle.libyaml_graphs.specs.graphs.GraphParts.{Opening, Part, alias_part, end_part, leaf_part, opening_of, part_of, parts, start_part}
 
 -- A child that is no alias has a greater id than n. An alias's id is that of a node which starts before the alias:
 -- an earlier one, or one that the alias stands in.

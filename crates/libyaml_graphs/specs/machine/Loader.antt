@@ -1,8 +1,7 @@
 -- The loader as a machine over events (docs/DEFINITIONS.md, "The loader as a machine"): the nodes so far, a stack of the
 -- collections that are open, and the anchors. By this the loader's contracts are proved. Of the public clauses the law
 -- `machine::one_load` speaks of it, where a load may take memory (`GrowsAt`), and those of a loader that is handed its tokens.
-use Rattle.std.specs.Prelude.{ℕ, suc, ℤ, pos, List, [], ◌∷◌, ◌++◌, length, nat_lt, Option, Some, None, Bool, true}
-use Rattle.std.specs.Prelude.{false, Ok, Err}
+use Rattle.std.specs.Prelude.{ℕ, suc, ℤ, pos, List, [], ◌∷◌, ◌++◌, length, nat_lt, Option, Some, None, Bool, true, false, Ok, Err}
 use Rattle.std.specs.FinMap.{FinMap, from_entries, get, insert}
 use Rattle.std.specs.Cmp.Lexicographic.{slice_cmp}
 use Rattle.std.specs.Ordering.{nat_cmp}
@@ -18,8 +17,7 @@ use Rattle.libyaml_documents.specs.declared.node.yaml_node_t.{yaml_node_t}
 use Rattle.libyaml_graphs.specs.graphs.ComposerFaults.{repeated_anchor, undefined_alias}
 use Rattle.libyaml_graphs.specs.graphs.Graphs.{Carrier}
 use Rattle.libyaml_graphs.specs.loads.Loads.{Load, behind_document, document, last_load, left_over}
-use Rattle.libyaml_graphs.specs.graphs.GraphParts.{Opening, Part, alias_part, closing_of, end_part, leaf_part}
-use Rattle.libyaml_graphs.specs.graphs.GraphParts.{opening_of, part_of, start_part}
+use Rattle.libyaml_graphs.specs.graphs.GraphParts.{Opening, Part, alias_part, closing_of, end_part, leaf_part, opening_of, part_of, start_part}
 
 -- the carrier of each anchor
 abbrev pub Anchors : Type 0

@@ -4,22 +4,12 @@ use Rattle.std.specs.Prelude.{◌∷◌, ℕ, pos, ℤ, List, [], None, Some, Op
 use Rattle.libyaml_types.specs.declared.directive.yaml_tag_directive_t.{yaml_tag_directive_t}
 use Rattle.libyaml_types.specs.declared.directive.yaml_version_directive_t.{yaml_version_directive_t}
 use Rattle.libyaml_types.specs.declared.enums.yaml_error_type_t.TheVariants.{YAML_COMPOSER_ERROR, YAML_MEMORY_ERROR}
-use Rattle.libyaml_types.specs.declared.enums.yaml_mapping_style_t.TheVariants.{YAML_BLOCK_MAPPING_STYLE}
-use Rattle.libyaml_types.specs.declared.enums.yaml_mapping_style_t.TheVariants.{YAML_FLOW_MAPPING_STYLE}
+use Rattle.libyaml_types.specs.declared.enums.yaml_mapping_style_t.TheVariants.{YAML_BLOCK_MAPPING_STYLE, YAML_FLOW_MAPPING_STYLE}
 use Rattle.libyaml_types.specs.declared.enums.yaml_scalar_style_t.TheVariants.{YAML_PLAIN_SCALAR_STYLE}
-use Rattle.libyaml_types.specs.declared.enums.yaml_sequence_style_t.TheVariants.{YAML_BLOCK_SEQUENCE_STYLE}
-use Rattle.libyaml_types.specs.declared.enums.yaml_sequence_style_t.TheVariants.{YAML_FLOW_SEQUENCE_STYLE}
-use Rattle.libyaml_types.specs.declared.token.unnamed_yaml_token_t_data.TheVariants.{StreamEnd, DocumentStart}
-use Rattle.libyaml_types.specs.declared.token.unnamed_yaml_token_t_data.TheVariants.{DocumentEnd, BlockSequenceStart}
-use Rattle.libyaml_types.specs.declared.token.unnamed_yaml_token_t_data.TheVariants.{BlockMappingStart, BlockEnd}
-use Rattle.libyaml_types.specs.declared.token.unnamed_yaml_token_t_data.TheVariants.{BlockEntry, FlowSequenceStart}
-use Rattle.libyaml_types.specs.declared.token.unnamed_yaml_token_t_data.TheVariants.{FlowSequenceEnd, FlowMappingStart}
-use Rattle.libyaml_types.specs.declared.token.unnamed_yaml_token_t_data.TheVariants.{FlowMappingEnd, FlowEntry, Key}
-use Rattle.libyaml_types.specs.declared.token.unnamed_yaml_token_t_data.TheVariants.{Value}
+use Rattle.libyaml_types.specs.declared.enums.yaml_sequence_style_t.TheVariants.{YAML_BLOCK_SEQUENCE_STYLE, YAML_FLOW_SEQUENCE_STYLE}
+use Rattle.libyaml_types.specs.declared.token.unnamed_yaml_token_t_data.TheVariants.{StreamEnd, DocumentStart, DocumentEnd, BlockSequenceStart, BlockMappingStart, BlockEnd, BlockEntry, FlowSequenceStart, FlowSequenceEnd, FlowMappingStart, FlowMappingEnd, FlowEntry, Key, Value}
 use Rattle.libyaml_grammar.specs.sentences.Events.{document_end_at, document_start_at}
-use Rattle.libyaml_grammar.specs.rows.RowNotation.{ALIAS, ANCHOR, HANDLE, SCALAR, STREAM, TAG, VERSION, asks_version}
-use Rattle.libyaml_grammar.specs.rows.RowNotation.{declaring, list, no_more, place}
-use Rattle.libyaml_grammar.specs.rows.RowNotation.{says_while}
+use Rattle.libyaml_grammar.specs.rows.RowNotation.{ALIAS, ANCHOR, HANDLE, SCALAR, STREAM, TAG, VERSION, asks_version, declaring, list, no_more, place, says_while}
 use Rattle.libyaml_grammar.specs.sentences.Trees.{no_directives}
 use Rattle.libyaml_documents.specs.declared.node.unnamed_yaml_node_t_data.TheVariants.{Scalar, Sequence, Mapping}
 use Rattle.libyaml_documents.specs.declared.node.yaml_node_t.{yaml_node_t}

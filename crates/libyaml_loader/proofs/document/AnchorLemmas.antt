@@ -1,6 +1,5 @@
 -- The map of anchors, by its entries.
-use Rattle.std.proofs.Common.{◌≡◌, ◌≤ℤ◌, arith, ℤ, pos, negsuc, ℕ, List, [], ◌∷◌, Option, Some, Bool, true, false, cond, nat_cmp, String}
-use Rattle.std.proofs.Common.{string_bytes, refl, ap, sym, ◌∙◌}
+use Rattle.std.proofs.Common.{◌≡◌, ◌≤ℤ◌, arith, ℤ, pos, negsuc, ℕ, List, [], ◌∷◌, Option, Some, Bool, true, false, cond, nat_cmp, String, string_bytes, refl, ap, sym, ◌∙◌}
 use Rattle.std.specs.Cmp.{eq_by_cmp_equiv}
 use Rattle.std.specs.Cmp.Lexicographic.{slice_cmp, nat_list_cmp_total}
 use Rattle.std.specs.BTreeMap.{BTreeMap, is_at, get_by_text, UpdatesBy}

@@ -1,6 +1,5 @@
 -- What the composer decides of an event is what the loader's machine does.
-use Rattle.std.proofs.Common.{◌≡◌, ◌⊎◌, inl, inr, ◌++◌, List, [], ◌∷◌, ℕ, suc, ℤ, pos, length, map, refl, sym, ap, subst, ◌∙◌}
-use Rattle.std.proofs.Common.{Option, Some, None, Bool, true, false, append-nil, nat_le, nat_lt}
+use Rattle.std.proofs.Common.{◌≡◌, ◌⊎◌, inl, inr, ◌++◌, List, [], ◌∷◌, ℕ, suc, ℤ, pos, length, map, refl, sym, ap, subst, ◌∙◌, Option, Some, None, Bool, true, false, append-nil, nat_le, nat_lt}
 use Rattle.std.specs.FinMap.{get}
 use Rattle.libyaml_types.specs.Types.{event_anchor, event_type}
 use Rattle.libyaml_types.specs.declared.event.unnamed_yaml_event_t_data.TheVariants as ev
@@ -13,28 +12,23 @@ use Rattle.libyaml_documents.specs.declared.node.unnamed_yaml_node_t_data.{unnam
 use Rattle.libyaml_documents.specs.declared.node.unnamed_yaml_node_t_data.TheVariants.{Scalar, Sequence, Mapping}
 use Rattle.libyaml_documents.specs.declared.node.yaml_node_t.{yaml_node_t}
 use Rattle.libyaml_graphs.specs.graphs.Graphs.{Carrier, id_or}
-use Rattle.libyaml_graphs.specs.graphs.GraphParts.{Opening, Part, alias_part, closing_of, end_part, leaf_part, part_in}
-use Rattle.libyaml_graphs.specs.graphs.GraphParts.{part_of, start_part}
-use Rattle.libyaml_graphs.specs.machine.Loader.{Anchors, Loader, Loading, OpenNode, bounded_option, failed, going, if_child_fits, on_alias}
-use Rattle.libyaml_graphs.specs.machine.Loader.{parent_full, unless_full}
+use Rattle.libyaml_graphs.specs.graphs.GraphParts.{Opening, Part, alias_part, closing_of, end_part, leaf_part, part_in, part_of, start_part}
+use Rattle.libyaml_graphs.specs.machine.Loader.{Anchors, Loader, Loading, OpenNode, bounded_option, failed, going, if_child_fits, on_alias, parent_full, unless_full}
 use Rattle.libyaml_composer.specs.declared.deed.Deed.{Deed}
 use Rattle.libyaml_composer.specs.declared.deed.Deed.TheVariants as deed
 use Rattle.libyaml_composer.specs.declared.records.open_t.{open_t}
 use Rattle.libyaml_composer.specs.declared.records.place_t.{place_t}
 use Rattle.libyaml_types.specs.declared.enums.yaml_event_type_t.{yaml_event_type_t}
 use Rattle.libyaml_types.specs.declared.enums.yaml_event_type_t.TheVariants as kind
-use Rattle.libyaml_composer.specs.Composing.{Composer, Told, adding, at_carrier, between_step, deed_for, deed_in, ended, handing}
-use Rattle.libyaml_composer.specs.Composing.{if_placed, list_full, new_id, opened, step, step_in, told, unless, within_step}
+use Rattle.libyaml_composer.specs.Composing.{Composer, Told, adding, at_carrier, between_step, deed_for, deed_in, ended, handing, if_placed, list_full, new_id, opened, step, step_in, told, unless, within_step}
 use Rattle.libyaml_composer.specs.Held as held
-use Rattle.libyaml_composer.specs.Held.{Held, IsRefused, anchor_in, anchored, anchored_by, applied_part, fact_of, fault_part, open_of}
-use Rattle.libyaml_composer.specs.Held.{with_node}
+use Rattle.libyaml_composer.specs.Held.{Held, IsRefused, anchor_in, anchored, anchored_by, applied_part, fact_of, fault_part, open_of, with_node}
 use Rattle.libyaml_composer.specs.Numbers.{flag, is_id}
 use Rattle.libyaml_composer.specs.Standing.{IsChild, IsNode, IsPart, IsPut, Standing, Takes}
 use Rattle.libyaml_composer.proofs.lent.Follows.{Follows, Puts, fails, follows, full, goes}
 use Rattle.libyaml_loader.specs.declared.context.loader_ctx.{loader_ctx}
 use Rattle.libyaml_graphs.specs.graphs.ComposerFaults.{repeated_anchor}
-use Rattle.libyaml_loader.specs.document.Context.{Decided, Grows, IsListed, Refuses, Stands, held_of, loader_of, opening_of_document}
-use Rattle.libyaml_loader.specs.document.Context.{IsEvent, Named, refusal_of}
+use Rattle.libyaml_loader.specs.document.Context.{Decided, Grows, IsListed, Refuses, Stands, held_of, loader_of, opening_of_document, IsEvent, Named, refusal_of}
 use Rattle.libyaml_loader.specs.document.Refusals.{fault_by}
 use Rattle.libyaml_loader.specs.document.Stack.{roomy}
 use Rattle.libyaml_loader.specs.loads.LoadGrowth.{alias_grows, content_grows, load_may_grow, node_grows, parent_grows}

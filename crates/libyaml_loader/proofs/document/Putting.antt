@@ -1,6 +1,5 @@
 -- What is decided is done.
-use Rattle.std.proofs.Common.{◌≡◌, ◌++◌, List, ℕ, suc, ℤ, length, refl, sym, ap, subst, ◌∙◌}
-use Rattle.std.proofs.Common.{Option, Some, None, Bool, true, false, Result, Ok, Err, IfErr, IfOk, OnOk, append-nil}
+use Rattle.std.proofs.Common.{◌≡◌, ◌++◌, List, ℕ, suc, ℤ, length, refl, sym, ap, subst, ◌∙◌, Option, Some, None, Bool, true, false, Result, Ok, Err, IfErr, IfOk, OnOk, append-nil}
 use Rattle.libyaml_types.specs.declared.mark.yaml_mark_t.{yaml_mark_t}
 use Rattle.libyaml_documents.specs.declared.node.yaml_node_t.{yaml_node_t}
 use Rattle.libyaml_graphs.specs.graphs.GraphParts.{Part, alias_part, end_part, leaf_part, start_part}

@@ -1,6 +1,5 @@
 -- What an iterator over the documents of a parser yields, by the clauses of a load.
-use Rattle.std.proofs.Common.{◌≡◌, inl, inr, true, false}
-use Rattle.std.proofs.Common.{sym, subst, ◌∙◌}
+use Rattle.std.proofs.Common.{◌≡◌, inl, inr, true, false, sym, subst, ◌∙◌}
 use Rattle.std.proofs.lemmas.Bool.{true≢false}
 use Rattle.libyaml_events.specs.machine.Config.{Parser}
 use Rattle.libyaml_events.specs.sources.History.{ForHistory, Remembers, has_failed, is_over}

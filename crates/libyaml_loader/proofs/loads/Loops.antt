@@ -1,6 +1,5 @@
 -- What a whole loop over documents yielded, by the run that was to come.
-use Rattle.std.proofs.Common.{◌≡◌, ◌∷◌, ℕ, List, [], None, Some, Ok, Err, inl, inr, refl, sym}
-use Rattle.std.proofs.Common.{ap, subst, ◌∙◌}
+use Rattle.std.proofs.Common.{◌≡◌, ◌∷◌, ℕ, List, [], None, Some, Ok, Err, inl, inr, refl, sym, ap, subst, ◌∙◌}
 use Rattle.std.proofs.lemmas.Bool.{true≢false}
 use Rattle.libyaml_documents.specs.Documents.{Document}
 use Rattle.libyaml_events.specs.machine.Config.{Parser}
@@ -18,8 +17,7 @@ use Rattle.libyaml_graphs.proofs.lent.Roots as roots
 use Rattle.libyaml_graphs.proofs.lent.Roots.{earlier_of, last_of, left_roots, roots_follow}
 use Rattle.libyaml_loader.specs.document.Ids.{magnitude}
 use Rattle.libyaml_loader.specs.loads.Loading.{DocumentOrError}
-use Rattle.libyaml_loader.specs.loads.LoadsInTurn.{AreLoadsOf, LoopYields, YieldsDocument, cut_short, document, fault}
-use Rattle.libyaml_loader.specs.loads.LoadsInTurn.{no_item, whole}
+use Rattle.libyaml_loader.specs.loads.LoadsInTurn.{AreLoadsOf, LoopYields, YieldsDocument, cut_short, document, fault, no_item, whole}
 use Rattle.libyaml_loader.specs.loads.NextLoad.{Answers}
 use Rattle.libyaml_types.specs.Fault.{Fault, fault_of}
 use Rattle.libyaml_types.specs.Source.{coming}

@@ -1,6 +1,5 @@
 -- A load on the way: the events that it took lead to where its composer stands.
-use Rattle.std.proofs.Common.{◌≡◌, ◌++◌, ◌∷◌, ℕ, List, [], None, Some, Ok, Err, refl, sym, ap, ◌∙◌, append_assoc, true}
-use Rattle.std.proofs.Common.{append-nil, false}
+use Rattle.std.proofs.Common.{◌≡◌, ◌++◌, ◌∷◌, ℕ, List, [], None, Some, Ok, Err, refl, sym, ap, ◌∙◌, append_assoc, true, append-nil, false}
 use Rattle.libyaml_documents.specs.Documents.{Document, empty_document}
 use Rattle.libyaml_events.specs.machine.Config.{Parser}
 use Rattle.libyaml_events.specs.sources.History.{History, between_documents, keeping}
@@ -16,8 +15,7 @@ use Rattle.libyaml_graphs.specs.loads.Loads.{document, last_load, left_over}
 use Rattle.libyaml_graphs.specs.machine.Loader.{Loader, State, between, left_from, load_from, within}
 use Rattle.libyaml_graphs.proofs.lent.BoundedLoader.{one_load}
 use Rattle.libyaml_graphs.proofs.lent.Machine.{closes, closes_left, nothing_left}
-use Rattle.libyaml_loader.specs.loads.Loading.{LoadFails, LoadsFrom, ParserFails, Took, at_end, by_loader}
-use Rattle.libyaml_loader.specs.loads.Loading.{by_memory, by_parser, whole}
+use Rattle.libyaml_loader.specs.loads.Loading.{LoadFails, LoadsFrom, ParserFails, Took, at_end, by_loader, by_memory, by_parser, whole}
 use Rattle.libyaml_loader.specs.pushes.Composing as composing
 use Rattle.libyaml_loader.specs.pushes.Composing.{RefusesEvent}
 use Rattle.libyaml_graphs.specs.loads.Leads.{Leads}

@@ -1,7 +1,5 @@
 -- Two outcomes that the contract of a load allows are one.
-use Rattle.std.proofs.Common.{◌≡◌, ◌⊎◌, inl, inr, List, [], ◌∷◌, ◌++◌, None, Ok, Err, IfOk, IfErr, false, refl}
-use Rattle.std.proofs.Common.{sym, ap, ◌∙◌, subst}
-use Rattle.std.proofs.Common.{append_assoc, append-nil}
+use Rattle.std.proofs.Common.{◌≡◌, ◌⊎◌, inl, inr, List, [], ◌∷◌, ◌++◌, None, Ok, Err, IfOk, IfErr, false, refl, sym, ap, ◌∙◌, subst, append_assoc, append-nil}
 use Rattle.libyaml_documents.specs.Documents.{empty_document}
 use Rattle.libyaml_types.specs.Fault.{Answer, Fault, no_fault}
 use Rattle.libyaml_types.specs.declared.source.yaml_token_source_t.{Ghosts}
@@ -19,16 +17,11 @@ use Rattle.libyaml_events.specs.sources.Parsing.{Cause, FailsBy, of_memory, of_g
 use Rattle.libyaml_events.proofs.lent.CallsInTurn.{gave_then}
 use Rattle.libyaml_grammar.proofs.lent.Same.{err_same, fault_same, ok_not_err, ok_same, tail_same}
 use Rattle.libyaml_events.proofs.lent.OneOutcome.{before_last, front_same, one_source_proof, ran_once}
-use Rattle.libyaml_events.proofs.lent.RunStops.{RunStop, answers_both, begins_stopped, ended_stop, grammar_stop}
-use Rattle.libyaml_events.proofs.lent.RunStops.{one_run_by_answers, source_stop}
-use Rattle.libyaml_events.proofs.lent.RunStops.{taken_comparable, token_front}
+use Rattle.libyaml_events.proofs.lent.RunStops.{RunStop, answers_both, begins_stopped, ended_stop, grammar_stop, one_run_by_answers, source_stop, taken_comparable, token_front}
 use Rattle.libyaml_events.proofs.lent.Histories as histories
 use Rattle.libyaml_graphs.specs.loads.Loads.{Load, last_load}
-use Rattle.libyaml_loader.specs.loads.Loading.{DocumentOrError, LoadsFrom}
-use Rattle.libyaml_loader.specs.loads.Loading.{at_end, by_loader, by_memory, by_parser, whole}
-use Rattle.libyaml_loader.specs.loads.OneLoad.{LoadRunsOut, in_parser, in_loader, LoadsAlike, OneLoad, alike}
-use Rattle.libyaml_loader.specs.loads.OneLoad.{first_runs_out, second_runs_out, OneLoadByAnswers}
-use Rattle.libyaml_loader.specs.loads.OneLoad.{LoadOutcome, results_in, load_results_of}
+use Rattle.libyaml_loader.specs.loads.Loading.{DocumentOrError, LoadsFrom, at_end, by_loader, by_memory, by_parser, whole}
+use Rattle.libyaml_loader.specs.loads.OneLoad.{LoadRunsOut, in_parser, in_loader, LoadsAlike, OneLoad, alike, first_runs_out, second_runs_out, OneLoadByAnswers, LoadOutcome, results_in, load_results_of}
 
 -- both after the same tokens
 more_behind : (l : List Token) (x y : List Answer) → answers l (x ++ y) ≡ answers l x ++ y

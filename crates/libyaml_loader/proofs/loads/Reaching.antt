@@ -7,10 +7,8 @@ use Rattle.libyaml_grammar.specs.runs.Runs.{Ending, Ends, Fails}
 use Rattle.libyaml_types.specs.Fault.{Fault, memory_fault}
 use Rattle.libyaml_graphs.specs.graphs.GraphParts.{Closing, Opening, closing_of, graph, opening_of, part_of, parts}
 use Rattle.libyaml_graphs.specs.loads.Bounds.{bounded_loads, first_stop}
-use Rattle.libyaml_graphs.specs.loads.Loads.{Begun, Load, Stop, load_answer, begun, behind_document, end_of_document, last_load}
-use Rattle.libyaml_graphs.specs.loads.Loads.{load_then, loads_by, next_by}
-use Rattle.libyaml_graphs.specs.machine.Loader.{Loading, State, between, bounded_option, failed, fresh, going, left_from}
-use Rattle.libyaml_graphs.specs.machine.Loader.{load_from, within}
+use Rattle.libyaml_graphs.specs.loads.Loads.{Begun, Load, Stop, load_answer, begun, behind_document, end_of_document, last_load, load_then, loads_by, next_by}
+use Rattle.libyaml_graphs.specs.machine.Loader.{Loading, State, between, bounded_option, failed, fresh, going, left_from, load_from, within}
 use Rattle.libyaml_graphs.proofs.lent.BoundedLoader.{one_load}
 use Rattle.libyaml_graphs.proofs.lent.Machine.{goes_on_left, opens_left, passes_left}
 use Rattle.libyaml_graphs.specs.loads.Leads.{Leads, behind_events, loads_from, whole_then}

@@ -6,8 +6,7 @@ use Rattle.libyaml_grammar.specs.sentences.Events.{Event}
 use Rattle.libyaml_graphs.specs.machine.Loader.{State}
 use Rattle.libyaml_types.specs.Fault.{Fault, fault_of}
 use Rattle.libyaml_loader.specs.declared.composer.Composer.{Composer}
-use Rattle.libyaml_loader.specs.pushes.Composing.{Composes, IsSound, RefusesEvent, RefusesOneOf, by_loads, by_memory}
-use Rattle.libyaml_loader.specs.pushes.Composing.{composer_state}
+use Rattle.libyaml_loader.specs.pushes.Composing.{Composes, IsSound, RefusesEvent, RefusesOneOf, by_loads, by_memory, composer_state}
 use Rattle.libyaml_graphs.specs.loads.Leads.{Leads}
 use Rattle.libyaml_loader.specs.pushes.LoadMemory.{NeedsMemoryAt, for_document, for_node}
 use Rattle.libyaml_graphs.proofs.lent.Leading.{leads_both}

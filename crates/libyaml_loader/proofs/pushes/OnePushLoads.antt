@@ -1,6 +1,5 @@
 -- A loader that is handed its tokens stands in one way after them, and so two outcomes of one push are one.
-use Rattle.std.proofs.Common.{◌≡◌, ◌++◌, ◌∷◌, ℕ, List, [], Ok, Err, Bool, true, false, refl, sym, ap, ◌∙◌, subst}
-use Rattle.std.proofs.Common.{append-nil}
+use Rattle.std.proofs.Common.{◌≡◌, ◌++◌, ◌∷◌, ℕ, List, [], Ok, Err, Bool, true, false, refl, sym, ap, ◌∙◌, subst, append-nil}
 use Rattle.std.proofs.lemmas.List.{append_cancel_left}
 use Rattle.libyaml_types.specs.declared.enums.yaml_error_type_t.{yaml_error_type_t}
 use Rattle.libyaml_types.specs.Fault.{Fault, memory_fault, no_fault}
@@ -20,8 +19,7 @@ use Rattle.libyaml_graphs.specs.machine.Loader.{State, between}
 use Rattle.libyaml_graphs.proofs.lent.LoadLists.{same_loads}
 use Rattle.libyaml_graphs.specs.loads.Leads.{Leads, as_loads, loads_from}
 use Rattle.libyaml_loader.specs.pushes.Loaded.{Loaded, PushLoader, loader_fault, loader_has_stopped, standing_loader}
-use Rattle.libyaml_loader.specs.pushes.OnePushLoads.{OnePushLoads, PushLoadsAlike, PushLoadsRunOut, alike}
-use Rattle.libyaml_loader.specs.pushes.OnePushLoads.{first_runs_out, second_runs_out}
+use Rattle.libyaml_loader.specs.pushes.OnePushLoads.{OnePushLoads, PushLoadsAlike, PushLoadsRunOut, alike, first_runs_out, second_runs_out}
 use Rattle.libyaml_loader.specs.pushes.PushesLoads.{AreThen, PushesLoads, StopsLoading, TakesLoads, by_memory, by_tokens}
 use Rattle.libyaml_graphs.proofs.lent.Leading.{from_none}
 

@@ -1,10 +1,7 @@
 -- What a push of a token to a loader did, by the push to its parser and by the events that were composed.
-use Rattle.std.proofs.Common.{◌≡◌, ◌≤◌, ◌*◌, arith, length, inl, inr, ◌||◌, ℕ, List, [], ◌∷◌, ◌++◌}
-use Rattle.std.proofs.Common.{Ok, Err, IfErr, OnOk, Bool, true, false, refl, sym, ap, subst, ◌∙◌}
-use Rattle.std.proofs.Common.{append_assoc}
+use Rattle.std.proofs.Common.{◌≡◌, ◌≤◌, ◌*◌, arith, length, inl, inr, ◌||◌, ℕ, List, [], ◌∷◌, ◌++◌, Ok, Err, IfErr, OnOk, Bool, true, false, refl, sym, ap, subst, ◌∙◌, append_assoc}
 use Rattle.std.proofs.lemmas.List.{append-nil}
-use Rattle.std.proofs.lemmas.Bool.{true≢false}
-use Rattle.std.proofs.lemmas.Bool.{or_parts}
+use Rattle.std.proofs.lemmas.Bool.{true≢false, or_parts}
 use Rattle.libyaml_types.specs.declared.enums.yaml_error_type_t.{yaml_error_type_t}
 use Rattle.libyaml_documents.specs.Documents.{Document}
 use Rattle.libyaml_types.specs.Fault.{Fault, fault_of}
@@ -13,12 +10,11 @@ use Rattle.libyaml_grammar.specs.sentences.Events.{Event}
 use Rattle.libyaml_grammar.specs.sentences.Sentences.{has_end}
 use Rattle.libyaml_grammar.specs.sentences.Tokens.{Token}
 use Rattle.libyaml_grammar.proofs.lent.Running.{one_run_proof, some_run_proof}
-use Rattle.libyaml_graphs.specs.loads.Bounds.{IsBoundedLoads, bounded_loads}
+use Rattle.libyaml_graphs.specs.loads.Bounds.{IsBoundedLoads, bounded_loads, first_stop}
 use Rattle.libyaml_graphs.specs.loads.Linear.{documents_size}
 use Rattle.libyaml_graphs.specs.loads.Loads.{Load, last_load}
 use Rattle.libyaml_graphs.specs.machine.Loader.{State, between}
 use Rattle.libyaml_graphs.proofs.lent.RunLoads.{first_linear}
-use Rattle.libyaml_graphs.specs.loads.Bounds.{first_stop}
 use Rattle.libyaml_events.specs.machine.Config.{Config, is_fault}
 use Rattle.libyaml_events.specs.machine.Want.{Want}
 use Rattle.libyaml_events.specs.sources.Determined.{BeginsEachRun}
@@ -29,14 +25,10 @@ use Rattle.libyaml_events.specs.sources.Pushes.{Done, NeedsMemory, Pushes, Stops
 use Rattle.libyaml_events.proofs.lent.Pushes.{fed_begins_run, fed_count, fed_ended, fed_faultless, fed_settled, fed_whole}
 use Rattle.libyaml_events.proofs.lent.RunStops.{short_run, whole_run}
 use Rattle.libyaml_loader.specs.pushes.Composing as comp
-use Rattle.libyaml_loader.specs.pushes.Composing.{Composes, RefusesEvent, RefusesOneOf, by_loads}
-use Rattle.libyaml_loader.specs.pushes.Composing.{by_memory as no_memory, state_by, composer_state}
+use Rattle.libyaml_loader.specs.pushes.Composing.{Composes, RefusesEvent, RefusesOneOf, by_loads, by_memory as no_memory, state_by, composer_state}
 use Rattle.libyaml_graphs.specs.loads.Leads.{Leads, as_loads, loads_from}
-use Rattle.libyaml_loader.specs.pushes.Loaded.{ForLoaded, Loaded, PushLoader, RemembersLoads, loader_has_stopped}
-use Rattle.libyaml_loader.specs.pushes.Loaded.{loader_keeps_fault, standing_loader}
-use Rattle.libyaml_loader.specs.pushes.PushesLoads.{AreThen, BeginsEachLoads, PushesLoads, StopsLoading, by_memory}
-use Rattle.libyaml_loader.specs.pushes.PushesLoads.{by_tokens}
-use Rattle.libyaml_loader.specs.pushes.PushesLoads.{in_loader, in_parser}
+use Rattle.libyaml_loader.specs.pushes.Loaded.{ForLoaded, Loaded, PushLoader, RemembersLoads, loader_has_stopped, loader_keeps_fault, standing_loader}
+use Rattle.libyaml_loader.specs.pushes.PushesLoads.{AreThen, BeginsEachLoads, PushesLoads, StopsLoading, by_memory, by_tokens, in_loader, in_parser}
 use Rattle.libyaml_loader.specs.declared.composer.Composer.{Composer}
 use Rattle.libyaml_graphs.proofs.lent.Leading.{from_none, leads_both}
 

@@ -1,7 +1,5 @@
 -- What one event does to the document that is open.
-use Rattle.std.proofs.Common.{◌≡◌, ◌⊎◌, inl, inr, ℕ, List, [], ◌∷◌, Option, Some, None, Bool, Result, Ok, Err, true}
-use Rattle.std.proofs.Common.{refl, sym, ap, subst, ◌∙◌}
-use Rattle.std.proofs.Common.{length, map}
+use Rattle.std.proofs.Common.{◌≡◌, ◌⊎◌, inl, inr, ℕ, List, [], ◌∷◌, Option, Some, None, Bool, Result, Ok, Err, true, refl, sym, ap, subst, ◌∙◌, length, map}
 use Rattle.std.proofs.lemmas.List.{append-nil}
 use Rattle.std.specs.Cmp.Lexicographic.{nat_list_cmp_total}
 use Rattle.std.specs.FinMap.{get, get-from_entries}
@@ -18,8 +16,7 @@ use Rattle.libyaml_types.specs.Fault.{Fault, fault_of, memory_fault}
 use Rattle.libyaml_graphs.specs.graphs.GraphParts as parts
 use Rattle.libyaml_graphs.specs.graphs.GraphParts.{closing_of, opening_of, part_of}
 use Rattle.libyaml_graphs.specs.machine.Loader as machine
-use Rattle.libyaml_graphs.specs.machine.Loader.{Loader, State, between, bounded_option, failed, fresh, no_anchors}
-use Rattle.libyaml_graphs.specs.machine.Loader.{within}
+use Rattle.libyaml_graphs.specs.machine.Loader.{Loader, State, between, bounded_option, failed, fresh, no_anchors, within}
 use Rattle.libyaml_loader.specs.declared.composer.Composer as loader
 use Rattle.libyaml_loader.specs.declared.context.loader_ctx.{loader_ctx}
 use Rattle.libyaml_loader.specs.declared.refusal.Refusal.{Refusal}
@@ -28,8 +25,7 @@ use Rattle.libyaml_loader.specs.document.Context.{Composed, Refuses, Stands, loa
 use Rattle.libyaml_loader.specs.document.Refusals.{fault_by}
 use Rattle.libyaml_loader.specs.loads.LoadGrowth.{load_may_grow}
 use Rattle.libyaml_loader.specs.declared.composer.Closing.{Closing}
-use Rattle.libyaml_loader.specs.pushes.Composing.{Composes, ComposesEvent, IsSound, RefusesEvent, RefusesOneOf, by_loads}
-use Rattle.libyaml_loader.specs.pushes.Composing.{by_memory, closing_by, state_by, composer_state}
+use Rattle.libyaml_loader.specs.pushes.Composing.{Composes, ComposesEvent, IsSound, RefusesEvent, RefusesOneOf, by_loads, by_memory, closing_by, state_by, composer_state}
 use Rattle.libyaml_graphs.specs.loads.Leads.{Leads}
 use Rattle.libyaml_loader.specs.pushes.LoadMemory.{for_document, for_node}
 use Rattle.libyaml_loader.proofs.pushes.InTurn.{refuses_more}

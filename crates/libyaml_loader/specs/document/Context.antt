@@ -15,8 +15,7 @@ use Rattle.libyaml_composer.specs.declared.deed.Deed.{Deed}
 use Rattle.libyaml_composer.specs.declared.deed.Deed.TheVariants as deed
 use Rattle.libyaml_composer.specs.declared.records.place_t.{place_t}
 use Rattle.libyaml_composer.specs.Held as held
-use Rattle.libyaml_composer.specs.Held.{Held, anchored, anchored_by, applied_part, carrier_of, first_mark}
-use Rattle.libyaml_composer.specs.Held.{with_node}
+use Rattle.libyaml_composer.specs.Held.{Held, anchored, anchored_by, applied_part, carrier_of, first_mark, with_node}
 use Rattle.libyaml_composer.specs.Standing.{Fits, IsChild, IsClosed, IsNode, IsPart, IsPut, Standing}
 use Rattle.libyaml_composer.specs.Numbers.{is_id}
 use Rattle.libyaml_loader.specs.declared.context.loader_ctx.{loader_ctx}

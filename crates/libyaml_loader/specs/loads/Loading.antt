@@ -6,8 +6,7 @@ use Rattle.libyaml_events.specs.sources.CallsInTurn.{CarriedOn}
 use Rattle.libyaml_events.specs.machine.Config.{Parser}
 use Rattle.libyaml_grammar.specs.sentences.Events.{Event}
 use Rattle.libyaml_types.specs.Fault.{Fault, memory_fault}
-use Rattle.libyaml_events.specs.sources.History.{ForHistory, History, between_documents, has_failed, is_over}
-use Rattle.libyaml_events.specs.sources.History.{kept_fault, keeping, stack_depth}
+use Rattle.libyaml_events.specs.sources.History.{ForHistory, History, between_documents, has_failed, is_over, kept_fault, keeping, stack_depth}
 use Rattle.libyaml_events.specs.parsers.Lookahead.{lookahead_tokens}
 use Rattle.libyaml_events.specs.parsers.Stages.{open_collections, stage_of}
 use Rattle.libyaml_events.specs.sources.Parsing.{FailsBy, IsWhole}

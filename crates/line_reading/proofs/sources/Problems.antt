@@ -1,15 +1,12 @@
 -- What a source that got no line returns.
-use Rattle.std.proofs.Common.{◌≡◌, ◌<◌, ℕ, List, [], ◌∷◌, length, Option, Some, None, Err, refl, ap, sym, ◌∙◌, inl, inr}
-use Rattle.std.proofs.Common.{arith}
+use Rattle.std.proofs.Common.{◌≡◌, ◌<◌, ℕ, List, [], ◌∷◌, length, Option, Some, None, Err, refl, ap, sym, ◌∙◌, inl, inr, arith}
 use Rattle.std.proofs.lemmas.Bool.{lt-ltb}
 use Rattle.libyaml_types.specs.Fault.{Fault}
 use Rattle.line_reading.specs.declared.line_problem.LineProblem.{LineProblem}
-use Rattle.line_reading.specs.declared.line_problem.LineProblem.TheVariants.{Memory, ReadFailed, LineTooLong}
-use Rattle.line_reading.specs.declared.line_problem.LineProblem.TheVariants.{BadTokenLine, TooManyTokens, NoMoreTokens}
+use Rattle.line_reading.specs.declared.line_problem.LineProblem.TheVariants.{Memory, ReadFailed, LineTooLong, BadTokenLine, TooManyTokens, NoMoreTokens}
 use Rattle.line_reading.specs.sources.LineFault.{line_fault}
 use Rattle.line_reading.specs.sources.LineSource.{Gives, LineSource}
-use Rattle.line_reading.specs.sources.NextLine.{BeginsTooLong, HasNoLine, TakesNoLine, KnownAnswer, LineAnswer}
-use Rattle.line_reading.specs.sources.NextLine.{first_answer}
+use Rattle.line_reading.specs.sources.NextLine.{BeginsTooLong, HasNoLine, TakesNoLine, KnownAnswer, LineAnswer, first_answer}
 use Rattle.line_reading.specs.sources.ReadLines.{lines, longest_line}
 
 first_too_long : (n : ℕ) (ls : List (List ℕ)) → BeginsTooLong ls → first_answer n ls ≡ Err (line_fault LineTooLong n)

@@ -1,12 +1,7 @@
 -- a number that begins some bytes
-use Rattle.std.proofs.Common.{◌≡◌, leb, ◌==◌, ℕ, ◌+◌, ◌-◌, ◌*◌, ◌%◌, ◌<◌, ◌≤◌, ◌^◌, true, false, List, [], ◌∷◌, ◌++◌}
-use Rattle.std.proofs.Common.{length, take, drop, get_or, None, refl}
-use Rattle.std.proofs.Common.{ap, sym, ◌∙◌, arith}
-use Rattle.std.proofs.lemmas.Bool.{cond_both}
-use Rattle.std.proofs.lemmas.List.{at_drop_more, at_drop_all, take_more, append-nil}
-use Rattle.std.proofs.Common.{append_assoc, min}
-use Rattle.std.proofs.lemmas.List.{get_or-take, length-take, length-drop}
-use Rattle.std.proofs.lemmas.Bool.{leb-true, le-leb, and_parts}
+use Rattle.std.proofs.Common.{◌≡◌, leb, ◌==◌, ℕ, ◌+◌, ◌-◌, ◌*◌, ◌%◌, ◌<◌, ◌≤◌, ◌^◌, true, false, List, [], ◌∷◌, ◌++◌, length, take, drop, get_or, None, refl, ap, sym, ◌∙◌, arith, append_assoc, min}
+use Rattle.std.proofs.lemmas.Bool.{cond_both, leb-true, le-leb, and_parts}
+use Rattle.std.proofs.lemmas.List.{at_drop_more, at_drop_all, take_more, append-nil, get_or-take, length-take, length-drop}
 use Rattle.std.proofs.Math.Nat.{pow-suc, pow-le-pow_right}
 use Rattle.std.proofs.Math.Numerals.{add-one}
 use Rattle.std.specs.Char.{is_ascii_digit}

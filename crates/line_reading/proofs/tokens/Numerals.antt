@@ -1,6 +1,5 @@
 -- what one more digit does to a value
-use Rattle.std.proofs.Common.{◌≡◌, ℕ, ◌+◌, ◌-◌, ◌*◌, ◌<◌, ◌≤◌, ◌^◌, ◌&&◌, true, false, ltb, leb, List, [], ◌∷◌, Some}
-use Rattle.std.proofs.Common.{None, refl, arith}
+use Rattle.std.proofs.Common.{◌≡◌, ℕ, ◌+◌, ◌-◌, ◌*◌, ◌<◌, ◌≤◌, ◌^◌, ◌&&◌, true, false, ltb, leb, List, [], ◌∷◌, Some, None, refl, arith}
 use Rattle.std.proofs.lemmas.Bool.{le-ltb, lt-ltb, leb-true, and_parts, and_right}
 use Rattle.std.specs.Char.{is_ascii_digit, digit_value}
 use Rattle.std.specs.Str.{all_ascii_digits}

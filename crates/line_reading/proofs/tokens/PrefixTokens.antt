@@ -1,7 +1,5 @@
 -- a line read by its prefixes is read by its description
-use Rattle.std.proofs.Common.{◌≡◌, ◌≢◌, ℕ, ◌==◌, All, Bool, true, false, cond, List, [], ◌∷◌, ◌++◌, Option, Some, None}
-use Rattle.std.proofs.Common.{option_map, refl, ap, sym, ◌∙◌, subst}
-use Rattle.std.proofs.Common.{arith, inl, inr}
+use Rattle.std.proofs.Common.{◌≡◌, ◌≢◌, ℕ, ◌==◌, All, Bool, true, false, cond, List, [], ◌∷◌, ◌++◌, Option, Some, None, option_map, refl, ap, sym, ◌∙◌, subst, arith, inl, inr}
 use Rattle.std.proofs.lemmas.Bool.{cases_Bool, and_left, and_right, eqb-true}
 use Rattle.std.proofs.lemmas.List.{append-nil}
 use Rattle.std.proofs.lemmas.List.Elements.{All-nil, All-cons, All-head, All-tail}
@@ -17,8 +15,7 @@ use Rattle.line_reading.specs.tokens.Field.{◌>>=◌, mark_of, mark_of_numbers}
 use Rattle.line_reading.specs.tokens.Pieces.{pieces_of}
 use Rattle.line_reading.specs.tokens.TokenName.{token_type_of}
 use Rattle.line_reading.specs.tokens.TokenLine.{content_of, token_of_fields, token_of_line}
-use Rattle.line_reading.specs.tokens.Prefixes.{digits_of, behind_digits, before_byte, behind_byte, behind_first}
-use Rattle.line_reading.specs.tokens.Prefixes.{behind_field, number_at, mark_at, line_token_at}
+use Rattle.line_reading.specs.tokens.Prefixes.{digits_of, behind_digits, before_byte, behind_byte, behind_first, behind_field, number_at, mark_at, line_token_at}
 use Rattle.line_reading.proofs.tokens.Digits.{no_value}
 use Rattle.line_reading.proofs.tokens.Split.{no_separator, split_first, before-append, behind-append}
 

@@ -1,6 +1,5 @@
 -- digits that stand again
-use Rattle.std.proofs.Common.{◌≡◌, ℕ, zero, suc, ◌+◌, ◌-◌, ◌<◌, ◌≤◌, Bool, true, false, List, [], ◌∷◌, length}
-use Rattle.std.proofs.Common.{length-drop, take, drop, Option, Some, None, option_map, refl, ap, sym, ◌∙◌, arith, min}
+use Rattle.std.proofs.Common.{◌≡◌, ℕ, zero, suc, ◌+◌, ◌-◌, ◌<◌, ◌≤◌, Bool, true, false, List, [], ◌∷◌, length, length-drop, take, drop, Option, Some, None, option_map, refl, ap, sym, ◌∙◌, arith, min}
 use Rattle.std.proofs.lemmas.List.{drop-drop, drop-take, length-take}
 use Rattle.std.specs.Char.{is_ascii_digit}
 use Rattle.line_reading.specs.tokens.Number.{number_of}

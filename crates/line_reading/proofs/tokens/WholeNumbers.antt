@@ -1,11 +1,9 @@
 -- a number that is all of some bytes
-use Rattle.std.proofs.Common.{◌≡◌, ℕ, ◌<◌, ◌≤◌, List, [], ◌∷◌, ◌++◌, length, length-drop, drop, Option, Some, None}
-use Rattle.std.proofs.Common.{refl, ap, sym, ◌∙◌, arith}
+use Rattle.std.proofs.Common.{◌≡◌, ℕ, ◌<◌, ◌≤◌, List, [], ◌∷◌, ◌++◌, length, length-drop, drop, Option, Some, None, refl, ap, sym, ◌∙◌, arith}
 use Rattle.std.proofs.lemmas.List.{at_drop_all, append-nil}
 use Rattle.line_reading.specs.tokens.Number.{number_of}
 use Rattle.line_reading.specs.tokens.Prefixes.{digits_of, behind_digits, number_at}
-use Rattle.line_reading.proofs.tokens.PrefixTokens.{BeginsOther, begins_other, digits_behind, not_all_digits, no_number}
-use Rattle.line_reading.proofs.tokens.PrefixTokens.{with_rest}
+use Rattle.line_reading.proofs.tokens.PrefixTokens.{BeginsOther, begins_other, digits_behind, not_all_digits, no_number, with_rest}
 
 none_there : (o : Option ℕ) (t : List ℕ) → with_rest o t ≡ None → o ≡ None
 none_there None t e = refl

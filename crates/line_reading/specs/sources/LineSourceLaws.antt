@@ -1,6 +1,5 @@
 -- a line source keeps the laws of a source
-use Rattle.std.proofs.Common.{◌≡◌, ◌<◌, ◌≤◌, ℕ, ◌+◌, ◌-◌, List, [], ◌∷◌, Option, Some, None, Ok, Err, refl, ap, sym}
-use Rattle.std.proofs.Common.{◌∙◌, subst, arith, inl, inr}
+use Rattle.std.proofs.Common.{◌≡◌, ◌<◌, ◌≤◌, ℕ, ◌+◌, ◌-◌, List, [], ◌∷◌, Option, Some, None, Ok, Err, refl, ap, sym, ◌∙◌, subst, arith, inl, inr}
 use Rattle.std.proofs.lemmas.Bool.{lt-ltb, le-ltb, cases_lt}
 use Rattle.libyaml_types.specs.declared.token.yaml_token_t.{yaml_token_t}
 use Rattle.libyaml_types.specs.Fault.{Fault, Answer}
@@ -10,8 +9,7 @@ use Rattle.line_reading.specs.sources.LineFault.{line_fault}
 use Rattle.line_reading.specs.sources.LineLaws.{lines_behind}
 use Rattle.line_reading.specs.sources.ReadLines.{lines, behind_line, line_answer, coming_behind, coming_from}
 use Rattle.line_reading.specs.sources.NextLine.{first_answer, LineAnswer, BreaksOffAt}
-use Rattle.line_reading.specs.sources.LineSource.{LineSource, GivesBy, Gives, coming_of, known_by, known_of, BreaksOff}
-use Rattle.line_reading.specs.sources.LineSource.{answer_tokens, answer_fault}
+use Rattle.line_reading.specs.sources.LineSource.{LineSource, GivesBy, Gives, coming_of, known_by, known_of, BreaksOff, answer_tokens, answer_fault}
 
 no_token : (token : yaml_token_t) (fault : Fault) → Ok token ≡ Err fault → ⊥
 no_token token fault e = cc

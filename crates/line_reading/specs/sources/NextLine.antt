@@ -3,8 +3,7 @@ use Rattle.std.specs.Prelude.{◌≡◌, ◌<◌, ◌≤◌, ◌⊎◌, ℕ, Lis
 use Rattle.std.specs.Io.KnownBytes.{Consumes}
 use Rattle.libyaml_types.specs.Fault.{Fault, Answer}
 use Rattle.line_reading.specs.declared.line_problem.LineProblem.{LineProblem}
-use Rattle.line_reading.specs.declared.line_problem.LineProblem.TheVariants.{Memory, ReadFailed, LineTooLong}
-use Rattle.line_reading.specs.declared.line_problem.LineProblem.TheVariants.{BadTokenLine, TooManyTokens, NoMoreTokens}
+use Rattle.line_reading.specs.declared.line_problem.LineProblem.TheVariants.{Memory, ReadFailed, LineTooLong, BadTokenLine, TooManyTokens, NoMoreTokens}
 use Rattle.line_reading.specs.tokens.Prefixes.{before_byte}
 use Rattle.line_reading.specs.sources.LineFault.{line_fault}
 use Rattle.line_reading.specs.sources.ReadLines.{longest_line, lines, behind_line, line_answer}

@@ -4,8 +4,7 @@ use Rattle.std.specs.List.{slice_split}
 use Rattle.libyaml_types.specs.declared.token.yaml_token_t.{yaml_token_t}
 use Rattle.libyaml_types.specs.Fault.{Answer}
 use Rattle.libyaml_types.specs.Source.{Coming, coming}
-use Rattle.line_reading.specs.declared.line_problem.LineProblem.TheVariants.{LineTooLong, BadTokenLine, TooManyTokens}
-use Rattle.line_reading.specs.declared.line_problem.LineProblem.TheVariants.{NoMoreTokens}
+use Rattle.line_reading.specs.declared.line_problem.LineProblem.TheVariants.{LineTooLong, BadTokenLine, TooManyTokens, NoMoreTokens}
 use Rattle.line_reading.specs.sources.LineFault.{line_fault}
 use Rattle.line_reading.specs.tokens.TokenLine.{token_of_line}
 

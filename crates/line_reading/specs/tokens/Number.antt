@@ -1,6 +1,5 @@
 -- Numbers in the fields of a line (docs/DEFINITIONS.md, "Lines").
-use Rattle.std.specs.Prelude.{ℕ, ℤ, pos, negsuc, List, [], ◌∷◌, not, ◌&&◌, ◌==◌, ◌+◌, ◌-◌, ◌^◌, Option, Some, None}
-use Rattle.std.specs.Prelude.{option_and_then, nat_lt, if◌then◌else◌}
+use Rattle.std.specs.Prelude.{ℕ, ℤ, pos, negsuc, List, [], ◌∷◌, not, ◌&&◌, ◌==◌, ◌+◌, ◌-◌, ◌^◌, Option, Some, None, option_and_then, nat_lt, if◌then◌else◌}
 use Rattle.std.specs.Str.{all_ascii_digits}
 use Rattle.std.specs.Str.Parse.{digits_value_after}
 

@@ -2,24 +2,9 @@
 use Rattle.std.specs.Prelude.{ℕ, List, [], ◌∷◌, ◌==◌, Option, Some, None}
 use Rattle.std.specs.List.{slice_split}
 use Rattle.libyaml_types.specs.declared.enums.yaml_token_type_t.{yaml_token_type_t}
-use Rattle.libyaml_types.specs.declared.enums.yaml_token_type_t.TheVariants.{YAML_NO_TOKEN, YAML_STREAM_START_TOKEN}
-use Rattle.libyaml_types.specs.declared.enums.yaml_token_type_t.TheVariants.{YAML_STREAM_END_TOKEN}
-use Rattle.libyaml_types.specs.declared.enums.yaml_token_type_t.TheVariants.{YAML_VERSION_DIRECTIVE_TOKEN}
-use Rattle.libyaml_types.specs.declared.enums.yaml_token_type_t.TheVariants.{YAML_TAG_DIRECTIVE_TOKEN}
-use Rattle.libyaml_types.specs.declared.enums.yaml_token_type_t.TheVariants.{YAML_DOCUMENT_START_TOKEN}
-use Rattle.libyaml_types.specs.declared.enums.yaml_token_type_t.TheVariants.{YAML_DOCUMENT_END_TOKEN}
-use Rattle.libyaml_types.specs.declared.enums.yaml_token_type_t.TheVariants.{YAML_BLOCK_SEQUENCE_START_TOKEN}
-use Rattle.libyaml_types.specs.declared.enums.yaml_token_type_t.TheVariants.{YAML_BLOCK_MAPPING_START_TOKEN}
-use Rattle.libyaml_types.specs.declared.enums.yaml_token_type_t.TheVariants.{YAML_BLOCK_END_TOKEN}
-use Rattle.libyaml_types.specs.declared.enums.yaml_token_type_t.TheVariants.{YAML_FLOW_SEQUENCE_START_TOKEN}
-use Rattle.libyaml_types.specs.declared.enums.yaml_token_type_t.TheVariants.{YAML_FLOW_SEQUENCE_END_TOKEN}
-use Rattle.libyaml_types.specs.declared.enums.yaml_token_type_t.TheVariants.{YAML_FLOW_MAPPING_START_TOKEN}
-use Rattle.libyaml_types.specs.declared.enums.yaml_token_type_t.TheVariants.{YAML_FLOW_MAPPING_END_TOKEN}
-use Rattle.libyaml_types.specs.declared.enums.yaml_token_type_t.TheVariants.{YAML_BLOCK_ENTRY_TOKEN}
-use Rattle.libyaml_types.specs.declared.enums.yaml_token_type_t.TheVariants.{YAML_FLOW_ENTRY_TOKEN}
-use Rattle.libyaml_types.specs.declared.enums.yaml_token_type_t.TheVariants.{YAML_KEY_TOKEN, YAML_VALUE_TOKEN}
-use Rattle.libyaml_types.specs.declared.enums.yaml_token_type_t.TheVariants.{YAML_ALIAS_TOKEN, YAML_ANCHOR_TOKEN}
-use Rattle.libyaml_types.specs.declared.enums.yaml_token_type_t.TheVariants.{YAML_TAG_TOKEN, YAML_SCALAR_TOKEN}
+use Rattle.libyaml_types.specs.declared.enums.yaml_token_type_t.TheVariants.{YAML_NO_TOKEN, YAML_STREAM_START_TOKEN, YAML_STREAM_END_TOKEN, YAML_VERSION_DIRECTIVE_TOKEN, YAML_TAG_DIRECTIVE_TOKEN, YAML_DOCUMENT_START_TOKEN, YAML_DOCUMENT_END_TOKEN, YAML_BLOCK_SEQUENCE_START_TOKEN}
+use Rattle.libyaml_types.specs.declared.enums.yaml_token_type_t.TheVariants.{YAML_BLOCK_MAPPING_START_TOKEN, YAML_BLOCK_END_TOKEN, YAML_FLOW_SEQUENCE_START_TOKEN, YAML_FLOW_SEQUENCE_END_TOKEN, YAML_FLOW_MAPPING_START_TOKEN, YAML_FLOW_MAPPING_END_TOKEN, YAML_BLOCK_ENTRY_TOKEN, YAML_FLOW_ENTRY_TOKEN}
+use Rattle.libyaml_types.specs.declared.enums.yaml_token_type_t.TheVariants.{YAML_KEY_TOKEN, YAML_VALUE_TOKEN, YAML_ALIAS_TOKEN, YAML_ANCHOR_TOKEN, YAML_TAG_TOKEN, YAML_SCALAR_TOKEN}
 use Rattle.libyaml_types.specs.declared.token.unnamed_yaml_token_t_data.{unnamed_yaml_token_t_data}
 use Rattle.libyaml_types.specs.declared.token.unnamed_yaml_token_t_data.TheVariants as tok
 use Rattle.libyaml_types.specs.declared.token.yaml_token_t.{yaml_token_t}

@@ -1,24 +1,9 @@
 -- The names of tokens (docs/DEFINITIONS.md, "Lines").
 use Rattle.std.specs.Prelude.{ℕ, List, Option, Some, None, if◌then◌else◌, codes, bytes_eq}
 use Rattle.libyaml_types.specs.declared.enums.yaml_token_type_t.{yaml_token_type_t}
-use Rattle.libyaml_types.specs.declared.enums.yaml_token_type_t.TheVariants.{YAML_NO_TOKEN, YAML_STREAM_START_TOKEN}
-use Rattle.libyaml_types.specs.declared.enums.yaml_token_type_t.TheVariants.{YAML_STREAM_END_TOKEN}
-use Rattle.libyaml_types.specs.declared.enums.yaml_token_type_t.TheVariants.{YAML_VERSION_DIRECTIVE_TOKEN}
-use Rattle.libyaml_types.specs.declared.enums.yaml_token_type_t.TheVariants.{YAML_TAG_DIRECTIVE_TOKEN}
-use Rattle.libyaml_types.specs.declared.enums.yaml_token_type_t.TheVariants.{YAML_DOCUMENT_START_TOKEN}
-use Rattle.libyaml_types.specs.declared.enums.yaml_token_type_t.TheVariants.{YAML_DOCUMENT_END_TOKEN}
-use Rattle.libyaml_types.specs.declared.enums.yaml_token_type_t.TheVariants.{YAML_BLOCK_SEQUENCE_START_TOKEN}
-use Rattle.libyaml_types.specs.declared.enums.yaml_token_type_t.TheVariants.{YAML_BLOCK_MAPPING_START_TOKEN}
-use Rattle.libyaml_types.specs.declared.enums.yaml_token_type_t.TheVariants.{YAML_BLOCK_END_TOKEN}
-use Rattle.libyaml_types.specs.declared.enums.yaml_token_type_t.TheVariants.{YAML_FLOW_SEQUENCE_START_TOKEN}
-use Rattle.libyaml_types.specs.declared.enums.yaml_token_type_t.TheVariants.{YAML_FLOW_SEQUENCE_END_TOKEN}
-use Rattle.libyaml_types.specs.declared.enums.yaml_token_type_t.TheVariants.{YAML_FLOW_MAPPING_START_TOKEN}
-use Rattle.libyaml_types.specs.declared.enums.yaml_token_type_t.TheVariants.{YAML_FLOW_MAPPING_END_TOKEN}
-use Rattle.libyaml_types.specs.declared.enums.yaml_token_type_t.TheVariants.{YAML_BLOCK_ENTRY_TOKEN}
-use Rattle.libyaml_types.specs.declared.enums.yaml_token_type_t.TheVariants.{YAML_FLOW_ENTRY_TOKEN}
-use Rattle.libyaml_types.specs.declared.enums.yaml_token_type_t.TheVariants.{YAML_KEY_TOKEN, YAML_VALUE_TOKEN}
-use Rattle.libyaml_types.specs.declared.enums.yaml_token_type_t.TheVariants.{YAML_ALIAS_TOKEN, YAML_ANCHOR_TOKEN}
-use Rattle.libyaml_types.specs.declared.enums.yaml_token_type_t.TheVariants.{YAML_TAG_TOKEN, YAML_SCALAR_TOKEN}
+use Rattle.libyaml_types.specs.declared.enums.yaml_token_type_t.TheVariants.{YAML_NO_TOKEN, YAML_STREAM_START_TOKEN, YAML_STREAM_END_TOKEN, YAML_VERSION_DIRECTIVE_TOKEN, YAML_TAG_DIRECTIVE_TOKEN, YAML_DOCUMENT_START_TOKEN, YAML_DOCUMENT_END_TOKEN, YAML_BLOCK_SEQUENCE_START_TOKEN}
+use Rattle.libyaml_types.specs.declared.enums.yaml_token_type_t.TheVariants.{YAML_BLOCK_MAPPING_START_TOKEN, YAML_BLOCK_END_TOKEN, YAML_FLOW_SEQUENCE_START_TOKEN, YAML_FLOW_SEQUENCE_END_TOKEN, YAML_FLOW_MAPPING_START_TOKEN, YAML_FLOW_MAPPING_END_TOKEN, YAML_BLOCK_ENTRY_TOKEN, YAML_FLOW_ENTRY_TOKEN}
+use Rattle.libyaml_types.specs.declared.enums.yaml_token_type_t.TheVariants.{YAML_KEY_TOKEN, YAML_VALUE_TOKEN, YAML_ALIAS_TOKEN, YAML_ANCHOR_TOKEN, YAML_TAG_TOKEN, YAML_SCALAR_TOKEN}
 
 -- a token's type by its name in lines
 abbrev pub token_type_of : List ℕ → Option yaml_token_type_t

@@ -1,6 +1,5 @@
 -- That percent-encoding with our set writes the escapes, and that percent-decoding reads them.
-use Rattle.std.proofs.Common.{◌≡◌, ◌++◌, ◌/◌, ◌%◌, ◌<◌, ℕ, List, [], ◌∷◌, All, true, false, refl, ne_eqb, ap, ◌∙◌}
-use Rattle.std.proofs.Common.{arith, sym, if◌then◌else◌}
+use Rattle.std.proofs.Common.{◌≡◌, ◌++◌, ◌/◌, ◌%◌, ◌<◌, ℕ, List, [], ◌∷◌, All, true, false, refl, ne_eqb, ap, ◌∙◌, arith, sym, if◌then◌else◌}
 use Rattle.std.specs.Fmt.{digit_glyph}
 use Rattle.std.specs.List.{flat_map}
 use Rattle.std.proofs.lemmas.Bool.{agree_below, agree_below_at, lt-leb, le-ltb}

@@ -1,7 +1,5 @@
 -- What the bound on lists does to it.
-use Rattle.std.proofs.Common.{◌≡◌, ◌∷◌, ◌++◌, ℕ, zero, suc, ℤ, pos, List, [], length, nat_lt, ltb-true, ltb-false}
-use Rattle.std.proofs.Common.{lt-ltb, le-ltb, ◌≤◌, arith, Option, Some, None, Bool, true, false, not, refl, sym, ap}
-use Rattle.std.proofs.Common.{◌∙◌, codes, if◌then◌else◌}
+use Rattle.std.proofs.Common.{◌≡◌, ◌∷◌, ◌++◌, ℕ, zero, suc, ℤ, pos, List, [], length, nat_lt, ltb-true, ltb-false, lt-ltb, le-ltb, ◌≤◌, arith, Option, Some, None, Bool, true, false, not, refl, sym, ap, ◌∙◌, codes, if◌then◌else◌}
 use Rattle.std.specs.Prelude.{slice_get}
 use Rattle.libyaml_types.specs.declared.event.unnamed_yaml_event_t_data.{unnamed_yaml_event_t_data}
 use Rattle.libyaml_types.specs.declared.event.unnamed_yaml_event_t_data.TheVariants as ev
@@ -16,8 +14,7 @@ use Rattle.libyaml_graphs.specs.graphs.GraphParts.{Part, alias_part, end_part, l
 use Rattle.libyaml_graphs.specs.graphs.Graphs.{Carrier}
 use Rattle.libyaml_graphs.specs.machine.Loader.{content_full, list_full, no_anchors, node_full}
 use Rattle.libyaml_graphs.specs.machine.Loader as machine
-use Rattle.libyaml_graphs.proofs.lent.Building.{AllLess, Falls, Less, key_in, loader_of, stack_of, AllHas, Built, Has}
-use Rattle.libyaml_graphs.proofs.lent.Building.{Held, nodes_in}
+use Rattle.libyaml_graphs.proofs.lent.Building.{AllLess, Falls, Less, key_in, loader_of, stack_of, AllHas, Built, Has, Held, nodes_in}
 use Rattle.rust_original.specs.loader.Loader as orig
 use Rattle.rust_original.specs.loader.Loader.{FAIL, LoaderResult, OK, alias_of, yaml_alias_data_t}
 use Rattle.rust_original.proofs.loads.Halves.{AllSound, Sound, halves, last_waits, none_waits, with_half}

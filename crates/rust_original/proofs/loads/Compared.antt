@@ -11,8 +11,7 @@ use Rattle.libyaml_graphs.specs.loads.Bounds.{IsBoundedLoads, bounded_loads}
 use Rattle.libyaml_documents.specs.Documents.{Document}
 use Rattle.libyaml_graphs.specs.loads.Loads.{Load, last_load}
 use Rattle.rust_original.specs.loader.Loader as orig
-use Rattle.rust_original.specs.loader.Loader.{FAIL, LoaderResult, OK, State, between, loads_from, loads_there, new_loader}
-use Rattle.rust_original.specs.loader.Loader.{within}
+use Rattle.rust_original.specs.loader.Loader.{FAIL, LoaderResult, OK, State, between, loads_from, loads_there, new_loader, within}
 use Rattle.rust_original.specs.loader.LoadsThere.{LoadsCompare, LoadsThere, loads_part, same_loads}
 use Rattle.rust_original.specs.parser.Differences.{Compares, parts, same}
 use Rattle.rust_original.specs.parser.Runs.{new_parser}

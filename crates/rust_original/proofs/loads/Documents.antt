@@ -1,6 +1,5 @@
 -- The original's loader over the events of a document.
-use Rattle.std.proofs.Common.{◌≡◌, ◌∷◌, ◌++◌, ℕ, suc, List, [], length, nat_lt, Option, Some, Bool, true, false, Ok}
-use Rattle.std.proofs.Common.{Err, refl, sym, ap, ◌∙◌}
+use Rattle.std.proofs.Common.{◌≡◌, ◌∷◌, ◌++◌, ℕ, suc, List, [], length, nat_lt, Option, Some, Bool, true, false, Ok, Err, refl, sym, ap, ◌∙◌}
 use Rattle.libyaml_types.specs.declared.event.unnamed_yaml_event_t_data.{unnamed_yaml_event_t_data}
 use Rattle.libyaml_types.specs.declared.event.unnamed_yaml_event_t_data.TheVariants as ev
 use Rattle.libyaml_types.specs.Fault.{Fault}
@@ -9,22 +8,19 @@ use Rattle.libyaml_grammar.specs.sentences.Events.{Event, event}
 use Rattle.libyaml_grammar.specs.sentences.Tokens.{Mark}
 use Rattle.libyaml_graphs.specs.graphs.ComposerFaults.{composer_part_fault}
 use Rattle.libyaml_documents.specs.LoadedNodes.{mapping_loaded, scalar_loaded, sequence_loaded}
-use Rattle.libyaml_graphs.specs.graphs.GraphParts.{Opening, Part, alias_part, behind, end_part, leaf_part, part_in}
-use Rattle.libyaml_graphs.specs.graphs.GraphParts.{parts, start_part}
+use Rattle.libyaml_graphs.specs.graphs.GraphParts.{Opening, Part, alias_part, behind, end_part, leaf_part, part_in, parts, start_part}
 use Rattle.libyaml_graphs.specs.graphs.Graphs.{Start}
 use Rattle.libyaml_graphs.specs.machine.Loader.{no_anchors}
 use Rattle.libyaml_graphs.specs.loads.Loads.{Load, behind_document, document, end_of_document, last_load, load_then}
 use Rattle.libyaml_graphs.specs.loads.Bounds.{first_stop, if_above, if_wrong, list_sizes, one_above}
 use Rattle.libyaml_graphs.proofs.lent.BoundedLoader.{Within, all_begin_more, held_so_far, reaches}
-use Rattle.libyaml_graphs.proofs.lent.Building.{graph_sizes, list_grows, sizes, build_stands, BeginsEmpty, Built, Held}
-use Rattle.libyaml_graphs.proofs.lent.Building.{build}
+use Rattle.libyaml_graphs.proofs.lent.Building.{graph_sizes, list_grows, sizes, build_stands, BeginsEmpty, Built, Held, build}
 use Rattle.libyaml_graphs.proofs.lent.Building as built
 use Rattle.rust_original.specs.loader.Loader as orig
 use Rattle.rust_original.specs.loader.Loader.{FAIL, LoaderResult, OK, yaml_alias_data_t}
 use Rattle.rust_original.proofs.loads.Halves.{AllSound, halves}
 use Rattle.rust_original.proofs.loads.Steps.{Agrees, Follows, event_follows, halves_length, load_event, there}
-use Rattle.rust_original.proofs.loads.Bound.{event_limited, full_there, guard_part, guarded, not_less, over_there}
-use Rattle.rust_original.proofs.loads.Bound.{part_full}
+use Rattle.rust_original.proofs.loads.Bound.{event_limited, full_there, guard_part, guarded, not_less, over_there, part_full}
 
 -- the events of a document, from one on
 module _ (n : ℕ) (o : Opening) (x : Ending) where

@@ -1,6 +1,5 @@
 -- The original's nodes beside ours: a mapping whose key waits has a pair without value there.
-use Rattle.std.proofs.Common.{◌≡◌, ◌∷◌, ◌++◌, ◌&&◌, ℕ, zero, suc, ℤ, pos, negsuc, List, [], Option, Some, None, Bool}
-use Rattle.std.proofs.Common.{true, false, not, refl, ap, ◌∙◌, if◌then◌else◌}
+use Rattle.std.proofs.Common.{◌≡◌, ◌∷◌, ◌++◌, ◌&&◌, ℕ, zero, suc, ℤ, pos, negsuc, List, [], Option, Some, None, Bool, true, false, not, refl, ap, ◌∙◌, if◌then◌else◌}
 use Rattle.libyaml_documents.specs.Nodes.{changed_at}
 use Rattle.libyaml_documents.specs.declared.node.unnamed_yaml_node_t_data.{unnamed_yaml_node_t_data}
 use Rattle.libyaml_documents.specs.declared.node.unnamed_yaml_node_t_data.TheVariants.{Scalar, Sequence, Mapping}

@@ -5,16 +5,12 @@ use Rattle.libyaml_documents.specs.declared.node.yaml_node_t.{yaml_node_t}
 use Rattle.libyaml_types.specs.Fault.{Fault}
 use Rattle.libyaml_grammar.specs.runs.Runs.{Ending, Ends, Fails}
 use Rattle.libyaml_grammar.specs.sentences.Events.{Event, document_end_at, end_at as end_event, event, stream_end_at}
-use Rattle.libyaml_grammar.specs.sentences.Nesting.{HasBegun, HasPairs, IsNested, IsOpenDocument, Texts, TextsHavePairs}
-use Rattle.libyaml_grammar.specs.sentences.Nesting.{Value, Values, alias_value, collection_value, first_value, no_texts}
-use Rattle.libyaml_grammar.specs.sentences.Nesting.{no_values, none_open, one_open, scalar_value, NestsSoFar, has_begun}
-use Rattle.libyaml_grammar.specs.sentences.Nesting.{not_begun, text_behind, texts_events, whole, value_events}
-use Rattle.libyaml_grammar.specs.sentences.Nesting.{values_events}
+use Rattle.libyaml_grammar.specs.sentences.Nesting.{HasBegun, HasPairs, IsNested, IsOpenDocument, Texts, TextsHavePairs, Value, Values, alias_value, collection_value, first_value, no_texts, no_values, none_open, one_open, scalar_value, NestsSoFar, has_begun, not_begun, text_behind, texts_events}
+use Rattle.libyaml_grammar.specs.sentences.Nesting.{whole, value_events, values_events}
 use Rattle.libyaml_grammar.specs.sentences.Tokens.{Mark}
 use Rattle.libyaml_grammar.specs.sentences.Trees.{mapping, sequence}
 use Rattle.libyaml_graphs.specs.graphs.GraphParts.{Closing, Opening, graph, parts}
-use Rattle.libyaml_graphs.specs.loads.Loads.{Load, begun_behind, behind_document, end_of_document, last_load, load_then}
-use Rattle.libyaml_graphs.specs.loads.Loads.{loads_by}
+use Rattle.libyaml_graphs.specs.loads.Loads.{Load, begun_behind, behind_document, end_of_document, last_load, load_then, loads_by}
 use Rattle.libyaml_graphs.specs.loads.Bounds.{bounded_loads, first_stop}
 use Rattle.libyaml_graphs.proofs.lent.BoundedLoader.{within_unbuilt}
 use Rattle.libyaml_graphs.proofs.lent.Building.{front_closes, value_behind, unbuilt}

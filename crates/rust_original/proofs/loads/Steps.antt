@@ -1,7 +1,6 @@
 -- What an event does to the original's loader, without the bound.
 use Rattle.std.specs.Prelude.{bytes_eq}
-use Rattle.std.proofs.Common.{◌≡◌, ◌∷◌, ◌++◌, ℕ, suc, List, [], length, Option, Some, None, Bool, true, false, refl}
-use Rattle.std.proofs.Common.{sym, ap, ◌∙◌, subst, codes, if◌then◌else◌, cond}
+use Rattle.std.proofs.Common.{◌≡◌, ◌∷◌, ◌++◌, ℕ, suc, List, [], length, Option, Some, None, Bool, true, false, refl, sym, ap, ◌∙◌, subst, codes, if◌then◌else◌, cond}
 use Rattle.std.specs.Cmp.Lexicographic as lex
 use Rattle.libyaml_types.specs.declared.event.unnamed_yaml_event_t_data.{unnamed_yaml_event_t_data}
 use Rattle.libyaml_types.specs.declared.event.unnamed_yaml_event_t_data.TheVariants as ev
@@ -16,8 +15,7 @@ use Rattle.libyaml_graphs.specs.graphs.Graphs.{Carrier, Start, carrier, carries,
 use Rattle.libyaml_graphs.proofs.lent.Building.{Built, Held, bare, build, hold_top}
 use Rattle.rust_original.specs.loader.Loader as orig
 use Rattle.rust_original.specs.loader.Loader.{FAIL, LoaderResult, OK, alias_of, yaml_alias_data_t}
-use Rattle.rust_original.proofs.loads.Halves.{AllSound, Sound, end_sound, ended_there, half, halves, held_there}
-use Rattle.rust_original.proofs.loads.Halves.{hold_sound}
+use Rattle.rust_original.proofs.loads.Halves.{AllSound, Sound, end_sound, ended_there, half, halves, held_there, hold_sound}
 
 -- what the original's loader is, where this much is built
 abbrev pub ids : List ℕ → List ℕ

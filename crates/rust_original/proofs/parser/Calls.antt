@@ -13,9 +13,7 @@ use Rattle.rust_original.specs.parser.Parser.{Mends, OK, Outcome, Parser, yaml_p
 use Rattle.rust_original.specs.parser.Runs.{as_here, call}
 use Rattle.rust_original.proofs.parser.Documents as documents
 use Rattle.rust_original.proofs.parser.States as states
-use Rattle.rust_original.proofs.parser.Relation.{Agree, Below, Fits, IsInside, Matches, Opens, Stands, before}
-use Rattle.rust_original.proofs.parser.Relation.{behind, behind_end, entering, feed, first, inside, over, root_end}
-use Rattle.rust_original.proofs.parser.Relation.{there_with, tokens_of}
+use Rattle.rust_original.proofs.parser.Relation.{Agree, Below, Fits, IsInside, Matches, Opens, Stands, before, behind, behind_end, entering, feed, first, inside, over, root_end, there_with, tokens_of}
 
 module _ (f : Fault) (x : Fault) (ss : List yaml_parser_state_t) where
   abbrev conf : yaml_parser_state_t → List Mark → Handles → Bool → Config

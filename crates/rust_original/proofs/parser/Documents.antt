@@ -1,6 +1,5 @@
 -- Between documents, both parsers do the same.
-use Rattle.std.proofs.Common.{◌≡◌, ◌∷◌, ◌++◌, ◌||◌, ◌&&◌, ℕ, pos, List, [], Option, Some, None, Bool, true, false, not}
-use Rattle.std.proofs.Common.{refl, sym, subst, codes, if◌then◌else◌, is_some}
+use Rattle.std.proofs.Common.{◌≡◌, ◌∷◌, ◌++◌, ◌||◌, ◌&&◌, ℕ, pos, List, [], Option, Some, None, Bool, true, false, not, refl, sym, subst, codes, if◌then◌else◌, is_some}
 use Rattle.std.specs.FinMap.{get, insert}
 use Rattle.std.specs.Ordering.{int_eq}
 use Rattle.libyaml_types.specs.declared.directive.yaml_tag_directive_t.{yaml_tag_directive_t}
@@ -9,8 +8,7 @@ use Rattle.libyaml_types.specs.declared.enums.yaml_parser_state_t.{yaml_parser_s
 use Rattle.libyaml_types.specs.declared.enums.yaml_parser_state_t.TheVariants as st
 use Rattle.libyaml_types.specs.Fault.{Fault}
 use Rattle.libyaml_grammar.specs.cuts.FaultTexts.{document_start_fault}
-use Rattle.libyaml_grammar.specs.sentences.Tokens.{Content, DocumentEnd, DocumentStart, HandleDeclared, Mark, StreamEnd}
-use Rattle.libyaml_grammar.specs.sentences.Tokens.{StreamStart, TagDirective, Token, VersionAsked, VersionDirective}
+use Rattle.libyaml_grammar.specs.sentences.Tokens.{Content, DocumentEnd, DocumentStart, HandleDeclared, Mark, StreamEnd, StreamStart, TagDirective, Token, VersionAsked, VersionDirective}
 use Rattle.libyaml_automaton.specs.Automaton as automaton
 use Rattle.libyaml_events.specs.machine.Config.{Config, Handles, config_of, no_handles}
 use Rattle.libyaml_events.specs.machine.Machine.{Progressed, put, seen}
@@ -19,8 +17,7 @@ use Rattle.rust_original.specs.parser.Parser as orig
 use Rattle.rust_original.specs.parser.Parser.{Outcome, Parser, default_tag_directives, directive_of, directives_from}
 use Rattle.rust_original.specs.parser.Runs.{as_here}
 use Rattle.rust_original.proofs.parser.Handles.{Reads, agree, declares, defaults_appended, none_declared, reads_more}
-use Rattle.rust_original.proofs.parser.Relation.{standing, Matches, fed, feed, first, inside, is_document_end, over}
-use Rattle.rust_original.proofs.parser.Relation.{stopped, there, tk}
+use Rattle.rust_original.proofs.parser.Relation.{standing, Matches, fed, feed, first, inside, is_document_end, over, stopped, there, tk}
 
 module _ (f : Fault) (x : Fault) (ss : List yaml_parser_state_t) (ms : List Mark) where
   abbrev pub here : yaml_parser_state_t → Bool → Handles → Config

@@ -1,7 +1,6 @@
 -- A list of tag directives gives each handle the prefix that the map of handles gives.
 use Rattle.std.specs.Prelude.{bytes_eq}
-use Rattle.std.proofs.Common.{◌≡◌, ◌∷◌, ◌++◌, ℕ, List, [], Option, Some, None, Bool, true, false, cond, codes, refl}
-use Rattle.std.proofs.Common.{sym, ap, ◌∙◌, subst}
+use Rattle.std.proofs.Common.{◌≡◌, ◌∷◌, ◌++◌, ℕ, List, [], Option, Some, None, Bool, true, false, cond, codes, refl, sym, ap, ◌∙◌, subst}
 use Rattle.std.specs.Cmp.Lexicographic.{texts_ties, nat_list_eq_equiv, nat_list_cmp_total}
 use Rattle.std.specs.Cmp.Lexicographic as lex
 use Rattle.std.specs.FinMap.{get, insert, get-from_entries}
@@ -10,8 +9,7 @@ use Rattle.libyaml_grammar.specs.sentences.Tokens.{Mark}
 use Rattle.libyaml_grammar.proofs.lent.TextMaps.{inserted}
 use Rattle.libyaml_events.specs.machine.Config.{Handles, no_handles}
 use Rattle.libyaml_events.specs.machine.Machine.{or_default}
-use Rattle.rust_original.specs.parser.Parser.{Outcome, Parser, default_tag_directives, directive_of}
-use Rattle.rust_original.specs.parser.Parser.{yaml_parser_append_tag_directive}
+use Rattle.rust_original.specs.parser.Parser.{Outcome, Parser, default_tag_directives, directive_of, yaml_parser_append_tag_directive}
 use Rattle.rust_original.proofs.parser.Relation.{Agree}
 
 -- before the defaults

@@ -1,6 +1,5 @@
 -- Where a node is due, both parsers do the same.
-use Rattle.std.proofs.Common.{◌≡◌, ◌∷◌, ◌∙◌, ℕ, List, [], Option, Some, None, Bool, true, false, refl, sym, ap, subst, codes}
-use Rattle.std.proofs.Common.{if◌then◌else◌, is_some}
+use Rattle.std.proofs.Common.{◌≡◌, ◌∷◌, ◌∙◌, ℕ, List, [], Option, Some, None, Bool, true, false, refl, sym, ap, subst, codes, if◌then◌else◌, is_some}
 use Rattle.std.specs.FinMap.{get}
 use Rattle.libyaml_types.specs.Events.{zero_mark}
 use Rattle.libyaml_types.specs.Types.{token_type}
@@ -11,9 +10,7 @@ use Rattle.libyaml_types.specs.declared.enums.yaml_scalar_style_t.TheVariants.{Y
 use Rattle.libyaml_types.specs.Fault.{Fault}
 use Rattle.libyaml_grammar.specs.cuts.FaultTexts.{content_fault, parser_fault_in}
 use Rattle.libyaml_grammar.specs.sentences.Events.{event, is_missing}
-use Rattle.libyaml_grammar.specs.sentences.Tokens.{Alias, Anchor, AnchorName, BlockEntry, BlockMappingStart}
-use Rattle.libyaml_grammar.specs.sentences.Tokens.{BlockSequenceStart, Content, FlowMappingStart, FlowSequenceStart}
-use Rattle.libyaml_grammar.specs.sentences.Tokens.{Mark, Scalar, ScalarText, Tag, TagName, Token}
+use Rattle.libyaml_grammar.specs.sentences.Tokens.{Alias, Anchor, AnchorName, BlockEntry, BlockMappingStart, BlockSequenceStart, Content, FlowMappingStart, FlowSequenceStart, Mark, Scalar, ScalarText, Tag, TagName, Token}
 use Rattle.libyaml_automaton.specs.declared.node_place.NodePlace.{NodePlace}
 use Rattle.libyaml_automaton.specs.declared.node_place.NodePlace.TheVariants.{Block, BlockOrIndentlessSequence, Flow}
 use Rattle.libyaml_automaton.specs.Automaton as automaton
@@ -24,8 +21,7 @@ use Rattle.libyaml_events.specs.machine.Machine.{Progressed, fault_with, or_defa
 use Rattle.libyaml_events.specs.machine.Want.{Texts, no_texts}
 use Rattle.rust_original.specs.parser.Parser as orig
 use Rattle.rust_original.specs.parser.Parser.{OK, Outcome, Parser, WrittenTag, prefixed, set_state}
-use Rattle.rust_original.proofs.parser.Relation.{standing, Agree, Below, Fits, IsFresh, Matches, entering, fed}
-use Rattle.rust_original.proofs.parser.Relation.{inside, popped_fits, popped_fresh, there, tk}
+use Rattle.rust_original.proofs.parser.Relation.{standing, Agree, Below, Fits, IsFresh, Matches, entering, fed, inside, popped_fits, popped_fresh, there, tk}
 
 abbrev pub written_text : Option TagName → Option (List ℕ)
 written_text None = None

@@ -6,9 +6,7 @@ use Rattle.libyaml_types.specs.declared.enums.yaml_parser_state_t.TheVariants as
 use Rattle.libyaml_types.specs.declared.enums.yaml_token_type_t.TheVariants as ty
 use Rattle.libyaml_types.specs.Fault.{Fault}
 use Rattle.libyaml_grammar.specs.sentences.Sentences.{is_end}
-use Rattle.libyaml_grammar.specs.sentences.Tokens.{BlockEnd, BlockEntry, Content, DocumentEnd, DocumentStart, FlowEntry}
-use Rattle.libyaml_grammar.specs.sentences.Tokens.{FlowMappingEnd, FlowSequenceEnd, Key, Mark, StreamEnd, TagDirective}
-use Rattle.libyaml_grammar.specs.sentences.Tokens.{Token, Value, VersionDirective}
+use Rattle.libyaml_grammar.specs.sentences.Tokens.{BlockEnd, BlockEntry, Content, DocumentEnd, DocumentStart, FlowEntry, FlowMappingEnd, FlowSequenceEnd, Key, Mark, StreamEnd, TagDirective, Token, Value, VersionDirective}
 use Rattle.libyaml_automaton.specs.declared.node_place.NodePlace.TheVariants.{Block, BlockOrIndentlessSequence, Flow}
 use Rattle.libyaml_automaton.specs.Automaton as automaton
 use Rattle.libyaml_events.specs.machine.Config.{Config, Handles}
@@ -17,8 +15,7 @@ use Rattle.rust_original.specs.parser.Parser as orig
 use Rattle.rust_original.specs.parser.Parser.{Parser, is_one_of}
 use Rattle.rust_original.specs.parser.Runs.{as_here}
 use Rattle.rust_original.proofs.parser.Nodes.{parsed}
-use Rattle.rust_original.proofs.parser.Relation.{Agree, Below, Matches, standing, behind as behind_document, behind_end, feed}
-use Rattle.rust_original.proofs.parser.Relation.{inside, popped_fits, popped_fresh, there, tk}
+use Rattle.rust_original.proofs.parser.Relation.{Agree, Below, Matches, standing, behind as behind_document, behind_end, feed, inside, popped_fits, popped_fresh, there, tk}
 
 -- a token is wanted for this, and no text is held
 abbrev behind : automaton.Want → Want

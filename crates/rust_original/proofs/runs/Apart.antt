@@ -1,6 +1,5 @@
 -- A call does the same there and here but at the three places.
-use Rattle.std.proofs.Common.{◌≡◌, ◌∷◌, ◌⊎◌, ◌||◌, if◌then◌else◌, inl, inr, List, [], None, Bool, true, false, refl}
-use Rattle.std.proofs.Common.{sym, ap, ◌∙◌, subst, codes}
+use Rattle.std.proofs.Common.{◌≡◌, ◌∷◌, ◌⊎◌, ◌||◌, if◌then◌else◌, inl, inr, List, [], None, Bool, true, false, refl, sym, ap, ◌∙◌, subst, codes}
 use Rattle.libyaml_types.specs.declared.enums.yaml_parser_state_t.{yaml_parser_state_t}
 use Rattle.libyaml_types.specs.declared.enums.yaml_parser_state_t.TheVariants as st
 use Rattle.libyaml_types.specs.declared.enums.yaml_token_type_t.TheVariants as ty
@@ -9,16 +8,11 @@ use Rattle.libyaml_types.specs.Fault.{Fault, no_fault}
 use Rattle.libyaml_grammar.specs.cuts.FaultTexts.{parser_fault}
 use Rattle.libyaml_grammar.specs.runs.Runs.{Ending, Ends, Fails}
 use Rattle.libyaml_grammar.specs.sentences.Events.{Event}
-use Rattle.libyaml_grammar.specs.sentences.Tokens.{Content, DocumentEnd, DocumentStart, FlowEntry, FlowSequenceEnd}
-use Rattle.libyaml_grammar.specs.sentences.Tokens.{Mark, StreamEnd, TagDirective, Token, Value, VersionDirective}
+use Rattle.libyaml_grammar.specs.sentences.Tokens.{Content, DocumentEnd, DocumentStart, FlowEntry, FlowSequenceEnd, Mark, StreamEnd, TagDirective, Token, Value, VersionDirective}
 use Rattle.rust_original.specs.parser.Parser as orig
-use Rattle.rust_original.specs.parser.Parser.{FAIL, Mends, OK, Outcome, Parser, SKIP_TOKEN, behind_directives}
-use Rattle.rust_original.specs.parser.Parser.{implicit_document, is_one_of, skip_document_ends, yaml_parser_parse}
-use Rattle.rust_original.specs.parser.Parser.{yaml_parser_state_machine}
+use Rattle.rust_original.specs.parser.Parser.{FAIL, Mends, OK, Outcome, Parser, SKIP_TOKEN, behind_directives, implicit_document, is_one_of, skip_document_ends, yaml_parser_parse, yaml_parser_state_machine}
 use Rattle.rust_original.specs.parser.Runs.{Runs, as_here, as_there, ends, fails, goes_on}
-use Rattle.rust_original.specs.parser.Differences.{Compares, Differs, bare_document, behind_entry, behind_start}
-use Rattle.rust_original.specs.parser.Differences.{by_call, call_here, call_there, here, pair_key, parts, same}
-use Rattle.rust_original.specs.parser.Differences.{value_first}
+use Rattle.rust_original.specs.parser.Differences.{Compares, Differs, bare_document, behind_entry, behind_start, by_call, call_here, call_there, here, pair_key, parts, same, value_first}
 use Rattle.rust_original.proofs.parser.Handles.{defaults_appended}
 use Rattle.libyaml_events.specs.machine.Config.{is_end_state, is_fault}
 use Rattle.rust_original.proofs.parser.Relation.{tk}

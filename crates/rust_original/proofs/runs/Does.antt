@@ -1,6 +1,5 @@
 -- What our machine does in a call, of a list that it is handed token by token and then a fault.
-use Rattle.std.proofs.Common.{◌≡◌, ◌∷◌, ◌++◌, List, [], Option, Some, None, Ok, Err, false, append-nil, append_assoc}
-use Rattle.std.proofs.Common.{refl, sym, subst, ◌∙◌}
+use Rattle.std.proofs.Common.{◌≡◌, ◌∷◌, ◌++◌, List, [], Option, Some, None, Ok, Err, false, append-nil, append_assoc, refl, sym, subst, ◌∙◌}
 use Rattle.libyaml_types.specs.Fault.{Fault}
 use Rattle.libyaml_grammar.specs.runs.Runs.{Fails, IsRun}
 use Rattle.libyaml_grammar.specs.sentences.Events.{Event}

@@ -1,7 +1,5 @@
 -- Over every list there is a run: with each call a number falls.
-use Rattle.std.proofs.Common.{◌≡◌, ◌≤◌, ◌<◌, ◌+◌, ◌*◌, ◌∷◌, ◌++◌, ◌⊎◌, ◌||◌, ℕ, zero, suc, arith, inl, inr, List, []}
-use Rattle.std.proofs.Common.{length, Option, Some, None, Bool, true, false, Ok, refl, sym, ap, ◌∙◌, subst}
-use Rattle.std.proofs.Common.{append-nil, append_assoc}
+use Rattle.std.proofs.Common.{◌≡◌, ◌≤◌, ◌<◌, ◌+◌, ◌*◌, ◌∷◌, ◌++◌, ◌⊎◌, ◌||◌, ℕ, zero, suc, arith, inl, inr, List, [], length, Option, Some, None, Bool, true, false, Ok, refl, sym, ap, ◌∙◌, subst, append-nil, append_assoc}
 use Rattle.std.proofs.lemmas.List.{length-append}
 use Rattle.libyaml_types.specs.declared.directive.yaml_tag_directive_t.{yaml_tag_directive_t}
 use Rattle.libyaml_types.specs.declared.enums.yaml_parser_state_t.{yaml_parser_state_t}
@@ -13,8 +11,7 @@ use Rattle.libyaml_grammar.specs.runs.Runs.{Ending, Ends, Fails, IsRun}
 use Rattle.libyaml_grammar.specs.sentences.Events.{Event, event}
 use Rattle.libyaml_grammar.specs.sentences.Nesting.{NestsSoFar}
 use Rattle.libyaml_grammar.specs.sentences.Tokens.{Content, Mark, Scalar, StreamEnd, Token}
-use Rattle.libyaml_events.specs.machine.Config.{Config, Handles, ended_or_failed, is_end_state, is_fault, start}
-use Rattle.libyaml_events.specs.machine.Config.{taken}
+use Rattle.libyaml_events.specs.machine.Config.{Config, Handles, ended_or_failed, is_end_state, is_fault, start, taken}
 use Rattle.libyaml_events.specs.machine.Machine.{step}
 use Rattle.libyaml_events.specs.machine.Want.{AtState, Given}
 use Rattle.libyaml_events.specs.sources.History.{is_stream_end}
@@ -23,13 +20,10 @@ use Rattle.libyaml_events.specs.sources.Pushed as pushed
 use Rattle.libyaml_events.proofs.lent.Pushes.{fed_count, fed_ended, fed_nests, fed_whole, gives_end, hand_runs, none_kept}
 use Rattle.libyaml_events.proofs.lent.RunStops.{whole_run}
 use Rattle.rust_original.specs.parser.Differences.{Differs, bare_document, call_here, pair_key, value_first}
-use Rattle.rust_original.specs.parser.Parser.{FAIL, Mends, OK, Outcome, Parser, SKIP_TOKEN, is_one_of, scalar_event}
-use Rattle.rust_original.specs.parser.Parser.{set_state}
+use Rattle.rust_original.specs.parser.Parser.{FAIL, Mends, OK, Outcome, Parser, SKIP_TOKEN, is_one_of, scalar_event, set_state}
 use Rattle.rust_original.specs.parser.Runs.{Runs, call, ends, fails, goes_on, new_parser}
 use Rattle.rust_original.proofs.parser.Calls.{call_same, flagged}
-use Rattle.rust_original.proofs.parser.Relation.{standing, Agree, Below, Fits, HereCall, IsFresh, Matches}
-use Rattle.rust_original.proofs.parser.Relation.{Opens, Stands, before, behind, behind_end, entering, first, inside, over}
-use Rattle.rust_original.proofs.parser.Relation.{root_end, there, there_with, tk, tokens_of}
+use Rattle.rust_original.proofs.parser.Relation.{standing, Agree, Below, Fits, HereCall, IsFresh, Matches, Opens, Stands, before, behind, behind_end, entering, first, inside, over, root_end, there, there_with, tk, tokens_of}
 use Rattle.rust_original.proofs.runs.Does as does
 use Rattle.rust_original.proofs.runs.Does.{Does}
 use Rattle.rust_original.proofs.runs.Ended.{NoEnd}

@@ -4,15 +4,13 @@
 -- Memory is left out, and the bound on lists is a number: STACK_LIMIT there is met where a list has
 -- 2147483646 entries. Where the Rust asserts what always holds (the kinds of events and parents, an open
 -- collection at its end), or is called after a fault, the outcome here is any.
-use Rattle.std.specs.Prelude.{◌∷◌, ◌++◌, ◌&&◌, ℕ, zero, suc, ℤ, pos, List, [], nat_lt, length, codes, bytes_eq}
-use Rattle.std.specs.Prelude.{Option, Some, None, Bool, true, false, not, Ok, Err, if◌then◌else◌}
+use Rattle.std.specs.Prelude.{◌∷◌, ◌++◌, ◌&&◌, ℕ, zero, suc, ℤ, pos, List, [], nat_lt, length, codes, bytes_eq, Option, Some, None, Bool, true, false, not, Ok, Err, if◌then◌else◌}
 use Rattle.libyaml_types.specs.declared.enums.yaml_error_type_t.TheVariants.{YAML_COMPOSER_ERROR}
 use Rattle.libyaml_types.specs.declared.event.unnamed_yaml_event_t_data.TheVariants as ev
 use Rattle.libyaml_documents.specs.Documents.{empty_document}
 use Rattle.libyaml_documents.specs.Nodes.{changed_at}
 use Rattle.libyaml_documents.specs.declared.node.unnamed_yaml_node_t_data.{unnamed_yaml_node_t_data}
-use Rattle.libyaml_documents.specs.declared.node.unnamed_yaml_node_t_data.TheVariants.{Scalar, Sequence}
-use Rattle.libyaml_documents.specs.declared.node.unnamed_yaml_node_t_data.TheVariants.{Mapping}
+use Rattle.libyaml_documents.specs.declared.node.unnamed_yaml_node_t_data.TheVariants.{Scalar, Sequence, Mapping}
 use Rattle.libyaml_documents.specs.declared.node.yaml_node_t.{yaml_node_t}
 use Rattle.libyaml_documents.specs.declared.pairs.yaml_node_pair_t.{yaml_node_pair_t}
 use Rattle.libyaml_types.specs.Fault.{Fault, memory_fault, no_fault}

@@ -9,9 +9,7 @@ use Rattle.libyaml_grammar.specs.runs.Runs.{Ending}
 use Rattle.libyaml_grammar.specs.sentences.Events.{Event}
 use Rattle.libyaml_grammar.specs.sentences.Tokens.{Token}
 use Rattle.libyaml_events.specs.machine.Config.{top_mark}
-use Rattle.rust_original.specs.parser.Parser.{FAIL, OK, Outcome, PUSH_mark, Parser, SKIP_TOKEN}
-use Rattle.rust_original.specs.parser.Parser.{implicit_document, is_one_of, set_state, skip_document_ends}
-use Rattle.rust_original.specs.parser.Parser.{yaml_parser_process_empty_scalar}
+use Rattle.rust_original.specs.parser.Parser.{FAIL, OK, Outcome, PUSH_mark, Parser, SKIP_TOKEN, implicit_document, is_one_of, set_state, skip_document_ends, yaml_parser_process_empty_scalar}
 use Rattle.rust_original.specs.parser.Runs.{Runs, as_here, as_there, call}
 
 abbrev pub call_there : Parser → Outcome

@@ -1,6 +1,5 @@
 -- Whole runs of the Rust crate's parser over a list of tokens: its events, and how it ends.
-use Rattle.std.specs.Prelude.{◌≡◌, ◌∷◌, ◌+◌, ◌*◌, ℕ, zero, suc, List, [], length, map}
-use Rattle.std.specs.Prelude.{Option, Some, None, true, false}
+use Rattle.std.specs.Prelude.{◌≡◌, ◌∷◌, ◌+◌, ◌*◌, ℕ, zero, suc, List, [], length, map, Option, Some, None, true, false}
 use Rattle.libyaml_types.specs.declared.enums.yaml_parser_state_t.TheVariants as st
 use Rattle.libyaml_types.specs.Fault.{Fault, no_fault}
 use Rattle.libyaml_grammar.specs.sentences.Events.{Event}

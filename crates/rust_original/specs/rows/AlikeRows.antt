@@ -2,19 +2,11 @@
 -- Notation.
 use Rattle.std.specs.Prelude.{◌≡◌, ◌∷◌, List, [], codes, Err}
 use Rattle.libyaml_types.specs.declared.event.unnamed_yaml_event_t_data.TheVariants as ev
-use Rattle.libyaml_types.specs.declared.token.unnamed_yaml_token_t_data.TheVariants.{BlockEnd, BlockEntry}
-use Rattle.libyaml_types.specs.declared.token.unnamed_yaml_token_t_data.TheVariants.{BlockMappingStart}
-use Rattle.libyaml_types.specs.declared.token.unnamed_yaml_token_t_data.TheVariants.{BlockSequenceStart}
-use Rattle.libyaml_types.specs.declared.token.unnamed_yaml_token_t_data.TheVariants.{FlowEntry}
-use Rattle.libyaml_types.specs.declared.token.unnamed_yaml_token_t_data.TheVariants.{FlowSequenceEnd}
-use Rattle.libyaml_types.specs.declared.token.unnamed_yaml_token_t_data.TheVariants.{FlowSequenceStart, Key}
-use Rattle.libyaml_types.specs.declared.token.unnamed_yaml_token_t_data.TheVariants.{StreamEnd}
-use Rattle.libyaml_grammar.specs.rows.RowNotation.{SCALAR, STREAM, at, flow_mapping, flow_sequence, list, mapping}
-use Rattle.libyaml_grammar.specs.rows.RowNotation.{nothing, sequence, text}
+use Rattle.libyaml_types.specs.declared.token.unnamed_yaml_token_t_data.TheVariants.{BlockEnd, BlockEntry, BlockMappingStart, BlockSequenceStart, FlowEntry, FlowSequenceEnd, FlowSequenceStart, Key, StreamEnd}
+use Rattle.libyaml_grammar.specs.rows.RowNotation.{SCALAR, STREAM, at, flow_mapping, flow_sequence, list, mapping, nothing, sequence, text}
 use Rattle.libyaml_grammar.specs.sentences.Tokens.{Token}
 use Rattle.libyaml_graphs.specs.rows.LoadRows.{implicit, no_memory, no_root, pair}
-use Rattle.rust_original.specs.rows.Notation.{alike, block_map, block_seq, broken_run, flow_seq}
-use Rattle.rust_original.specs.rows.Notation.{loads_within, no_flow_content, row_node, parse, plain, run_to, str}
+use Rattle.rust_original.specs.rows.Notation.{alike, block_map, block_seq, broken_run, flow_seq, loads_within, no_flow_content, row_node, parse, plain, run_to, str}
 
 -- A sequence without indentation ends where the next token begins.
 abbrev pub RowIndentlessSequenceAlike : Type 0

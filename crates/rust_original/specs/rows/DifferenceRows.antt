@@ -2,20 +2,10 @@
 -- notation of Notation.
 use Rattle.std.specs.Prelude.{◌≡◌, ◌∷◌, [], None, true, false, codes, Err}
 use Rattle.libyaml_types.specs.declared.event.unnamed_yaml_event_t_data.TheVariants as ev
-use Rattle.libyaml_types.specs.declared.token.unnamed_yaml_token_t_data.TheVariants.{BlockEnd}
-use Rattle.libyaml_types.specs.declared.token.unnamed_yaml_token_t_data.TheVariants.{BlockMappingStart}
-use Rattle.libyaml_types.specs.declared.token.unnamed_yaml_token_t_data.TheVariants.{DocumentEnd}
-use Rattle.libyaml_types.specs.declared.token.unnamed_yaml_token_t_data.TheVariants.{DocumentStart, FlowEntry}
-use Rattle.libyaml_types.specs.declared.token.unnamed_yaml_token_t_data.TheVariants.{FlowSequenceEnd}
-use Rattle.libyaml_types.specs.declared.token.unnamed_yaml_token_t_data.TheVariants.{FlowSequenceStart, Key}
-use Rattle.libyaml_types.specs.declared.token.unnamed_yaml_token_t_data.TheVariants.{StreamEnd, Value}
-use Rattle.libyaml_grammar.specs.rows.RowNotation.{SCALAR, STREAM, TAG, at, bare_document, explicit_end}
-use Rattle.libyaml_grammar.specs.rows.RowNotation.{flow_mapping, flow_sequence, headed_document, list}
-use Rattle.libyaml_grammar.specs.rows.RowNotation.{mapping, no_document_end, nothing, stream, text}
+use Rattle.libyaml_types.specs.declared.token.unnamed_yaml_token_t_data.TheVariants.{BlockEnd, BlockMappingStart, DocumentEnd, DocumentStart, FlowEntry, FlowSequenceEnd, FlowSequenceStart, Key, StreamEnd, Value}
+use Rattle.libyaml_grammar.specs.rows.RowNotation.{SCALAR, STREAM, TAG, at, bare_document, explicit_end, flow_mapping, flow_sequence, headed_document, list, mapping, no_document_end, nothing, stream, text}
 use Rattle.libyaml_graphs.specs.rows.LoadRows.{implicit, loaded, no_root, pair}
-use Rattle.rust_original.specs.rows.Notation.{broken_run, fails, flow_map, flow_seq, no_block_content}
-use Rattle.rust_original.specs.rows.Notation.{no_document_start, no_flow_content, no_key, no_separator}
-use Rattle.rust_original.specs.rows.Notation.{row_node, parse, plain, run_to, str, undefined_handle}
+use Rattle.rust_original.specs.rows.Notation.{broken_run, fails, flow_map, flow_seq, no_block_content, no_document_start, no_flow_content, no_key, no_separator, row_node, parse, plain, run_to, str, undefined_handle}
 
 -- the KEY of a flow sequence's pair, and after it a token that begins no node
 

@@ -2,27 +2,14 @@
 -- their texts, in the notation of Notation.
 use Rattle.std.specs.Prelude.{◌≡◌, ◌∷◌, ◌++◌, List, [], None, Some, true, codes, take, Err}
 use Rattle.libyaml_types.specs.declared.event.unnamed_yaml_event_t_data.TheVariants as ev
-use Rattle.libyaml_types.specs.declared.token.unnamed_yaml_token_t_data.TheVariants.{BlockEnd, BlockEntry}
-use Rattle.libyaml_types.specs.declared.token.unnamed_yaml_token_t_data.TheVariants.{BlockMappingStart}
-use Rattle.libyaml_types.specs.declared.token.unnamed_yaml_token_t_data.TheVariants.{BlockSequenceStart}
-use Rattle.libyaml_types.specs.declared.token.unnamed_yaml_token_t_data.TheVariants.{FlowEntry}
-use Rattle.libyaml_types.specs.declared.token.unnamed_yaml_token_t_data.TheVariants.{FlowMappingEnd}
-use Rattle.libyaml_types.specs.declared.token.unnamed_yaml_token_t_data.TheVariants.{FlowMappingStart}
-use Rattle.libyaml_types.specs.declared.token.unnamed_yaml_token_t_data.TheVariants.{FlowSequenceEnd}
-use Rattle.libyaml_types.specs.declared.token.unnamed_yaml_token_t_data.TheVariants.{FlowSequenceStart, Key}
-use Rattle.libyaml_types.specs.declared.token.unnamed_yaml_token_t_data.TheVariants.{StreamEnd, Value}
+use Rattle.libyaml_types.specs.declared.token.unnamed_yaml_token_t_data.TheVariants.{BlockEnd, BlockEntry, BlockMappingStart, BlockSequenceStart, FlowEntry, FlowMappingEnd, FlowMappingStart, FlowSequenceEnd, FlowSequenceStart, Key, StreamEnd, Value}
 use Rattle.libyaml_documents.specs.declared.node.yaml_node_t.{yaml_node_t}
-use Rattle.libyaml_grammar.specs.rows.RowNotation.{ALIAS, ANCHOR, SCALAR, STREAM, STYLED, alias, bare_document}
-use Rattle.libyaml_grammar.specs.rows.RowNotation.{flow_mapping, flow_sequence, mapping, mapping_of}
-use Rattle.libyaml_grammar.specs.rows.RowNotation.{no_document_end, no_more, nothing, sequence, stream, text}
+use Rattle.libyaml_grammar.specs.rows.RowNotation.{ALIAS, ANCHOR, SCALAR, STREAM, STYLED, alias, bare_document, flow_mapping, flow_sequence, mapping, mapping_of, no_document_end, no_more, nothing, sequence, stream, text}
 use Rattle.libyaml_grammar.specs.sentences.Events.{Event}
 use Rattle.libyaml_grammar.specs.sentences.Tokens.{Token}
 use Rattle.libyaml_graphs.specs.rows.LoadRows.{no_root, pair}
 use Rattle.rust_original.specs.loader.LoadsThere.{LoadsThere}
-use Rattle.rust_original.specs.rows.Notation.{alike, block_map, block_seq, double, e, e_to, ends, fails}
-use Rattle.rust_original.specs.rows.Notation.{flow_map, flow_seq, folded, line, line_of, literal, mark, n}
-use Rattle.rust_original.specs.rows.Notation.{n_to, no_separator, parse, plain, single, str, styled, t}
-use Rattle.rust_original.specs.rows.Notation.{t_to, whole}
+use Rattle.rust_original.specs.rows.Notation.{alike, block_map, block_seq, double, e, e_to, ends, fails, flow_map, flow_seq, folded, line, line_of, literal, mark, n, n_to, no_separator, parse, plain, single, str, styled, t, t_to, whole}
 
 abbrev pub list_tokens : List Token
 list_tokens =

@@ -1,17 +1,10 @@
 -- Worked rows of texts with zero bytes: the run there, the run here, and the loads there, in the notation of Notation.
 use Rattle.std.specs.Prelude.{◌≡◌, ◌∷◌, ◌++◌, [], None, Some, true, false, codes, Err}
 use Rattle.libyaml_types.specs.declared.event.unnamed_yaml_event_t_data.TheVariants as ev
-use Rattle.libyaml_types.specs.declared.token.unnamed_yaml_token_t_data.TheVariants.{DocumentStart, FlowEntry}
-use Rattle.libyaml_types.specs.declared.token.unnamed_yaml_token_t_data.TheVariants.{FlowSequenceEnd}
-use Rattle.libyaml_types.specs.declared.token.unnamed_yaml_token_t_data.TheVariants.{FlowSequenceStart}
-use Rattle.libyaml_types.specs.declared.token.unnamed_yaml_token_t_data.TheVariants.{StreamEnd}
-use Rattle.libyaml_grammar.specs.rows.RowNotation.{ALIAS, ANCHOR, HANDLE, SCALAR, STREAM, TAG, alias, at}
-use Rattle.libyaml_grammar.specs.rows.RowNotation.{declaring, flow_sequence, headed_document, list}
-use Rattle.libyaml_grammar.specs.rows.RowNotation.{no_document_end, nothing, scalar, stream}
+use Rattle.libyaml_types.specs.declared.token.unnamed_yaml_token_t_data.TheVariants.{DocumentStart, FlowEntry, FlowSequenceEnd, FlowSequenceStart, StreamEnd}
+use Rattle.libyaml_grammar.specs.rows.RowNotation.{ALIAS, ANCHOR, HANDLE, SCALAR, STREAM, TAG, alias, at, declaring, flow_sequence, headed_document, list, no_document_end, nothing, scalar, stream}
 use Rattle.libyaml_graphs.specs.rows.LoadRows.{implicit, loaded, no_carrier, no_root, second_carrier}
-use Rattle.rust_original.specs.rows.Notation.{broken_run, ends, fails, flow_seq, row_node, parse, plain}
-use Rattle.rust_original.specs.rows.Notation.{run_to, second_handle, str, row_tagged, undefined_handle}
-use Rattle.rust_original.specs.rows.Notation.{zero_between}
+use Rattle.rust_original.specs.rows.Notation.{broken_run, ends, fails, flow_seq, row_node, parse, plain, run_to, second_handle, str, row_tagged, undefined_handle, zero_between}
 
 abbrev pub RowAliasWithAZeroByte : Type 0
 RowAliasWithAZeroByte = parse (list (STREAM ∷ ALIAS (zero_between (codes "a") (codes "b")) ∷ StreamEnd ∷

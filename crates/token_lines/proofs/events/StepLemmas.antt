@@ -1,6 +1,5 @@
 -- What the steps of a run write of a run of events that was to come.
-use Rattle.std.proofs.Common.{◌≡◌, ◌++◌, ℕ, List, [], ◌∷◌, Option, Bool, Ok, true, false, sym, ap, ◌∙◌, subst, inl}
-use Rattle.std.proofs.Common.{inr}
+use Rattle.std.proofs.Common.{◌≡◌, ◌++◌, ℕ, List, [], ◌∷◌, Option, Bool, Ok, true, false, sym, ap, ◌∙◌, subst, inl, inr}
 use Rattle.std.proofs.KnownBytes.{Appends-kept, Appends-trans}
 use Rattle.std.proofs.lemmas.List.{append-nil, map-append}
 use Rattle.std.specs.List.{concat}

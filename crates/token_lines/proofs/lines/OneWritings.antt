@@ -1,6 +1,5 @@
 -- Two outcomes of one `write_events` over any source wrote the same.
-use Rattle.std.proofs.Common.{◌≡◌, ◌⊎◌, inl, inr, ℕ, List, [], ◌∷◌, ◌++◌, Option, None, Some, Ok, refl, sym, ap, ◌∙◌}
-use Rattle.std.proofs.Common.{subst, append_assoc}
+use Rattle.std.proofs.Common.{◌≡◌, ◌⊎◌, inl, inr, ℕ, List, [], ◌∷◌, ◌++◌, Option, None, Some, Ok, refl, sym, ap, ◌∙◌, subst, append_assoc}
 use Rattle.std.proofs.KnownBytes.{Appends-trans}
 use Rattle.std.proofs.lemmas.List.{append-nil}
 use Rattle.std.specs.List.{concat}
@@ -13,8 +12,7 @@ use Rattle.libyaml_events.specs.sources.History.{History, answers, kept_fault}
 use Rattle.libyaml_events.specs.sources.Needs.{EachNeeded, EachWasNeeded}
 use Rattle.libyaml_events.specs.sources.Parsing.{CarriesOn, Cause, FailsBy, IsWhole, of_grammar, of_memory, of_source}
 use Rattle.libyaml_events.proofs.lent.OneOutcome.{front_same}
-use Rattle.libyaml_events.proofs.lent.RunStops.{RunStop, answers_both, ended_stop, grammar_stop, one_run_by_answers}
-use Rattle.libyaml_events.proofs.lent.RunStops.{source_stop}
+use Rattle.libyaml_events.proofs.lent.RunStops.{RunStop, answers_both, ended_stop, grammar_stop, one_run_by_answers, source_stop}
 use Rattle.libyaml_events.proofs.lent.Histories as histories
 use Rattle.libyaml_grammar.specs.runs.Runs.{Ending, Ends, Fails}
 use Rattle.libyaml_grammar.proofs.lent.Same.{fault_same}

@@ -1,6 +1,5 @@
 -- That reading a field of a line undoes writing it.
-use Rattle.std.proofs.Common.{◌≡◌, ◌<◌, ◌&&◌, ℕ, List, [], ◌∷◌, All, get_or, Bool, true, Some, None, ltb, refl, ap, ◌∙◌}
-use Rattle.std.proofs.Common.{if◌then◌else◌}
+use Rattle.std.proofs.Common.{◌≡◌, ◌<◌, ◌&&◌, ℕ, List, [], ◌∷◌, All, get_or, Bool, true, Some, None, ltb, refl, ap, ◌∙◌, if◌then◌else◌}
 use Rattle.std.specs.List.{flat_map, list_all}
 use Rattle.std.specs.Str.{is_utf8}
 use Rattle.std.proofs.lemmas.Bool.{agree_below, agree_below_at, ltb-true}

@@ -1,6 +1,5 @@
 -- Two outcomes of one `write_nodes` over any source wrote the same.
-use Rattle.std.proofs.Common.{◌≡◌, ◌⊎◌, inl, inr, ℕ, List, [], ◌∷◌, ◌++◌, map, Option, None, Some, Ok, Err, false, refl}
-use Rattle.std.proofs.Common.{sym, ap, ◌∙◌, subst, append_assoc}
+use Rattle.std.proofs.Common.{◌≡◌, ◌⊎◌, inl, inr, ℕ, List, [], ◌∷◌, ◌++◌, map, Option, None, Some, Ok, Err, false, refl, sym, ap, ◌∙◌, subst, append_assoc}
 use Rattle.std.proofs.KnownBytes.{Appends-kept, Appends-trans}
 use Rattle.std.proofs.lemmas.List.{append-nil}
 use Rattle.std.specs.List.{concat, flat_map}
@@ -15,13 +14,11 @@ use Rattle.libyaml_events.specs.sources.History.{History, answers, kept_fault}
 use Rattle.libyaml_events.specs.sources.Needs.{EachNeeded, EachWasNeeded}
 use Rattle.libyaml_events.specs.sources.Parsing.{Cause, FailsBy, IsWhole, of_grammar, of_memory, of_source}
 use Rattle.libyaml_events.proofs.lent.OneOutcome.{front_same}
-use Rattle.libyaml_events.proofs.lent.RunStops.{RunStop, answers_both, begins_stopped, ended_stop, grammar_stop}
-use Rattle.libyaml_events.proofs.lent.RunStops.{one_run_by_answers, source_stop, taken_comparable}
+use Rattle.libyaml_events.proofs.lent.RunStops.{RunStop, answers_both, begins_stopped, ended_stop, grammar_stop, one_run_by_answers, source_stop, taken_comparable}
 use Rattle.libyaml_events.proofs.lent.Histories as histories
 use Rattle.libyaml_grammar.specs.cuts.Settled.{Begins}
 use Rattle.libyaml_grammar.specs.runs.Runs.{Ending, Ends, Fails}
-use Rattle.libyaml_grammar.proofs.lent.Same.{ok_not_err}
-use Rattle.libyaml_grammar.proofs.lent.Same.{fault_same}
+use Rattle.libyaml_grammar.proofs.lent.Same.{ok_not_err, fault_same}
 use Rattle.libyaml_graphs.specs.loads.Bounds.{bounded_loads, next_bounded}
 use Rattle.libyaml_graphs.specs.loads.GraphLaws.{RootsFollow}
 use Rattle.libyaml_graphs.specs.loads.Loads.{Load, last_load, left_over}

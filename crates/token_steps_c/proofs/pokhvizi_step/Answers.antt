@@ -1,7 +1,6 @@
 use Rattle.std.proofs.Common.{◌∙◌, sym, ap}
 use Rattle.token_steps.specs.Numbers.{number, is_undone, is_given}
-use Rattle.token_steps_c.proofs.Said.{number_undone, number_given, number_not_given, number_three}
-use Rattle.token_steps_c.proofs.Said.{number_four, number_five, number_six}
+use Rattle.token_steps_c.proofs.Said.{number_undone, number_given, number_not_given, number_three, number_four, number_five, number_six}
 use Rattle.token_steps_c.proofs.pokhvizi_step.Goals as goal
 
 pub returns-clause-tells : goal.returns-clause-tells

@@ -1,5 +1,4 @@
-use Rattle.libyaml_loader.proofs.pushes.Pushing.{begins_loads, linear_loads, loads_so_far, none_kept, stopped_at}
-use Rattle.libyaml_loader.proofs.pushes.Pushing.{whole_loads}
+use Rattle.libyaml_loader.proofs.pushes.Pushing.{begins_loads, linear_loads, loads_so_far, none_kept, stopped_at, whole_loads}
 use Rattle.libyaml_loader.proofs.laws.of_loaded.Goals as goal
 
 pub returns-clause-so_far : goal.returns-clause-so_far

@@ -1,5 +1,4 @@
-use Rattle.std.proofs.Common.{◌≡◌, ◌<◌, ℕ, Ok, Err, ap, refl, rules, sym, ◌∙◌, subst, [], ◌∷◌, true, false}
-use Rattle.std.proofs.Common.{arith, inr, Bool, Some}
+use Rattle.std.proofs.Common.{◌≡◌, ◌<◌, ℕ, Ok, Err, ap, refl, rules, sym, ◌∙◌, subst, [], ◌∷◌, true, false, arith, inr, Bool, Some}
 use Rattle.std.proofs.Math.Nat.{le_refl}
 use Rattle.libyaml_documents.specs.Documents.{Document}
 use Rattle.libyaml_events.specs.parsers.EventsLeft.{events_left}
@@ -13,12 +12,10 @@ use Rattle.libyaml_graphs.specs.loads.Loads.{left_over}
 use Rattle.libyaml_loader.specs.declared.composer.Composer.{Composer}
 use Rattle.libyaml_loader.specs.document.Context.{loader_of, opening_of_document}
 use Rattle.libyaml_loader.specs.loads.Loading.{DocumentOrError, LoadsFrom, Took}
-use Rattle.libyaml_loader.specs.pushes.Composing.{RefusesEvent, closing_by, ended_by, state_by}
-use Rattle.libyaml_loader.specs.pushes.Composing.{composer_state}
+use Rattle.libyaml_loader.specs.pushes.Composing.{RefusesEvent, closing_by, ended_by, state_by, composer_state}
 use Rattle.libyaml_graphs.specs.loads.Leads.{Leads}
 use Rattle.libyaml_loader.proofs.loads.Ended.{has_not_ended, no_error, still_ended}
-use Rattle.libyaml_loader.proofs.loads.OnTheWay.{OnTheWay, way_ends, way_fails, way_finds_end, way_more, way_none}
-use Rattle.libyaml_loader.proofs.loads.OnTheWay.{way_refused}
+use Rattle.libyaml_loader.proofs.loads.OnTheWay.{OnTheWay, way_ends, way_fails, way_finds_end, way_more, way_none, way_refused}
 use Rattle.libyaml_loader.proofs.loads.Taking.{behind_close, finds_end, parser_fails, running, took_event}
 use Rattle.libyaml_loader.proofs.load.next_document.Given as given
 use Rattle.libyaml_loader.proofs.load.next_document.Goals as goal

@@ -1,5 +1,4 @@
-use Rattle.std.proofs.Common.{◌≡◌, ◌++◌, [], ◌∷◌, OnOk, Ok, Err, Result, List, ℕ, true, nat_eq, is_ok, if◌then◌else◌}
-use Rattle.std.proofs.Common.{codes, refl, ap, ◌∙◌, sym}
+use Rattle.std.proofs.Common.{◌≡◌, ◌++◌, [], ◌∷◌, OnOk, Ok, Err, Result, List, ℕ, true, nat_eq, is_ok, if◌then◌else◌, codes, refl, ap, ◌∙◌, sym}
 use Rattle.std.specs.Cmp.Lexicographic.{pointwise, same_text}
 use Rattle.line_writing.specs.Escape.{escaped}
 use Rattle.line_writing.specs.FieldTexts.{behind_spaces, string_text}

@@ -1,6 +1,5 @@
 use Rattle.line_writing.proofs.lent.EscapeLemmas.{percent_decode-escaped}
-use Rattle.token_lines.proofs.lines.ReadsBackLemmas.{encoding_reads_back, string_reads_back, string_is_field}
-use Rattle.token_lines.proofs.lines.ReadsBackLemmas.{style_reads_back}
+use Rattle.token_lines.proofs.lines.ReadsBackLemmas.{encoding_reads_back, string_reads_back, string_is_field, style_reads_back}
 use Rattle.token_lines.proofs.laws.reading_undoes_writing.Goals as goal
 
 pub returns-clause-bytes : goal.returns-clause-bytes

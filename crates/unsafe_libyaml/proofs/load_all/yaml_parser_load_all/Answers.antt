@@ -1,7 +1,5 @@
 use Rattle.std.proofs.Common.{◌≡◌, ◌≢◌, [], All, ap, refl, sym, ◌∙◌, subst}
-use Rattle.unsafe_libyaml.proofs.WholeLoads.{fewer, gathers_loads, gathers_to_fault, loaded_as}
-use Rattle.unsafe_libyaml.proofs.WholeLoads.{loaded_next, loaded_none, loads_to}
-use Rattle.unsafe_libyaml.proofs.WholeLoads.{tree_loads}
+use Rattle.unsafe_libyaml.proofs.WholeLoads.{fewer, gathers_loads, gathers_to_fault, loaded_as, loaded_next, loaded_none, loads_to, tree_loads}
 use Rattle.unsafe_libyaml.proofs.WholeRuns.{if_ok, tells}
 use Rattle.unsafe_libyaml.proofs.LargeLoads.{loads_linear}
 use Rattle.unsafe_libyaml.proofs.load_all.yaml_parser_load_all.Goals as goal

@@ -1,6 +1,5 @@
 use Rattle.std.proofs.Common.{refl, subst, sym, ◌∙◌}
-use Rattle.unsafe_libyaml.proofs.WholeRuns.{GaveSoFar, gathers_all, gathers_some, gave_more, gave_none, if_ok, runs_to}
-use Rattle.unsafe_libyaml.proofs.WholeRuns.{tells, tree_runs}
+use Rattle.unsafe_libyaml.proofs.WholeRuns.{GaveSoFar, gathers_all, gathers_some, gave_more, gave_none, if_ok, runs_to, tells, tree_runs}
 use Rattle.unsafe_libyaml.proofs.parse_all.yaml_parser_parse_all.Goals as goal
 use Rattle.libyaml_grammar.proofs.lent.Running.{cut_run}
 

@@ -4,8 +4,7 @@ use mir.Val.{SFits}
 use Rattle.libyaml_types.specs.declared.enums.yaml_node_type_t.TheVariants.{YAML_NO_NODE, YAML_SEQUENCE_NODE}
 use Rattle.libyaml_documents.specs.Nodes.{IsIdUpTo, KeepsTypes, with_item}
 use Rattle.libyaml_documents.specs.Documents.{Document}
-use Rattle.libyaml_documents.proofs.Ids.{AreNodes-set, inside-type_at, KeepsTypes-set, item_behind-type}
-use Rattle.libyaml_documents.proofs.Ids.{with_item-keeps, with_changed_node-set}
+use Rattle.libyaml_documents.proofs.Ids.{AreNodes-set, inside-type_at, KeepsTypes-set, item_behind-type, with_item-keeps, with_changed_node-set}
 use Rattle.libyaml_documents.proofs.document.append.yaml_document_append_sequence_item.Goals as goal
 
 pub returns-clause-ok : goal.returns-clause-ok

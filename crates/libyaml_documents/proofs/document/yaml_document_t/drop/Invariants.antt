@@ -1,4 +1,3 @@
-use Rattle.std.proofs.Common.{}
 use Rattle.libyaml_documents.proofs.document.yaml_document_t.drop.Given as goal
 
 abbrev pub decreases-loop : goal.decreases-loop

@@ -1,7 +1,6 @@
 use Rattle.std.proofs.Common.{◌≡◌, ◌∙◌, Err, ap, pos, refl, rules, sym}
 use Rattle.libyaml_events.specs.machine.Config.{is_fault, parser}
-use Rattle.libyaml_events.proofs.calls.CallLemmas.{fetched, faulted, first_reading, gave_event, gave_fault}
-use Rattle.libyaml_events.proofs.calls.CallLemmas.{takes_one, wants_more}
+use Rattle.libyaml_events.proofs.calls.CallLemmas.{fetched, faulted, first_reading, gave_event, gave_fault, takes_one, wants_more}
 use Rattle.libyaml_events.proofs.calls.LetGo.{fault_left, steps_empty}
 use Rattle.libyaml_events.proofs.layer.Agreeing.{fetched_fault, fetched_ready, kept_fault}
 use Rattle.libyaml_events.proofs.parser.Machine.fill.Goals as goal

@@ -5,8 +5,7 @@ use Rattle.libyaml_types.specs.Fault.{fault_of}
 use Rattle.libyaml_loader.specs.pushes.Composing.{composer_state}
 use Rattle.libyaml_loader.specs.pushes.Loaded.{standing_loader}
 use Rattle.libyaml_loader.specs.pushes.PushesLoads.{PushesLoads}
-use Rattle.libyaml_loader.proofs.pushes.Pushing.{kept_fault, on_ok, push_remembers, pushes_failed, pushes_ok}
-use Rattle.libyaml_loader.proofs.pushes.Pushing.{pushes_refused}
+use Rattle.libyaml_loader.proofs.pushes.Pushing.{kept_fault, on_ok, push_remembers, pushes_failed, pushes_ok, pushes_refused}
 use Rattle.libyaml_loader.proofs.push.yaml_push_loader_t.push.Goals as goal
 
 pub returns-in_err-composed : goal.returns-in_err-composed

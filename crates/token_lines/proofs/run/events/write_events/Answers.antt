@@ -11,8 +11,7 @@ use Rattle.line_writing.specs.EventText.{event_line}
 use Rattle.token_lines.specs.events.EventRun.{event_lines}
 use Rattle.token_lines.specs.events.LastCall.{WroteForEvent}
 use Rattle.token_lines.specs.lines.LineRun.{WroteFault}
-use Rattle.token_lines.proofs.events.LastCallLemmas.{ends_by, fails_by, output_fails, written_no_end, failed_no_end}
-use Rattle.token_lines.proofs.events.LastCallLemmas.{output_no_end}
+use Rattle.token_lines.proofs.events.LastCallLemmas.{ends_by, fails_by, output_fails, written_no_end, failed_no_end, output_no_end}
 use Rattle.token_lines.proofs.events.InTurnLemmas.{last_call, none_yet, one_more}
 use Rattle.token_lines.proofs.events.StepLemmas.{all_lines, lines_and_fault}
 use Rattle.token_lines.proofs.lines.RunLemmas.{writes_ended, writes_faulted}

@@ -6,8 +6,7 @@ use Rattle.libyaml_loader.specs.document.Ids.{magnitude}
 use Rattle.token_lines.specs.declared.run.run_end_t.TheVariants.{Ended, OutputFailed}
 use Rattle.token_lines.specs.declared.run.RunStep.TheVariants as step
 use Rattle.token_lines.specs.lines.LineRun.{WroteFault}
-use Rattle.token_lines.proofs.nodes.NodeTurnLemmas.{last_load_at, loads_end, loads_failed, loads_output, none_loaded}
-use Rattle.token_lines.proofs.nodes.NodeTurnLemmas.{one_loaded, turn_at}
+use Rattle.token_lines.proofs.nodes.NodeTurnLemmas.{last_load_at, loads_end, loads_failed, loads_output, none_loaded, one_loaded, turn_at}
 use Rattle.token_lines.proofs.nodes.NodeWritesLemmas.{writes_loads_so}
 use Rattle.token_lines.proofs.run.nodes.write_nodes.Goals as goal
 

@@ -8,9 +8,7 @@ use Rattle.token_steps.specs.Facts.{step, tag_if}
 use Rattle.token_steps.specs.Records.{span_token}
 use Rattle.token_steps.specs.Tells.{Tells, want_in}
 use Rattle.token_steps.proofs.Problems.{content_number, failed_number, step_number}
-use Rattle.token_steps.proofs.Told.{document_in, document_out, fits_in_step, full_in_marks, full_in_states, never_marks}
-use Rattle.token_steps.proofs.Told.{not_bad, not_marks, not_states, not_undone, room_for_marks}
-use Rattle.token_steps.proofs.Told.{room_for_states, no_marks, same_step, states_not_marks, told_in_step, told_step, told_want}
+use Rattle.token_steps.proofs.Told.{document_in, document_out, fits_in_step, full_in_marks, full_in_states, never_marks, not_bad, not_marks, not_states, not_undone, room_for_marks, room_for_states, no_marks, same_step, states_not_marks, told_in_step, told_step, told_want}
 use Rattle.token_steps.proofs.steps.steps_t.step.Goals as goal
 
 pub tell-requires : goal.tell-requires
