@@ -10,7 +10,7 @@ use Rattle.libyaml_automaton.specs.Wanted.{wanted}
 use Rattle.libyaml_events.specs.machine.Config.{Handles, no_handles, config_with}
 use Rattle.libyaml_events.specs.machine.Machine.{declared_by, lookahead_after}
 use Rattle.libyaml_events.specs.machine.Want.{Texts, no_texts}
-use Rattle.libyaml_events.specs.sources.Pushed as pushed
+use Rattle.libyaml_events.proofs.lent.Pushes as pushed
 use Rattle.libyaml_events.specs.sources.Pushed.{Fed}
 use Rattle.libyaml_events.proofs.lent.Pushes.{fed_ended}
 use Rattle.token_steps.specs.declared.did.Did.{Did}
@@ -81,9 +81,9 @@ given : (d d' : steps_t) (c c' : Config) (hs : Handles) (h : Texts) (l : List To
     (es ++ event_with hs h t.content e ∷ [])
 given d d' c c' hs h l es t e s y w = between d' c' (handles_after hs e.shape) (lookahead_after e.stays t None) l
     (es ++ event_with hs h t.content e ∷ []) w
-    (pushed.gives (record { next = wanted d.read; texts = h }) (config_with c hs no_fault None) t es
-    (event_with hs h t.content e) (config_with c' (handles_after hs e.shape) no_fault (lookahead_after e.stays t None)) s.fed
-    (steps_told (want_in d) hs h t c s.holds s.tag ∙ ap (told_with h hs t t.content) y) refl refl refl)
+    (pushed.gives_on (record { next = wanted d.read; texts = h }) (config_with c hs no_fault None) t s.fed
+    (event_with hs h t.content e) (config_with c' (handles_after hs e.shape) no_fault (lookahead_after e.stays t None))
+    (steps_told (want_in d) hs h t c s.holds s.tag ∙ ap (told_with h hs t t.content) y))
 
 after_event : (x : Did) (d d' : steps_t) (c c' : Config) (hs : Handles) (h : Texts) (l : List Token) (es : List Event)
     (t : Token) (e : step_event_t) (f : step_fault_t) → Stands d c hs h (Some t) l es → 1 ≡ number x
@@ -121,7 +121,7 @@ stood _ _ _ _ _ _ _ _ (moves d d' ss ss' ms ms' hs h o l es r v g e) =
 stood _ _ _ _ _ _ _ _ (takes d ss ms hs h l es t r e) =
     let s = stood d ss ms hs h None l es r in record {
       fed = pushed.takes (record { next = wanted d.read; texts = h })
-          (config_with (config_of d.machine ss ms) hs no_fault None) l es t s.fed (fed_ended s.fed ∙ e) refl;
+          (config_with (config_of d.machine ss ms) hs no_fault None) l es t s.fed (fed_ended s.fed ∙ e);
       holds = s.holds;
       tag = s.tag;
     }

@@ -9,7 +9,7 @@ use Rattle.libyaml_grammar.specs.sentences.Events.{Event, events}
 use Rattle.libyaml_types.specs.Fault.{Fault, memory_fault}
 use Rattle.libyaml_types.specs.Fault as faults
 use Rattle.libyaml_events.proofs.lent.CallsInTurn.{both_calls}
-use Rattle.libyaml_events.specs.sources.History.{answers, begins, between_documents, has_failed, kept_fault, new_parser}
+use Rattle.libyaml_events.specs.sources.History.{answers, between_documents, has_failed, kept_fault, new_parser}
 use Rattle.libyaml_grammar.specs.cuts.Settled.{Begins}
 use Rattle.libyaml_grammar.specs.sentences.Nesting.{IsNested}
 use Rattle.libyaml_grammar.specs.sentences.Order.{in_order}
@@ -34,6 +34,7 @@ use Rattle.unsafe_libyaml.specs.WholeLoads.{GathersLoads, LoadsTo, as_whole_load
 use Rattle.unsafe_libyaml.specs.WholeLoads as told
 use Rattle.unsafe_libyaml.proofs.WholeRuns.{GaveSoFar, Tells, asked_all, asked_until, none_is_some, stopped_so}
 use Rattle.unsafe_libyaml.specs.declared.load_all.yaml_documents_t.{yaml_documents_t}
+use Rattle.libyaml_events.specs.sources.Trace.{begins}
 
 -- the bound of a parser that was made and not told another
 abbrev pub most : ℕ

@@ -1,5 +1,5 @@
 -- The content after a node's properties, as it is put.
-use Rattle.std.proofs.Common.{◌≡◌, ◌∙◌, ℕ, List, Option, Some, None, Ok, Bool, refl, sym, ap, subst}
+use Rattle.std.proofs.Common.{◌≡◌, ◌∙◌, ℕ, List, Option, Some, None, Ok, refl, sym, subst}
 use Rattle.libyaml_types.specs.Types.{token_type}
 use Rattle.libyaml_types.specs.declared.enums.yaml_token_type_t.TheVariants as kinds
 use Rattle.libyaml_types.specs.declared.event.yaml_event_t.{yaml_event_t}
@@ -25,7 +25,7 @@ use Rattle.libyaml_events.specs.declared.step.Step.{Step}
 use Rattle.libyaml_events.specs.declared.step.Step.TheVariants as led
 use Rattle.libyaml_events.specs.machine.Answers.{answer, only_if}
 use Rattle.libyaml_events.specs.machine.Config.{Config, config_of}
-use Rattle.libyaml_events.specs.machine.Machine.{Progressed, content_behind, mapping_start, put, resolve, seen, sequence_start}
+use Rattle.libyaml_events.specs.machine.Machine.{Progressed, content_behind, mapping_start, put, seen, sequence_start}
 use Rattle.libyaml_events.specs.machine.Steps.{Steps}
 use Rattle.libyaml_events.specs.machine.Want.{Given, Texts}
 use Rattle.libyaml_events.specs.automaton.Led.{IsContent, IsOpening, Led, PutsContent, ReadsTag, SaysContent, start_of}

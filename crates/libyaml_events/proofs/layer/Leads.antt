@@ -25,10 +25,10 @@ use Rattle.libyaml_automaton.specs.Numbers.{next_of, place_of}
 use Rattle.libyaml_automaton.specs.Wanted.{IsAt, next_at, next_for, properties, token, wanted_by}
 use Rattle.libyaml_automaton.specs.Wanted as automaton_want
 use Rattle.libyaml_events.specs.declared.pending.Pending.{Pending}
-use Rattle.libyaml_events.specs.machine.Answers.{only_if, property_texts, texts_for, wanted}
+use Rattle.libyaml_events.specs.machine.Answers.{property_texts, texts_for, wanted}
 use Rattle.libyaml_events.specs.machine.Config.{Config, Handles, config_of, config_with}
 use Rattle.libyaml_events.specs.machine.Growth.{grows_for, joins, joins_before, joins_behind_anchor, may_grow}
-use Rattle.libyaml_events.specs.machine.Machine.{Progressed, content_behind, content_resolved, put, resolve, seen, step, with_texts}
+use Rattle.libyaml_events.specs.machine.Machine.{content_behind, content_resolved, put, resolve, step, with_texts}
 use Rattle.libyaml_events.specs.machine.Read.{PropertyTexts, DirectiveTexts}
 use Rattle.libyaml_events.specs.machine.Want.{Texts}
 use Rattle.libyaml_events.specs.automaton.Led.{GrowsBehind, IsHeld, IsPlain, Led, SaysIn}

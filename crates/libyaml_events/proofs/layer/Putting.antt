@@ -1,5 +1,5 @@
 -- A result that is put.
-use Rattle.std.proofs.Common.{◌≡◌, ◌∙◌, ◌∷◌, ◌++◌, ℕ, List, [], Option, None, Bool, true, Result, Ok, Err, refl, sym, ap, subst}
+use Rattle.std.proofs.Common.{◌≡◌, ◌∙◌, ◌∷◌, ◌++◌, [], Option, None, true, Result, Ok, Err, refl, sym, ap, subst}
 use Rattle.libyaml_types.specs.Events.{zero_mark}
 use Rattle.libyaml_types.specs.Fault.{Fault, memory_fault}
 use Rattle.libyaml_types.specs.Types.{token_type}
@@ -27,7 +27,7 @@ use Rattle.libyaml_events.specs.declared.pending.Pending.{Pending}
 use Rattle.libyaml_events.specs.declared.step.Step.{Step}
 use Rattle.libyaml_events.specs.declared.step.Step.TheVariants as led
 use Rattle.libyaml_events.specs.machine.Answers.{answer, directive_texts, texts_for, wanted}
-use Rattle.libyaml_events.specs.machine.Config.{Config, Handles, config_of, config_with}
+use Rattle.libyaml_events.specs.machine.Config.{Config, Handles, config_with}
 use Rattle.libyaml_events.specs.machine.Machine.{Progressed, declared_by, fault_with, handles_behind, put, seen, step}
 use Rattle.libyaml_events.specs.machine.Growth.{may_grow}
 use Rattle.libyaml_events.specs.machine.Read.{DirectiveTexts, PropertyTexts}

@@ -12,12 +12,12 @@ use Rattle.libyaml_events.specs.sources.Determined.{BeginsEachRun}
 use Rattle.libyaml_events.specs.sources.History.{ForHistory, has_failed, is_over, stack_depth}
 use Rattle.libyaml_events.specs.sources.Needs.{EachWasNeeded}
 use Rattle.libyaml_events.specs.sources.Parsing.{IsWhole}
-use Rattle.libyaml_events.proofs.calls.Calling.{ran_links}
 use Rattle.libyaml_events.proofs.calls.FourEvents.{linked_begins_each, linked_count}
 use Rattle.libyaml_events.proofs.calls.OneTokenAhead.{ran_holds}
 use Rattle.libyaml_events.proofs.calls.KnownRuns.{linked_begins, run_given}
 use Rattle.libyaml_events.proofs.calls.Parsed.{ran_needed}
-use Rattle.libyaml_events.proofs.calls.Staged.{ran_staged, staged_depth, staged_over, staged_whole}
+use Rattle.libyaml_events.proofs.calls.Staged.{staged_depth, staged_over, staged_whole}
+use Rattle.libyaml_events.proofs.pushes.Feeding.{ran_links, ran_staged}
 
 module _ {S : Type 0} (p : Parser S) where
   pub faultless : ForHistory p (λ _ _. has_failed p ≡ false)

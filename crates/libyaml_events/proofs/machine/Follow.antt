@@ -1,7 +1,7 @@
 -- The machine follows the grammar: all that one token makes it do at a position is what the grammar says of it.
 use Rattle.std.proofs.Common.{◌≡◌, ℕ, suc, List, [], ◌∷◌, Option, Some, None, refl, ap, ◌∙◌, Bool, true, false, Ok}
 use Rattle.std.proofs.lemmas.Bool.{and_parts}
-use Rattle.libyaml_events.specs.machine.Machine.{Progressed, content_behind, content_resolved, put, machine, seen, with_texts}
+use Rattle.libyaml_events.specs.machine.Machine.{Progressed, content_behind, content_resolved, put, seen, with_texts}
 use Rattle.libyaml_events.specs.machine.Want.{Given, AtState, no_texts}
 use Rattle.libyaml_events.specs.machine.Config.{config_of as without_texts, Config, keep, no_handles, popped, taken}
 use Rattle.libyaml_automaton.specs.Automaton as automaton
@@ -11,7 +11,7 @@ use Rattle.libyaml_grammar.specs.sentences.Tokens.{Alias, Anchor, BlockEnd, Bloc
 use Rattle.libyaml_grammar.specs.sentences.Tokens.{TagDirective, Token, Value, VersionDirective, marks_of, tok}
 use Rattle.libyaml_grammar.specs.sentences.Trees.{Before, BlockItems, BlockNode, BlockSlot, Directive, Directives, Documents, FlowMember, FlowNode, FlowSlot, Free, Parts, Properties, alone, anchor, anchor_tag, behind, block_mapping, block_sequence, collection, directive, ended, explicit, flow}
 use Rattle.libyaml_grammar.specs.sentences.Trees.{flow_node, flow_nothing, free, implicit, indentless, item, key, last, mapping, no_directives, no_last, no_parts, no_value, node, nothing, opened, pair, part, scalar, sequence, single, slot_of, tag, tag_anchor, value, whole, with_value}
-use Rattle.libyaml_grammar.specs.sentences.Events.{Event, alone_of, anchor_of, directive_start, document_end_at, document_start_at, empty_at, end_at, end_of, first_directive, first_of_properties, last_of_properties, scalar_of, tag_of}
+use Rattle.libyaml_grammar.specs.sentences.Events.{Event, alone_of, directive_start, document_end_at, document_start_at, empty_at, end_at, end_of, first_directive, scalar_of, tag_of}
 use Rattle.libyaml_grammar.specs.sentences.Order.{is_known, properties_in_order}
 use Rattle.libyaml_grammar.specs.cuts.Fits.{ends_empty}
 use Rattle.libyaml_grammar.proofs.lent.Positions.{Position, between, done, due, flow_behind, flow_due, flow_keyed, headed, in_indentless, in_mapping, in_sequence, unopened}
@@ -19,7 +19,7 @@ use Rattle.libyaml_grammar.proofs.lent.Reading.{Step, at_flow, at_free, at_heade
 use Rattle.libyaml_grammar.proofs.lent.Given.{given_at_flow, given_at_free, given_at_headed, given_at_unopened, given_behind_documents, given_behind_indentless, given_behind_item, given_behind_key, given_behind_member, given_behind_part, given_behind_whole, given_on_block_entry}
 use Rattle.libyaml_grammar.proofs.lent.Given.{given_on_block_mapping, given_on_block_sequence, given_on_due, given_without, gives}
 use Rattle.libyaml_events.proofs.machine.Declared.{resolve_is, tag_after, version_after}
-use Rattle.libyaml_events.proofs.machine.Link.{End, after, config, config_of, emit, ends, free_config, handles_of, headed_config, kind, behind_directives, node_config, properties_of, spends, step_ends, texts_of, waits, want_of}
+use Rattle.libyaml_events.proofs.machine.Link.{End, after, config, config_of, emit, ends, free_config, handles_of, headed_config, kind, node_config, properties_of, spends, step_ends, texts_of, waits, want_of}
 use Rattle.libyaml_grammar.proofs.lent.StepsMeet.{IsDue, IsEntry, IsMet}
 use Rattle.libyaml_types.specs.declared.enums.yaml_parser_state_t.TheVariants as st
 

@@ -5,8 +5,8 @@ use Rattle.libyaml_grammar.specs.cuts.CutTrees.{declared, open_collection, Block
 use Rattle.libyaml_types.specs.Fault.{no_fault, Fault}
 use Rattle.libyaml_grammar.specs.cuts.FaultTexts.{document_start_fault}
 use Rattle.libyaml_grammar.specs.sentences.Tokens.{Content, Mark, Marks, TagDirective, TagName, Token, VersionDirective, marks_of, tok}
-use Rattle.libyaml_grammar.specs.sentences.Trees.{Before, Directive, Directives, Documents, FlowMember, Free, Parts, Properties, Role, Stream, anchor, anchor_tag, behind, directive, ended, explicit, free, implicit, key, mapping, no_directives, no_parts, no_value, opened, pair, part, sequence}
-use Rattle.libyaml_grammar.specs.sentences.Trees.{single, tag, tag_anchor, tag_directive, value, version, whole, with_value}
+use Rattle.libyaml_grammar.specs.sentences.Trees.{Before, Directives, Documents, FlowMember, Free, Parts, Properties, Role, Stream, anchor, anchor_tag, behind, directive, ended, explicit, free, implicit, key, mapping, no_directives, no_parts, no_value, opened, pair, part, sequence, single, tag}
+use Rattle.libyaml_grammar.specs.sentences.Trees.{tag_anchor, tag_directive, value, version, whole, with_value}
 use Rattle.libyaml_grammar.specs.sentences.Events.{Event, directive_start, first_directive, tag_directives_of, version_of, anchor_of, first_of_properties, last_of_properties}
 use Rattle.libyaml_grammar.specs.cuts.CutFaults.{directive_fault, fault}
 use Rattle.libyaml_grammar.proofs.lent.Positions.{Position, between, done, due, flow_behind, flow_due, flow_keyed, headed, in_indentless, in_mapping, in_sequence, unopened}

@@ -22,7 +22,6 @@ use Rattle.libyaml_types.specs.declared.token.unnamed_yaml_token_t_data_tag_dire
 use Rattle.libyaml_types.specs.Types.{token_type}
 use Rattle.libyaml_types.specs.declared.event.unnamed_yaml_event_t_data_alias.{unnamed_yaml_event_t_data_alias}
 use Rattle.libyaml_grammar.specs.sentences.Events.{event}
-use Rattle.libyaml_grammar.specs.sentences.Order.{is_accepted}
 use Rattle.libyaml_automaton.specs.declared.node_place.NodePlace.TheVariants.{Block, BlockOrIndentlessSequence, Flow}
 use Rattle.libyaml_automaton.specs.declared.slot.Slot.TheVariants as slot
 use Rattle.libyaml_automaton.specs.Slots.{is_nothing_before}

@@ -15,7 +15,8 @@ use Rattle.libyaml_events.specs.machine.StepsOnto.{FailsOnto, by_list, by_step}
 use Rattle.libyaml_events.specs.machine.Want.{Want, AtState, Given, Wants}
 use Rattle.libyaml_events.specs.parsers.EventsLeft.{held_rank, rank}
 use Rattle.libyaml_events.specs.parsers.Left.{let_go}
-use Rattle.libyaml_events.specs.sources.Pushed.{Fed, takes, wants, gives, standing}
+use Rattle.libyaml_events.specs.sources.Pushed.{Fed, standing}
+use Rattle.libyaml_events.proofs.pushes.Steps.{gives_on, takes, wants}
 use Rattle.libyaml_events.specs.sources.Pushes.{Stops, Takes, by_grammar, by_memory, for_event, for_step}
 use Rattle.libyaml_events.proofs.calls.CallLemmas.{begun_alive}
 use Rattle.libyaml_events.proofs.calls.Measure.{FallsBelow, falls_on, weight}
@@ -64,7 +65,7 @@ taking_begins w c t before h n = record {
   added = [];
   few = λ l g f. omega arith;
   appended = sym (append-nil before);
-  fed = λ l g f. takes w c l (g ++ []) t (subst (λ (x : List Event). Fed w c None l x) (sym (append-nil g)) f) h refl;
+  fed = λ l g f. takes w c l (g ++ []) t (subst (λ (x : List Event). Fed w c None l x) (sym (append-nil g)) f) h;
 }
 
 module _ (Full : Type 0) (w0 : Want) (c0 : Config) (t : Token) (before : List Event) (w : Want)
@@ -151,8 +152,9 @@ module _ (Full : Type 0) (w0 : Want) (c0 : Config) (t : Token) (before : List Ev
 
     pub given_fed : (o : Option Token) → mid.lookahead ≡ o → (l : List Token) (g : List Event) → Fed w0 c0 None l g
         → Fed AtState (taken mid) o (l ++ t ∷ []) (g ++ (k.added ++ e ∷ []))
-    given_fed o i l g f = gives w old u (g ++ k.added) e mid (k.fed l g f) h refl (sym i)
-        (sym (append_assoc g k.added (e ∷ [])))
+    given_fed o i l g f = subst (λ (x : Option Token). Fed AtState (taken mid) x (l ++ t ∷ []) (g ++ (k.added ++ e ∷ []))) i
+        (subst (Fed AtState (taken mid) mid.lookahead (l ++ t ∷ [])) (append_assoc g k.added (e ∷ []))
+        (gives_on w old u (k.fed l g f) e mid h))
 
     given_few : (l : List Token) (g : List Event) → Fed w0 c0 None l g → length (k.added ++ e ∷ []) ≤ 4
     given_few l g f = by (fed_to f).running

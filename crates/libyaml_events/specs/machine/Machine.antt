@@ -4,7 +4,6 @@ use Rattle.std.specs.Prelude.{◌∷◌, ◌++◌, ℕ, List, [], Option, None, 
 use Rattle.std.specs.FinMap.{get, insert}
 use Rattle.libyaml_types.specs.Types.{token_type}
 use Rattle.libyaml_types.specs.Fault.{Fault, no_fault}
-use Rattle.libyaml_types.specs.declared.mark.yaml_mark_t.{yaml_mark_t}
 use Rattle.libyaml_types.specs.declared.directive.yaml_version_directive_t.{yaml_version_directive_t}
 use Rattle.libyaml_types.specs.declared.directive.yaml_tag_directive_t.{yaml_tag_directive_t}
 use Rattle.libyaml_types.specs.declared.token.yaml_token_t.{yaml_token_t}

@@ -16,7 +16,7 @@ use Rattle.libyaml_events.specs.machine.Machine.{step}
 use Rattle.libyaml_events.specs.machine.Want.{AtState, Given}
 use Rattle.libyaml_events.specs.sources.History.{is_stream_end}
 use Rattle.libyaml_events.specs.sources.Pushed.{Fed, standing as between_tokens}
-use Rattle.libyaml_events.specs.sources.Pushed as pushed
+use Rattle.libyaml_events.proofs.lent.Pushes as pushed
 use Rattle.libyaml_events.proofs.lent.Pushes.{fed_count, fed_ended, fed_nests, fed_whole, gives_end, hand_runs, none_kept}
 use Rattle.libyaml_events.proofs.lent.RunStops.{whole_run}
 use Rattle.rust_original.specs.parser.Differences.{Differs, bare_document, call_here, pair_key, value_first}
@@ -209,7 +209,7 @@ module _ (f : Fault) (m : Mends) (b : Bool)
       let left : rest ≡ t ∷ k = ap (λ (o : Option Token). tokens_of o rest) (sym none) ∙ tokens in
       let hand : Fed AtState (taken d) (Some (empty_token t.end_mark)) (l ++ empty_token t.end_mark ∷ []) g
       = pushed.takes AtState (taken d) l g (empty_token t.end_mark)
-      (subst (λ (o : Option Token). Fed AtState (taken d) o l g) none a.fed) begun refl in
+      (subst (λ (o : Option Token). Fed AtState (taken d) o l g) none a.fed) begun in
       let led = empty_step t.end_mark d fits.2 in
       let one : length (l ++ empty_token t.end_mark ∷ []) ≡ length l + 1 = length-append l (empty_token t.end_mark ∷ []) in
       let gone : length rest ≡ suc (length k) = ap length left in
@@ -234,8 +234,7 @@ module _ (f : Fault) (m : Mends) (b : Bool)
           fits = inside tt fits.0 fits.1;
           fresh = tt;
         };
-        fed = pushed.gives AtState (taken d) (empty_token t.end_mark) g (empty_at t.end_mark) (behind_pair_key d) hand led
-            refl refl refl;
+        fed = pushed.gives_on AtState (taken d) (empty_token t.end_mark) hand (empty_at t.end_mark) (behind_pair_key d) led;
         few = omega arith;
       })
       (gives_end hand (empty_at t.end_mark) (behind_pair_key d) led) (λ j. absurd (not_both j may)) less next

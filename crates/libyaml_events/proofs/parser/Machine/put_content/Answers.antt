@@ -1,4 +1,4 @@
-use Rattle.std.proofs.Common.{◌∙◌, option_map, string_bytes, refl, sym, ap}
+use Rattle.std.proofs.Common.{◌∙◌, option_map, string_bytes, refl, ap}
 use Rattle.libyaml_events.proofs.layer.Contents.{content_put, content_again}
 use Rattle.libyaml_events.specs.declared.pending.Pending.{Pending}
 use Rattle.libyaml_events.specs.machine.Answers.{only_if}

@@ -1,4 +1,4 @@
-use Rattle.std.proofs.Common.{option_map, string_bytes, refl, sym, ap}
+use Rattle.std.proofs.Common.{option_map, string_bytes}
 use Rattle.libyaml_events.proofs.layer.Contents.{asked_content, steps_from}
 use Rattle.libyaml_events.proofs.parser.Machine.put_content_behind.Goals as goal
 

@@ -1,4 +1,4 @@
-use Rattle.std.proofs.Common.{None, refl, sym, ap}
+use Rattle.std.proofs.Common.{None, refl}
 use Rattle.libyaml_events.proofs.layer.Contents.{asked_content}
 use Rattle.libyaml_events.proofs.parser.Machine.put_content_behind_anchor.Goals as goal
 

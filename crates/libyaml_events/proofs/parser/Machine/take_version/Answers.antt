@@ -1,4 +1,4 @@
-use Rattle.std.proofs.Common.{◌≡◌, ap}
+use Rattle.std.proofs.Common.{ap}
 use Rattle.libyaml_events.specs.machine.Config.{Config, config_of}
 use Rattle.libyaml_events.specs.machine.Machine.{seen}
 use Rattle.libyaml_events.proofs.layer.Putting.{fails_as, refused}

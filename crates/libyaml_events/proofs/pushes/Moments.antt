@@ -1,0 +1,152 @@
+-- Each moment has one next, but for the token that is handed over; so two moments by the same tokens and events are one.
+use Rattle.std.proofs.Common.{◌≡◌, ◌≤◌, ◌+◌, ◌⊎◌, inl, inr, ◌++◌, ◌∷◌, ℕ, arith, List, [], length, Some, None, Ok, Err, refl, sym, ap, ◌∙◌, subst, append_assoc, append-nil}
+use Rattle.libyaml_grammar.specs.sentences.Tokens.{Token}
+use Rattle.libyaml_grammar.specs.sentences.Events.{Event}
+use Rattle.libyaml_grammar.proofs.lent.Same.{head_same, not_cons, tail_same}
+use Rattle.libyaml_events.specs.machine.Config.{Config}
+use Rattle.libyaml_events.specs.machine.Machine.{Progressed, step}
+use Rattle.libyaml_events.specs.machine.Want.{Want, Given, Wants}
+use Rattle.libyaml_events.specs.sources.Pushed.{Pushed, PushParser, standing}
+use Rattle.libyaml_events.specs.sources.Trace.{Moment, Next, Reached, StepLeads, Trace, after_event, amid, begins, goes_on}
+
+pub front_same : {A : Type 0} (a l m : List A) → a ++ l ≡ a ++ m → l ≡ m
+front_same [] l m e = e
+front_same (x ∷ a) l m e = front_same a l m (tail_same x x (a ++ l) (a ++ m) e)
+
+abbrev tokens : Moment → List Token
+tokens (after_event c l g) = l
+tokens (amid w c o l g) = l
+
+-- events, and one more while the next is on its way
+abbrev count : Moment → ℕ
+count (after_event c l g) = length g
+count (amid w c o l g) = length g + 1
+
+record Further (a b : Moment) : Type 0 where
+  more : List Token
+  all : tokens b ≡ tokens a ++ more
+  counts : count a ≤ count b
+
+same_tokens : (a b : Moment) → tokens b ≡ tokens a → count a ≤ count b → Further a b
+same_tokens a b e k = record { more = []; all = e ∙ sym (append-nil (tokens a)); counts = k }
+
+snoc_length : (g : List Event) (e : Event) → length g + 1 ≤ length (g ++ e ∷ [])
+snoc_length [] e = omega arith
+snoc_length (x ∷ g) e = let h = snoc_length g e in omega arith
+
+next_further : (a b : Moment) → Next a b → Further a b
+next_further (after_event c l g) b h = subst (Further (after_event c l g)) (sym h) (same_tokens _ _ refl (omega arith))
+next_further (amid w c None l g) b (i, (t, h))
+    = subst (Further (amid w c None l g)) (sym h) (record { more = t ∷ []; all = refl; counts = omega arith })
+next_further (amid w c (Some t) l g) b h = by (step w c t) h
+  where
+    by : (o : Progressed) → StepLeads o l g b → Further (amid w c (Some t) l g) b
+    by (Err f) i = absurd i
+    by (Ok (Wants v, d)) i = subst (Further (amid w c (Some t) l g)) (sym i) (same_tokens _ _ refl (omega arith))
+    by (Ok (Given e, d)) i = subst (Further (amid w c (Some t) l g)) (sym i) (same_tokens _ _ refl (snoc_length g e))
+
+further : {a b : Moment} → Trace a b → Further a b
+further {a} begins = same_tokens a a refl (omega arith)
+further {a} (goes_on {b} {c} t n) =
+    let f = further t in
+    let g = next_further b c n in
+    record {
+      more = f.more ++ g.more;
+      all = g.all ∙ (ap (λ (l : List Token). l ++ g.more) f.all ∙ append_assoc (tokens a) f.more g.more);
+      counts = let i = f.counts in let j = g.counts in omega arith;
+    }
+
+one_next : (a x y : Moment) → Next a x → Next a y → (r s : List Token) → tokens x ++ r ≡ tokens y ++ s → x ≡ y
+one_next (after_event c l g) x y h k r s e = h ∙ sym k
+one_next (amid w c None l g) x y (i, (t, h)) (j, (u, k)) r s e
+    = h ∙ (ap (λ (z : Token). amid w c (Some z) (l ++ z ∷ []) g) same ∙ sym k)
+  where
+    same : t ≡ u
+    same = head_same t u r s (front_same l (t ∷ r) (u ∷ s) (sym (append_assoc l (t ∷ []) r)
+        ∙ (ap (λ (m : Moment). tokens m ++ r) (sym h)
+        ∙ (e ∙ (ap (λ (m : Moment). tokens m ++ s) k ∙ append_assoc l (u ∷ []) s)))))
+one_next (amid w c (Some t) l g) x y h k r s e = by (step w c t) h k
+  where
+    by : (o : Progressed) → StepLeads o l g x → StepLeads o l g y → x ≡ y
+    by (Err f) i j = absurd i
+    by (Ok (Wants v, d)) i j = i ∙ sym j
+    by (Ok (Given z, d)) i j = i ∙ sym j
+
+abbrev First : Moment → Moment → Type 0
+First a b = (a ≡ b) ⊎ ((x : Moment) × (Next a x × Trace x b))
+
+first : {a b : Moment} → Trace a b → First a b
+first begins = inl refl
+first {a} (goes_on {b} {c} t n) = by (first t)
+  where
+    by : First a b → First a c
+    by (inl e) = inr (c, (subst (λ (m : Moment). Next m c) (sym e) n, begins))
+    by (inr (x, (m, u))) = inr (x, (m, goes_on u n))
+
+-- of two moments that tokens of one list lead to, one leads to the other
+compared : {a b c : Moment} → Trace a b → Trace a c → (r s : List Token) → tokens b ++ r ≡ tokens c ++ s
+    → Trace b c ⊎ Trace c b
+compared begins u r s e = inl u
+compared {c} (goes_on {b = x} {c = b} t n) u r s e = by (compared t u (f.more ++ r) s before)
+  where
+    f : Further x b
+    f = next_further x b n
+
+    before : tokens x ++ (f.more ++ r) ≡ tokens c ++ s
+    before = sym (append_assoc (tokens x) f.more r) ∙ (ap (λ (z : List Token). z ++ r) (sym f.all) ∙ e)
+
+    from : First x c → Trace b c ⊎ Trace c b
+    from (inl i) = inr (subst (λ (z : Moment). Trace z b) i (goes_on begins n))
+    from (inr (y, (m, v))) =
+        let k = further v in
+        inl (subst (λ (z : Moment). Trace z c) (sym (one_next x b y n m r (k.more ++ s)
+        (e ∙ (ap (λ (z : List Token). z ++ s) k.all ∙ append_assoc (tokens y) k.more s)))) v)
+
+    by : Trace x c ⊎ Trace c x → Trace b c ⊎ Trace c b
+    by (inl v) = from (first v)
+    by (inr v) = inr (goes_on v n)
+
+-- a further event comes of a further event alone
+no_event_more : {c d : Config} {l m : List Token} {g h : List Event} → Trace (after_event c l g) (after_event d m h) → g ≡ h
+    → (c ≡ d) × (l ≡ m)
+no_event_more {c} {d} {l} {m} {g} {h} t e = by (first t)
+  where
+    by : First (after_event c l g) (after_event d m h) → (c ≡ d) × (l ≡ m)
+    by (inl i) = (cc, cc)
+    by (inr (x, (n, u))) =
+        let i = (further u).counts in
+        let j : count x ≡ length g + 1 = ap count n in
+        let k : length g ≡ length h = ap length e in
+        absurd (omega arith)
+
+-- a further moment that wants a token comes of a further token alone
+no_token_more : (p q : PushParser) (l : List Token) (g h : List Event)
+    → Trace (amid p.want p.config None l g) (amid q.want q.config None l h) → (p ≡ q) × (g ≡ h)
+no_token_more p q l g h t = by (first t)
+  where
+    by : First (amid p.want p.config None l g) (amid q.want q.config None l h) → (p ≡ q) × (g ≡ h)
+    by (inl i) =
+        let w : p.want ≡ q.want = cc in
+        let c : p.config ≡ q.config = cc in
+        (ap (λ (v : Want). standing v p.config) w ∙ ap (λ (d : Config). standing q.want d) c, cc)
+    by (inr (x, ((i, (t, n)), u))) =
+        let k = further u in
+        absurd (not_cons t k.more (sym (front_same l (t ∷ k.more) [] (sym (append_assoc l (t ∷ []) k.more)
+        ∙ (ap (λ (m : Moment). tokens m ++ k.more) (sym n) ∙ (sym k.all ∙ sym (append-nil l)))))))
+
+-- of tokens of one list, and by the same events, a machine comes to one configuration
+pub ran_once : {c d : Config} {a b : List Token} {g h : List Event} → Reached (after_event c a g)
+    → Reached (after_event d b h) → (r s : List Token) → a ++ r ≡ b ++ s → g ≡ h → (c ≡ d) × (a ≡ b)
+ran_once {c} {d} {a} {b} {g} {h} t u r s i j = by (compared t u r s i)
+  where
+    by : Trace (after_event c a g) (after_event d b h) ⊎ Trace (after_event d b h) (after_event c a g) → (c ≡ d) × (a ≡ b)
+    by (inl v) = no_event_more v j
+    by (inr v) = let k = no_event_more v (sym j) in (sym k.0, sym k.1)
+
+pub one_pushed : (p q : PushParser) (l : List Token) (g h : List Event) → Pushed p l g → Pushed q l h → (p ≡ q) × (g ≡ h)
+one_pushed p q l g h t u = by (compared t u [] [] refl)
+  where
+    by : Trace (amid p.want p.config None l g) (amid q.want q.config None l h)
+        ⊎ Trace (amid q.want q.config None l h) (amid p.want p.config None l g) → (p ≡ q) × (g ≡ h)
+    by (inl x) = no_token_more p q l g h x
+    by (inr x) = let k = no_token_more q p l h g x in (sym k.0, sym k.1)
