@@ -66,6 +66,7 @@ pub use Rattle.libyaml_events.specs.sources.Parsing
 pub use Rattle.libyaml_events.specs.sources.Pushed
 pub use Rattle.libyaml_events.specs.sources.OnePush
 pub use Rattle.libyaml_events.specs.sources.Pushes
+pub use Rattle.libyaml_events.specs.sources.Trace
 pub use Rattle.libyaml_events.specs.sources.RunToCome
 pub use Rattle.libyaml_types.specs.Source
 pub use Rattle.libyaml_types.specs.Scanned
