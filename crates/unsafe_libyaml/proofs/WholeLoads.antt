@@ -34,7 +34,7 @@ use Rattle.unsafe_libyaml.specs.WholeLoads.{GathersLoads, LoadsTo, as_whole_load
 use Rattle.unsafe_libyaml.specs.WholeLoads as told
 use Rattle.unsafe_libyaml.proofs.WholeRuns.{GaveSoFar, Tells, asked_all, asked_until, none_is_some, stopped_so}
 use Rattle.unsafe_libyaml.specs.declared.load_all.yaml_documents_t.{yaml_documents_t}
-use Rattle.libyaml_events.specs.sources.Trace.{begins}
+use Rattle.libyaml_events.specs.sources.Trace.{here}
 
 -- the bound of a parser that was made and not told another
 abbrev pub most : ℕ
@@ -101,7 +101,7 @@ module _ {S : Type 0} (g : Ghosts S) (source : S) (old new : Parser S) (r : Docu
   given = was.in_turn.taken
 
   abbrev so : GaveSoFar g.gives source old given
-  so = was.in_turn.took.history [] [] begins
+  so = was.in_turn.took.history [] [] here
 
   loads_of_call : (q : DocumentOrError) → r ≡ q → LoadsFrom g (next_bounded most) left_over old q new
   loads_of_call q is =

@@ -7,7 +7,7 @@ use Rattle.libyaml_events.specs.machine.Config.{Config}
 use Rattle.libyaml_events.specs.machine.Machine.{Progressed, step}
 use Rattle.libyaml_events.specs.machine.Want.{Want, Given, Wants}
 use Rattle.libyaml_events.specs.sources.Pushed.{Pushed, PushParser, standing}
-use Rattle.libyaml_events.specs.sources.Trace.{Moment, Next, Reached, StepLeads, Trace, after_event, amid, begins, goes_on}
+use Rattle.libyaml_events.specs.sources.Trace.{Moment, Next, Reached, StepLeads, Trace, after_event, amid, goes_on, here}
 
 pub front_same : {A : Type 0} (a l m : List A) → a ++ l ≡ a ++ m → l ≡ m
 front_same [] l m e = e
@@ -46,10 +46,10 @@ next_further (amid w c (Some t) l g) b h = by (step w c t) h
     by (Ok (Given e, d)) i = subst (Further (amid w c (Some t) l g)) (sym i) (same_tokens _ _ refl (snoc_length g e))
 
 further : {a b : Moment} → Trace a b → Further a b
-further {a} begins = same_tokens a a refl (omega arith)
-further {a} (goes_on {b} {c} t n) =
-    let f = further t in
-    let g = next_further b c n in
+further {a} here = same_tokens a a refl (omega arith)
+further {a} (goes_on {b} n t) =
+    let f = next_further a b n in
+    let g = further t in
     record {
       more = f.more ++ g.more;
       all = g.all ∙ (ap (λ (l : List Token). l ++ g.more) f.all ∙ append_assoc (tokens a) f.more g.more);
@@ -72,67 +72,37 @@ one_next (amid w c (Some t) l g) x y h k r s e = by (step w c t) h k
     by (Ok (Wants v, d)) i j = i ∙ sym j
     by (Ok (Given z, d)) i j = i ∙ sym j
 
-abbrev First : Moment → Moment → Type 0
-First a b = (a ≡ b) ⊎ ((x : Moment) × (Next a x × Trace x b))
-
-first : {a b : Moment} → Trace a b → First a b
-first begins = inl refl
-first {a} (goes_on {b} {c} t n) = by (first t)
-  where
-    by : First a b → First a c
-    by (inl e) = inr (c, (subst (λ (m : Moment). Next m c) (sym e) n, begins))
-    by (inr (x, (m, u))) = inr (x, (m, goes_on u n))
-
 -- of two moments that tokens of one list lead to, one leads to the other
 compared : {a b c : Moment} → Trace a b → Trace a c → (r s : List Token) → tokens b ++ r ≡ tokens c ++ s
     → Trace b c ⊎ Trace c b
-compared begins u r s e = inl u
-compared {c} (goes_on {b = x} {c = b} t n) u r s e = by (compared t u (f.more ++ r) s before)
-  where
-    f : Further x b
-    f = next_further x b n
-
-    before : tokens x ++ (f.more ++ r) ≡ tokens c ++ s
-    before = sym (append_assoc (tokens x) f.more r) ∙ (ap (λ (z : List Token). z ++ r) (sym f.all) ∙ e)
-
-    from : First x c → Trace b c ⊎ Trace c b
-    from (inl i) = inr (subst (λ (z : Moment). Trace z b) i (goes_on begins n))
-    from (inr (y, (m, v))) =
-        let k = further v in
-        inl (subst (λ (z : Moment). Trace z c) (sym (one_next x b y n m r (k.more ++ s)
-        (e ∙ (ap (λ (z : List Token). z ++ s) k.all ∙ append_assoc (tokens y) k.more s)))) v)
-
-    by : Trace x c ⊎ Trace c x → Trace b c ⊎ Trace c b
-    by (inl v) = from (first v)
-    by (inr v) = inr (goes_on v n)
+compared here u r s e = inl u
+compared t here r s e = inr t
+compared {a} {b} {c} (goes_on {b = x} n t) (goes_on {b = y} m u) r s e =
+    let f = further t in
+    let g = further u in
+    let same = one_next a x y n m (f.more ++ r) (g.more ++ s) (sym (append_assoc (tokens x) f.more r)
+    ∙ (ap (λ (l : List Token). l ++ r) (sym f.all)
+    ∙ (e ∙ (ap (λ (l : List Token). l ++ s) g.all ∙ append_assoc (tokens y) g.more s)))) in
+    compared t (subst (λ (z : Moment). Trace z c) (sym same) u) r s e
 
 -- a further event comes of a further event alone
 no_event_more : {c d : Config} {l m : List Token} {g h : List Event} → Trace (after_event c l g) (after_event d m h) → g ≡ h
     → (c ≡ d) × (l ≡ m)
-no_event_more {c} {d} {l} {m} {g} {h} t e = by (first t)
-  where
-    by : First (after_event c l g) (after_event d m h) → (c ≡ d) × (l ≡ m)
-    by (inl i) = (cc, cc)
-    by (inr (x, (n, u))) =
-        let i = (further u).counts in
-        let j : count x ≡ length g + 1 = ap count n in
-        let k : length g ≡ length h = ap length e in
-        absurd (omega arith)
+no_event_more here e = (refl, refl)
+no_event_more {g} {h} (goes_on {b = x} n u) e =
+    let i = (further u).counts in
+    let j : count x ≡ length g + 1 = ap count n in
+    let k : length g ≡ length h = ap length e in
+    absurd (omega arith)
 
 -- a further moment that wants a token comes of a further token alone
-no_token_more : (p q : PushParser) (l : List Token) (g h : List Event)
-    → Trace (amid p.want p.config None l g) (amid q.want q.config None l h) → (p ≡ q) × (g ≡ h)
-no_token_more p q l g h t = by (first t)
-  where
-    by : First (amid p.want p.config None l g) (amid q.want q.config None l h) → (p ≡ q) × (g ≡ h)
-    by (inl i) =
-        let w : p.want ≡ q.want = cc in
-        let c : p.config ≡ q.config = cc in
-        (ap (λ (v : Want). standing v p.config) w ∙ ap (λ (d : Config). standing q.want d) c, cc)
-    by (inr (x, ((i, (t, n)), u))) =
-        let k = further u in
-        absurd (not_cons t k.more (sym (front_same l (t ∷ k.more) [] (sym (append_assoc l (t ∷ []) k.more)
-        ∙ (ap (λ (m : Moment). tokens m ++ k.more) (sym n) ∙ (sym k.all ∙ sym (append-nil l)))))))
+no_token_more : {w v : Want} {c d : Config} {l m : List Token} {g h : List Event}
+    → Trace (amid w c None l g) (amid v d None m h) → l ≡ m → (standing w c ≡ standing v d) × (g ≡ h)
+no_token_more here e = (refl, refl)
+no_token_more {l} {g} (goes_on (i, (t, n)) u) e =
+    let k = further u in
+    absurd (not_cons t k.more (sym (front_same l (t ∷ k.more) [] (sym (append_assoc l (t ∷ []) k.more)
+    ∙ (ap (λ (m : Moment). tokens m ++ k.more) (sym n) ∙ (sym k.all ∙ (sym e ∙ sym (append-nil l))))))))
 
 -- of tokens of one list, and by the same events, a machine comes to one configuration
 pub ran_once : {c d : Config} {a b : List Token} {g h : List Event} → Reached (after_event c a g)
@@ -148,5 +118,5 @@ one_pushed p q l g h t u = by (compared t u [] [] refl)
   where
     by : Trace (amid p.want p.config None l g) (amid q.want q.config None l h)
         ⊎ Trace (amid q.want q.config None l h) (amid p.want p.config None l g) → (p ≡ q) × (g ≡ h)
-    by (inl x) = no_token_more p q l g h x
-    by (inr x) = let k = no_token_more q p l h g x in (sym k.0, sym k.1)
+    by (inl x) = no_token_more x refl
+    by (inr x) = let k = no_token_more x refl in (sym k.0, sym k.1)

@@ -23,9 +23,10 @@ Next (after_event c l g) m = m ≡ amid AtState (taken c) c.lookahead l g
 Next (amid w c None l g) m = (ended_or_failed c ≡ false) × ((t : Token) × (m ≡ amid w c (Some t) (l ++ t ∷ []) g))
 Next (amid w c (Some t) l g) m = StepLeads (step w c t) l g m
 
-pub data Trace (a : Moment) : Moment → Type 0 where
-  begins : Trace a a
-  goes_on : {b c : Moment} → Trace a b → Next b c → Trace a c
+-- from the first moment to the second
+pub data Trace : Moment → Moment → Type 0 where
+  here : {a : Moment} → Trace a a
+  goes_on : {a b c : Moment} → Next a b → Trace b c → Trace a c
 
 -- a machine that was at its start came here
 abbrev pub Reached : Moment → Type 0
