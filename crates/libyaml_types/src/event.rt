@@ -25,12 +25,12 @@ pub struct unnamed_yaml_event_t_data_stream_start {
 /// libyaml: `unnamed_yaml_event_t_data_document_start`.
 #[derive(Debug, Drop)]
 pub struct unnamed_yaml_event_t_data_document_start {
-    /// Whether no `---` is written.
-    pub implicit: bool,
     /// The version, where one is given.
     pub version_directive: Option<yaml_version_directive_t>,
     /// The tag directives.
     pub tag_directives: Vec<yaml_tag_directive_t>,
+    /// Whether no `---` is written.
+    pub implicit: bool,
 }
 
 impl Model for unnamed_yaml_event_t_data_document_start {
