@@ -132,8 +132,8 @@ impl Automaton {
     /// Goes on where `document_step` returned `AsksVersion`.
     #[inline(always)]
     pub(crate) fn version_directive(&mut self, read: &mut Reading, is_accepted: bool) -> Answer
-        ensures steps { (t : Token) → Says (automaton.first_version is_accepted read.old.start_mark self.old t)
-            (outcome result (automaton.no_properties t) t read.new self.new) }
+        ensures steps { (t : Token) → Says (automaton.first_version is_accepted read.old.start_mark self.old
+            t) (outcome result (automaton.no_properties t) t read.new self.new) }
         ensures fits { FitsDirective result read.new }
         ensures kept { self.new ≡ self.old }
     {

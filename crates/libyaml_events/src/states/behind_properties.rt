@@ -79,7 +79,8 @@ impl Machine {
         ensures puts { (o : Progressed) (h : Texts) → IsContent o h
             (only_if (flag pending.old.reading.has_anchor) pending.old.properties.anchor)
             (option_map string_bytes tag) token.old pending.old.reading self.old
-            → Steps o self.old (answer result pending.new out.new self.new) self.new × (result ≡ Step.Wants → ⊥) }
+            → Steps o self.old (answer result pending.new out.new self.new) self.new
+            × (result ≡ Step.Wants → ⊥) }
         ensures grows { result ≡ Step.Failed → self.new.fault.error ≡ yaml_error_type_t.YAML_MEMORY_ERROR
             → opens_at (place_of pending.old.reading.place) (token_type token.old.content) ≡ true }
     {
@@ -116,7 +117,8 @@ impl Machine {
         requires end { end_mark.now ≡ pending.old.reading.end_mark }
         ensures puts { (o : Progressed) (h : Texts) → IsContent o h pending.old.properties.anchor
             (option_map string_bytes tag) token.old pending.old.reading self.old
-            → Steps o self.old (answer result pending.new out.new self.new) self.new × (result ≡ Step.Wants → ⊥) }
+            → Steps o self.old (answer result pending.new out.new self.new) self.new
+            × (result ≡ Step.Wants → ⊥) }
     {
         if !self.automaton.grow(Answer::FullMarks) {
             return Step::failed(self.out_of_memory());
@@ -228,7 +230,8 @@ impl Machine {
         requires none { self.old.lookahead ≡ None }
         requires scalar { token_type token.old.content ≡ YAML_SCALAR_TOKEN }
         ensures puts { PutsContent pending.old.properties.anchor (option_map string_bytes tag) start_mark.now
-            end_mark.now Answer.Scalar token.old pending.old.reading self.old Step.Given pending.new out.new self.new }
+            end_mark.now Answer.Scalar token.old pending.old.reading self.old Step.Given pending.new
+            out.new self.new }
     {
         out.start_mark = *start_mark;
         out.end_mark = token.end_mark;
@@ -273,7 +276,8 @@ impl Machine {
     )
         requires none { self.old.lookahead ≡ None }
         ensures puts { PutsContent pending.old.properties.anchor (option_map string_bytes tag) start_mark.now
-            end_mark.now Answer.EmptyHead token.old pending.old.reading self.old Step.Given pending.new out.new self.new }
+            end_mark.now Answer.EmptyHead token.old pending.old.reading self.old Step.Given pending.new
+            out.new self.new }
     {
         let implicit = is_missing(&tag);
         let text = String::new(self.allocator());
@@ -296,7 +300,8 @@ impl Machine {
     )
         requires none { self.old.lookahead ≡ None }
         ensures puts { PutsContent pending.old.properties.anchor (option_map string_bytes tag) start_mark.now
-            end_mark.now Answer.IndentlessSequence token.old pending.old.reading self.old Step.Given pending.new out.new self.new }
+            end_mark.now Answer.IndentlessSequence token.old pending.old.reading self.old Step.Given
+            pending.new out.new self.new }
     {
         let style = yaml_sequence_style_t::YAML_BLOCK_SEQUENCE_STYLE;
         let anchor = take_anchor(pending);
@@ -321,7 +326,8 @@ impl Machine {
         requires fits { FitsContent answer (token_type token.now.content) pending.old.reading }
         requires opening { IsOpening answer }
         ensures puts { PutsContent pending.old.properties.anchor (option_map string_bytes tag) start_mark.now
-            end_mark.now answer token.now pending.old.reading self.old Step.Given pending.new out.new self.new }
+            end_mark.now answer token.now pending.old.reading self.old Step.Given pending.new out.new
+            self.new }
     {
         let anchor = take_anchor(pending);
         let content = collection_start(anchor, tag, &token.content);
