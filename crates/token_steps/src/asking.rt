@@ -22,7 +22,7 @@ use libyaml_types::{yaml_mark_t, yaml_token_type_t};
 
 impl steps_t {
     /// Takes a token that is the stream's or a document's.
-    #[inline(always)]
+    #[inline(never)]
     pub(crate) fn document(
         &mut self,
         states: &mut [u8],
