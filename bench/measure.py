@@ -4,8 +4,7 @@
 DIR has the lists of lists.py and the programs `bench_lists`, `yamltokens`, `libyaml`, `libyaml_lines` and, maybe,
 `unsafe_libyaml`. KIND is a kind of list, `growth` or `program`. Instructions are counted by valgrind's callgrind: of a list, the
 difference of two runs that differ in their rounds alone. All programs must agree in their counts and checksums.
-`--clock` takes the processor's time too, the programs in turn, and names the machine; FIGURES is written for chart.py. $JOBS
-runs go on at a time (2).
+`--clock` takes the time too (clock.py); FIGURES is written for chart.py. $JOBS runs go on at a time (2).
 
 Nodes are counted twice. As glibc is set, what a block costs hangs on where the blocks before it lie: it keeps seven freed
 blocks of a size, joins the others where a list of nodes grows, and cuts new ones from what it joined. With KEEPS_BLOCKS
@@ -14,12 +13,11 @@ import json
 import math
 import os
 import re
-import resource
-import statistics
 import subprocess
 import sys
 from concurrent.futures import ThreadPoolExecutor
 
+from clock import print_clock
 from lists import GROWING, KINDS
 
 # glibc's malloc keeps every freed block for a request of its size, up to a size of 1,032 bytes.
@@ -76,8 +74,6 @@ KEPT_NODES = {
     "ours, in place": "kept place nodes",
 }
 MEASURED_TOKENS = 40000
-CLOCKED_TOKENS = 1000000
-PAIRS = 15
 
 
 class Failed(Exception):
@@ -155,34 +151,6 @@ class Bench:
             raise Failed(f"yamltokens and libyaml_lines write different {what}")
         return ours, theirs
 
-    def seconds(self, words, path):
-        """The processor's time of a command, and of the system for it."""
-        before = resource.getrusage(resource.RUSAGE_CHILDREN)
-        run(words, path)
-        after = resource.getrusage(resource.RUSAGE_CHILDREN)
-        return after.ru_utime + after.ru_stime - before.ru_utime - before.ru_stime
-
-    def pairs(self, ours, theirs, path):
-        """The median times of two commands run in turn, and the quartiles of the ratios of a turn."""
-        times = []
-        for turn in range(PAIRS):
-            if turn % 2 == 0:
-                times.append((self.seconds(ours, path), self.seconds(theirs, path)))
-            else:
-                other = self.seconds(theirs, path)
-                times.append((self.seconds(ours, path), other))
-        medians = [statistics.median(column) for column in zip(*times)]
-        return medians[0], medians[1], statistics.quantiles((b / a for a, b in times), n=4)
-
-    def clock(self, kind, source, what, peer):
-        """Nanoseconds a token of ours over a source and of a peer, medians of runs in turn, and the quartiles of the ratios
-        of a turn."""
-        count = self.token_count(kind)
-        rounds = math.ceil(CLOCKED_TOKENS / count)
-        ours = [self.program("bench_lists"), f"{source}-{what}", str(rounds)]
-        first, second, ratios = self.pairs(ours, [self.program(peer), what, str(rounds)], self.tokens(kind))
-        return first * 1e9 / (rounds * count), second * 1e9 / (rounds * count), ratios
-
 
 def shown(measured, measure):
     result = measured[measure]
@@ -230,38 +198,6 @@ def print_program(bench):
         print(f"| libyaml | {theirs / 1e6:.1f} million | {theirs / count:,.0f} | |")
 
 
-def machine():
-    """The processor's name and the number of its cores."""
-    with open("/proc/cpuinfo", encoding="utf-8") as lines:
-        names = re.findall(r"^model name\s*: (.*)$", lines.read(), flags=re.M)
-    return f"{names[0] if names else 'an unnamed processor'}, {os.cpu_count()} cores"
-
-
-def spread(ratios):
-    """The median of ratios, with the middle half of them."""
-    low, middle, high = ratios
-    return f"{middle:.2f} ({low:.2f} to {high:.2f})"
-
-
-def print_clock(bench, kinds, program):
-    """The time of ours beside each peer's; the ratio says how many times as long the peer takes."""
-    peers = [peer for peer in ("libyaml", "unsafe_libyaml") if bench.has(peer)]
-    print(f"\nMachine: {machine()}; load {os.getloadavg()[0]:.1f} as the clock is started.")
-    for what, source in ((what, source) for what in ("events", "nodes") for source in ("place", "reuse")):
-        heads = "".join(f" {peer.replace('_', '-')} | ratio |" for peer in peers)
-        ours = "in place" if source == "place" else "texts kept"
-        print(f"\n| {what}, nanoseconds a token | ours, {ours} |{heads}\n|---|---|" + "---|---|" * len(peers))
-        for kind in kinds:
-            measured = [bench.clock(kind, source, what, peer) for peer in peers]
-            cells = "".join(f" {theirs:.1f} | {spread(ratios)} |" for _, theirs, ratios in measured)
-            print(f"| {KINDS[kind]} | {measured[0][0]:.1f} |{cells}", flush=True)
-    for what in ("events", "nodes"):
-        if program:
-            words = [[bench.program("yamltokens"), what], [bench.program("libyaml_lines"), what]]
-            ours, theirs, ratios = bench.pairs(*words, bench.tokens("program"))
-            print(f"`yamltokens {what}`: {ours:.3f} s, libyaml: {theirs:.3f} s, ratio {spread(ratios)}")
-
-
 def main():
     words = sys.argv[1:]
     clock = "--clock" in words
@@ -287,7 +223,7 @@ def main():
     if program:
         print_program(bench)
     if clock:
-        print_clock(bench, kinds, program)
+        print_clock(bench, {kind: KINDS[kind] for kind in kinds}, program)
 
 
 if __name__ == "__main__":
