@@ -1,5 +1,5 @@
 -- What the records stand for, whatever their bytes are.
-use Rattle.std.specs.Prelude.{◌≤◌, ◌==◌, ℕ, Bool, true, false, if◌then◌else◌}
+use Rattle.std.specs.Prelude.{◌≡◌, ◌≤◌, ◌==◌, ◌||◌, ℕ, Bool, true, false, if◌then◌else◌}
 use Rattle.libyaml_types.specs.declared.mark.yaml_mark_t.{yaml_mark_t}
 use Rattle.libyaml_types.specs.declared.enums.yaml_token_type_t.{yaml_token_type_t}
 use Rattle.libyaml_types.specs.declared.enums.yaml_token_type_t.TheVariants as tok
@@ -66,6 +66,28 @@ shape_of e =
 -- its flags are 1 or 0
 abbrev pub AreFlags : step_event_t → Type 0
 AreFlags e = (e.has_anchor ≤ 1) × ((e.has_tag ≤ 1) × ((e.implicit ≤ 1) × ((e.quoted_implicit ≤ 1) × (e.is_flow ≤ 1))))
+
+-- which flags an event of this number has: a node those of its properties, a node and a document's start and end
+-- `implicit`, a scalar `quoted_implicit`, and a collection's start `is_flow`
+abbrev pub opens_collection : ℕ → Bool
+opens_collection kind = (kind == 7) || (kind == 9)
+
+abbrev pub is_node : ℕ → Bool
+is_node kind = (kind == 6) || opens_collection kind
+
+abbrev pub may_be_implicit : ℕ → Bool
+may_be_implicit kind = (kind == 3) || ((kind == 4) || is_node kind)
+
+abbrev pub ZeroUnless : Bool → ℕ → Type 0
+ZeroUnless true flag = Unit {0}
+ZeroUnless false flag = flag ≡ 0
+
+-- the others are 0
+abbrev pub AreUnused : step_event_t → Type 0
+AreUnused e = ZeroUnless (is_node e.kind) e.has_anchor
+    × (ZeroUnless (is_node e.kind) e.has_tag
+    × (ZeroUnless (may_be_implicit e.kind) e.implicit
+    × (ZeroUnless (e.kind == 6) e.quoted_implicit × ZeroUnless (opens_collection e.kind) e.is_flow)))
 
 abbrev pub event_of : step_event_t → (stays : Bool) → Event
 event_of e stays = record {

@@ -9,7 +9,7 @@ ghost use Rattle.libyaml_automaton.specs.Wanted.{IsAt, properties};
 ghost use Rattle.token_steps.specs.Facts as facts;
 ghost use Rattle.token_steps.specs.Facts.{tag_if};
 ghost use Rattle.token_steps.specs.Growth.{content_opens};
-ghost use Rattle.token_steps.specs.Records.{AreFlags, span_token};
+ghost use Rattle.token_steps.specs.Records.{AreFlags, AreUnused, span_token};
 ghost use Rattle.token_steps.specs.Numbers.{IsEventNumber};
 ghost use Rattle.token_steps.specs.Tells.{Tells, want_in, IsDone, IsGiven};
 
@@ -47,6 +47,7 @@ impl steps_t {
         ensures done { (result ≡ Did.FullStates → ⊥) → IsDone result }
         ensures event_number { IsGiven result → IsEventNumber event.new.kind }
         ensures event_flags { IsGiven result → AreFlags event.new }
+        ensures event_unused { IsGiven result → AreUnused event.new }
         ensures event_kept { (IsGiven result → ⊥) → event.new ≡ event.old }
         ensures fault_kept { (result ≡ Did.Failed → ⊥) → fault.new ≡ fault.old }
     {
@@ -122,6 +123,7 @@ impl steps_t {
         ensures done { (result ≡ Did.FullMarks → ⊥) → IsDone result }
         ensures event_number { IsGiven result → IsEventNumber event.new.kind }
         ensures event_flags { IsGiven result → AreFlags event.new }
+        ensures event_unused { IsGiven result → AreUnused event.new }
         ensures event_kept { (IsGiven result → ⊥) → event.new ≡ event.old }
         ensures fault_kept { (result ≡ Did.Failed → ⊥) → fault.new ≡ fault.old }
     {

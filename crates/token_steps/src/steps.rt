@@ -7,7 +7,7 @@ ghost use Rattle.libyaml_automaton.specs.Growth.{HasNoRoom};
 ghost use Rattle.libyaml_automaton.specs.Wanted.{wanted};
 ghost use Rattle.token_steps.specs.Facts as facts;
 ghost use Rattle.token_steps.specs.Growth.{grows_states, grows_marks};
-ghost use Rattle.token_steps.specs.Records.{AreFlags, kind_of, span_token};
+ghost use Rattle.token_steps.specs.Records.{AreFlags, AreUnused, kind_of, span_token};
 ghost use Rattle.token_steps.specs.Numbers.{IsEventNumber, IsFaultNumber};
 ghost use Rattle.token_steps.specs.Tells.{Tells, want_in, IsGiven, IsUntold};
 
@@ -113,6 +113,7 @@ impl steps_t {
         ensures holds_nothing { IsGiven result → wanted self.new.read ≡ AtState }
         ensures event_number { IsGiven result → IsEventNumber event.new.kind }
         ensures event_flags { IsGiven result → AreFlags event.new }
+        ensures event_unused { IsGiven result → AreUnused event.new }
         ensures fault_number { result ≡ Did.Failed → IsFaultNumber fault.new.problem }
         ensures event_kept { (IsGiven result → ⊥) → event.new ≡ event.old }
         ensures fault_kept { (result ≡ Did.Failed → ⊥) → fault.new ≡ fault.old }

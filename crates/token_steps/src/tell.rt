@@ -7,7 +7,7 @@ ghost use Rattle.libyaml_automaton.specs.Config.{config_of};
 ghost use Rattle.libyaml_automaton.specs.Numbers.{flag};
 ghost use Rattle.libyaml_automaton.specs.Wanted.{token, wanted};
 ghost use Rattle.token_steps.specs.Facts as facts;
-ghost use Rattle.token_steps.specs.Records.{AreFlags, head_of, head_tag, span_token};
+ghost use Rattle.token_steps.specs.Records.{AreFlags, AreUnused, head_of, head_tag, span_token};
 ghost use Rattle.token_steps.specs.Numbers.{IsEventNumber};
 ghost use Rattle.token_steps.specs.Tells.{FitsTold, Tells, IsTold, IsDone, IsGiven};
 
@@ -23,6 +23,7 @@ use libyaml_types::{ZERO_MARK, yaml_mark_t, yaml_token_type_t};
 fn byte(set: bool) -> u8
     ensures flag { flag result ≡ set }
     ensures bit { result ≤ 1 }
+    ensures unset { set ≡ false → result ≡ 0 }
 {
     if set { 1 } else { 0 }
 }
@@ -38,6 +39,7 @@ fn put_event(
 )
     ensures kind { event.new.kind ≡ kind }
     ensures implicit { flag event.new.implicit ≡ is_implicit }
+    ensures explicit { is_implicit ≡ false → event.new.implicit ≡ 0 }
     ensures anchor { event.new.has_anchor ≡ 0 }
     ensures tag { event.new.has_tag ≡ 0 }
     ensures quoted { event.new.quoted_implicit ≡ 0 }
@@ -74,6 +76,8 @@ fn put_node(
     ensures implicit { flag event.new.implicit ≡ is_implicit }
     ensures quoted { flag event.new.quoted_implicit ≡ is_quoted_implicit }
     ensures flow { flag event.new.is_flow ≡ is_flow }
+    ensures unquoted { is_quoted_implicit ≡ false → event.new.quoted_implicit ≡ 0 }
+    ensures block { is_flow ≡ false → event.new.is_flow ≡ 0 }
     ensures flags { AreFlags event.new }
     ensures start { event.new.start_mark ≡ start.now }
     ensures end { event.new.end_mark ≡ end.now }
@@ -169,6 +173,7 @@ impl steps_t {
         ensures done { IsTold answer → IsDone result }
         ensures event_number { IsGiven result → IsEventNumber event.new.kind }
         ensures event_flags { IsGiven result → AreFlags event.new }
+        ensures event_unused { IsGiven result → AreUnused event.new }
         ensures event_kept { (IsGiven result → ⊥) → event.new ≡ event.old }
         ensures fault_kept { (result ≡ Did.Failed → ⊥) → fault.new ≡ fault.old }
     {

@@ -12,7 +12,7 @@ ghost use Rattle.libyaml_automaton.specs.Growth.{HasNoRoom};
 ghost use Rattle.libyaml_automaton.specs.Wanted.{wanted};
 ghost use Rattle.token_steps.specs.Facts as facts;
 ghost use Rattle.token_steps.specs.Growth.{grows_states, grows_marks};
-ghost use Rattle.token_steps.specs.Records.{AreFlags, kind_of, span_token};
+ghost use Rattle.token_steps.specs.Records.{AreFlags, AreUnused, kind_of, span_token};
 ghost use Rattle.token_steps.specs.Numbers.{is_given, is_undone, IsEventNumber, IsFaultNumber};
 ghost use Rattle.token_steps.specs.Tells.{TellsNumber, want_in};
 
@@ -63,6 +63,7 @@ pub extern "C" fn pokhvizi_step(
     ensures holds_nothing { is_given result ≡ true → wanted steps.new.read ≡ AtState }
     ensures event_number { is_given result ≡ true → IsEventNumber event.new.kind }
     ensures event_flags { is_given result ≡ true → AreFlags event.new }
+    ensures event_unused { is_given result ≡ true → AreUnused event.new }
     ensures event_kept { is_given result ≡ false → event.new ≡ event.old }
     ensures fault_number { result ≡ 5 → IsFaultNumber fault.new.problem }
     ensures fault_kept { (result ≡ 5 → ⊥) → fault.new ≡ fault.old }

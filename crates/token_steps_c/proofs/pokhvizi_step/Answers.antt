@@ -41,6 +41,10 @@ pub returns-clause-event_flags : goal.returns-clause-event_flags
 returns-clause-event_flags c = λ e. c.step.ensures.event_flags
     (number_given _ (sym (ap is_given c.number.ensures) ∙ e))
 
+pub returns-clause-event_unused : goal.returns-clause-event_unused
+returns-clause-event_unused c = λ e. c.step.ensures.event_unused
+    (number_given _ (sym (ap is_given c.number.ensures) ∙ e))
+
 pub returns-clause-fault_number : goal.returns-clause-fault_number
 returns-clause-fault_number c = λ e. c.step.ensures.fault_number (number_five _ (sym c.number.ensures ∙ e))
 

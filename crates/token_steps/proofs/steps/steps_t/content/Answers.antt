@@ -20,6 +20,7 @@ returns-in_default c =
       done = λ n. done;
       event_number = c.tell.ensures.event_number;
       event_flags = c.tell.ensures.event_flags;
+      event_unused = c.tell.ensures.event_unused;
       event_kept = c.tell.ensures.event_kept;
       fault_kept = c.tell.ensures.fault_kept;
     }

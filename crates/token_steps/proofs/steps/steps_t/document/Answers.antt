@@ -40,6 +40,7 @@ returns-in_default c =
       done = λ n. done;
       event_number = c.tell-in_default.ensures.event_number;
       event_flags = c.tell-in_default.ensures.event_flags;
+      event_unused = c.tell-in_default.ensures.event_unused;
       event_kept = c.tell-in_default.ensures.event_kept;
       fault_kept = c.tell-in_default.ensures.fault_kept;
     }

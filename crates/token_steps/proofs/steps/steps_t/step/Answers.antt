@@ -108,6 +108,7 @@ returns-in_default c =
       holds_nothing = told_want _ _ _ _ _ _ tells;
       event_number = c.tell.ensures.event_number;
       event_flags = c.tell.ensures.event_flags;
+      event_unused = c.tell.ensures.event_unused;
       fault_number = λ e. failed_number _ _ _ _ _ _ (step_number (want_in c.args.self.now)
           (config_of c.args.self.now.machine c.args.states.now c.args.marks.now)
           (span_token c.args.kind c.args.fact c.args.at.now)) e tells;
