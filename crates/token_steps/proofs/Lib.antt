@@ -6,6 +6,7 @@ pub mod Whole
 pub mod Kept
 pub mod Tied
 pub mod Running
+pub mod Stacks
 pub mod Failing
 pub mod Tables
 pub mod lent

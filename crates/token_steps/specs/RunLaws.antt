@@ -4,7 +4,7 @@ use Rattle.libyaml_types.specs.declared.mark.yaml_mark_t.{yaml_mark_t}
 use Rattle.libyaml_types.specs.Fault.{Fault, no_fault}
 use Rattle.libyaml_grammar.specs.sentences.Tokens.{Token}
 use Rattle.libyaml_grammar.specs.sentences.Events.{Event}
-use Rattle.libyaml_automaton.specs.Config.{Config, config_of}
+use Rattle.libyaml_automaton.specs.Config.{Config, Within, config_of}
 use Rattle.libyaml_automaton.specs.Wanted.{wanted}
 use Rattle.libyaml_events.specs.machine.Config.{Handles, config_with}
 use Rattle.libyaml_events.specs.machine.Machine as parser
@@ -41,6 +41,12 @@ ForRuns P = (d : steps_t) (ss : List ℕ) (ms : List yaml_mark_t) (hs : Handles)
 abbrev pub BetweenTokens : (List Token → List Event → Type 0) → Type 0
 BetweenTokens P = (d : steps_t) (ss : List ℕ) (ms : List yaml_mark_t) (hs : Handles) (kept : Texts)
     (l : List Token) (g : List Event) → Run d ss ms hs kept None l g → P l g
+
+-- and of how many states and marks the record of each run counts, whose stacks have so many, and of its events
+abbrev pub ForStacks : ((states marks : ℕ) → List Event → Type 0) → Type 0
+ForStacks P = (d : steps_t) (ss : List ℕ) (ms : List yaml_mark_t) (hs : Handles) (kept : Texts)
+    (o : Option Token) (l : List Token) (g : List Event) → Run d ss ms hs kept o l g → Within d.machine ss ms
+    → P d.machine.states_count d.machine.marks_count g
 
 -- and of the tokens, the events and the fault of each run that ended with a fault, which has the text of its
 -- number

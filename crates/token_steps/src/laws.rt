@@ -1,5 +1,5 @@
 //! What holds of a caller's run of calls. Each function does nothing when it runs: its contract is the law.
-ghost use Rattle.std.specs.Prelude.{◌≡◌, ◌≤◌, ◌*◌, ◌++◌, ◌∷◌, List, [], ℕ, length, is_some, true, false};
+ghost use Rattle.std.specs.Prelude.{◌≡◌, ◌≤◌, ◌+◌, ◌*◌, ◌++◌, ◌∷◌, List, [], ℕ, length, is_some, true, false};
 ghost use Rattle.std.specs.FinMap.{get};
 ghost use Rattle.libyaml_types.specs.declared.token.unnamed_yaml_token_t_data.TheVariants as token;
 ghost use Rattle.libyaml_types.specs.declared.token.unnamed_yaml_token_t_data_version_directive as version;
@@ -13,11 +13,12 @@ ghost use Rattle.libyaml_grammar.specs.sentences.Sentences.{has_end};
 ghost use Rattle.libyaml_grammar.specs.sentences.Tokens.{Token};
 ghost use Rattle.libyaml_events.specs.machine.Config.{Handles, no_handles};
 ghost use Rattle.libyaml_events.specs.machine.Machine.{declared_by, resolve};
+ghost use Rattle.libyaml_events.specs.parsers.Stages.{open_collections, stage_of};
 ghost use Rattle.libyaml_events.specs.sources.Parsing.{IsWhole, StopsShort};
 ghost use Rattle.token_steps.specs.Texts.{bit, fact_of, tag_fact};
 ghost use Rattle.token_steps.specs.declared.tags.handles.handle_t.{handle_t};
 ghost use Rattle.token_steps.specs.Handles.{AllWithin, bytes_at, handles_at};
-ghost use Rattle.token_steps.specs.RunLaws.{BetweenTokens, FailsInHand, ForFailed, ForRuns, RunIsFed};
+ghost use Rattle.token_steps.specs.RunLaws.{BetweenTokens, FailsInHand, ForFailed, ForRuns, ForStacks, RunIsFed};
 
 /// Whatever a caller handed in and was given, with the texts that it kept by the kinds of tokens alone, a
 /// parser was handed and gave. So what is proved of pushes holds of a caller's calls.
@@ -38,6 +39,13 @@ pub fn run_is_right()
     ensures begins { BetweenTokens BeginsEach }
     ensures nests { ForRuns (λ _ events. NestsSoFar events) }
     ensures at_most_four { ForRuns (λ tokens events. length events ≤ 4 * length tokens) }
+{}
+
+/// How large the stacks get: the record counts at most one state more than collections are open, and at most
+/// as many marks.
+pub fn stacks_fit()
+    ensures states { ForStacks (λ states _ events. states ≤ open_collections (stage_of events) + 1) }
+    ensures marks { ForStacks (λ _ marks events. marks ≤ open_collections (stage_of events)) }
 {}
 
 /// A fault is that of a parser which was handed the same tokens, with its text and its marks, and so that of

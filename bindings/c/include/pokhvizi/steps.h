@@ -23,8 +23,9 @@
  *     POKHVIZI_FAULT         `fault` is set              stop: the tokens are no YAML stream
  *     POKHVIZI_BAD           nothing was done            stop: `steps` counts more than `states_room` or `marks_room`
  *
- * `states` and `marks` are stacks in the caller's memory: one entry each for a collection that is open, and a few more. What
- * stands in them before the first call doesn't matter; to make them larger, move their bytes, as by realloc.
+ * `states` and `marks` are stacks in the caller's memory. While N collections are open, `states` holds at most N + 1
+ * entries, and `marks` at most N. What stands in them before the first call doesn't matter; to make them larger, move their
+ * bytes, as by realloc.
  *
  * Facts. What a call has to know of a token's texts is one number, `fact`. It goes by the document's handles, so ask for it at
  * each call, also where the token stayed:

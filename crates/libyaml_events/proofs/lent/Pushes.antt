@@ -1,4 +1,5 @@
 -- What all tokens that a parser was handed, and the events that it gave, say: between two pushes and within one.
+pub use Rattle.libyaml_events.proofs.calls.StackRoom.{fed_depth, fed_marks}
 pub use Rattle.libyaml_events.proofs.pushes.Handed.{fed_begins, fed_begins_run, fed_count, fed_ended, fed_faultless, fed_nests, fed_settled, fed_whole}
 pub use Rattle.libyaml_events.proofs.pushes.Moments.{one_pushed}
 pub use Rattle.libyaml_events.proofs.pushes.Steps.{begins, gives_on, takes, wants}
