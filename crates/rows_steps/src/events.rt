@@ -1,5 +1,6 @@
 //! The events of token records, by steps.
 
+use crate::deeds::Documents;
 use crate::tokens::{ABSENT, Tokens, mark_record_t, range_record_t, token_record_t};
 use anyhow::{Context, Result, bail};
 use libyaml_types::{
@@ -13,13 +14,29 @@ use libyaml_types::{
 };
 use line_writing::write_event;
 use std::alloc::Global;
+use std::io::Write;
 use token_steps::{
-    Did, directive_fact, handle_t, step_event_t, step_fault_t, step_span_t, steps_t, tag, text_t,
+    directive_fact, handle_t, step_event_t, step_fault_t, step_span_t, steps_t, tag, text_t,
     token_kind, version_fact,
 };
 
 /// A token takes fewer steps than this.
 const STEPS: usize = 16;
+
+/// The numbers of what a step did.
+const WANTS: u32 = 0;
+
+const GAVE: u32 = 1;
+
+const STAYS: u32 = 2;
+
+const FULL_STATES: u32 = 3;
+
+const FULL_MARKS: u32 = 4;
+
+const FAILED: u32 = 5;
+
+const BAD: u32 = 6;
 
 const NO_EVENT: step_event_t = step_event_t {
     kind: 0,
@@ -40,7 +57,7 @@ const NO_FAULT: step_fault_t = step_fault_t {
 
 /// A parser over the steps. Its stacks have no room at first, and take one entry more where they are full.
 #[derive(Drop)]
-struct Parser {
+pub struct Parser {
     steps: steps_t,
     states: Vec<u8>,
     marks: Vec<yaml_mark_t>,
@@ -50,19 +67,15 @@ struct Parser {
     anchor: range_record_t,
     tag: Vec<u8>,
     version: Option<yaml_version_directive_t>,
-}
-
-/// Writes the lines of the events of these tokens.
-pub fn print_events(rt: &HostRuntime, tokens: &Tokens) -> Result<()> {
-    let mut parser = Parser::new(rt.alloc());
-    for token in tokens.records.iter() {
-        parser.take(rt, token, tokens.texts.as_slice())?;
-    }
-    Ok(())
+    /// How many collections are open, and how many were at once.
+    open: usize,
+    deepest: usize,
+    lines: Vec<u8>,
+    documents: Documents,
 }
 
 impl Parser {
-    fn new(alloc: Global) -> Self {
+    pub fn new(alloc: Global) -> Self {
         Parser {
             steps: steps_t::new(),
             states: Vec::new(alloc),
@@ -71,50 +84,119 @@ impl Parser {
             anchor: NO_TEXT,
             tag: Vec::new(alloc),
             version: None,
+            open: 0,
+            deepest: 0,
+            lines: Vec::new(alloc),
+            documents: Documents::new(alloc),
         }
     }
 
-    /// Takes a token, and writes the lines of the events that it settles.
-    fn take(&mut self, rt: &HostRuntime, token: &token_record_t, texts: &[u8]) -> Result<()> {
+    /// Returns the lines of the events, and of the fault that ended them.
+    pub fn into_lines(self) -> Vec<u8> {
+        let Parser { lines, .. } = self;
+        lines
+    }
+
+    /// Returns the lines of what was done to documents.
+    pub fn into_deeds(self) -> Vec<u8> {
+        let Parser { documents, .. } = self;
+        documents.into_lines()
+    }
+
+    /// Takes tokens, up to a fault.
+    pub fn take_all(&mut self, alloc: Global, tokens: &Tokens) -> Result<()> {
+        for token in tokens.records.iter() {
+            if !self.take(alloc, token, tokens.texts.as_slice())? {
+                break;
+            }
+        }
+        Ok(())
+    }
+
+    /// Takes a token, and writes the lines of the events that it settles. Returns whether there was no fault.
+    fn take(&mut self, alloc: Global, token: &token_record_t, texts: &[u8]) -> Result<bool> {
         for _ in 0..STEPS {
-            if self.step(rt, token, texts)? {
-                return Ok(());
+            match self.step(alloc, token, texts)? {
+                WANTS | GAVE => return Ok(true),
+                FAILED => return Ok(false),
+                _ => {}
             }
         }
         bail!("a token is never taken")
     }
 
-    /// Steps once; returns whether the token was taken.
-    fn step(&mut self, rt: &HostRuntime, token: &token_record_t, texts: &[u8]) -> Result<bool> {
+    /// Steps once, and returns the number of what the step did.
+    fn step(&mut self, alloc: Global, token: &token_record_t, texts: &[u8]) -> Result<u32> {
         let mut event = NO_EVENT;
         let mut fault = NO_FAULT;
-        let fact = self.fact(rt.alloc(), token, texts)?;
+        let fact = self.fact(alloc, token, texts)?;
+        let kind = token_kind(byte_of(token.kind));
         let at = step_span_t {
             start_mark: mark_of(&token.start_mark),
             end_mark: mark_of(&token.end_mark),
         };
-        let did = self.steps.step(
-            self.states.as_mut_slice(),
-            self.marks.as_mut_slice(),
-            token_kind(byte_of(token.kind)),
-            fact,
-            &at,
-            &mut event,
-            &mut fault,
-        );
-        match did {
-            Did::Wants => self.hold(token)?,
-            Did::Gave => self.write(rt, &event, Some(*token), texts)?,
-            Did::Stays => self.write(rt, &event, None, texts)?,
-            Did::FullStates => self.states.push(0)?,
-            Did::FullMarks => self.marks.push(ZERO_MARK)?,
-            Did::Failed => bail!("the tokens have a fault"),
-            Did::Bad => bail!("the stacks are too small"),
+        if !self.are_short_stacks_bad(token, fact) {
+            self.lines
+                .extend_from_slice(b"stacks that are too short are taken\n")?;
         }
-        Ok(match did {
-            Did::Wants | Did::Gave => true,
-            _ => false,
-        })
+        let did = self
+            .steps
+            .step(
+                self.states.as_mut_slice(),
+                self.marks.as_mut_slice(),
+                kind,
+                fact,
+                &at,
+                &mut event,
+                &mut fault,
+            )
+            .number();
+        match did {
+            WANTS => self.hold(token)?,
+            GAVE => self.write(alloc, &event, Some(*token), texts)?,
+            STAYS => self.write(alloc, &event, None, texts)?,
+            FULL_STATES => self.states.push(0)?,
+            FULL_MARKS => self.marks.push(ZERO_MARK)?,
+            FAILED => self.write_fault(&fault)?,
+            _ => bail!("the stacks are too small"),
+        }
+        Ok(did)
+    }
+
+    /// Whether a step is told as bad with one state or one mark fewer than the record counts.
+    fn are_short_stacks_bad(&mut self, token: &token_record_t, fact: u8) -> bool {
+        let states = self.steps.machine.states_count;
+        let marks = self.steps.machine.marks_count;
+        (states == 0 || self.step_within(token, fact, states - 1, marks) == BAD)
+            && (marks == 0 || self.step_within(token, fact, states, marks - 1) == BAD)
+    }
+
+    /// Steps a copy of the record over so much of its stacks, and returns the number of what that did.
+    fn step_within(
+        &mut self,
+        token: &token_record_t,
+        fact: u8,
+        states: usize,
+        marks: usize,
+    ) -> u32 {
+        let mut steps = self.steps;
+        let at = step_span_t {
+            start_mark: mark_of(&token.start_mark),
+            end_mark: mark_of(&token.end_mark),
+        };
+        let states = states.min(self.states.len());
+        let marks = marks.min(self.marks.len());
+        steps
+            .step(
+                &mut self.states.as_mut_slice()[..states],
+                &mut self.marks.as_mut_slice()[..marks],
+                token_kind(byte_of(token.kind)),
+                fact,
+                &at,
+                &mut NO_EVENT,
+                &mut NO_FAULT,
+            )
+            .number()
     }
 
     /// Returns the fact of a token, and makes a tag in full.
@@ -189,23 +271,78 @@ impl Parser {
         Ok(())
     }
 
-    /// Writes the line of an event, of the token that ends with it if there is one.
+    /// Writes the line of an event, of the token that ends with it if there is one, and composes it.
     fn write(
         &mut self,
-        rt: &HostRuntime,
+        alloc: Global,
         event: &step_event_t,
         token: Option<token_record_t>,
         texts: &[u8],
     ) -> Result<()> {
-        let mut made = self.unmarked(rt.alloc(), event, &token.unwrap_or_default(), texts)?;
+        if !has_flags_of_its_kind(event) {
+            self.lines
+                .extend_from_slice(b"a flag that no event of this kind has\n")?;
+        }
+        let token = token.unwrap_or_default();
+        let mut made = self.unmarked(alloc, event, &token, texts)?;
         made.start_mark = event.start_mark;
         made.end_mark = event.end_mark;
-        write_event(rt.alloc(), &made, &mut rt.stdout())?;
+        write_event(alloc, &made, &mut self.lines)?;
+        self.count(event.kind);
+        if !self.are_stacks_needed() {
+            self.lines
+                .extend_from_slice(b"stacks that are larger than the open collections need\n")?;
+        }
+        let anchor = self.anchor_of(event, &token, texts)?;
+        self.documents.take(event, anchor)?;
         self.anchor = NO_TEXT;
         self.version = None;
         if event.kind == 4 {
-            self.handles = Vec::new(rt.alloc());
+            self.handles = Vec::new(alloc);
         }
+        Ok(())
+    }
+
+    /// Counts the collection that an event of this kind begins or ends.
+    fn count(&mut self, kind: u8) {
+        match kind {
+            7 | 9 => self.open = self.open.saturating_add(1),
+            8 | 10 => self.open = self.open.saturating_sub(1),
+            _ => {}
+        }
+        self.deepest = self.deepest.max(self.open);
+    }
+
+    /// Whether the stacks have no more entries than one for each collection that was open, and one state more.
+    fn are_stacks_needed(&self) -> bool {
+        self.states.len() <= self.deepest.saturating_add(1) && self.marks.len() <= self.deepest
+    }
+
+    /// Returns the anchor that an event names or carries.
+    fn anchor_of<'a>(
+        &self,
+        event: &step_event_t,
+        token: &token_record_t,
+        texts: &'a [u8],
+    ) -> Result<Option<&'a [u8]>> {
+        if event.kind == 5 {
+            return option_of(texts, &token.first);
+        }
+        if event.has_anchor == 1 {
+            return option_of(texts, &self.anchor);
+        }
+        Ok(None)
+    }
+
+    /// Writes the line of a fault: its number, and where it was found and where its context starts.
+    fn write_fault(&mut self, fault: &step_fault_t) -> Result<()> {
+        let problem = fault.problem;
+        let mark = fault.problem_mark;
+        let context = fault.context_mark;
+        let (index, line, column) = (mark.index, mark.line, mark.column);
+        write!(&mut self.lines, "FAULT {problem} {index}:{line}:{column}")?;
+        let (index, line, column) = (context.index, context.line, context.column);
+        writeln!(&mut self.lines, " {index}:{line}:{column}")?;
         Ok(())
     }
 
@@ -218,7 +355,7 @@ impl Parser {
         texts: &[u8],
     ) -> Result<yaml_event_t> {
         let implicit = event.implicit == 1;
-        let anchor = option_of(texts, &self.anchor)?;
+        let anchor = self.anchor_of(event, token, texts)?;
         let whole = self.tag.as_slice();
         let tag = if event.has_tag == 1 {
             Some(whole)
@@ -261,6 +398,27 @@ impl Parser {
         }
         Ok(yaml_document_start_event_initialize(alloc, self.version, pairs.as_slice(), implicit)?)
     }
+}
+
+/// The largest value of each flag of an event: of `has_anchor`, `has_tag`, `implicit`, `quoted_implicit` and
+/// `is_flow`.
+fn flags_of_kind(kind: u8) -> [u8; 5] {
+    match kind {
+        3 | 4 => [0, 0, 1, 0, 0],
+        6 => [1, 1, 1, 1, 0],
+        7 | 9 => [1, 1, 1, 0, 1],
+        _ => [0, 0, 0, 0, 0],
+    }
+}
+
+/// Whether an event's flags are 1 or 0, and 0 where its kind has none.
+fn has_flags_of_its_kind(event: &step_event_t) -> bool {
+    let most = flags_of_kind(event.kind);
+    event.has_anchor <= most[0]
+        && event.has_tag <= most[1]
+        && event.implicit <= most[2]
+        && event.quoted_implicit <= most[3]
+        && event.is_flow <= most[4]
 }
 
 /// The range of a text that isn't there.

@@ -1,26 +1,119 @@
-//! Token lines on standard input, lines of events on standard output: each token becomes a record, and steps
-//! over these give the events.
+//! Lists of tokens, each with what steps over it give, which stand as files in `data`.
+//!
+//! Each line of `data/lists/index` names a list and says what it shows. Its tokens become records, and steps over
+//! these give the lines of its events, and the number and the marks of the fault that ends them. The composer's
+//! steps over the same events give what is done to each document. The program compares both with `NAME.steps` and
+//! `NAME.deeds`, and counts. `rows_steps TABLE [NAME]` compares one table, or one list of it.
 #![tactic(auto)]
 
+mod deeds;
 mod events;
 mod tokens;
 
-use crate::events::print_events;
+use crate::events::Parser;
 use crate::tokens::Tokens;
-use anyhow::Result;
+use anyhow::{Context, Result};
 use line_reading::yaml_line_source_t;
-use std::io::BufReader;
+use rows_common::{Table, Tables, read_text, read_words, show_difference};
+use std::alloc::Global;
+use std::rt::Files;
 
-/// The program reads at most this many tokens.
-const MAX_TOKENS: u64 = 1_000_000;
+/// A list has fewer tokens than this.
+const MAX_TOKENS: u64 = 100_000;
 
-fn main(rt: HostRuntime) -> Result<()> {
-    let alloc = rt.alloc();
-    let reader = BufReader::new(alloc, rt.stdin())?;
+/// What is compared of a list.
+#[derive(Copy, Clone)]
+enum View {
+    Events,
+    Deeds,
+}
+
+impl View {
+    /// The end of the name of a list's file.
+    fn ending(self) -> &'static str {
+        match self {
+            View::Events => "steps",
+            View::Deeds => "deeds",
+        }
+    }
+
+    /// Returns the lines of these tokens.
+    fn lines(self, alloc: Global, tokens: &Tokens) -> Result<Vec<u8>> {
+        let mut parser = Parser::new(alloc);
+        parser.take_all(alloc, tokens)?;
+        Ok(match self {
+            View::Events => parser.into_lines(),
+            View::Deeds => parser.into_deeds(),
+        })
+    }
+}
+
+/// Returns the records of these token lines.
+fn tokens_of(alloc: Global, lines: &str) -> Result<Tokens> {
     let mut tokens = Tokens::new(alloc);
     tokens.read_all(
-        yaml_line_source_t::new(alloc, reader, MAX_TOKENS),
+        yaml_line_source_t::new(alloc, lines.as_bytes(), MAX_TOKENS),
         MAX_TOKENS,
     )?;
-    print_events(&rt, &tokens)
+    Ok(tokens)
+}
+
+/// Compares the lines of a list with those that are wanted, and prints the first that differs.
+fn is_right(rt: &(impl Files + Print + AllocGlobal), name: &str, view: View) -> Result<bool> {
+    let alloc = rt.alloc();
+    let tokens = read_text(rt, format!(in alloc; "lists/{name}.tokens")?.as_str())?;
+    let ending = view.ending();
+    let wanted = read_text(rt, format!(in alloc; "lists/{name}.{ending}")?.as_str())?;
+    let tokens = tokens_of(alloc, tokens.as_str())?;
+    let given = view.lines(alloc, &tokens)?;
+    if given.as_slice() == wanted.as_bytes() {
+        return Ok(true);
+    }
+    println!(rt; "{name}.{ending}:")?;
+    show_difference(rt, wanted.as_bytes(), given.as_slice())?;
+    Ok(false)
+}
+
+/// Compares the list that a line of the index names, where it is asked for.
+fn show_list(
+    rt: &(impl Files + Print + AllocGlobal),
+    table: &mut Table<'_>,
+    line: &str,
+    view: View,
+) -> Result<()> {
+    let (name, _) = line
+        .split_once(": ")
+        .context("a line of the index without ': '")?;
+    if table.has(name) {
+        let is_right = is_right(rt, name, view)?;
+        table.count(rt, name, is_right)?;
+    }
+    Ok(())
+}
+
+/// Compares each list of a table that is asked for.
+fn show_table(
+    rt: &(impl Files + Print + AllocGlobal),
+    tables: &mut Tables<'_>,
+    name: &'static str,
+    view: View,
+) -> Result<()> {
+    let Some(table) = tables.begin(name) else {
+        return Ok(());
+    };
+    let mut table = table;
+    let index = read_text(rt, "lists/index")?;
+    for line in index.as_str().lines() {
+        show_list(rt, &mut table, line, view)?;
+    }
+    tables.show(rt, table)?;
+    Ok(())
+}
+
+fn main(rt: HostRuntime) -> Result<()> {
+    let words = read_words(&rt)?;
+    let mut tables = Tables::asked(words.as_slice())?;
+    show_table(&rt, &mut tables, "events", View::Events)?;
+    show_table(&rt, &mut tables, "deeds", View::Deeds)?;
+    tables.end()
 }

@@ -1,0 +1,131 @@
+//! What the composer's steps do to the documents of events.
+
+use anyhow::Result;
+use document_steps::{anchor_t, carrier};
+use libyaml_composer::{Deed, composer_t, event_kind, open_t, place_t};
+use std::alloc::Global;
+use std::io::Write;
+use token_steps::step_event_t;
+
+const NO_PLACE: place_t = place_t {
+    node: 0,
+    child: 0,
+    parent: 0,
+    key: 0,
+};
+
+const NO_ENTRY: open_t = open_t {
+    node: 0,
+    key: 0,
+    children: 0,
+    is_mapping: 0,
+};
+
+/// How many entries each list of a document may have.
+const MAX_ENTRIES: u32 = 50;
+
+/// The numbers of a stack without room, and of the first refusal for good.
+const FULL_STACK: u32 = 8;
+
+const REFUSED: u32 = 9;
+
+/// A composer over the steps. Its stack has no room at first, and takes one entry more where it is full.
+#[derive(Drop)]
+pub struct Documents {
+    composer: composer_t,
+    stack: Vec<open_t>,
+    /// The anchors of the document that is open, and their texts.
+    anchors: Vec<anchor_t>,
+    texts: Vec<u8>,
+    /// An event was refused.
+    is_over: bool,
+    lines: Vec<u8>,
+}
+
+impl Documents {
+    pub fn new(alloc: Global) -> Self {
+        Documents {
+            composer: composer_t::new(MAX_ENTRIES),
+            stack: Vec::new(alloc),
+            anchors: Vec::new(alloc),
+            texts: Vec::new(alloc),
+            is_over: false,
+            lines: Vec::new(alloc),
+        }
+    }
+
+    pub fn into_lines(self) -> Vec<u8> {
+        let Documents { lines, .. } = self;
+        lines
+    }
+
+    /// Takes an event with its anchor, and writes the lines of what is done; after a refusal it takes none.
+    pub fn take(&mut self, event: &step_event_t, anchor: Option<&[u8]>) -> Result<()> {
+        if self.is_over {
+            return Ok(());
+        }
+        if self.compose(event.kind, anchor)? == FULL_STACK {
+            self.stack.push(NO_ENTRY)?;
+            self.compose(event.kind, anchor)?;
+        }
+        Ok(())
+    }
+
+    /// Composes once, and returns the number of what was done.
+    fn compose(&mut self, kind: u8, anchor: Option<&[u8]>) -> Result<u32> {
+        let fact = self.fact(anchor);
+        let mut place = NO_PLACE;
+        let deed = self.composer.compose(
+            self.stack.as_mut_slice(),
+            event_kind(kind),
+            fact,
+            &mut place,
+        );
+        self.write(deed, &place)?;
+        if let Some(anchor) = anchor {
+            self.hold(anchor, place.node)?;
+        }
+        if let Deed::Begins = deed {
+            self.anchors.clear();
+            self.texts.clear();
+        }
+        let number = deed.number();
+        self.is_over = number >= REFUSED;
+        Ok(number)
+    }
+
+    /// Returns the fact of an event with this anchor.
+    fn fact(&self, anchor: Option<&[u8]>) -> i32 {
+        match anchor {
+            Some(anchor) => carrier(self.anchors.as_slice(), self.texts.as_slice(), anchor),
+            None => 0,
+        }
+    }
+
+    /// Holds the anchor of this node, if one was put.
+    fn hold(&mut self, anchor: &[u8], node: i32) -> Result<()> {
+        if node != 0 {
+            let place = self.texts.len() as u64;
+            self.texts.extend_from_slice(anchor)?;
+            self.anchors.push(anchor_t {
+                place,
+                length: anchor.len() as u64,
+                node,
+            })?;
+        }
+        Ok(())
+    }
+
+    /// Writes a line: the number of what was done, and the node, child, parent and key of its place.
+    fn write(&mut self, deed: Deed, place: &place_t) -> Result<()> {
+        let number = deed.number();
+        let place_t {
+            node,
+            child,
+            parent,
+            key,
+        } = *place;
+        writeln!(&mut self.lines, "{number} {node} {child} {parent} {key}")?;
+        Ok(())
+    }
+}
