@@ -1,2 +1,4 @@
 pub mod Running
+pub mod Depth
+pub mod Places
 pub mod Tables

@@ -1,14 +1,14 @@
 -- A run of calls leads where the loader's machine does.
-use Rattle.std.proofs.Common.{◌≡◌, ◌++◌, ◌∷◌, List, [], ℕ, length, refl, sym, ap, subst, ◌∙◌, Option, Some, None, Bool, true, false, Err, true≢false, append-nil}
-use Rattle.std.specs.Cmp.Lexicographic.{slice_cmp, nat_list_cmp_total}
-use Rattle.std.specs.FinMap.{from_entries, get, get-from_entries}
+use Rattle.std.proofs.Common.{◌≡◌, ◌++◌, ◌∷◌, List, [], ℕ, refl, sym, ap, subst, ◌∙◌, Option, Some, None, Bool, true, false, Err, true≢false, append-nil}
+use Rattle.std.specs.Cmp.Lexicographic.{nat_list_cmp_total}
+use Rattle.std.specs.FinMap.{get, get-from_entries}
 use Rattle.libyaml_types.specs.Types.{event_type}
 use Rattle.libyaml_types.specs.declared.event.unnamed_yaml_event_t_data.TheVariants as ev
 use Rattle.libyaml_types.specs.declared.event.unnamed_yaml_event_t_data.{unnamed_yaml_event_t_data}
 use Rattle.libyaml_grammar.specs.sentences.Events.{Event}
 use Rattle.libyaml_grammar.specs.runs.Runs.{Ending}
 use Rattle.libyaml_documents.specs.Documents.{Document}
-use Rattle.libyaml_graphs.specs.graphs.GraphParts.{Closing, Opening, Part, closing_in, closing_of, opening_in, opening_of, part_in, part_of}
+use Rattle.libyaml_graphs.specs.graphs.GraphParts.{Closing, Opening, closing_in, closing_of, opening_in, opening_of, part_of}
 use Rattle.libyaml_graphs.specs.loads.Bounds.{bounded_loads}
 use Rattle.libyaml_graphs.specs.loads.Loads.{Load, document, last_load}
 use Rattle.libyaml_graphs.specs.machine.Loader as machine

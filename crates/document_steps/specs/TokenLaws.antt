@@ -1,17 +1,15 @@
 -- What holds of a caller that steps from tokens to events and from these to documents.
-use Rattle.std.specs.Prelude.{◌≡◌, ◌∷◌, ◌++◌, List, [], ℕ, None, Some, Err, true, false}
+use Rattle.std.specs.Prelude.{◌∷◌, ◌++◌, List, [], ℕ, None, Some}
 use Rattle.libyaml_types.specs.Fault.{Fault}
 use Rattle.libyaml_types.specs.declared.mark.yaml_mark_t.{yaml_mark_t}
-use Rattle.libyaml_grammar.specs.runs.Runs.{Ends, Fails}
 use Rattle.libyaml_grammar.specs.sentences.Events.{Event}
-use Rattle.libyaml_grammar.specs.sentences.Sentences.{has_end}
 use Rattle.libyaml_grammar.specs.sentences.Tokens.{Token}
 use Rattle.libyaml_documents.specs.Documents.{Document}
 use Rattle.libyaml_events.specs.machine.Config.{Handles}
 use Rattle.libyaml_events.specs.machine.Machine.{fault_with}
 use Rattle.libyaml_events.specs.machine.Want.{Texts}
 use Rattle.libyaml_graphs.specs.loads.Bounds.{IsBoundedLoads}
-use Rattle.libyaml_graphs.specs.loads.Loads.{Load, last_load}
+use Rattle.libyaml_graphs.specs.loads.Loads.{Load}
 use Rattle.libyaml_composer.specs.declared.composer.composer_t.{composer_t}
 use Rattle.libyaml_composer.specs.declared.deed.Deed.{Deed}
 use Rattle.libyaml_composer.specs.declared.records.open_t.{open_t}

@@ -5,7 +5,8 @@ ghost use Rattle.libyaml_graphs.specs.graphs.Graphs.{Carrier, id_or};
 ghost use Rattle.libyaml_graphs.specs.machine.Loader.{Anchors, no_anchors};
 ghost use Rattle.document_steps.specs.declared.anchors.anchor_t.{anchor_t};
 ghost use Rattle.document_steps.specs.Anchors.{AllWithin, Tabled, bytes_of, node_in};
-ghost use Rattle.document_steps.specs.RunLaws.{RunFails, RunIsLoads, RunIsMachine};
+ghost use Rattle.document_steps.specs.RunLaws.{FullWhereOpen, RunFails, RunIsLoads, RunIsMachine};
+ghost use Rattle.document_steps.specs.RunLaws.{RunPlaces, StackFits};
 ghost use Rattle.document_steps.specs.TokenLaws.{AreThen, BetweenBoth, FailedTokens, RefusedEvents};
 ghost use Rattle.libyaml_types.specs.Fault.{Fault};
 ghost use Rattle.libyaml_grammar.specs.runs.Runs.{Ends};
@@ -27,6 +28,19 @@ pub fn run_is_loads()
 /// Where a call refuses an event, the loads end there with its fault, whatever comes after it.
 pub fn run_fails()
     ensures { RunFails }
+{}
+
+/// Where a call puts a node or an alias, or ends a collection, the fields of the place that its deed has no use
+/// for are 0.
+pub fn places_are_whole()
+    ensures { RunPlaces }
+{}
+
+/// How large the stack gets: within a document the record counts at most the open collections. A stack with an
+/// entry for each is never full.
+pub fn stack_fits()
+    ensures depth { StackFits }
+    ensures full { FullWhereOpen }
 {}
 
 /// The function over a table of anchors returns the fact of an event, where the table has the carriers that are

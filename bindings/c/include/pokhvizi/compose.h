@@ -36,9 +36,10 @@
  * its anchor, and of a node with an anchor the id of an earlier one that carries it. It is 0 where there is none, and of any
  * other event it isn't looked at. pokhvizi_carrier finds it in a table; any other way to the same number does as well.
  *
- * `stack` has an entry for each collection that is open. What stands in it before the first call doesn't matter; to make it
- * larger, move its bytes, as by realloc. Each list of a document, its nodes and the items or pairs of each, may have as many
- * entries as pokhvizi_composer_new said, and never more than 2,147,483,647.
+ * `stack` has an entry for each collection that is open: with room for as many as are ever open at once it is never full.
+ * What stands in it before the first call doesn't matter; to make it larger, move its bytes, as by realloc. Each list of a
+ * document, its nodes and the items or pairs of each, may have as many entries as pokhvizi_composer_new said, and never more
+ * than 2,147,483,647.
  *
  * Any bytes may stand in the structs, and `kind` and `fact` may be any numbers: then the documents are wrong, and nothing else
  * happens. What the library does is proved. That the caller keeps to this is not: no pointer is null, also where its length
@@ -64,7 +65,8 @@ typedef struct {
     uint32_t children, is_mapping;
 } pokhvizi_open_t;
 
-/* Where a node or an alias goes. What a deed has no use for is 0. */
+/* Where a node or an alias goes, or what ends. What a deed has no use for is 0; one that neither puts nor ends anything leaves
+ * all as it was. */
 typedef struct {
     int32_t node;   /* the id of the node to be put; 0 of an alias */
     int32_t child;  /* the id that goes to the parent */

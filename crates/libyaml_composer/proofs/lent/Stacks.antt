@@ -3,7 +3,7 @@ use Rattle.std.proofs.Common.{◌≡◌, ◌≤◌, ◌++◌, ◌∷◌, ℕ, Li
 use Rattle.std.proofs.lemmas.List.{take-append-le}
 use Rattle.libyaml_composer.specs.declared.records.open_t.{open_t}
 use Rattle.libyaml_composer.specs.Composing.{stack_of}
-use Rattle.libyaml_composer.proofs.Tops.{depth_is}
+pub use Rattle.libyaml_composer.proofs.Tops.{depth_is}
 
 -- entries more change nothing
 pub stack_among : (entries l : List open_t) (n : ℕ) → n ≤ length entries → stack_of n (entries ++ l) ≡ stack_of n entries

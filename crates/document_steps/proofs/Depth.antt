@@ -1,0 +1,150 @@
+-- The stack holds at most the open collections.
+use Rattle.std.proofs.Common.{◌≡◌, ◌≤◌, ◌<◌, ◌++◌, ◌∷◌, List, [], ℕ, zero, suc, ℤ, pos, length, nat_le, refl, sym, ap, subst, ◌∙◌, Option, None, Some, Bool, true, false, true≢false, arith}
+use Rattle.libyaml_types.specs.Types.{event_type}
+use Rattle.libyaml_types.specs.declared.enums.yaml_event_type_t.{yaml_event_type_t}
+use Rattle.libyaml_types.specs.declared.enums.yaml_event_type_t.TheVariants as ev
+use Rattle.libyaml_grammar.specs.sentences.Events.{Event}
+use Rattle.libyaml_documents.specs.Documents.{Document}
+use Rattle.libyaml_composer.specs.declared.composer.composer_t.{composer_t}
+use Rattle.libyaml_composer.specs.declared.deed.Deed.{Deed}
+use Rattle.libyaml_composer.specs.declared.deed.Deed.TheVariants as deed
+use Rattle.libyaml_composer.specs.declared.records.open_t.{open_t}
+use Rattle.libyaml_composer.specs.declared.records.place_t.{place_t}
+use Rattle.libyaml_composer.specs.Composing.{Composer, Told, adding, at_carrier, at_start, between_step, composer_of, ended, handed, handing, if_placed, is_start, list_full, new_id, opened, stack_of, step, step_in, unless, within_step}
+use Rattle.libyaml_composer.specs.Held.{Held, fact_of}
+use Rattle.libyaml_composer.specs.Numbers.{flag, is_id}
+use Rattle.libyaml_composer.proofs.lent.Full.{full_starts}
+use Rattle.libyaml_composer.proofs.lent.Stacks.{depth_is}
+use Rattle.document_steps.specs.Open.{less_one, open_after, open_from, open_of, or_none}
+use Rattle.document_steps.specs.RunLaws.{FullWhereOpen, StackFits}
+use Rattle.document_steps.specs.Runs.{Run, begins, moves, takes}
+
+-- the record says whether a document is open, and within it the stack has at most so many entries
+abbrev Few : ℕ → Composer → Type 0
+Few n c = (c.is_within ≡ true) × (length c.stack ≤ n)
+
+abbrev Fits : Option ℕ → Composer → Type 0
+Fits None c = c.is_within ≡ false
+Fits (Some n) c = Few n c
+
+handed_length : (i : ℤ) (s : List open_t) → length (handed i s) ≡ length s
+handed_length i [] = refl
+handed_length i (o ∷ s) = refl
+
+-- what a test refuses changes nothing
+unless_few : (b : Bool) (d : Deed) (p : place_t) (c : Composer) (t : Told) (n : ℕ) → Few n c → Few n t.composer
+    → Few n (unless b d p c t).composer
+unless_few true d p c t n h g = h
+unless_few false d p c t n h g = g
+
+placed_few : (f : ℤ) (p : place_t) (c : Composer) (t : Told) (n : ℕ) → Few n c → Few n t.composer
+    → Few n (if_placed f p c t).composer
+placed_few f p c t n h g = unless_few _ deed.FullList p c _ n h
+    (unless_few (is_id f) deed.RepeatedAnchor p c _ n h (unless_few (list_full c.most c.stack) deed.FullList p c t n h g))
+
+handing_few : (i j : ℤ) (c : Composer) (n : ℕ) → Few n c → Few n (handing i j c).composer
+handing_few i j c n h = let e = handed_length j c.stack in let l = h.1 in (h.0, omega arith)
+
+alias_few : (b : Bool) (i : ℤ) (p : place_t) (c : Composer) (n : ℕ) → Few n c → Few n (at_carrier b i p c).composer
+alias_few false i p c n h = h
+alias_few true i p c n h
+    = unless_few (list_full c.most c.stack) deed.FullList p c _ n h (handing_few (pos 0) i c n h)
+
+start_few : (m : ℕ) (f : ℤ) (p : place_t) (c : Composer) (n : ℕ) → Few n c → Few (suc n) (at_start m f p c).composer
+start_few m f p c n h =
+    let l = h.1 in
+    let same : Few (suc n) c = (h.0, omega arith) in
+    let e = handed_length (new_id c) c.stack in
+    placed_few f p c _ (suc n) same
+    (unless_few (nat_le c.room (length c.stack)) deed.FullStack p c (opened m (new_id c) (adding c)) (suc n) same
+    (h.0, omega arith))
+
+fewer : (s n : ℕ) → suc s ≤ n → s ≤ less_one n
+fewer s zero h = omega arith
+fewer s (suc n) h = omega arith
+
+ended_few : (s : List open_t) (p : place_t) (c : Composer) (n : ℕ) → c.stack ≡ s → Few n c
+    → Few (less_one n) (ended s p c).composer
+ended_few [] p c n e h = let i : length c.stack ≡ zero = ap length e in (h.0, omega arith)
+ended_few (o ∷ s) p c n e h =
+    let i : length c.stack ≡ suc (length s) = ap length e in let l = h.1 in (h.0, fewer (length s) n (omega arith))
+
+within_fits : (k : yaml_event_type_t) (f : ℤ) (p : place_t) (c : Composer) (n : ℕ) → Few n c
+    → Fits (open_after (Some n) k) (within_step k f p c).composer
+within_fits ev.YAML_DOCUMENT_END_EVENT f p c n h = refl
+within_fits ev.YAML_ALIAS_EVENT f p c n h = alias_few (is_id f) f p c n h
+within_fits ev.YAML_SCALAR_EVENT f p c n h
+    = placed_few f p c (adding c) n h (handing_few (new_id c) (new_id c) (record c { nodes = suc c.nodes }) n h)
+within_fits ev.YAML_SEQUENCE_START_EVENT f p c n h = start_few 0 f p c n h
+within_fits ev.YAML_MAPPING_START_EVENT f p c n h = start_few 1 f p c n h
+within_fits ev.YAML_SEQUENCE_END_EVENT f p c n h = ended_few c.stack p c n refl h
+within_fits ev.YAML_MAPPING_END_EVENT f p c n h = ended_few c.stack p c n refl h
+within_fits _ f p c n h = h
+
+between_fits : (k : yaml_event_type_t) (p : place_t) (c : Composer) → c.is_within ≡ false
+    → Fits (open_after None k) (between_step k p c).composer
+between_fits ev.YAML_DOCUMENT_START_EVENT p c h = (refl, omega arith)
+between_fits _ p c h = h
+
+step_fits : (o : Option ℕ) (k : yaml_event_type_t) (f : ℤ) (p : place_t) (c : Composer) → Fits o c
+    → Fits (open_after o k) (step k f p c).composer
+step_fits None k f p c h = subst (λ (b : Bool). Fits (open_after None k) (step_in b k f p c).composer) (sym h)
+    (between_fits k p c h)
+step_fits (Some n) k f p c h
+    = subst (λ (b : Bool). Fits (open_after (Some n) k) (step_in b k f p c).composer) (sym h.0) (within_fits k f p c n h)
+
+open_more : (o : Option ℕ) (es : List Event) (e : Event)
+    → open_from o (es ++ e ∷ []) ≡ open_after (open_from o es) (event_type e.content)
+open_more o [] e = refl
+open_more o (x ∷ es) e = open_more (open_after o (event_type x.content)) es e
+
+roomy : (o : Option ℕ) (c : Composer) (room : ℕ) → Fits o c → Fits o (record c { room = room })
+roomy None c room h = h
+roomy (Some n) c room h = h
+
+fits : {most : ℕ} (d : composer_t) (ss : List open_t) (h : Held) (es : List Event) (ds : List Document)
+    → Run most d ss h es ds → Fits (open_from None es) (composer_of d ss)
+fits d ss _ _ _ (begins _ _ is) = ap (λ (c : Composer). c.is_within) is
+fits d' ss' h es ds (moves d _ ss _ _ _ _ run is) =
+    subst (Fits (open_from None es)) (sym is) (roomy (open_from None es) (composer_of d ss) (length ss') (fits d ss h es ds run))
+fits _ _ _ _ _ (takes d d' ss ss' h es ds a e p p' run calls taken) =
+    subst (λ (o : Option ℕ). Fits o (composer_of d' ss')) (sym (open_more None es e))
+    (subst (λ (t : Told). Fits (open_after (open_from None es) (event_type e.content)) t.composer) (sym calls)
+    (step_fits (open_from None es) (event_type e.content) (fact_of h e) p (composer_of d ss) (fits d ss h es ds run)))
+
+pub stack_fits : StackFits
+stack_fits most d ss h es ds run inside within = go (open_from None es) (fits d ss h es ds run)
+  where
+    go : (o : Option ℕ) → Fits o (composer_of d ss) → d.depth ≤ or_none o
+    go None out = absurd (true≢false (sym inside ∙ out))
+    go (Some n) few =
+        let l : length (stack_of d.depth ss) ≤ n = few.1 in let e = depth_is ss d.depth within in omega arith
+
+-- a stack is full within a document alone
+full_inside : (b : Bool) (k : yaml_event_type_t) (f : ℤ) (p : place_t) (c : Composer)
+    → (step_in b k f p c).deed ≡ deed.FullStack → b ≡ true
+full_inside true k f p c h = refl
+full_inside false ev.YAML_DOCUMENT_START_EVENT f p c h = absurd cc
+full_inside false _ f p c h = absurd cc
+
+start_opens : (n : ℕ) (k : yaml_event_type_t) → is_start k ≡ true → open_after (Some n) k ≡ Some (suc n)
+start_opens n ev.YAML_SEQUENCE_START_EVENT h = refl
+start_opens n ev.YAML_MAPPING_START_EVENT h = refl
+start_opens n _ h = absurd cc
+
+pub full_where_open : FullWhereOpen
+full_where_open most d d' ss ss' h es ds e p p' run calls =
+    let c = composer_of d ss in
+    let k = event_type e.content in
+    let full : (step k (fact_of h e) p c).deed ≡ deed.FullStack = sym (ap (λ (t : Told). t.deed) calls) in
+    go (open_from None es) (fits d ss h es ds run) (full_inside c.is_within k (fact_of h e) p c full)
+    (full_starts k (fact_of h e) p c full).0 (full_starts k (fact_of h e) p c full).1 (open_more None es e)
+  where
+    go : (o : Option ℕ) → Fits o (composer_of d ss) → flag d.is_within ≡ true → is_start (event_type e.content) ≡ true
+        → nat_le (length ss) (length (stack_of d.depth ss)) ≡ true
+        → open_from None (es ++ e ∷ []) ≡ open_after o (event_type e.content) → length ss < open_of (es ++ e ∷ [])
+    go None out inside start more is = absurd (true≢false (sym inside ∙ out))
+    go (Some n) few inside start more is =
+        let opens : open_of (es ++ e ∷ []) ≡ suc n = ap or_none (is ∙ start_opens n (event_type e.content) start) in
+        let l : length (stack_of d.depth ss) ≤ n = few.1 in
+        grind arith
