@@ -104,22 +104,27 @@ impl OpenCollections {
         Ok(self.step(kind, fact, place))
     }
 
+    /// Returns whether the stack has no room for one more.
+    #[inline(always)]
+    #[tactic(auto, using(libyaml_composer::proofs::lent::Stacks::depth_is))]
+    fn is_full(&self) -> bool
+        ensures { result ≡ nat_le self.now.room (length self.now.stack) }
+    {
+        self.composer.depth == self.entries.len()
+    }
+
     /// Makes room for the collection that an event of this kind opens, if it opens one.
     ///
     /// # Errors
     ///
     /// An allocation failed, at the start of a collection.
     #[inline(always)]
-    #[tactic(auto, using(libyaml_composer::proofs::lent::Stacks::depth_below))]
     fn make_room(&mut self, kind: yaml_event_type_t) -> Result<(), AllocError>
         ensures roomy { OnOk result (self.new ≡ roomy self.new.room self.old) }
         ensures left { OnOk result (is_start kind ≡ true → nat_le self.new.room (length self.new.stack) ≡ false) }
         ensures err { OnErr result (is_start kind ≡ true) }
     {
-        if !is_start(kind) {
-            return Ok(());
-        }
-        if self.composer.depth == self.entries.len() {
+        if is_start(kind) && self.is_full() {
             return self.grow();
         }
         Ok(())
