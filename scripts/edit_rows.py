@@ -7,10 +7,11 @@
 Each edit is made in a copy, and the programs of its crate's line in PROGRAMS are run over it in turn, without proof
 (`rt try`), until one ends otherwise than it should: `yamltokens` over the lists of `rows_yaml` and `rows_lines`, the
 programs of rows table by table, other programs over what is stored beside them. Of the Rust crate's definitions the
-worked rows are proved. The program that WRONG_BODIES names goes first, `rows_yaml` where it names none; where it names
-`PROGRAM failing`, that runs with the allocation failed that it names, or with each of the first 60 in turn. With --write the
-place goes into WRONG_BODIES, without the name of that program's table "rows"; where there is none, what the page says after
-"Seen in no row" stays. Two edits at a time (JOBS), half a minute to three minutes a program; needs `rt`.
+worked rows are proved. No row runs over the libraries for C. The program that WRONG_BODIES names goes first, `rows_yaml`
+where it names none; where it names `PROGRAM failing`, that runs with the allocation failed that it names, or with each of
+the first 60 in turn. With --write the place goes into WRONG_BODIES, without the name of that program's table "rows"; where
+there is none, what the page says after "Seen in no row" stays. Two edits at a time (JOBS), half a minute to three minutes
+a program; needs `rt`.
 """
 import os
 import re
@@ -30,7 +31,12 @@ PROGRAMS = {
     "libyaml_events": ["yamltokens", "rows_yaml", "rows_lines", "rows_hostile"],
     "rust_original": ["rows"],
     "libyaml_documents": ["rows_yaml", "example_keys", "rows_hostile"],
+    "libyaml_composer": ["yamltokens", "rows_steps", "rows_yaml", "rows_hostile"],
     "libyaml_loader": ["yamltokens", "rows_yaml", "example_keys", "rows_hostile"],
+    "token_steps": ["rows_steps"],
+    "token_steps_c": [],
+    "document_steps": ["rows_steps"],
+    "document_steps_c": [],
     "unsafe_libyaml": ["rows_yaml", "rows_hostile"],
     "byte_tests": ["yamltokens", "rows_lines", "rows_hostile"],
     "line_reading": ["yamltokens", "rows_lines"],
@@ -236,6 +242,9 @@ def main(words):
     if words == ["none"]:
         run_unedited()
     edits = [(path.parent.parent.name, path) for path in sorted(TOP.glob("crates/*/must-fail/*.edit"))]
+    unknown = sorted({crate for crate, _ in edits} - PROGRAMS.keys())
+    if unknown:
+        sys.exit(f"no line in PROGRAMS: {' '.join(unknown)}")
     edits = [(crate, path) for crate, path in edits if not words or crate in words or f"{crate}/{path.stem}" in words]
     if not edits:
         sys.exit(__doc__)

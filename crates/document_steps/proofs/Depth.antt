@@ -15,7 +15,7 @@ use Rattle.libyaml_composer.specs.Held.{Held, fact_of}
 use Rattle.libyaml_composer.specs.Numbers.{flag, is_id}
 use Rattle.libyaml_composer.proofs.lent.Full.{full_starts}
 use Rattle.libyaml_composer.proofs.lent.Stacks.{depth_is}
-use Rattle.document_steps.specs.Open.{less_one, open_after, open_from, open_of, or_none}
+use Rattle.document_steps.specs.Open.{less_one, open_after, open_from, still_open, or_none}
 use Rattle.document_steps.specs.RunLaws.{FullWhereOpen, StackFits}
 use Rattle.document_steps.specs.Runs.{Run, begins, moves, takes}
 
@@ -142,9 +142,9 @@ full_where_open most d d' ss ss' h es ds e p p' run calls =
   where
     go : (o : Option ℕ) → Fits o (composer_of d ss) → flag d.is_within ≡ true → is_start (event_type e.content) ≡ true
         → nat_le (length ss) (length (stack_of d.depth ss)) ≡ true
-        → open_from None (es ++ e ∷ []) ≡ open_after o (event_type e.content) → length ss < open_of (es ++ e ∷ [])
+        → open_from None (es ++ e ∷ []) ≡ open_after o (event_type e.content) → length ss < still_open (es ++ e ∷ [])
     go None out inside start more is = absurd (true≢false (sym inside ∙ out))
     go (Some n) few inside start more is =
-        let opens : open_of (es ++ e ∷ []) ≡ suc n = ap or_none (is ∙ start_opens n (event_type e.content) start) in
+        let opens : still_open (es ++ e ∷ []) ≡ suc n = ap or_none (is ∙ start_opens n (event_type e.content) start) in
         let l : length (stack_of d.depth ss) ≤ n = few.1 in
         grind arith

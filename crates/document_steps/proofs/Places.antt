@@ -12,7 +12,7 @@ use Rattle.libyaml_composer.specs.declared.records.place_t.{place_t}
 use Rattle.libyaml_composer.specs.Composing.{Composer, Told, adding, at_carrier, at_start, between_step, composer_of, deed_for, deed_in, ended, handed, handing, holding_in, if_placed, list_full, new_id, opened, place_in, step_in, unless, within_step}
 use Rattle.libyaml_composer.specs.Held.{Held, fact_of}
 use Rattle.libyaml_composer.specs.Numbers.{flag, is_id}
-use Rattle.document_steps.specs.Places.{AreUnused}
+use Rattle.document_steps.specs.Places.{UnusedAreZero}
 use Rattle.document_steps.specs.RunLaws.{RunPlaces}
 use Rattle.document_steps.specs.Runs.{Run, begins, moves, takes}
 
@@ -26,7 +26,7 @@ HaveNoKeys (o ∷ s) = HasNoKey o × HaveNoKeys s
 
 -- the place has no more than its deed uses, and the stack stays so
 abbrev IsSound : Told → Type 0
-IsSound t = AreUnused t.deed t.place × HaveNoKeys t.composer.stack
+IsSound t = UnusedAreZero t.deed t.place × HaveNoKeys t.composer.stack
 
 not_id : (i : ℤ) → is_id i ≡ false → i ≡ pos 0
 not_id (pos zero) h = refl
@@ -43,12 +43,12 @@ handed_keys i [] h = h
 handed_keys i (o ∷ s) h = (holds i o (flag o.is_mapping) (is_id o.key) refl h.0, h.1)
 
 placed : (n i : ℤ) (o : open_t) (s : List open_t) (b w : Bool) → flag o.is_mapping ≡ b → is_id o.key ≡ w → HasNoKey o
-    → AreUnused (deed_in b w) (place_in n i (o ∷ s))
+    → UnusedAreZero (deed_in b w) (place_in n i (o ∷ s))
 placed n i o s false w e f h = h e
 placed n i o s true false e f h = not_id o.key f
 placed n i o s true true e f h = tt
 
-place_fits : (n i : ℤ) (s : List open_t) → HaveNoKeys s → AreUnused (deed_for s) (place_in n i s)
+place_fits : (n i : ℤ) (s : List open_t) → HaveNoKeys s → UnusedAreZero (deed_for s) (place_in n i s)
 place_fits n i [] h = (refl, refl)
 place_fits n i (o ∷ s) h = placed n i o s (flag o.is_mapping) (is_id o.key) refl refl h.0
 
@@ -119,5 +119,5 @@ keys _ _ _ _ _ (takes d d' ss ss' h es ds a e p p' run calls taken) =
 
 pub places : RunPlaces
 places most d d' ss ss' h es ds a e p p' run calls =
-    subst (λ (t : Told). AreUnused t.deed t.place) (sym calls)
+    subst (λ (t : Told). UnusedAreZero t.deed t.place) (sym calls)
     (step_sound _ (event_type e.content) (fact_of h e) p (composer_of d ss) (keys d ss h es ds run)).0

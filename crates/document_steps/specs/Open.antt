@@ -29,5 +29,5 @@ or_none None = zero
 or_none (Some n) = n
 
 -- how many collections of the document that is open these events begin and don't end
-abbrev pub open_of : List Event → ℕ
-open_of es = or_none (open_from None es)
+abbrev pub still_open : List Event → ℕ
+still_open es = or_none (open_from None es)

@@ -15,8 +15,8 @@ use Rattle.libyaml_composer.specs.Composing.{composer_of}
 use Rattle.libyaml_composer.specs.Held.{Held, IsRefused, fault_by, state_of}
 use Rattle.libyaml_graphs.specs.loads.Leads.{Leads, as_loads}
 use Rattle.libyaml_composer.specs.Numbers.{flag}
-use Rattle.document_steps.specs.Open.{open_of}
-use Rattle.document_steps.specs.Places.{AreUnused}
+use Rattle.document_steps.specs.Open.{still_open}
+use Rattle.document_steps.specs.Places.{UnusedAreZero}
 use Rattle.document_steps.specs.Runs.{ComposeCalls, Run}
 
 -- the loader's machine, at the same events, stands where the caller does, and gave the same documents
@@ -38,15 +38,15 @@ RunFails = (most : ℕ) (d d' : composer_t) (ss ss' : List open_t) (h : Held) (e
 -- a call puts 0 where its deed has no use for a field
 abbrev pub RunPlaces : Type 0
 RunPlaces = (most : ℕ) (d d' : composer_t) (ss ss' : List open_t) (h : Held) (es : List Event) (ds : List Document) (a : Deed)
-    (e : Event) (p p' : place_t) → Run most d ss h es ds → ComposeCalls a d ss h e d' ss' p p' → AreUnused a p'
+    (e : Event) (p p' : place_t) → Run most d ss h es ds → ComposeCalls a d ss h e d' ss' p p' → UnusedAreZero a p'
 
 -- within a document the record counts at most the open collections, on a stack that has so many entries
 abbrev pub StackFits : Type 0
 StackFits = (most : ℕ) (d : composer_t) (ss : List open_t) (h : Held) (es : List Event) (ds : List Document)
-    → Run most d ss h es ds → flag d.is_within ≡ true → d.depth ≤ length ss → d.depth ≤ open_of es
+    → Run most d ss h es ds → flag d.is_within ≡ true → d.depth ≤ length ss → d.depth ≤ still_open es
 
 -- a stack is full only where an event opens more collections than it has entries
 abbrev pub FullWhereOpen : Type 0
 FullWhereOpen = (most : ℕ) (d d' : composer_t) (ss ss' : List open_t) (h : Held) (es : List Event) (ds : List Document)
     (e : Event) (p p' : place_t) → Run most d ss h es ds → ComposeCalls deed.FullStack d ss h e d' ss' p p'
-    → length ss < open_of (es ++ e ∷ [])
+    → length ss < still_open (es ++ e ∷ [])

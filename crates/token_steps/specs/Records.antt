@@ -75,8 +75,8 @@ opens_collection kind = (kind == 7) || (kind == 9)
 abbrev pub is_node : ℕ → Bool
 is_node kind = (kind == 6) || opens_collection kind
 
-abbrev pub may_be_implicit : ℕ → Bool
-may_be_implicit kind = (kind == 3) || ((kind == 4) || is_node kind)
+abbrev pub has_implicit : ℕ → Bool
+has_implicit kind = (kind == 3) || ((kind == 4) || is_node kind)
 
 abbrev pub ZeroUnless : Bool → ℕ → Type 0
 ZeroUnless true flag = Unit {0}
@@ -86,7 +86,7 @@ ZeroUnless false flag = flag ≡ 0
 abbrev pub AreUnused : step_event_t → Type 0
 AreUnused e = ZeroUnless (is_node e.kind) e.has_anchor
     × (ZeroUnless (is_node e.kind) e.has_tag
-    × (ZeroUnless (may_be_implicit e.kind) e.implicit
+    × (ZeroUnless (has_implicit e.kind) e.implicit
     × (ZeroUnless (e.kind == 6) e.quoted_implicit × ZeroUnless (opens_collection e.kind) e.is_flow)))
 
 abbrev pub event_of : step_event_t → (stays : Bool) → Event
