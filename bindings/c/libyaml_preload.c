@@ -10,8 +10,9 @@
  * A call reads no token past those that its event needs, and moves their texts into the event. What is kept between two
  * calls stands in the yaml_parser_t, in the place of what libyaml's own parser keeps there: its states, the marks of open
  * collections, and the tag directives of the document. So a parser may be moved and deleted as with libyaml, at any time,
- * and two parsers share nothing. A load composes the next document of the events that it parses, and keeps nothing after it. A
- * failed allocation is the error YAML_MEMORY_ERROR, after which a call gives no event and no document.
+ * and two parsers share nothing. A load composes the next document of the events that it parses, and keeps nothing after it; it
+ * finds an alias's node by a hash table, where libyaml looks at each anchor of the document. A failed allocation is the error
+ * YAML_MEMORY_ERROR, after which a call gives no event and no document.
  *
  * What is other than with libyaml stands in docs/DIFFERENCES.md. */
 #include <pokhvizi/compose.h>
@@ -19,6 +20,7 @@
 #include <assert.h>
 #include <stdlib.h>
 #include <string.h>
+#include <unistd.h>
 #include <yaml.h>
 
 /* libyaml's own, which its shared library exports. */
@@ -34,6 +36,7 @@ static_assert(offsetof(yaml_token_t, end_mark) == offsetof(yaml_token_t, start_m
 struct kept {
     pokhvizi_steps_t steps;
     size_t states_room, marks_room;
+    uint32_t key;  /* for the hashes of anchors, or 0 */
     uint8_t states[];
 };
 
@@ -370,6 +373,7 @@ static int begin(yaml_parser_t *parser)
         return 0;
     pokhvizi_steps_new(&kept_of(parser)->steps);
     kept_of(parser)->marks_room = parser->marks.end - parser->marks.start;
+    kept_of(parser)->key = 0;
     free(parser->tag_directives.start);
     memset(&parser->tag_directives, 0, sizeof parser->tag_directives);
     parser->state = YAML_PARSE_DOCUMENT_CONTENT_STATE;
@@ -478,16 +482,22 @@ __attribute__((visibility("default"))) int yaml_parser_parse(yaml_parser_t *pars
 
 /* ---- The loader ---- */
 
-/* What is kept while a document is composed. Its first stack is its own. */
+/* A node's anchor, in a table where it has a place by its hash; without an anchor the place is free. */
+struct carrier {
+    yaml_char_t *anchor;
+    uint32_t hash;
+    int32_t node;
+};
+
+/* What is kept while a document is composed. Its first stack is its own. The table has places for twice as many anchors as
+ * there are, and a power of two, or none. */
 struct loading {
     pokhvizi_composer_t composer;
     pokhvizi_open_t first[24];
     pokhvizi_open_t *stack;
     size_t stack_room;
-    pokhvizi_anchor_t *anchors;
-    size_t anchors_count, anchors_room;
-    uint8_t *texts;
-    size_t texts_length, texts_room;
+    struct carrier *carriers;
+    size_t carriers_count, carriers_room;
 };
 
 static int grow_stack(struct loading *loading)
@@ -504,39 +514,91 @@ static int grow_stack(struct loading *loading)
     return 1;
 }
 
-static int32_t carrier(const struct loading *loading, const yaml_char_t *anchor)
+/* A number from 2^28 to 2^29 - 1 that is drawn once a stream. */
+static uint32_t key_of(yaml_parser_t *parser)
 {
-    if (loading->anchors_count == 0)
-        return 0;
-    return pokhvizi_carrier(loading->anchors, loading->anchors_count, loading->texts, loading->texts_length, anchor,
-                            strlen((const char *)anchor));
+    struct kept *kept = kept_of(parser);
+    uint32_t drawn;
+
+    if (kept->key == 0) {
+        if (getentropy(&drawn, sizeof drawn) != 0)
+            drawn = (uint32_t)((uintptr_t)kept >> 4);
+        kept->key = 1u << 28 | drawn >> 4;
+    }
+    return kept->key;
 }
 
-/* Makes a node the carrier of its anchor; 0 where memory is refused. */
-static int carry(struct loading *loading, const yaml_char_t *anchor, int32_t node)
+/* The polynomial of an anchor at the key, modulo 2^31 - 1 and then mixed: whoever wrote a text, few of its anchors share a hash,
+ * since the key isn't known. The sum stays below 2^32, so that no product is lost. */
+static uint32_t hash_of(const yaml_char_t *anchor, uint32_t key)
 {
-    size_t length = strlen((const char *)anchor), room;
-    pokhvizi_anchor_t *anchors = loading->anchors;
-    uint8_t *texts = loading->texts;
+    uint64_t hash = 0;
 
-    if (loading->anchors_count == loading->anchors_room) {
-        room = 2 * loading->anchors_room + 8;
-        if ((anchors = realloc(anchors, room * sizeof *anchors)) == NULL)
-            return 0;
-        loading->anchors = anchors;
-        loading->anchors_room = room;
+    for (; *anchor != '\0'; anchor++) {
+        hash = hash * key + *anchor;
+        hash = (hash & INT32_MAX) + (hash >> 31);
     }
-    if (length > loading->texts_room - loading->texts_length || texts == NULL) {
-        room = 2 * loading->texts_room + length + 64;
-        if ((texts = realloc(texts, room)) == NULL)
-            return 0;
-        loading->texts = texts;
-        loading->texts_room = room;
+    hash = (uint32_t)hash * UINT32_C(0x9E3779B1);
+    return (uint32_t)(hash ^ hash >> 15);
+}
+
+/* The place of an anchor in a table, or the one that is free for it. */
+static struct carrier *place_of(struct carrier *table, size_t room, const yaml_char_t *anchor, uint32_t hash)
+{
+    size_t at = hash & (room - 1);
+
+    while (table[at].anchor != NULL &&
+           (table[at].hash != hash || strcmp((const char *)table[at].anchor, (const char *)anchor) != 0))
+        at = (at + 1) & (room - 1);
+    return &table[at];
+}
+
+/* The node of the document that carries an anchor, or 0. */
+static int32_t carrier_of(yaml_parser_t *parser, const struct loading *loading, const yaml_char_t *anchor)
+{
+    if (loading->carriers_count == 0)
+        return 0;
+    return place_of(loading->carriers, loading->carriers_room, anchor, hash_of(anchor, key_of(parser)))->node;
+}
+
+static int grow_carriers(struct loading *loading)
+{
+    size_t room = loading->carriers_room == 0 ? 16 : 2 * loading->carriers_room;
+    struct carrier *made = calloc(room, sizeof *made);
+
+    if (made == NULL)
+        return 0;
+    for (size_t i = 0; i < loading->carriers_room; i++) {
+        struct carrier *old = &loading->carriers[i];
+        if (old->anchor != NULL)
+            *place_of(made, room, old->anchor, old->hash) = *old;
     }
-    memcpy(texts + loading->texts_length, anchor, length);
-    anchors[loading->anchors_count++] = (pokhvizi_anchor_t){loading->texts_length, length, node};
-    loading->texts_length += length;
+    free(loading->carriers);
+    loading->carriers = made;
+    loading->carriers_room = room;
     return 1;
+}
+
+/* Makes a node the carrier of its anchor, which no other has, and takes the anchor; 0 where memory is refused. */
+static int carry(yaml_parser_t *parser, struct loading *loading, yaml_char_t **anchor, int32_t node)
+{
+    uint32_t hash = hash_of(*anchor, key_of(parser));
+
+    if (2 * loading->carriers_count == loading->carriers_room && !grow_carriers(loading))
+        return 0;
+    *place_of(loading->carriers, loading->carriers_room, *anchor, hash) = (struct carrier){*anchor, hash, node};
+    loading->carriers_count++;
+    *anchor = NULL;
+    return 1;
+}
+
+static void end_loading(struct loading *loading)
+{
+    if (loading->stack != loading->first)
+        free(loading->stack);
+    for (size_t i = 0; i < loading->carriers_room; i++)
+        free(loading->carriers[i].anchor);
+    free(loading->carriers);
 }
 
 /* ---- Documents ---- */
@@ -620,14 +682,14 @@ static int make_node(const pokhvizi_event_t *made, yaml_token_t *token, struct h
 }
 
 /* Puts the node or alias of an event at its place; 0 where memory is refused. */
-static int put(struct loading *loading, uint32_t deed, const pokhvizi_place_t *place, const pokhvizi_event_t *made,
-               yaml_token_t *token, struct held *held, yaml_document_t *document)
+static int put(yaml_parser_t *parser, struct loading *loading, uint32_t deed, const pokhvizi_place_t *place,
+               const pokhvizi_event_t *made, yaml_token_t *token, struct held *held, yaml_document_t *document)
 {
     yaml_node_t *parent;
 
     if (place->node != 0 &&
         (!ROOM(document->nodes) || !make_node(made, token, held, document->nodes.top++) ||
-         (made->has_anchor && !carry(loading, held->anchor, place->node))))
+         (made->has_anchor && !carry(parser, loading, &held->anchor, place->node))))
         return 0;
     if (deed == POKHVIZI_ITEM) {
         parent = node_of(document, place->parent);
@@ -680,7 +742,7 @@ static uint32_t compose(yaml_parser_t *parser, struct loading *loading, const po
 {
     const yaml_char_t *anchor = made->has_anchor ? held->anchor :
                                 made->kind == YAML_ALIAS_EVENT ? token->data.alias.value : NULL;
-    int32_t fact = anchor == NULL ? 0 : carrier(loading, anchor);
+    int32_t fact = anchor == NULL ? 0 : carrier_of(parser, loading, anchor);
     pokhvizi_place_t place;
     uint32_t deed;
     int done = 1;
@@ -706,7 +768,7 @@ static uint32_t compose(yaml_parser_t *parser, struct loading *loading, const po
     case POKHVIZI_ITEM:
     case POKHVIZI_KEY:
     case POKHVIZI_VALUE:
-        done = put(loading, deed, &place, made, token, held, document);
+        done = put(parser, loading, deed, &place, made, token, held, document);
         break;
     case POKHVIZI_UNDEFINED_ALIAS:
     case POKHVIZI_REPEATED_ANCHOR:
@@ -764,9 +826,8 @@ __attribute__((visibility("default"))) int yaml_parser_load(yaml_parser_t *parse
     pokhvizi_composer_new(&loading.composer, INT32_MAX);
     loading.stack = loading.first;
     loading.stack_room = sizeof loading.first / sizeof *loading.first;
-    loading.anchors = NULL;
-    loading.texts = NULL;
-    loading.anchors_count = loading.anchors_room = loading.texts_length = loading.texts_room = 0;
+    loading.carriers = NULL;
+    loading.carriers_count = loading.carriers_room = 0;
     if (!ROOM(document->nodes) || (parser->state == YAML_PARSE_STREAM_START_STATE && !begin(parser)))
         loaded = out_of_memory(parser);
     else if (has_stopped(parser))
@@ -776,9 +837,6 @@ __attribute__((visibility("default"))) int yaml_parser_load(yaml_parser_t *parse
     forget(&held);
     if (!loaded)
         yaml_document_delete(document);
-    if (loading.stack != loading.first)
-        free(loading.stack);
-    free(loading.anchors);
-    free(loading.texts);
+    end_loading(&loading);
     return loaded;
 }

@@ -11,10 +11,14 @@ cd "$(dirname "$0")/../.."
 python=${PYTHON_INCLUDE:-$(python3 -c 'import sysconfig; print(sysconfig.get_path("include"))')}
 cc=${CC:-gcc}
 echo '{ global: PyInit__yaml; local: *; };' > "$dir/_yaml.map"
-"$cc" -std=c11 -O2 -Wall -Wextra -Werror -fPIC -I"$python" -Ibindings/c/include \
-    -c -o "$dir/_yaml.o" bindings/python/src/_yaml.c
+set --
+for source in bindings/python/src/_yaml/*.c; do
+    object=$dir/_yaml_$(basename "$source" .c).o
+    "$cc" -std=c11 -O2 -Wall -Wextra -Werror -fPIC -fvisibility=hidden -I"$python" -Ibindings/c/include -c -o "$object" "$source"
+    set -- "$@" "$object"
+done
 "$cc" -shared -Wl,--version-script,"$dir/_yaml.map" -Wl,-z,relro,-z,now,-z,noexecstack -Wl,--gc-sections -Wl,--build-id=sha1 \
-    -o "$dir/_yaml.abi3.so" "$dir/_yaml.o" "$dir/libpokhvizi.a" -Wl,-Bstatic -lyaml -Wl,-Bdynamic
+    -o "$dir/_yaml.abi3.so" "$@" "$dir/libpokhvizi.a" -Wl,-Bstatic -lyaml -Wl,-Bdynamic
 "${STRIP:-strip}" --strip-unneeded "$dir/_yaml.abi3.so"
 made=$(nm -D --defined-only "$dir/_yaml.abi3.so" | awk 'NF == 3 && $2 != "A" { print $3 }')
 [ "$made" = PyInit__yaml ] || { printf 'other names are exported:\n%s\n' "$made" >&2; exit 1; }

@@ -1,10 +1,12 @@
 /* Calls of libyaml where bindings/c/libyaml_preload.c is preloaded: each allocation refused in turn, parsers that are
  * deleted at each event, moved, used after a fault or after the end, and by several threads; documents; more states, marks,
- * tag directives and texts than there was room for at first. Says what was wrong, and exits with 1 where anything was. */
+ * tag directives, texts and anchors than there was room for at first; the time that anchors take. Says what was wrong, and exits
+ * with 1 where anything was. */
 #include <pthread.h>
 #include <stdio.h>
 #include <stdlib.h>
 #include <string.h>
+#include <time.h>
 #include <yaml.h>
 
 static const char *const TEXT =
@@ -183,6 +185,57 @@ static long check_refusals(const char *text, long events)
     return memory;
 }
 
+/* The same of documents. */
+static long check_refused_loads(const char *text, long nodes)
+{
+    yaml_error_type_t error;
+    long at = 0, before = live, memory = 0, count;
+
+    expect(load_text(text, &error) == nodes && error == YAML_NO_ERROR, "nodes", nodes);
+    do {
+        refused_at = ++at;
+        count = load_text(text, &error);
+        expect(live == before, "blocks of a document are lost", at);
+        expect(error == YAML_MEMORY_ERROR || (error == YAML_NO_ERROR && count == nodes), "a refusal in a document", at);
+        memory += error == YAML_MEMORY_ERROR;
+    } while (refused_at == 0);
+    refused_at = 0;
+    expect(memory == at - 1, "refusals in a document are told", memory);
+    return memory;
+}
+
+/* A list of so many nodes with an anchor, and an alias of each. */
+static char *make_anchors(long count)
+{
+    char *text = malloc(32 * count + 1), *at = text;
+
+    if (text == NULL)
+        abort();
+    *at = '\0';
+    for (long i = 0; i < count; i++)
+        at += sprintf(at, "- &a%ld x\n- *a%ld\n", i, i);
+    return text;
+}
+
+static double time_of_anchors(long count)
+{
+    char *text = make_anchors(count);
+    yaml_error_type_t error;
+    clock_t begun = clock();
+
+    expect(load_text(text, &error) == count + 1 && error == YAML_NO_ERROR, "anchors", count);
+    free(text);
+    return (double)(clock() - begun) / CLOCKS_PER_SEC;
+}
+
+/* Eight times the anchors take no more than 24 times the time; as the square it would be 64. */
+static void check_anchors(void)
+{
+    double few = time_of_anchors(8000), many = time_of_anchors(64000);
+
+    expect(many < 24 * few, "anchors take time as the square, milliseconds", (long)(many * 1000));
+}
+
 static void check_deleted(void)
 {
     unsigned long sum;
@@ -329,6 +382,10 @@ int main(void)
         return 1;
     make_deep();
     long refused = check_refusals(TEXT, EVENTS) + check_refusals(deep, 4 + 2 * LEVELS);
+    char *anchors = make_anchors(40);
+    refused += check_refused_loads(TEXT, NODES) + check_refused_loads(deep, LEVELS) + check_refused_loads(anchors, 41);
+    free(anchors);
+    check_anchors();
     check_deleted();
     check_faults();
     check_tags();

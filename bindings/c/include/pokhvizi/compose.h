@@ -34,7 +34,8 @@
  *
  * Facts. `fact` is the one thing that a call has to know of texts: of an ALIAS the id of the node of the document that carries
  * its anchor, and of a node with an anchor the id of an earlier one that carries it. It is 0 where there is none, and of any
- * other event it isn't looked at. pokhvizi_carrier finds it in a table; any other way to the same number does as well.
+ * other event it isn't looked at. pokhvizi_carrier finds it in a list, one anchor after the other; any other way to the same
+ * number does as well.
  *
  * `stack` has an entry for each collection that is open: with room for as many as are ever open at once it is never full.
  * What stands in it before the first call doesn't matter; to make it larger, move its bytes, as by realloc. Each list of a
@@ -104,7 +105,9 @@ typedef struct {
 } pokhvizi_anchor_t;
 
 /* The fact of an event with this anchor, where the nodes of the document that have anchors are `anchors`, whose texts are ranges
- * of `texts`: the first node with it, and else 0. */
+ * of `texts`: the first node with it, and else 0. It looks at them one after the other, so a call takes time in proportion to
+ * the anchors of the document, and a document of anchors and aliases as the square of its length, as with libyaml. A hash table
+ * of the caller's from anchors to ids finds the same number without that. */
 int32_t pokhvizi_carrier(const pokhvizi_anchor_t *anchors, size_t count, const uint8_t *texts, size_t length,
                          const uint8_t *anchor, size_t anchor_length);
 

@@ -128,7 +128,7 @@ uint8_t pokhvizi_directive_fact(const pokhvizi_handle_t *handles, size_t count, 
 
 /* The fact of a TAG. `*size` is the length of the tag in full, or SIZE_MAX where the handle isn't declared. The tag in full is
  * put at the beginning of `out` where all of it has room; else, and beyond it, `out` stays as it was. A handle needs no directive
- * if it is empty, `!` or `!!`. */
+ * if it is empty, `!` or `!!`. As pokhvizi_directive_fact it looks at the handles one after the other. */
 uint8_t pokhvizi_tag(const pokhvizi_handle_t *handles, size_t count, const uint8_t *texts, size_t length,
                      const uint8_t *handle, size_t handle_length, const uint8_t *suffix, size_t suffix_length,
                      uint8_t *out, size_t room, size_t *size);

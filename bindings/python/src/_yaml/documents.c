@@ -1,0 +1,273 @@
+/* Events composed to a document: the composer says where each node goes, and the nodes are PyYAML's. */
+#include "loader.h"
+
+static struct entry *entry_of(const struct document *document, int32_t id)
+{
+    return &document->entries[id - 1];
+}
+
+/* Forgets nodes and anchors. */
+static void forget_nodes(struct document *document)
+{
+    size_t i;
+
+    Py_CLEAR(document->anchors);
+    for (i = 0; i < document->count; i++) {
+        Py_DECREF(document->entries[i].node);
+        Py_XDECREF(document->entries[i].children);
+    }
+    document->count = 0;
+}
+
+/* ---- Resolvers of paths ---- */
+
+/* Says where the next node stands: its parent, and its index in a sequence, its key, or None. */
+static int descend(const struct document *document, int deed, const pokhvizi_place_t *place)
+{
+    PyObject *parent = Py_None, *index, *done;
+
+    if (document->hooks.descend == NULL)
+        return 0;
+    if (deed != POKHVIZI_ROOT)
+        parent = entry_of(document, place->parent)->node;
+    if (deed == POKHVIZI_ITEM)
+        index = PyLong_FromSsize_t(PyList_Size(entry_of(document, place->parent)->children));
+    else
+        index = shared(deed == POKHVIZI_VALUE ? entry_of(document, place->key)->node : Py_None);
+    done = CALL(document->hooks.descend, shared(parent), index);
+    Py_XDECREF(done);
+    return done == NULL ? -1 : 0;
+}
+
+static int ascend(const struct document *document)
+{
+    PyObject *done = document->hooks.ascend == NULL ? shared(Py_None)
+                                                    : PyObject_CallObject(document->hooks.ascend, NULL);
+
+    Py_XDECREF(done);
+    return done == NULL ? -1 : 0;
+}
+
+/* ---- Anchors ---- */
+
+/* Has the anchor at hand name a node. */
+static int carry(struct document *document, int32_t id)
+{
+    PyObject *number = PyLong_FromLong(id);
+    int done = -1;
+
+    if (number != NULL && document->anchors == NULL)
+        document->anchors = PyDict_New();
+    if (number != NULL && document->anchors != NULL)
+        done = PyDict_SetItem(document->anchors, document->parser->held.anchor, number);
+    Py_XDECREF(number);
+    return done;
+}
+
+/* The id of the node that has the anchor of the event at hand, or 0. */
+static int find_carrier(const struct document *document, int32_t *fact)
+{
+    const parser_object *parser = document->parser;
+    int is_alias = parser->event.kind == YAML_ALIAS_EVENT;
+    PyObject *anchor, *number;
+
+    *fact = 0;
+    if (document->anchors == NULL || (!is_alias && !parser->event.has_anchor))
+        return 0;
+    anchor = is_alias ? text_of(parser->token.data.alias.value) : shared(parser->held.anchor);
+    if (anchor == NULL)
+        return -1;
+    number = PyDict_GetItemWithError(document->anchors, anchor); /* borrowed */
+    Py_DECREF(anchor);
+    if (number == NULL)
+        return PyErr_Occurred() ? -1 : 0;
+    *fact = (int32_t)PyLong_AsLong(number); /* as `carry` made it: this doesn't fail */
+    return 0;
+}
+
+/* ---- Nodes at their places ---- */
+
+/* Makes the node of the event at hand, and puts it last. */
+static int put_node(struct document *document, int deed, const pokhvizi_place_t *place)
+{
+    PyObject *node, *children;
+
+    if (document->count == document->entries_room &&
+        grow(&document->entries, document->first_entries, &document->entries_room, 0,
+             sizeof *document->entries) < 0)
+        return -1;
+    if (descend(document, deed, place) < 0)
+        return -1;
+    node = make_node(document, &children);
+    if (node == NULL) {
+        Py_XDECREF(children);
+        return -1;
+    }
+    document->entries[document->count++] = (struct entry){node, children};
+    if (document->parser->event.has_anchor && carry(document, place->node) < 0)
+        return -1;
+    return children == NULL ? ascend(document) : 0;
+}
+
+static int put_pair(const struct document *document, const pokhvizi_place_t *place)
+{
+    PyObject *pair =
+        PyTuple_Pack(2, entry_of(document, place->key)->node, entry_of(document, place->child)->node);
+    int done;
+
+    if (pair == NULL)
+        return -1;
+    done = PyList_Append(entry_of(document, place->parent)->children, pair);
+    Py_DECREF(pair);
+    return done;
+}
+
+/* Puts the node of the event at hand, if it has one, and then the child at its place. */
+static int put(struct document *document, int deed, const pokhvizi_place_t *place)
+{
+    if (place->node != 0 && put_node(document, deed, place) < 0)
+        return -1;
+    switch (deed) {
+    case POKHVIZI_ITEM:
+        return PyList_Append(entry_of(document, place->parent)->children,
+                             entry_of(document, place->child)->node);
+    case POKHVIZI_VALUE:
+        return put_pair(document, place);
+    default:
+        return 0;
+    }
+}
+
+/* A collection ends where the event at hand ends. */
+static int close_node(const struct document *document, int32_t id)
+{
+    PyObject *end = end_of(document->parser);
+    int done = end == NULL ? -1 : PyObject_SetAttr(entry_of(document, id)->node, its.names.end_mark, end);
+
+    Py_XDECREF(end);
+    return done < 0 ? -1 : ascend(document);
+}
+
+/* ---- Deeds ---- */
+
+/* Says why the event at hand can't be composed. */
+static int refuse(const struct document *document, int deed, int32_t fact)
+{
+    parser_object *parser = document->parser;
+
+    switch (deed) {
+    case POKHVIZI_UNDEFINED_ALIAS:
+        return give_fault(parser, YAML_COMPOSER_ERROR, NULL, NULL, "found undefined alias",
+                          &parser->event.start_mark);
+    case POKHVIZI_REPEATED_ANCHOR:
+        return give_second(parser, entry_of(document, fact)->node, "found duplicate anchor; first occurrence",
+                           "second occurrence");
+    default:
+        PyErr_SetString(PyExc_MemoryError, "a document has too many nodes");
+        return -1;
+    }
+}
+
+/* Does to the document what the composer says. */
+static int follow(struct document *document, int deed, int32_t fact, const pokhvizi_place_t *place)
+{
+    switch (deed) {
+    case POKHVIZI_PASSES:
+    case POKHVIZI_ENDS:
+        return 0;
+    case POKHVIZI_BEGINS:
+        forget_nodes(document);
+        return 0;
+    case POKHVIZI_ROOT:
+    case POKHVIZI_ITEM:
+    case POKHVIZI_KEY:
+    case POKHVIZI_VALUE:
+        return put(document, deed, place);
+    case POKHVIZI_CLOSES:
+        return close_node(document, place->parent);
+    default:
+        return refuse(document, deed, fact);
+    }
+}
+
+static int ask(struct document *document, int32_t fact, pokhvizi_place_t *place)
+{
+    return (int)pokhvizi_compose(&document->composer, document->stack, document->stack_room,
+                                 document->parser->event.kind, fact, place);
+}
+
+static int grow_stack(struct document *document)
+{
+    return grow(&document->stack, document->first_stack, &document->stack_room, 0, sizeof *document->stack);
+}
+
+/* Composes the event at hand, and returns what was done. */
+static int compose_event(struct document *document)
+{
+    pokhvizi_place_t place;
+    int32_t fact;
+    int deed;
+
+    if (find_carrier(document, &fact) < 0)
+        return -1;
+    while ((deed = ask(document, fact, &place)) == POKHVIZI_FULL_STACK)
+        if (grow_stack(document) < 0)
+            return -1;
+    return follow(document, deed, fact, &place) < 0 ? -1 : deed;
+}
+
+/* ---- Documents ---- */
+
+static void begin_document(struct document *document, parser_object *parser)
+{
+    document->parser = parser;
+    document->stack = document->first_stack;
+    document->stack_room = LENGTH(document->first_stack);
+    document->entries = document->first_entries;
+    document->entries_room = LENGTH(document->first_entries);
+    document->count = 0;
+    document->anchors = NULL;
+    document->hooks = (struct hooks){0};
+    document->resolved = (struct resolved){0};
+    pokhvizi_composer_new(&document->composer, INT32_MAX);
+}
+
+/* Gives back what a document has taken. */
+static void end_document(struct document *document)
+{
+    forget_nodes(document);
+    forget_resolved(&document->resolved);
+    if (document->stack != document->first_stack)
+        PyMem_Free(document->stack);
+    if (document->entries != document->first_entries)
+        PyMem_Free(document->entries);
+    Py_XDECREF(document->hooks.resolve);
+    Py_XDECREF(document->hooks.descend);
+    Py_XDECREF(document->hooks.ascend);
+}
+
+static PyObject *compose_events(struct document *document)
+{
+    parser_object *parser = document->parser;
+    int deed = POKHVIZI_PASSES;
+
+    if (find_hooks(document) < 0)
+        return NULL;
+    while (deed != POKHVIZI_ENDS && !parser->has_ended) {
+        if (take_event(parser) < 0 || (deed = compose_event(document)) < 0)
+            return NULL;
+        leave_event(parser);
+    }
+    return shared(document->count == 0 ? Py_None : document->entries[0].node);
+}
+
+PyObject *compose_document(parser_object *parser)
+{
+    struct document document;
+    PyObject *root;
+
+    begin_document(&document, parser);
+    root = compose_events(&document);
+    end_document(&document);
+    return root;
+}

@@ -1,0 +1,281 @@
+/* What the files of pokhvizi._yaml share: PyYAML's CParser over libyaml's scanner, with proved events
+ * (pokhvizi/steps.h) and documents composed as is proved (pokhvizi/compose.h).
+ *
+ *     module.c     the module, and what it takes from PyYAML
+ *     parser.c     the type CParser: its methods, its life
+ *     streams.c    texts, bytes and files, for libyaml's reader
+ *     tokens.c     libyaml's tokens: their facts, what is held of them, PyYAML's objects
+ *     events.c     steps from tokens to events, and PyYAML's objects
+ *     documents.c  events composed to a document
+ *     nodes.c      PyYAML's nodes, and their tags
+ *     marks.c      the type Mark
+ *     faults.c     PyYAML's errors
+ *     objects.c    what the C API of Python takes more than a line for
+ *
+ * CPython's limited API of 3.8, so that one library serves each later version. A token is in hand until its
+ * event has been used, an event is at hand until something is made of it; what a document takes while it is
+ * composed is there for one call alone. Events, nodes and errors are PyYAML's own classes, and tags are the
+ * loader's own `resolve`, as with PyYAML. No function calls itself, however deep a text nests.
+ *
+ * A function that returns a PyObject * or an int has set Python's error where it returns NULL or -1, unless
+ * it says otherwise. A PyObject * that is returned is the caller's. */
+#ifndef LOADER_H
+#define LOADER_H
+#define PY_SSIZE_T_CLEAN
+#define Py_LIMITED_API 0x03080000
+#include <Python.h>
+#include <pokhvizi/compose.h>
+#include <pokhvizi/steps.h>
+#include <stddef.h>
+#include <string.h>
+#include <yaml.h>
+
+#define LENGTH(array) (sizeof(array) / sizeof *(array))
+
+/* ---- The module ---- */
+
+enum {
+    TOKENS = YAML_SCALAR_TOKEN + 1,
+    EVENTS = YAML_MAPPING_END_EVENT + 1,
+    STYLES = YAML_FOLDED_SCALAR_STYLE + 1
+};
+
+/* What is of PyYAML, and what is made once. Nothing of it is let go. */
+struct kept {
+    PyTypeObject *mark;
+    PyObject *yaml_error, *reader_error, *scanner_error, *parser_error, *composer_error;
+    PyObject *scalar_node, *sequence_node, *mapping_node;
+    PyObject *tokens[TOKENS], *events[EVENTS]; /* classes, by libyaml's numbers */
+    PyObject *resolve, *descend_resolver, *ascend_resolver; /* BaseResolver's own */
+    PyObject *styles[STYLES]; /* texts, by yaml_scalar_style_t */
+    PyObject *implicits[2][2]; /* pairs of truth values: plain, quoted */
+    /* Names of attributes, made once, since Python's cache of attributes goes by their addresses. */
+    struct {
+        PyObject *read, *name, *resolve, *descend_resolver, *ascend_resolver, *yaml_path_resolvers, *function,
+            *start_mark, *end_mark;
+    } names;
+    int is_new; /* Python is 3.9 or later */
+};
+
+extern struct kept its;
+
+/* ---- Objects ---- */
+
+static inline PyObject *shared(PyObject *object)
+{
+    Py_INCREF(object);
+    return object;
+}
+
+/* An object that is there, or None. */
+static inline PyObject *shared_or_none(PyObject *object)
+{
+    return shared(object == NULL ? Py_None : object);
+}
+
+static inline PyObject *text_of(const yaml_char_t *text)
+{
+    return PyUnicode_FromString((const char *)text);
+}
+
+static inline PyObject *text_or_none(const char *text)
+{
+    return text == NULL ? shared(Py_None) : PyUnicode_FromString(text);
+}
+
+static inline PyObject *text_of_bytes(const void *bytes, size_t length)
+{
+    return PyUnicode_DecodeUTF8(bytes, (Py_ssize_t)length, "strict");
+}
+
+/* Calls with these arguments, which it takes. One that is NULL is an error that is set. */
+PyObject *call(PyObject *callable, Py_ssize_t count, PyObject *const *arguments);
+
+#define CALL(callable, ...) call(callable, LENGTH(((PyObject *[]){__VA_ARGS__})), (PyObject *[]){__VA_ARGS__})
+
+/* An attribute, or NULL without an error where there is none. */
+PyObject *attribute_if_any(PyObject *object, PyObject *name);
+
+/* A method of an object, without arguments, that returns None. */
+PyObject *give_none(PyObject *object, PyObject *nothing);
+
+/* Makes an array twice as large, and as large as `least`. It is PyMem's, or `first`, within another object,
+ * or NULL. */
+int grow(void *array, void *first, size_t *room, size_t least, size_t size);
+
+/* ---- The parser ---- */
+
+/* A text, bytes, or a file. */
+struct stream {
+    PyObject *source, *name;
+    PyObject *rest; /* bytes that a file gave and nobody has taken yet, or NULL */
+    Py_ssize_t rest_place;
+    int is_text;
+};
+
+/* What tokens had for an event to come. */
+struct held {
+    PyObject *anchor, *tag; /* or NULL */
+    size_t tag_length;
+    yaml_version_directive_t version;
+    int has_version;
+};
+
+/* The tag directives of a document. */
+struct directives {
+    pokhvizi_handle_t *handles;
+    uint8_t *texts;
+    size_t count, room, length, texts_room;
+};
+
+/* Whether a call may begin: no stream yet; yes; another call is at work; one has failed. */
+enum standing { UNBORN, READY, BUSY, BROKEN };
+
+typedef struct {
+    PyObject_HEAD
+    enum standing standing;
+    int has_ended;
+    struct stream stream;
+    PyObject *current_token, *current_event; /* what was peeked at, or NULL */
+    yaml_parser_t scanner; /* its reader and scanner alone, and the last error */
+    yaml_token_t token; /* in hand, unless it is of no type */
+    pokhvizi_event_t event; /* at hand, unless its kind is 0 */
+    int stays; /* the token in hand isn't the event's */
+    struct held held;
+    struct directives directives;
+    pokhvizi_steps_t steps;
+    uint8_t *states, first_states[64];
+    pokhvizi_mark_t *marks, first_marks[32];
+    size_t states_room, marks_room;
+} parser_object;
+
+extern PyType_Spec parser_spec;
+
+/* ---- Marks ---- */
+
+extern PyType_Spec mark_spec;
+
+PyObject *make_mark(PyObject *name, const pokhvizi_mark_t *at);
+
+/* The place of a mark, or zeros where it is none of these. */
+pokhvizi_mark_t place_of_mark(PyObject *mark);
+
+static inline PyObject *start_of(const parser_object *parser)
+{
+    return make_mark(parser->stream.name, &parser->event.start_mark);
+}
+
+static inline PyObject *end_of(const parser_object *parser)
+{
+    return make_mark(parser->stream.name, &parser->event.end_mark);
+}
+
+/* ---- Faults: each returns -1 ---- */
+
+/* Raises the error that stands in the scanner's record, each time anew. */
+int raise_fault(const parser_object *parser);
+
+/* The same, and puts it there before. `context` and its mark are NULL where there is none. */
+int give_fault(parser_object *parser, yaml_error_type_t kind, const char *context,
+               const pokhvizi_mark_t *context_mark, const char *problem, const pokhvizi_mark_t *problem_mark);
+
+/* The event at hand can't stand after a node, by the composer's rules. */
+int give_second(parser_object *parser, PyObject *first, const char *context, const char *problem);
+
+/* ---- Streams ---- */
+
+int take_stream(parser_object *parser, PyObject *source);
+
+/* ---- Tokens ---- */
+
+/* The marks of the token in hand. */
+static inline const pokhvizi_span_t *span_of(const parser_object *parser)
+{
+    return (const pokhvizi_span_t *)(const void *)&parser->token.start_mark;
+}
+
+/* Has a token in hand. */
+int take_token(parser_object *parser);
+
+/* The fact that a step takes with the token in hand. */
+uint8_t fact_of(parser_object *parser);
+
+/* Takes what the token in hand has for an event that comes later. */
+int hold(parser_object *parser);
+
+/* The token in hand, as PyYAML has it, or None. */
+PyObject *token_object(const parser_object *parser);
+
+/* Of the token in hand: the name of the stream's encoding; a scalar's value and style, which is empty and
+ * plain where the token isn't the event's. */
+PyObject *encoding_of(const parser_object *parser);
+PyObject *value_of(const parser_object *parser);
+PyObject *style_of(const parser_object *parser);
+
+/* ---- Events ---- */
+
+/* Has an event at hand, unless the stream has ended: then its kind is 0. */
+int take_event(parser_object *parser);
+
+/* Lets the event go that is at hand, and its token. */
+void leave_event(parser_object *parser);
+
+/* The event that is at hand, as PyYAML has it, or None. */
+PyObject *event_object(const parser_object *parser);
+
+/* Whether a scalar's tag is left out where it is plain, and where it is quoted. Of `its`. */
+PyObject *implicits_of(const parser_object *parser);
+
+/* ---- Documents ---- */
+
+/* A node, and the list of its children where it is a collection. */
+struct entry {
+    PyObject *node, *children;
+};
+
+/* A plain scalar of the document, and the tag that the loader has resolved for it. */
+struct known {
+    PyObject *value, *tag; /* NULL where there is none */
+    size_t length;
+    char text[24];
+};
+
+/* What the loader does about nodes. */
+struct hooks {
+    PyObject *resolve;
+    PyObject *descend, *ascend; /* NULL where they have nothing to do */
+    int is_pure; /* `resolve` is PyYAML's own, and goes by its arguments alone */
+};
+
+/* What `resolve` has said, where it goes by its arguments alone. */
+struct resolved {
+    PyObject *tags[EVENTS]; /* of a node that is no plain scalar, by kinds of events, or NULL */
+    struct known *known; /* scalars, each at the place that its text says; NULL before the first */
+};
+
+/* What is kept while a document is composed. */
+struct document {
+    parser_object *parser;
+    pokhvizi_composer_t composer;
+    pokhvizi_open_t *stack, first_stack[24];
+    struct entry *entries, first_entries[32]; /* by ids, from 1 */
+    size_t stack_room, entries_room, count;
+    PyObject *anchors; /* ids by texts, or NULL before the first */
+    struct hooks hooks;
+    struct resolved resolved;
+};
+
+/* Composes the events up to a document's end, or the stream's. Returns the document's root, or None. */
+PyObject *compose_document(parser_object *parser);
+
+/* ---- Nodes ---- */
+
+int find_hooks(struct document *document);
+
+/* The node of the event at hand; of a collection without children, and their list. */
+PyObject *make_node(struct document *document, PyObject **children);
+
+/* Gives back what resolving took. */
+void forget_resolved(struct resolved *resolved);
+
+#endif

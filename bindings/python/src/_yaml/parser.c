@@ -1,0 +1,305 @@
+/* The type CParser: its methods, and its life. */
+#include "loader.h"
+
+/* ---- Calls ---- */
+
+/* Begins a call, beside which no other may use the parser, nor after an error. */
+static int enter(parser_object *parser)
+{
+    switch (parser->standing) {
+    case READY:
+        parser->standing = BUSY;
+        return 0;
+    case BUSY:
+        PyErr_SetString(PyExc_RuntimeError, "the loader is in use");
+        return -1;
+    case BROKEN:
+        if (parser->scanner.error != YAML_NO_ERROR)
+            return raise_fault(parser);
+        PyErr_SetString(its.yaml_error, "an earlier call of this loader failed");
+        return -1;
+    default:
+        PyErr_SetString(PyExc_ValueError, "the loader has no stream");
+        return -1;
+    }
+}
+
+static PyObject *during(PyObject *object, PyObject *(*act)(parser_object *))
+{
+    parser_object *parser = (parser_object *)object;
+    PyObject *made;
+
+    if (enter(parser) < 0)
+        return NULL;
+    made = act(parser);
+    parser->standing = made == NULL ? BROKEN : READY;
+    return made;
+}
+
+/* Whether something comes, of one of these classes where some are named. */
+static PyObject *check(PyObject *object, PyObject *classes, PyObject *(*peek)(parser_object *))
+{
+    PyObject *next = during(object, peek);
+    Py_ssize_t count = PyTuple_Size(classes), i; /* as METH_VARARGS has them, so this doesn't fail */
+    int is_one = next != NULL && next != Py_None && count == 0;
+
+    if (next == NULL)
+        return NULL;
+    for (i = 0; next != Py_None && i < count; i++)
+        is_one |= PyTuple_GetItem(classes, i) == (PyObject *)Py_TYPE(next);
+    Py_DECREF(next);
+    return PyBool_FromLong(is_one);
+}
+
+/* ---- Tokens and events ---- */
+
+static PyObject *next_token(parser_object *parser)
+{
+    PyObject *token = parser->current_token;
+
+    parser->current_token = NULL;
+    if (token != NULL || take_token(parser) < 0)
+        return token;
+    token = token_object(parser);
+    yaml_token_delete(&parser->token);
+    return token;
+}
+
+static PyObject *peeked_token(parser_object *parser)
+{
+    parser->current_token = next_token(parser);
+    return parser->current_token == NULL ? NULL : shared(parser->current_token);
+}
+
+static PyObject *next_event(parser_object *parser)
+{
+    PyObject *event = parser->current_event;
+
+    parser->current_event = NULL;
+    if (event != NULL || take_event(parser) < 0)
+        return event;
+    event = event_object(parser);
+    if (parser->event.kind != 0)
+        leave_event(parser);
+    return event;
+}
+
+static PyObject *peeked_event(parser_object *parser)
+{
+    parser->current_event = next_event(parser);
+    return parser->current_event == NULL ? NULL : shared(parser->current_event);
+}
+
+/* ---- Documents ---- */
+
+/* Passes the stream's start, and has the event after it at hand: whether a document comes. */
+static int has_document(parser_object *parser)
+{
+    if (take_event(parser) < 0)
+        return -1;
+    if (parser->event.kind == YAML_STREAM_START_EVENT) {
+        leave_event(parser);
+        if (take_event(parser) < 0)
+            return -1;
+    }
+    return !parser->has_ended && parser->event.kind != YAML_STREAM_END_EVENT;
+}
+
+static PyObject *checked_node(parser_object *parser)
+{
+    int comes = has_document(parser);
+
+    return comes < 0 ? NULL : PyBool_FromLong(comes);
+}
+
+static PyObject *next_node(parser_object *parser)
+{
+    int comes = has_document(parser);
+
+    if (comes < 0)
+        return NULL;
+    return comes ? compose_document(parser) : shared(Py_None);
+}
+
+static PyObject *single_node(parser_object *parser)
+{
+    PyObject *root = next_node(parser);
+    int comes = root == NULL ? -1 : has_document(parser);
+
+    if (comes > 0)
+        give_second(parser, root, "expected a single document in the stream", "but found another document");
+    if (comes != 0)
+        Py_CLEAR(root);
+    return root;
+}
+
+/* ---- Methods ---- */
+
+static PyObject *check_token(PyObject *object, PyObject *classes)
+{
+    return check(object, classes, peeked_token);
+}
+
+static PyObject *check_event(PyObject *object, PyObject *classes)
+{
+    return check(object, classes, peeked_event);
+}
+
+#define METHOD(name, act) \
+    static PyObject *name(PyObject *object, PyObject *nothing) \
+    { \
+        (void)nothing; \
+        return during(object, act); \
+    }
+
+METHOD(get_token, next_token)
+METHOD(peek_token, peeked_token)
+METHOD(get_event, next_event)
+METHOD(peek_event, peeked_event)
+METHOD(check_node, checked_node)
+METHOD(get_node, next_node)
+METHOD(get_single_node, single_node)
+
+/* ---- Life ---- */
+
+/* Gives back memory that isn't Python's objects. */
+static void free_memory(parser_object *parser)
+{
+    yaml_token_delete(&parser->token);
+    yaml_parser_delete(&parser->scanner);
+    if (parser->states != parser->first_states)
+        PyMem_Free(parser->states);
+    if (parser->marks != parser->first_marks)
+        PyMem_Free(parser->marks);
+    PyMem_Free(parser->directives.handles);
+    PyMem_Free(parser->directives.texts);
+}
+
+/* Gives back what the stream takes. What others wrote may run as the last lets its objects go, so all is in
+ * order by then. */
+static int parser_clear(PyObject *object)
+{
+    parser_object *parser = (parser_object *)object;
+    PyObject *objects[] = {
+        parser->stream.source, parser->stream.name, parser->stream.rest, parser->current_token,
+        parser->current_event, parser->held.anchor, parser->held.tag,
+    };
+    size_t i;
+
+    parser->stream.source = parser->stream.name = parser->stream.rest = NULL;
+    parser->current_token = parser->current_event = parser->held.anchor = parser->held.tag = NULL;
+    if (parser->standing != UNBORN) {
+        parser->standing = UNBORN;
+        free_memory(parser);
+    }
+    for (i = 0; i < LENGTH(objects); i++)
+        Py_XDECREF(objects[i]);
+    return 0;
+}
+
+static int parser_traverse(PyObject *object, visitproc visit, void *arg)
+{
+    parser_object *parser = (parser_object *)object;
+
+    if (its.is_new) /* 3.8 does so by itself */
+        Py_VISIT(Py_TYPE(object));
+    Py_VISIT(parser->stream.source);
+    Py_VISIT(parser->stream.name);
+    Py_VISIT(parser->current_token);
+    Py_VISIT(parser->current_event);
+    return 0; /* the others are texts */
+}
+
+static void parser_dealloc(PyObject *object)
+{
+    PyTypeObject *type = Py_TYPE(object);
+
+    PyObject_GC_UnTrack(object);
+    parser_clear(object);
+    ((freefunc)PyType_GetSlot(type, Py_tp_free))(object);
+    if (its.is_new || Py_REFCNT(type) > 1) /* 3.8 looks at a class after its last instance has let it go */
+        Py_DECREF(type);
+}
+
+/* Makes room for a document's directives. No pointer is null, as steps.h wants it. */
+static int begin_directives(struct directives *directives)
+{
+    *directives = (struct directives){.handles = PyMem_Malloc(1), .texts = PyMem_Malloc(1)};
+    if (directives->handles != NULL && directives->texts != NULL)
+        return 0;
+    PyErr_NoMemory();
+    return -1;
+}
+
+/* Begins a stream, of which nothing is there yet. */
+static int begin(parser_object *parser)
+{
+    if (!yaml_parser_initialize(&parser->scanner)) {
+        PyErr_NoMemory();
+        return -1;
+    }
+    parser->standing = BUSY;
+    parser->stream.rest_place = 0;
+    parser->stream.is_text = parser->has_ended = parser->stays = parser->held.has_version = 0;
+    parser->event.kind = 0;
+    pokhvizi_steps_new(&parser->steps);
+    parser->states = parser->first_states;
+    parser->states_room = LENGTH(parser->first_states);
+    parser->marks = parser->first_marks;
+    parser->marks_room = LENGTH(parser->first_marks);
+    return begin_directives(&parser->directives);
+}
+
+static int parser_init(PyObject *object, PyObject *arguments, PyObject *keywords)
+{
+    static char *names[] = {"stream", NULL};
+    parser_object *parser = (parser_object *)object;
+    PyObject *stream;
+
+    if (!PyArg_ParseTupleAndKeywords(arguments, keywords, "O:CParser", names, &stream))
+        return -1;
+    if (parser->standing != BUSY)
+        parser_clear(object);
+    if (parser->standing != UNBORN) {
+        PyErr_SetString(PyExc_RuntimeError, "the loader is in use");
+        return -1;
+    }
+    if (begin(parser) == 0 && take_stream(parser, stream) == 0) {
+        parser->standing = READY;
+        return 0;
+    }
+    parser_clear(object);
+    return -1;
+}
+
+static PyMethodDef parser_methods[] = {
+    {"get_token", get_token, METH_NOARGS, "Returns the next token, or None after the last."},
+    {"peek_token", peek_token, METH_NOARGS, "Returns the next token and leaves it, or None after the last."},
+    {"check_token", check_token, METH_VARARGS,
+     "Returns whether there is a next token, of one of these classes where some are named."},
+    {"get_event", get_event, METH_NOARGS, "Returns the next event, or None after the last."},
+    {"peek_event", peek_event, METH_NOARGS, "Returns the next event and leaves it, or None after the last."},
+    {"check_event", check_event, METH_VARARGS,
+     "Returns whether there is a next event, of one of these classes where some are named."},
+    {"check_node", check_node, METH_NOARGS, "Returns whether there is a next document."},
+    {"get_node", get_node, METH_NOARGS, "Returns the root of the next document, or None after the last."},
+    {"get_single_node", get_single_node, METH_NOARGS,
+     "Returns the root of the stream's only document, or None where it has none."},
+    {"dispose", give_none, METH_NOARGS, "Does nothing: what a loader holds goes with it."},
+    {NULL, NULL, 0, NULL},
+};
+
+static PyType_Slot parser_slots[] = {
+    {Py_tp_doc,
+     "CParser(stream): tokens, events and documents of a text, of bytes, or of a file, as PyYAML's CParser."},
+    {Py_tp_new, PyType_GenericNew},
+    {Py_tp_init, parser_init},
+    {Py_tp_dealloc, parser_dealloc},
+    {Py_tp_traverse, parser_traverse},
+    {Py_tp_clear, parser_clear},
+    {Py_tp_methods, parser_methods},
+    {0, NULL},
+};
+
+PyType_Spec parser_spec = {"pokhvizi._yaml.CParser", sizeof(parser_object), 0,
+                           Py_TPFLAGS_DEFAULT | Py_TPFLAGS_BASETYPE | Py_TPFLAGS_HAVE_GC, parser_slots};
