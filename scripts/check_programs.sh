@@ -11,8 +11,8 @@
 # Every check is run. It is passed, failed, or skipped: where a tool, a library or a program isn't there, which is named; it
 # doesn't count as passed. A check that doesn't end within half an hour fails. The last line is `N passed, M failed`, and
 # `, K skipped` where some were; the exit status is 1 where one failed. Tools: a C and a C++ compiler, binutils, python3 with
-# PyYAML, libyaml's header, valgrind, GNU time, qemu-x86_64 (Debian: build-essential python3-yaml libyaml-dev valgrind time
-# qemu-user), and `rt`.
+# PyYAML and Python's header, libyaml's header, valgrind, GNU time, qemu-x86_64 (Debian: build-essential python3-yaml python3-dev
+# libyaml-dev valgrind time qemu-user), and `rt`.
 set -u
 all='' ci=''
 for word in "$@"; do
@@ -34,6 +34,7 @@ is_there() {
     case $1 in
     yaml.h) echo '#include <yaml.h>' | cc -E - ;;
     PyYAML) python3 -c 'import yaml; yaml.CLoader' ;;
+    Python.h) [ -e "$(python3 -c 'import sysconfig; print(sysconfig.get_path("include"))')/Python.h" ] ;;
     */*) [ -e "$1" ] ;;
     *) command -v "$1" ;;
     esac > /dev/null 2>&1
@@ -114,6 +115,7 @@ check python PyYAML timeout truncate $yamltokens -- sh scripts/doors/python_chec
 check yaml.c cc valgrind yaml.h "$yaml" -- sh scripts/doors/yaml_checks.sh "$libraries"
 check compose cc c++ python3 readelf valgrind yaml.h "$libraries/libpokhvizi.a" -- sh scripts/doors/compose_checks.sh "$libraries"
 check steps cc c++ python3 readelf valgrind yaml.h "$libraries/libpokhvizi.a" -- sh scripts/doors/steps_checks.sh "$libraries"
+check extension cc nm strip PyYAML Python.h yaml.h "$libraries/libpokhvizi.a" -- sh scripts/doors/extension_checks.sh "$libraries" $all
 check release cc c++ make pkg-config readelf python3 yaml.h "$libraries/libpokhvizi.a" -- sh scripts/release_checks.sh "$libraries" $all
 check any_processor qemu-x86_64 cc yaml.h "$libraries/libpokhvizi.a" -- sh scripts/doors/any_processor.sh "$libraries"
 if [ -n "$all" ]; then

@@ -11,13 +11,14 @@
 #     pokhvizi-VERSION-llvm.tar.gz               the LLVM modules, to be compiled
 #     SHA256SUMS
 #
-# MACHINE is x86_64 and aarch64; MACHINES names others of these. WITHOUT_MODULES leaves the LLVM archive out. BUILT has what build_c.sh made, for aarch64 in BUILT/aarch64;
-# without it both are made here. ORIGINAL is the folder of unsafe-libyaml 0.2.11, as Debian's librust-unsafe-libyaml-dev has it
+# MACHINE is x86_64 and aarch64; MACHINES names others of these. WITHOUT_MODULES leaves the LLVM archive out. BUILT has what
+# build_c.sh made, for aarch64 in BUILT/aarch64; without it both are made here. ORIGINAL is the folder of unsafe-libyaml 0.2.11, as Debian's librust-unsafe-libyaml-dev has it
 # in /usr/share/cargo/registry; without one there is no archive for Rust, which is said. Times are those of the last commit, so
 # two runs over one commit write the same bytes.
 #
-# Needs the kit, gcc, binutils, python3 with its headers, libyaml-dev, and for aarch64 gcc-aarch64-linux-gnu with libyaml's library for that machine
-# (Debian: libyaml-dev:arm64), without which that archive has no preload library, which is said.
+# Needs the kit, gcc, binutils, python3 with its headers, libyaml-dev, and for aarch64 gcc-aarch64-linux-gnu with libyaml's library
+# and Python's headers for that machine (Debian: libyaml-dev:arm64 and libpython3-dev:arm64), without which that archive has no
+# preload library, and the wheel no extension, which is said.
 set -eu
 case ${1-} in '' | -*) echo "usage: sh scripts/release.sh OUTDIR [BUILT]" >&2; exit 2 ;; esac
 [ $# -le 2 ] || { echo "usage: sh scripts/release.sh OUTDIR [BUILT]" >&2; exit 2; }
@@ -124,7 +125,11 @@ wheel() {
     tree=$work/pokhvizi-$version-$machine-linux
     tools=$(tools_of "$machine")
     extension=$(folder_of "$machine")/_yaml.abi3.so
-    if ! CC="${tools}gcc" STRIP="${tools}strip" sh bindings/python/build_extension.sh "${extension%/*}" > "$work/said" 2>&1; then
+    # Debian's headers of Python are for each machine whose pyconfig.h is installed; another Python's are for this one alone.
+    include=${PYTHON_INCLUDE-}
+    [ "$machine" = x86_64 ] || include=${include:-$(/usr/bin/python3 -c 'import sysconfig; print(sysconfig.get_path("include"))')}
+    if ! PYTHON_INCLUDE=$include NM="${tools}nm" CC="${tools}gcc" STRIP="${tools}strip" \
+        sh bindings/python/build_extension.sh "${extension%/*}" > "$work/said" 2>&1; then
         [ "$machine" != x86_64 ] || { cat "$work/said" >&2; exit 1; }
         echo "the wheel for $machine has no extension: $(tail -n 1 "$work/said")"
         extension=-
@@ -169,7 +174,7 @@ modules() {
     tree=$work/pokhvizi-$version-llvm
     mkdir -p "$tree/include"
     sh scripts/llvm_source.sh "$tree" > "$work/said" 2>&1 || { cat "$work/said" >&2; exit 1; }
-    for door in steps documents lines; do
+    for door in steps compose; do
         cmp "$tree/${door}_module.o" "$built/${door}_module.o"
         rm "$tree/${door}_module.o"
     done

@@ -142,13 +142,17 @@ want 'what uninstalling leaves' '' find "$installed" ! -type d
 # ---- Python ----
 
 cat > ask.py << 'PYTHON'
+import sys
 import yaml
-from pokhvizi import SafeLoader
-print(yaml.load("a: [1, {b: c}]\n", Loader=SafeLoader), [d for d in yaml.load_all("a\n...\nb\n", Loader=SafeLoader)])
+import pokhvizi
+loader = getattr(pokhvizi, sys.argv[1])
+print(yaml.load("a: [1, {b: c}]\n", Loader=loader), [d for d in yaml.load_all("a\n...\nb\n", Loader=loader)])
 PYTHON
 if python3 -c 'import yaml, venv' 2> /dev/null && python3 -m venv --system-site-packages environment > "$work/said" 2>&1; then
     environment/bin/pip install -q --no-index --no-deps "$out"/pokhvizi-*x86_64.whl > "$work/said" 2>&1 || complain "pip install: $(cat "$work/said")"
-    want 'the wheel' "{'a': [1, {'b': 'c'}]} ['a', 'b']" env -i environment/bin/python ask.py
+    for loader in CSafeLoader SafeLoader; do
+        want "the wheel, $loader" "{'a': [1, {'b': 'c'}]} ['a', 'b']" env -i environment/bin/python ask.py $loader
+    done
     want 'its version' "$version" env -i environment/bin/python -c 'import pokhvizi; print(pokhvizi.__version__)'
 else
     skip "the wheel: python3 lacks venv or PyYAML"

@@ -92,9 +92,9 @@ samples=/usr/local/share/doc/pokhvizi/examples
 want 'checksums' '' 'sha256sum --quiet -c SHA256SUMS'
 want 'make install' '' "tar xzf $folder.tar.gz && make -s -C $folder PREFIX=/usr/local install > said 2>&1 || cat said; ldconfig"
 for compiler in gcc clang 'gcc -static'; do
-    for sample in events:8 documents:4; do
+    for sample in events:8 compose:4; do
         want "${sample%:*}.c, $compiler" "${sample#*:}" "$compiler -O2 $samples/${sample%:*}.c -o sample \$(pkg-config --cflags --libs pokhvizi) \
-            -lyaml && printf 'a\n...\nb\n' | ./sample | wc -l"
+            -lyaml && printf 'a\n--- b\n' | ./sample | wc -l"
     done
 done
 want 'kinds.c as C++' "$kinds" "g++ -x c++ -Wall -Wextra -Werror kinds.c -o kinds \$(pkg-config --cflags --libs pokhvizi) && ./kinds"
@@ -102,9 +102,11 @@ want 'Python over the preload library' '8' \
     "proved-libyaml python3 -c 'import yaml; print(len(list(yaml.parse(\"a\\n...\\nb\\n\", yaml.CLoader))))'"
 want 'Ruby over the preload library' '["a", "b"]' "proved-libyaml ruby -ryaml -e 'p YAML.load_stream(\"a\\n...\\nb\\n\")'"
 want 'Ruby without it' 'refused' "ruby -ryaml -e 'begin; p YAML.load_stream(\"a\\n...\\nb\\n\"); rescue Psych::SyntaxError; puts :refused; end'"
-want 'the wheel' "{'a': [1, {'b': 'c'}]} ['a', 'b']" "python3 -m venv --system-site-packages v && v/bin/pip install -q --no-index --no-deps \
-    pokhvizi-$version-*x86_64.whl && v/bin/python -c 'import yaml; from pokhvizi import SafeLoader
-print(yaml.load(\"a: [1, {b: c}]\", Loader=SafeLoader), list(yaml.load_all(\"a\\n...\\nb\\n\", Loader=SafeLoader)))'"
+want 'pip install' '' "python3 -m venv --system-site-packages v && v/bin/pip install -q --no-index --no-deps pokhvizi-$version-*x86_64.whl"
+for loader in CSafeLoader SafeLoader; do
+    want "the wheel, $loader" "{'a': [1, {'b': 'c'}]} ['a', 'b']" "v/bin/python -c 'import yaml; from pokhvizi import $loader as Loader
+print(yaml.load(\"a: [1, {b: c}]\", Loader=Loader), list(yaml.load_all(\"a\\n...\\nb\\n\", Loader=Loader)))'"
+done
 if has "pokhvizi-$version-aarch64-linux.tar.gz" aarch64; then
     arm=pokhvizi-$version-aarch64-linux
     for words in '-static' "-Wl,-rpath,/srv/use/$arm/lib -L$arm/lib -lpokhvizi"; do
@@ -112,8 +114,8 @@ if has "pokhvizi-$version-aarch64-linux.tar.gz" aarch64; then
         want "aarch64, by qemu: ${words%% *}" "$kinds" "tar xzf $arm.tar.gz && aarch64-linux-gnu-gcc -O2 -Wall -Werror \
             kinds.c -o kinds -I$arm/include $how && qemu-aarch64 -L /usr/aarch64-linux-gnu ./kinds"
     done
-    want 'the wheel for aarch64' 'ELF 64-bit, AArch64' "python3 -m zipfile -e pokhvizi-$version-*aarch64.whl w &&
-        readelf -h w/pokhvizi/libpokhvizi.so | grep -q AArch64 && echo ELF 64-bit, AArch64"
+    want 'the wheel for aarch64' 'libpokhvizi.so _yaml.abi3.so' "python3 -m zipfile -e pokhvizi-$version-*aarch64.whl w &&
+        for file in libpokhvizi.so _yaml.abi3.so; do readelf -h w/pokhvizi/\$file | grep -q AArch64 && echo \$file; done | xargs"
 fi
 if has "pokhvizi-$version-llvm.tar.gz" 'the LLVM modules'; then
     want 'the objects of the modules, by clang-22' 'steps_module.o: OK compose_module.o: OK' \

@@ -20,5 +20,5 @@ done
 "$cc" -shared -Wl,--version-script,"$dir/_yaml.map" -Wl,-z,relro,-z,now,-z,noexecstack -Wl,--gc-sections -Wl,--build-id=sha1 \
     -o "$dir/_yaml.abi3.so" "$@" "$dir/libpokhvizi.a" -Wl,-Bstatic -lyaml -Wl,-Bdynamic
 "${STRIP:-strip}" --strip-unneeded "$dir/_yaml.abi3.so"
-made=$(nm -D --defined-only "$dir/_yaml.abi3.so" | awk 'NF == 3 && $2 != "A" { print $3 }')
+made=$("${NM:-nm}" -D --defined-only "$dir/_yaml.abi3.so" | awk 'NF == 3 && $2 != "A" { print $3 }')
 [ "$made" = PyInit__yaml ] || { printf 'other names are exported:\n%s\n' "$made" >&2; exit 1; }

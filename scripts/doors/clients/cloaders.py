@@ -3,8 +3,9 @@
     cloaders.py [--turned] < NAMES
 
 NAMES are of files, a line each. All fields are compared, and all marks. Each text is read as bytes, as a file that gives few
-bytes at a time, and as a string where it is UTF-8. Prints a line for each file that differs, its name and how. With `--turned` the
-proved loaders read another text, so all have to differ. The last line, on standard error, has how many were read.
+bytes at a time, and as a string where it is UTF-8. Prints a line for each file that differs: its name, how it was read, and what
+PyYAML's reading ended with. With `--turned` the proved loaders read another text, so all have to differ. The last line, on standard
+error, has how many were read.
 """
 import sys
 
@@ -99,9 +100,11 @@ def main(words):
         for source in sources(text):
             for reading, read in READINGS.items():
                 proved = text + b"\n---\nturned: [" if words else text
-                if read(source(text), yaml) != read(source(proved), pokhvizi):
-                    print(name, source.__name__, reading, sep="\t")
+                plain = read(source(text), yaml)
+                if plain != read(source(proved), pokhvizi):
+                    print(name, source.__name__, reading, " ".join(str(plain[-1:]).split())[:500], sep="\t")
     print("%d texts" % count, file=sys.stderr)
 
 
-main(sys.argv[1:])
+if __name__ == "__main__":
+    main(sys.argv[1:])

@@ -1,0 +1,234 @@
+"""Loaders in bad hands: deep texts, streams and methods that call their own loader, wrong arguments, cycles and leaks.
+
+    hostile.py [--turned] [LEVELS]
+
+LEVELS is how deep the deep texts nest. Each case has an outcome that is wanted; with `--turned` each wants another, so all have
+to be wrong. Says what is wrong, and exits with 1 where something is.
+"""
+import copy
+import gc
+import pickle
+import sys
+import weakref
+
+import pokhvizi
+import yaml
+
+TURNED = "--turned" in sys.argv
+LEVELS = int(([word for word in sys.argv[1:] if word.isdigit()] or ["20000"])[0])
+IN_USE = "RuntimeError: the loader is in use"
+cases = wrong = 0
+
+
+def said(act):
+    """Returns what a call gives, or its error in words."""
+    try:
+        return act()
+    except Exception as failure:
+        return "%s: %s" % (type(failure).__name__, str(failure).split("\n")[0])
+
+
+def expect(name, found, wanted):
+    global cases, wrong
+    cases += 1
+    if (found == wanted) is TURNED:
+        wrong += 1
+        print("wrong: %s: %s, wanted was %s" % (name, str(found)[:300], str(wanted)[:300]))
+
+
+# ---- Deep texts ----
+
+def depth_of(node):
+    depth = 0
+    while node.value and not isinstance(node, yaml.ScalarNode):
+        node, depth = node.value[0], depth + 1
+        if isinstance(node, tuple):
+            node = node[0]
+    return depth
+
+
+def deep():
+    expect("deep sequences", depth_of(yaml.compose("- " * LEVELS + "x", Loader=pokhvizi.CSafeLoader)), LEVELS)
+    expect("deep keys", depth_of(yaml.compose("? " * LEVELS + "x", Loader=pokhvizi.CSafeLoader)), LEVELS)
+    expect("deep lists", said(lambda: len(yaml.load("- " * LEVELS + "x", Loader=pokhvizi.CSafeLoader))), 1)
+    flow = min(LEVELS, 5000)  # libyaml's scanner looks at each open flow collection at each token
+    expect("open sequences", said(lambda: yaml.compose("[" * flow, Loader=pokhvizi.CSafeLoader)),
+           "ParserError: while parsing a flow node")
+
+
+# ---- Loaders that are called while they are at work ----
+
+def within_itself():
+    class Resolves(pokhvizi.CSafeLoader):
+        def resolve(self, kind, value, implicit):
+            calls = self.get_event, self.check_node, self.get_node, self.get_single_node, self.get_token, self.peek_event
+            self.said = {said(call) for call in calls} | {said(lambda: self.__init__("x"))}
+            return super().resolve(kind, value, implicit)
+
+    loader = Resolves("[a, b]")
+    expect("a value of a loader that calls itself", loader.get_data(), ["a", "b"])
+    expect("calls from within `resolve`", loader.said, {IN_USE})
+
+    class Reads:
+        def __init__(self):
+            self.given, self.said = ["a: b\n", ""], set()
+
+        def read(self, _):
+            self.said |= {said(self.loader.get_event), said(lambda: self.loader.__init__("x"))}
+            return self.given.pop(0)
+
+    stream = Reads()
+    stream.loader = pokhvizi.CSafeLoader.__new__(pokhvizi.CSafeLoader)
+    stream.loader.__init__(stream)
+    expect("a value of a stream that calls its loader", stream.loader.get_data(), {"a": "b"})
+    expect("calls from within `read`", stream.said, {IN_USE})
+
+    class Asked:
+        said = []
+
+        @property
+        def read(self):
+            self.said.append(said(self.loader.get_event))
+            return lambda _: b""
+
+        @property
+        def name(self):
+            self.said.append(said(self.loader.peek_token))
+            return "name"
+
+    stream = Asked()
+    stream.loader = pokhvizi.CSafeLoader.__new__(pokhvizi.CSafeLoader)
+    stream.loader.__init__(stream)
+    expect("calls from within `__init__`", set(stream.said), {IN_USE})
+
+
+def finalizers():
+    class Last:
+        def __init__(self, loader):
+            self.loader, self.given = loader, [b"- a\n", b""]
+
+        def read(self, _):
+            return self.given.pop(0)
+
+        def __del__(self):
+            log.append(said(lambda: self.loader.__init__("from __del__")))
+
+    log = []
+    loader = pokhvizi.CSafeLoader("x")
+    loader.__init__(Last(loader))
+    said(lambda: loader.__init__("outer"))
+    expect("a stream's __del__ that begins another", [log, said(loader.get_data)], [[None], "from __del__"])
+
+
+# ---- Errors ----
+
+def errors():
+    class Raises(pokhvizi.CSafeLoader):
+        def resolve(self, kind, value, implicit):
+            raise KeyError(value)
+
+    failed = "YAMLError: an earlier call of this loader failed"
+    loader = Raises("[a]")
+    expect("an error of `resolve`", [said(loader.get_data), said(loader.get_data)], ["KeyError: 'a'", failed])
+    loader = pokhvizi.CSafeLoader("[*a]")
+    expect("a fault", [said(loader.get_data), said(loader.check_event)], ["ComposerError: found undefined alias"] * 2)
+    for given, wanted in ((3, "TypeError: a string value is expected"), (bytearray(b"a"), "TypeError: a string value is expected"),
+                          ("\ud800", "UnicodeEncodeError: 'utf-8' codec can't encode character '\\ud800' in position 0: "
+                                     "surrogates not allowed")):
+        stream = type("Stream", (), {"read": lambda self, _, given=given: given})()
+        loader = pokhvizi.CSafeLoader(stream)
+        expect("a `read` that gives %r" % (given,), [said(loader.get_data), said(loader.get_event)], [wanted, failed])
+    for stream in (3, None, bytearray(b"a")):
+        expect("no stream", said(lambda: pokhvizi.CParser(stream)), "TypeError: a string or stream input is required")
+    expect("a method that isn't", said(pokhvizi.CParser("a").get_node),
+           "AttributeError: 'pokhvizi._yaml.CParser' object has no attribute 'resolve'")
+    expect("no __init__", said(pokhvizi.CParser.__new__(pokhvizi.CParser).get_event), "ValueError: the loader has no stream")
+
+
+# ---- Hooks, against PyYAML's ----
+
+def hooks():
+    def places(base):
+        class Follows(base):
+            def descend_resolver(self, node, index):
+                log.append((node and node.tag, index.value if isinstance(index, yaml.Node) else index))
+                return super().descend_resolver(node, index)
+
+            def ascend_resolver(self):
+                log.append("up")
+                return super().ascend_resolver()
+
+        log = []
+        yaml.compose("{key: [a, &b b, *b], c: d}", Loader=Follows)
+        return log
+
+    def paths(base):
+        class Finds(base):
+            pass
+
+        Finds.add_path_resolver("!root", [])
+        Finds.add_path_resolver("!key", ["key", None], str)
+        Finds.add_path_resolver("!third", ["list", 2], str)
+        return str(yaml.compose("{key: [a, b], list: [1, 2, three, &x {s: 3}, *x]}", Loader=Finds))
+
+    expect("resolvers of places", places(pokhvizi.CSafeLoader), places(yaml.CSafeLoader))
+    expect("resolvers of paths", paths(pokhvizi.CSafeLoader).replace("pokhvizi._yaml", "yaml._yaml"), paths(yaml.CSafeLoader))
+
+
+def marks():
+    node = yaml.compose("&a [b, *a]", Loader=pokhvizi.CLoader)
+    for how, again in (("pickled", pickle.loads(pickle.dumps(node))), ("copied", copy.deepcopy(node))):
+        expect("a node that is " + how, (again.end_mark.column, str(again.start_mark), again.value[1] is again),
+               (10, '  in "<unicode string>", line 1, column 1', True))
+    kind = type(node.start_mark)
+    expect("no mark", said(lambda: kind("name")), "TypeError: function missing required argument 'index' (pos 2)")
+    expect("marks stay", said(lambda: setattr(node.start_mark, "line", 3)), "AttributeError: readonly attribute")
+
+
+# ---- What is left behind ----
+
+def once():
+    class Stream:
+        given = ["a: &x [b, *x]\n", "c: [", ""]
+
+        def read(self, _):
+            self.given = self.given[1:]
+            return self.given[0]
+
+    class Mine(pokhvizi.CSafeLoader):  # a class that goes as well
+        pass
+
+    stream = Stream()
+    stream.loader = Mine(stream)
+    stream.loader.me = stream.loader
+    said(stream.loader.peek_event)
+    said(stream.loader.get_data)
+    for text in ("a: &x [b, *x]", "[*y]", "a: b: c", "&a [&a b]", "%TAG !e! t:\n---\n!e!x y"):
+        for act in (lambda: list(yaml.parse(text, pokhvizi.CLoader)), lambda: yaml.compose(text, pokhvizi.CLoader),
+                    lambda: pokhvizi.CParser(text).peek_token(), lambda: pokhvizi.CParser(text).check_event()):
+            said(act)
+    return weakref.ref(stream.loader), weakref.ref(Mine)
+
+
+def resident():
+    with open("/proc/self/statm") as file:
+        return int(file.read().split()[1]) * 4
+
+
+def leaks():
+    def rounds(count):
+        found = [once() for _ in range(count)]
+        gc.collect()
+        gc.collect()
+        return sum(it() is not None for pair in found for it in pair[:1 if sys.version_info < (3, 9) else 2])
+
+    expect("cycles are collected", rounds(300), 0)
+    before = resident()
+    rounds(2000)
+    expect("memory after many loads, in KB", resident() - before < 500, True)
+
+
+for part in (deep, within_itself, finalizers, errors, hooks, marks, leaks):
+    part()
+print("%d cases, %d levels, %d wrong" % (cases, LEVELS, wrong))
+sys.exit(wrong != 0)
