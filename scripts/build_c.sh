@@ -40,25 +40,6 @@ aarch64) cc=aarch64-linux-gnu-gcc tools=aarch64-linux-gnu- for_machine='--target
 esac
 : > "$dir/rt_lib.log"
 
-# Builds a crate over the kept libraries, which `rt lib` would prove again in a fresh checkout.
-build_over_kept() {
-    name=$(basename "$PWD")
-    below=$(sed -n "s/^$name staticlib: *//p" "$top/crates.txt")
-    set -- --extern "std=$kit/rlibs/std.rlib" -L "dependency=$kit/rlibs"
-    for crate in $below; do
-        made=$top/crates/$crate/out/rlib/$crate.rlib
-        [ -d "$top/crates/$crate" ] || made=$kit/rlibs/$crate.rlib
-        set -- "$@" --extern "$crate=$made"
-    done
-    for folder in "$top"/crates/*/out/rlib; do
-        set -- "$@" -L "dependency=$folder"
-    done
-    mkdir -p out
-    "$kit/bin/rattle" build --crate-name "$name" src/lib.rt "$@" --antt-project "$kit/rattle/logic/antt-project.json" \
-        --logic-built "$kit/logic_built" --jobs 1 --links "$name=" --crate-type staticlib $for_machine \
-        --toolchain "$kit/toolchain" --backend llvm -o "$archive"
-}
-
 # Makes NAME.o of a crate: its only global names are these.
 build_door() {
     door=$1 crate=$2
@@ -70,7 +51,8 @@ build_door() {
         (cd "crates/$crate" && rt lib $for_machine) >> "$dir/rt_lib.log" 2>&1 || { tail -n 5 "$dir/rt_lib.log" >&2; exit 1; }
         cp "crates/$crate/out/lib$crate.a" "$archive"
     else
-        (cd "crates/$crate" && build_over_kept) >> "$dir/rt_lib.log" 2>&1 || { tail -n 5 "$dir/rt_lib.log" >&2; exit 1; }
+        # `rt lib` would prove the crates below again in a fresh checkout.
+        sh scripts/over_kept.sh "$crate" "$archive" "$kit/toolchain" $for_machine >> "$dir/rt_lib.log" 2>&1 || { tail -n 5 "$dir/rt_lib.log" >&2; exit 1; }
     fi
     (cd "$dir" && "${tools}ar" x "$archive" && mv "$crate.o" "${door}_module.o")
     rm -f "$archive"

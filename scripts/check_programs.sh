@@ -112,9 +112,9 @@ check libraries_for_c rt cc ld objcopy ar nm yaml.h -- sh scripts/build_c.sh "$l
 check faults_of_yaml.c PyYAML "$yaml" -- python3 scripts/compare_faults.py "$yaml"
 check fronts PyYAML $yamltokens "$yaml" -- python3 scripts/compare_fronts.py "$yaml"
 check python PyYAML timeout truncate $yamltokens -- sh scripts/doors/python_checks.sh $yamltokens
-check yaml.c cc valgrind yaml.h "$yaml" -- sh scripts/doors/yaml_checks.sh "$libraries"
-check compose cc c++ python3 readelf valgrind yaml.h "$libraries/libpokhvizi.a" -- sh scripts/doors/compose_checks.sh "$libraries"
-check steps cc c++ python3 readelf valgrind yaml.h "$libraries/libpokhvizi.a" -- sh scripts/doors/steps_checks.sh "$libraries"
+for door in steps compose yaml; do
+    check $door cc c++ python3 readelf valgrind yaml.h "$libraries/libpokhvizi.a" -- sh scripts/doors/door_checks.sh $door "$libraries"
+done
 check extension cc nm strip PyYAML Python.h yaml.h "$libraries/libpokhvizi.a" -- sh scripts/doors/extension_checks.sh "$libraries" $all
 check release cc c++ make pkg-config readelf python3 yaml.h "$libraries/libpokhvizi.a" -- sh scripts/release_checks.sh "$libraries" $all
 check any_processor qemu-x86_64 cc yaml.h "$libraries/libpokhvizi.a" -- sh scripts/doors/any_processor.sh "$libraries"

@@ -12,7 +12,6 @@ set -eu
 mkdir -p "$1"
 dir=$(cd "$1" && pwd)
 cd "$(dirname "$0")/.."
-top=$PWD
 kit=$(dirname "$(rt doc)")
 work=$(mktemp -d)
 trap 'rm -rf "$work"' EXIT
@@ -29,20 +28,8 @@ chmod 755 "$work/toolchain/bin/clang"
 
 module() {
     door=$1 name=$2
-    below=$(sed -n "s/^$name staticlib: *//p" crates.txt)
-    set -- --extern "std=$kit/rlibs/std.rlib" -L "dependency=$kit/rlibs"
-    for crate in $below; do
-        made=$top/crates/$crate/out/rlib/$crate.rlib
-        [ -d "crates/$crate" ] || made=$kit/rlibs/$crate.rlib
-        set -- "$@" --extern "$crate=$made"
-    done
-    for folder in "$top"/crates/*/out/rlib; do
-        set -- "$@" -L "dependency=$folder"
-    done
     rm -f "$work/module.bc"
-    (cd "crates/$name" && "$kit/bin/rattle" build --crate-name "$name" src/lib.rt "$@" --antt-project "$kit/rattle/logic/antt-project.json" \
-        --logic-built "$kit/logic_built" --jobs 1 --links "$name=" --crate-type staticlib --cpu x86-64 \
-        --toolchain "$work/toolchain" --backend llvm -o "$work/lib.a") > "$work/said" 2>&1 || { tail -n 5 "$work/said" >&2; exit 1; }
+    sh scripts/over_kept.sh "$name" "$work/lib.a" "$work/toolchain" --cpu x86-64 > "$work/said" 2>&1 || { tail -n 5 "$work/said" >&2; exit 1; }
     [ -s "$work/module.bc" ] || { echo "llvm_source.sh: no module of $name was found" >&2; exit 1; }
     # In its folder, as clang writes the name that it is given into the module.
     (cd "$work" && "$kit/toolchain/bin/clang" --target=x86_64-unknown-linux-gnu --no-default-config -S -emit-llvm -O0 \

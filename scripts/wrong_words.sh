@@ -31,9 +31,9 @@ refuses() {
     fi
 }
 
-for script in bench/clients.sh scripts/build_c.sh scripts/doors/any_processor.sh scripts/doors/clients.sh scripts/inlined.sh \
-    scripts/llvm_source.sh scripts/release.sh scripts/release_checks.sh scripts/release_trees.sh scripts/row.sh \
-    scripts/statuses.sh scripts/vendor.sh; do
+for script in bench/clients.sh scripts/build_c.sh scripts/doors/any_processor.sh scripts/doors/clients.sh \
+    scripts/doors/door_checks.sh scripts/doors/extension_checks.sh scripts/inlined.sh scripts/llvm_source.sh scripts/release.sh \
+    scripts/release_checks.sh scripts/release_trees.sh scripts/row.sh scripts/statuses.sh scripts/vendor.sh; do
     refuses $script
     refuses $script --help
 done
@@ -43,6 +43,7 @@ for script in bench/run.sh scripts/check_programs.sh scripts/differential/run.sh
 done
 refuses scripts/build_c.sh ''
 refuses scripts/build_c.sh "$work/built" no_such_word
+refuses scripts/doors/door_checks.sh no_such_door
 refuses scripts/llvm_source.sh ''
 refuses scripts/llvm_source.sh one two
 refuses scripts/row.sh no_such_rows

@@ -444,9 +444,10 @@ static uint32_t advance(yaml_parser_t *parser, struct held *held, pokhvizi_event
     return 0;
 }
 
+/* Gives back what neither an event nor a node has taken: after an error; the tag `!`, in whose place a node has its kind's. */
 static void forget(struct held *held)
 {
-    if (held->anchor != NULL || held->tag != NULL) {  /* an error, or the tag `!`, which a scalar's event hasn't */
+    if (held->anchor != NULL || held->tag != NULL) {
         free(held->anchor);
         free(held->tag);
         held->anchor = held->tag = NULL;

@@ -1,4 +1,4 @@
-/* What no proof covers of pokhvizi/compose.h, for scripts/doors/compose_checks.sh:
+/* What no proof covers of pokhvizi/compose.h, for scripts/doors/door_checks.sh:
  *
  *     compose_driver FILE..          the documents of YAML files, of libyaml's events (Debian: libyaml-dev), beside those that
  *                                    its `yaml_parser_load` gives: each field, id and mark, and the fault
@@ -8,20 +8,7 @@
  *
  * The status is 1 where something is wrong. */
 #include <pokhvizi/compose.h>
-#include <pthread.h>
-#include <stdio.h>
-#include <stdlib.h>
-#include <string.h>
-#include <yaml.h>
-
-static void *resized(void *block, size_t size)
-{
-    if ((block = realloc(block, size)) == NULL) {
-        fputs("compose_driver: out of memory\n", stderr);
-        exit(3);
-    }
-    return block;
-}
+#include "driver.h"
 
 /* ---- Documents, put together as the header says ---- */
 
@@ -127,20 +114,10 @@ static uint32_t compose(struct load *load, const yaml_event_t *event, int32_t *f
 
 /* ---- Beside libyaml's ---- */
 
-static int mark_is(yaml_mark_t mark, yaml_mark_t other)
-{
-    return mark.index == other.index && mark.line == other.line && mark.column == other.column;
-}
-
-static int string_is(const void *text, const void *other)
-{
-    return text == NULL || other == NULL ? text == other : strcmp(text, other) == 0;
-}
-
 /* A tag, and the one of its kind where it is missing or `!`. */
 static int tag_is(const yaml_char_t *tag, const char *kind, const yaml_char_t *other)
 {
-    return string_is(tag == NULL || strcmp((const char *)tag, "!") == 0 ? (const yaml_char_t *)kind : tag, other);
+    return words_are(tag == NULL || strcmp((const char *)tag, "!") == 0 ? (const yaml_char_t *)kind : tag, other);
 }
 
 static int node_is(const struct node *made, const yaml_node_t *node)
@@ -195,16 +172,16 @@ static int fault_is(const struct load *load, uint32_t deed, int32_t fact, const 
 {
     switch (deed) {
     case POKHVIZI_UNDEFINED_ALIAS:
-        return loader->error == YAML_COMPOSER_ERROR && string_is(loader->problem, "found undefined alias") &&
+        return loader->error == YAML_COMPOSER_ERROR && words_are(loader->problem, "found undefined alias") &&
                mark_is(loader->problem_mark, event->start_mark) && loader->context == NULL;
     case POKHVIZI_REPEATED_ANCHOR:
-        return loader->error == YAML_COMPOSER_ERROR && string_is(loader->problem, "second occurrence") &&
+        return loader->error == YAML_COMPOSER_ERROR && words_are(loader->problem, "second occurrence") &&
                mark_is(loader->problem_mark, event->start_mark) &&
-               string_is(loader->context, "found duplicate anchor; first occurrence") &&
+               words_are(loader->context, "found duplicate anchor; first occurrence") &&
                mark_is(loader->context_mark, load->nodes[fact - 1].event.start_mark);
     default:
-        return loader->error == parser->error && string_is(loader->problem, parser->problem) &&
-               mark_is(loader->problem_mark, parser->problem_mark) && string_is(loader->context, parser->context) &&
+        return loader->error == parser->error && words_are(loader->problem, parser->problem) &&
+               mark_is(loader->problem_mark, parser->problem_mark) && words_are(loader->context, parser->context) &&
                mark_is(loader->context_mark, parser->context_mark);
     }
 }
@@ -246,7 +223,7 @@ static int is_alike(struct load *load, yaml_parser_t *parser, yaml_parser_t *loa
     }
 }
 
-static int compare_text(const unsigned char *text, size_t size, size_t room, struct load *all)
+static int compare_text(const struct bytes *yaml, size_t room, struct load *all)
 {
     struct load load = {.room = room, .stack = resized(NULL, room * sizeof *load.stack)};
     yaml_parser_t parser, loader;
@@ -254,10 +231,8 @@ static int compare_text(const unsigned char *text, size_t size, size_t room, str
     load.anchors = resized(NULL, sizeof *load.anchors * (load.anchors_room = 1));
     load.texts = resized(NULL, load.texts_room = 1);
     pokhvizi_composer_new(&load.composer, INT32_MAX);
-    if (!yaml_parser_initialize(&parser) || !yaml_parser_initialize(&loader))
-        exit(3);
-    yaml_parser_set_input_string(&parser, text, size);
-    yaml_parser_set_input_string(&loader, text, size);
+    begin_parser(&parser, yaml);
+    begin_parser(&loader, yaml);
     int alike = is_alike(&load, &parser, &loader);
     all->all_nodes += load.all_nodes;
     all->faults += load.faults;
@@ -277,14 +252,10 @@ static int compare(char **names)
     size_t files = 0, differ = 0;
 
     for (; *names != NULL; names++, files++) {
-        FILE *file = fopen(*names, "rb");
-        unsigned char *text = resized(NULL, 1 << 20);
-        size_t size = file == NULL ? 0 : fread(text, 1, 1 << 20, file);
-        if (file == NULL || fclose(file) != 0 || size == 1 << 20)
-            exit((fprintf(stderr, "compose_driver: %s can't be read\n", *names), 3));
-        if (!compare_text(text, size, 1, &all) || !compare_text(text, size, 64, &again))
+        struct bytes yaml = read_file(*names);
+        if (!compare_text(&yaml, 1, &all) || !compare_text(&yaml, 64, &again))
             differ += printf("%s differs\n", *names) > 0;
-        free(text);
+        free(yaml.at);
     }
     printf("%zu files, %zu nodes, %zu faults, %zu differ\n", files, all.all_nodes, all.faults, differ);
     return differ != 0;
@@ -333,13 +304,6 @@ static int deeds(void)
 
 /* ---- Any bytes ---- */
 
-static uint64_t drawn(void)
-{
-    static uint64_t state = 88172645463325252u;
-    state ^= state << 13, state ^= state >> 7, state ^= state << 17;
-    return state;
-}
-
 static void draw(void *at, size_t size)
 {
     for (size_t i = 0; i < size; i++)
@@ -382,20 +346,6 @@ static void *compare_in_thread(void *names)
     return compare(names) ? names : NULL;
 }
 
-static int threads(char **names)
-{
-    pthread_t made[8];
-    void *differs, *any = NULL;
-
-    for (size_t i = 0; i < 8; i++)
-        if (pthread_create(&made[i], NULL, compare_in_thread, names) != 0)
-            return 3;
-    for (size_t i = 0; i < 8; i++)
-        if (pthread_join(made[i], &differs) != 0 || differs != NULL)
-            any = names;
-    return any != NULL;
-}
-
 int main(int count, char **words)
 {
     if (count == 2 && strcmp(words[1], "deeds") == 0)
@@ -403,6 +353,6 @@ int main(int count, char **words)
     if (count == 2 && strcmp(words[1], "bad") == 0)
         return bad();
     if (count > 2 && strcmp(words[1], "threads") == 0)
-        return threads(words + 2);
+        return in_threads(compare_in_thread, words + 2) != 0;
     return compare(words + 1);
 }

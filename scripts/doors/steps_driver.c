@@ -1,46 +1,18 @@
-/* The events of YAML files by steps, beside libyaml's own: its scanner (Debian: libyaml-dev) gives the tokens, our static
- * library makes the events, and each is compared with the one that `yaml_parser_parse` gives.
+/* What no proof covers of pokhvizi/steps.h, for scripts/doors/door_checks.sh:
  *
- *     cc -O2 -o steps_driver scripts/doors/steps_driver.c DIR/libpokhvizi.a -lyaml
- *     steps_driver FILE..             compares; the status is 1 where a file differs
+ *     cc -O2 -o steps_driver scripts/doors/steps_driver.c DIR/libpokhvizi.a -lyaml -lpthread
+ *     steps_driver FILE..             the events of YAML files, of libyaml's tokens (Debian: libyaml-dev), beside those that its
+ *                                     `yaml_parser_parse` gives: each field and mark, and the fault
+ *     steps_driver bad FILE..         numbers that are no token's, stacks that are too small, records of any bytes
+ *     steps_driver threads FILE..     the first, in eight threads at once
  *     steps_driver times N FILE       the least time of N runs of libyaml's parser, and of the steps
  *
- * DIR is that of scripts/build_c.sh. A program of your own takes what stands before "Beside libyaml's events". */
+ * DIR is that of scripts/build_c.sh. The status is 1 where something is wrong. A program of your own takes what stands before
+ * "Beside libyaml's events". */
 #define _POSIX_C_SOURCE 200809L
 #include <pokhvizi/steps.h>
-#include <stdio.h>
-#include <stdlib.h>
-#include <string.h>
 #include <time.h>
-#include <yaml.h>
-
-/* Doubles the room of an array where it is too small. */
-static void *grown(void *array, size_t *room, size_t wanted, size_t size)
-{
-    if (wanted <= *room && array != NULL)
-        return array;
-    *room = 2 * wanted + 1;
-    array = realloc(array, *room * size);
-    if (array == NULL) {
-        fputs("steps_driver: out of memory\n", stderr);
-        exit(3);
-    }
-    return array;
-}
-
-struct bytes {
-    uint8_t *at;
-    size_t length, room;
-};
-
-/* Appends bytes, and a zero byte that follows them. */
-static void put(struct bytes *bytes, const void *from, size_t length)
-{
-    bytes->at = grown(bytes->at, &bytes->room, bytes->length + length + 1, 1);
-    memcpy(bytes->at + bytes->length, from, length);
-    bytes->length += length;
-    bytes->at[bytes->length] = '\0';
-}
+#include "driver.h"
 
 /* ---- A parser ---- */
 
@@ -66,12 +38,10 @@ struct event {
     const yaml_token_t *token;  /* the token that ends with it, if any: of an alias, a scalar, a stream's start */
 };
 
-static void begin(struct stream *stream, const uint8_t *text, size_t length, size_t room)
+static void begin(struct stream *stream, const struct bytes *yaml, size_t room)
 {
     memset(stream, 0, sizeof *stream);
-    if (!yaml_parser_initialize(&stream->scanner))
-        exit(3);
-    yaml_parser_set_input_string(&stream->scanner, text, length);
+    begin_parser(&stream->scanner, yaml);
     stream->states = grown(NULL, &stream->states_room, room, sizeof *stream->states);
     stream->marks = grown(NULL, &stream->marks_room, room, sizeof *stream->marks);
     stream->handles = grown(NULL, &stream->handles_room, 1, sizeof *stream->handles);
@@ -221,11 +191,6 @@ static int text_is(int is_there, const struct bytes *text, const yaml_char_t *ot
     return text->length == strlen((const char *)other) && memcmp(text->at, other, text->length) == 0;
 }
 
-static int mark_is(pokhvizi_mark_t mark, yaml_mark_t other)
-{
-    return mark.index == other.index && mark.line == other.line && mark.column == other.column;
-}
-
 static int range_is(const struct stream *stream, pokhvizi_text_t text, const yaml_char_t *other)
 {
     return text.length == strlen((const char *)other) && memcmp(stream->texts.at + text.place, other, text.length) == 0;
@@ -272,8 +237,8 @@ static int start_is(const struct event *made, const yaml_char_t *anchor, const y
 /* Whether an event is one of libyaml's. */
 static int event_is(const struct stream *stream, const struct event *made, const yaml_event_t *event)
 {
-    if (made->shape.kind != event->type || !mark_is(made->shape.start_mark, event->start_mark) ||
-        !mark_is(made->shape.end_mark, event->end_mark))
+    if (made->shape.kind != event->type || !marks_are(made->shape.start_mark, mark_of(event->start_mark)) ||
+        !marks_are(made->shape.end_mark, mark_of(event->end_mark)))
         return 0;
     switch (event->type) {
     case YAML_STREAM_START_EVENT:
@@ -298,11 +263,6 @@ static int event_is(const struct stream *stream, const struct event *made, const
     }
 }
 
-static int words_are(const char *words, const char *other)
-{
-    return words == NULL || other == NULL ? words == other : strcmp(words, other) == 0;
-}
-
 /* Whether what a step did is libyaml's error, all its fields. */
 static int fault_is(const struct stream *stream, uint32_t did, const pokhvizi_fault_t *fault, const yaml_parser_t *parser)
 {
@@ -314,8 +274,8 @@ static int fault_is(const struct stream *stream, uint32_t did, const pokhvizi_fa
                memcmp(&scanner->problem_mark, &parser->problem_mark, sizeof scanner->problem_mark) == 0;
     problem = pokhvizi_problem(fault->problem, &context);
     return did == POKHVIZI_FAULT && parser->error == YAML_PARSER_ERROR && words_are(problem, parser->problem) &&
-           mark_is(fault->problem_mark, parser->problem_mark) && words_are(context, parser->context) &&
-           (context == NULL || mark_is(fault->context_mark, parser->context_mark));
+           marks_are(fault->problem_mark, mark_of(parser->problem_mark)) && words_are(context, parser->context) &&
+           (context == NULL || marks_are(fault->context_mark, mark_of(parser->context_mark)));
 }
 
 struct counts {
@@ -333,10 +293,8 @@ static int is_alike(const struct bytes *yaml, size_t room, struct counts *counts
     uint32_t did = POKHVIZI_WANTS;
     int alike = 1, more = 1;
 
-    begin(&stream, yaml->at, yaml->length, room);
-    if (!yaml_parser_initialize(&parser))
-        exit(3);
-    yaml_parser_set_input_string(&parser, yaml->at, yaml->length);
+    begin(&stream, yaml, room);
+    begin_parser(&parser, yaml);
     while (alike && more) {
         int given = yaml_parser_parse(&parser, &event);
         did = next(&stream, did, &made, &fault);
@@ -358,20 +316,6 @@ static int is_alike(const struct bytes *yaml, size_t room, struct counts *counts
     return alike;
 }
 
-static int read_file(const char *name, struct bytes *bytes)
-{
-    FILE *file = fopen(name, "rb");
-    char buffer[65536];
-    size_t got;
-
-    if (file == NULL)
-        return 0;
-    put(bytes, "", 0);
-    while ((got = fread(buffer, 1, sizeof buffer, file)) > 0)
-        put(bytes, buffer, got);
-    return fclose(file) == 0;
-}
-
 /* Each file, with stacks of no entry, of one, of three, and of many. */
 static int compare(char **names)
 {
@@ -380,12 +324,8 @@ static int compare(char **names)
     size_t files = 0, differ = 0;
 
     for (; *names != NULL; names++) {
-        struct bytes yaml = {0};
+        struct bytes yaml = read_file(*names);
         int alike = 1;
-        if (!read_file(*names, &yaml)) {
-            fprintf(stderr, "steps_driver: %s can't be read\n", *names);
-            return 3;
-        }
         for (size_t i = 0; i < sizeof rooms / sizeof *rooms; i++)
             alike = is_alike(&yaml, rooms[i], i == 0 ? &all : &again) && alike;
         if (!alike)
@@ -396,6 +336,273 @@ static int compare(char **names)
     }
     printf("%zu files, %zu events, %zu faults, %zu differ\n", files, all.events, all.faults, differ);
     return differ != 0;
+}
+
+/* ---- Bad calls ---- */
+
+static long wrong, calls;
+
+static void expect(int is, const char *what, const char *name)
+{
+    if (!is) {
+        printf("wrong: %s, in %s\n", what, name);
+        wrong++;
+    }
+}
+
+/* All that a call reads and writes. The stacks have as many entries as they are said to have, and no more. */
+struct call {
+    pokhvizi_steps_t steps;
+    uint8_t *states;
+    pokhvizi_mark_t *marks;
+    size_t states_room, marks_room;
+    pokhvizi_event_t event;
+    pokhvizi_fault_t fault;
+    uint32_t did;
+};
+
+/* Copies so many bytes to memory of its own. */
+static void *copy_of(const void *from, size_t length)
+{
+    void *made = resized(NULL, length + (length == 0));
+
+    memcpy(made, from, length);
+    return made;
+}
+
+/* Calls with a copy of what a stream has, with the first entries of its stacks. */
+static struct call call_with(const struct stream *stream, size_t states_room, size_t marks_room, uint8_t kind, uint8_t fact)
+{
+    struct call call;
+
+    memset(&call, 0, sizeof call);
+    call.steps = stream->steps;
+    call.states = copy_of(stream->states, states_room);
+    call.marks = copy_of(stream->marks, marks_room * sizeof *call.marks);
+    call.states_room = states_room;
+    call.marks_room = marks_room;
+    call.did = pokhvizi_step(&call.steps, call.states, states_room, call.marks, marks_room, kind, fact,
+                             (const pokhvizi_span_t *)(const void *)&stream->token.start_mark, &call.event, &call.fault);
+    calls++;
+    return call;
+}
+
+static void free_call(struct call *call)
+{
+    free(call->states);
+    free(call->marks);
+}
+
+/* Whether two calls did the same, and gave the same event or fault. */
+static int is_same(const struct call *one, const struct call *other)
+{
+    const pokhvizi_event_t *a = &one->event, *b = &other->event;
+
+    if (one->did != other->did)
+        return 0;
+    if (one->did == POKHVIZI_FAULT)
+        return one->fault.problem == other->fault.problem &&
+               marks_are(one->fault.problem_mark, other->fault.problem_mark) &&
+               marks_are(one->fault.context_mark, other->fault.context_mark);
+    if (one->did != POKHVIZI_GAVE && one->did != POKHVIZI_STAYS)
+        return 1;
+    return a->kind == b->kind && a->has_anchor == b->has_anchor && a->has_tag == b->has_tag && a->implicit == b->implicit &&
+           a->quoted_implicit == b->quoted_implicit && a->is_flow == b->is_flow &&
+           marks_are(a->start_mark, b->start_mark) && marks_are(a->end_mark, b->end_mark);
+}
+
+/* Whether a call left the machine, the stacks and what is wanted as they were. */
+static int is_undone(const struct stream *stream, const struct call *call)
+{
+    const pokhvizi_steps_t *old = &stream->steps, *new = &call->steps;
+
+    return old->machine.state == new->machine.state &&
+           old->machine.behind_document_end == new->machine.behind_document_end &&
+           old->machine.states_count == new->machine.states_count &&
+           old->machine.marks_count == new->machine.marks_count &&
+           memcmp(stream->states, call->states, call->states_room) == 0 &&
+           memcmp(stream->marks, call->marks, call->marks_room * sizeof *call->marks) == 0;
+}
+
+/* A number that is no token's is one and the same at each place. */
+static void check_kinds(const struct stream *stream, const char *name)
+{
+    static const uint8_t kinds[] = {22, 23, 127, 128, 255};
+    struct call none = call_with(stream, stream->states_room, stream->marks_room, YAML_NO_TOKEN, 0);
+
+    for (size_t i = 0; i < sizeof kinds; i++) {
+        struct call call = call_with(stream, stream->states_room, stream->marks_room, kinds[i], 0);
+        expect(is_same(&none, &call), "a number that is no token's", name);
+        free_call(&call);
+    }
+    free_call(&none);
+}
+
+/* Without room for one more entry, a call does the same, or nothing, or gives the event of an opening token, which stays; with
+ * less room than there are entries, it does nothing. */
+static void check_rooms(const struct stream *stream, uint8_t fact, const char *name)
+{
+    size_t states = stream->steps.machine.states_count, marks = stream->steps.machine.marks_count;
+    uint8_t kind = stream->token.type;
+    struct call ample = call_with(stream, stream->states_room, stream->marks_room, kind, fact);
+    struct call tight = call_with(stream, states, marks, kind, fact);
+    struct call none;
+
+    expect(ample.did <= POKHVIZI_STAYS || ample.did == POKHVIZI_FAULT, "an answer", name);
+    if (tight.did == POKHVIZI_FULL_STATES || tight.did == POKHVIZI_FULL_MARKS) {
+        int grows = tight.did == POKHVIZI_FULL_STATES ? ample.steps.machine.states_count >= states
+                                                      : ample.steps.machine.marks_count >= marks;
+        expect(grows && is_undone(stream, &tight), "a full stack", name);
+    } else {
+        if (ample.did == POKHVIZI_GAVE && ample.steps.machine.marks_count > marks && tight.did == POKHVIZI_STAYS)
+            tight.did = POKHVIZI_GAVE;
+        expect(is_same(&ample, &tight), "the same with less room", name);
+    }
+    for (int of_marks = 0; of_marks < 2; of_marks++) {
+        if ((of_marks ? marks : states) == 0)
+            continue;
+        none = call_with(stream, states - !of_marks, marks - of_marks, kind, fact);
+        expect(none.did == POKHVIZI_BAD && is_undone(stream, &none), "less room than entries", name);
+        free_call(&none);
+    }
+    free_call(&ample);
+    free_call(&tight);
+}
+
+/* Records and stacks of any bytes: an answer, and no access beyond the stacks, which the sanitizers and valgrind look for. */
+static void check_spoiled(const struct stream *stream, const char *name)
+{
+    struct stream spoiled = *stream;
+    uint8_t *bytes = (uint8_t *)&spoiled.steps;
+    struct call call;
+    size_t states = drawn() % 4, marks = drawn() % 4;
+
+    spoiled.states = resized(NULL, 4);
+    spoiled.marks = resized(NULL, 4 * sizeof *spoiled.marks);
+    memset(spoiled.marks, 0, 4 * sizeof *spoiled.marks);
+    for (size_t i = 0; i < sizeof spoiled.steps; i++)
+        if (drawn() % 2)
+            bytes[i] = drawn();
+    if (drawn() % 8 != 0) {
+        spoiled.steps.machine.states_count = drawn() % (states + 1);
+        spoiled.steps.machine.marks_count = drawn() % (marks + 1);
+    }
+    for (size_t i = 0; i < 4; i++)
+        spoiled.states[i] = drawn();
+    call = call_with(&spoiled, states, marks, drawn(), drawn());
+    expect(call.did <= POKHVIZI_BAD, "an answer of a spoiled record", name);
+    expect(call.did != POKHVIZI_FAULT || (call.fault.problem >= 1 && call.fault.problem <= 12), "a problem's number", name);
+    expect(call.did < POKHVIZI_GAVE || call.did > POKHVIZI_STAYS ||
+               (call.event.kind >= YAML_STREAM_START_EVENT && call.event.kind <= YAML_MAPPING_END_EVENT),
+           "an event's number", name);
+    free_call(&call);
+    free(spoiled.states);
+    free(spoiled.marks);
+}
+
+/* Handles whose texts are not all in their buffer have the bytes that are. */
+static void check_handles(void)
+{
+    static const uint8_t texts[] = "!e!tag:", handle[] = "!e!", suffix[] = "x", bang[] = "!";
+    pokhvizi_handle_t handles[] = {{{0, 3}, {3, 4}}};
+    uint8_t out[32];
+    size_t size;
+
+    expect(pokhvizi_tag(handles, 1, texts, 7, handle, 3, suffix, 1, out, sizeof out, &size) == 3 && size == 5 &&
+               memcmp(out, "tag:x", 5) == 0 && pokhvizi_directive_fact(handles, 1, texts, 7, handle, 3) == 1,
+           "a tag", "handles");
+    memset(out, 'o', sizeof out);
+    expect(pokhvizi_tag(handles, 1, texts, 7, handle, 3, suffix, 1, out, 4, &size) == 3 && size == 5 && out[4] == 'o',
+           "a tag without room", "handles");
+    expect(pokhvizi_tag(handles, 1, texts, 7, handle, 2, suffix, 1, out, sizeof out, &size) == 4 && size == SIZE_MAX &&
+               pokhvizi_directive_fact(handles, 1, texts, 7, handle, 2) == 0,
+           "a handle that isn't declared", "handles");
+    expect(pokhvizi_tag(handles, 1, texts, 7, handle, 0, bang, 1, out, sizeof out, &size) == 2 && size == 1 && out[0] == '!' &&
+               pokhvizi_tag(handles, 1, texts, 7, handle, 0, bang, 0, out, sizeof out, &size) == 1 && size == 0,
+           "the tag `!`, and an empty one", "handles");
+    handles[0].prefix.length = UINT64_MAX;
+    expect(pokhvizi_tag(handles, 1, texts, 7, handle, 3, suffix, 1, out, sizeof out, &size) == 3 && size == 5,
+           "a prefix past the end", "handles");
+    handles[0].prefix.place = UINT64_MAX;
+    expect(pokhvizi_tag(handles, 1, texts, 7, handle, 3, suffix, 1, out, sizeof out, &size) == 3 && size == 1,
+           "a prefix at the last place", "handles");
+    handles[0].handle.place = 8;
+    expect(pokhvizi_directive_fact(handles, 1, texts, 7, handle, 3) == 0, "a handle past the end", "handles");
+    expect(pokhvizi_version_fact(1, 1) == 1 && pokhvizi_version_fact(1, 2) == 1 && pokhvizi_version_fact(1, 0) == 0 &&
+               pokhvizi_version_fact(1, 3) == 0 && pokhvizi_version_fact(2, 1) == 0 && pokhvizi_version_fact(257, 1) == 0 &&
+               pokhvizi_version_fact(INT32_MIN, INT32_MAX) == 0,
+           "versions", "handles");
+}
+
+/* Tries each step of a text, as it is and otherwise. */
+static void try_text(const struct bytes *yaml, const char *name)
+{
+    struct stream stream;
+    struct event event = {0};
+    uint32_t did = POKHVIZI_WANTS;
+    pokhvizi_fault_t fault;
+
+    begin(&stream, yaml, 256);
+    for (;;) {
+        if ((did == POKHVIZI_WANTS || did == POKHVIZI_GAVE) && !take(&stream))
+            break;
+        uint8_t fact = fact_of(&stream, &event.tag);
+        check_kinds(&stream, name);
+        check_rooms(&stream, fact, name);
+        for (int i = 0; i < 20; i++)
+            check_spoiled(&stream, name);
+        did = pokhvizi_step(&stream.steps, stream.states, stream.states_room, stream.marks, stream.marks_room,
+                            stream.token.type, fact, (const pokhvizi_span_t *)(const void *)&stream.token.start_mark,
+                            &event.shape, &fault);
+        if (did == POKHVIZI_FAULT || (did == POKHVIZI_GAVE && event.shape.kind == YAML_STREAM_END_EVENT))
+            break;
+        if (did == POKHVIZI_WANTS)
+            hold(&stream, &event);
+        else if (event.shape.kind == YAML_DOCUMENT_END_EVENT)
+            end_document(&stream);
+    }
+    free_event(&event);
+    end(&stream);
+}
+
+static int bad(char **names)
+{
+    check_handles();
+    for (; *names != NULL; names++) {
+        struct bytes yaml = read_file(*names);
+        try_text(&yaml, *names);
+        free(yaml.at);
+    }
+    printf("%ld calls, %ld wrong\n", calls, wrong);
+    return wrong != 0 || calls == 0;
+}
+
+/* ---- Threads ---- */
+
+enum { ROUNDS = 20 };
+
+static void *run_rounds(void *yaml)
+{
+    struct counts counts = {0};
+    int differs = 0;
+
+    for (int round = 0; round < ROUNDS; round++)
+        differs |= !is_alike(yaml, round % 3, &counts);
+    return differs ? yaml : NULL;
+}
+
+/* Each file by all threads at once: all have libyaml's events. */
+static int threads(char **names)
+{
+    int files = 0;
+
+    for (; *names != NULL; names++, files++) {
+        struct bytes yaml = read_file(*names);
+        wrong += in_threads(run_rounds, &yaml);
+        free(yaml.at);
+    }
+    printf("%d files, %d threads at once, %d runs each, %ld wrong\n", files, THREADS, ROUNDS, wrong);
+    return wrong != 0 || files == 0;
 }
 
 /* ---- Times ---- */
@@ -414,9 +621,7 @@ static size_t parse_all(const struct bytes *yaml)
     size_t count = 0;
     int more = 1;
 
-    if (!yaml_parser_initialize(&parser))
-        exit(3);
-    yaml_parser_set_input_string(&parser, yaml->at, yaml->length);
+    begin_parser(&parser, yaml);
     while (more && yaml_parser_parse(&parser, &event)) {
         more = event.type != YAML_STREAM_END_EVENT;
         count++;
@@ -434,7 +639,7 @@ static size_t step_all(const struct bytes *yaml)
     uint32_t did = POKHVIZI_WANTS;
     size_t count = 0;
 
-    begin(&stream, yaml->at, yaml->length, 64);
+    begin(&stream, yaml, 64);
     do {
         did = next(&stream, did, &made, &fault);
         if (did != POKHVIZI_GAVE && did != POKHVIZI_STAYS)
@@ -451,10 +656,8 @@ static size_t step_all(const struct bytes *yaml)
 static int times(int count, const char *name)
 {
     static const char *const parts[] = {"libyaml's scanner and parser", "its scanner, and the steps"};
-    struct bytes yaml = {0};
+    struct bytes yaml = read_file(name);
 
-    if (!read_file(name, &yaml))
-        return 3;
     for (int part = 0; part < 2; part++) {
         double least = 1e9;
         size_t events = 0;
@@ -472,6 +675,10 @@ static int times(int count, const char *name)
 
 int main(int count, char **words)
 {
+    if (count > 2 && strcmp(words[1], "bad") == 0)
+        return bad(words + 2);
+    if (count > 2 && strcmp(words[1], "threads") == 0)
+        return threads(words + 2);
     if (count == 4 && strcmp(words[1], "times") == 0)
         return times(atoi(words[2]), words[3]);
     return compare(words + 1);
