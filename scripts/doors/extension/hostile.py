@@ -128,7 +128,7 @@ def errors():
             raise KeyError(value)
 
     failed = "YAMLError: an earlier call of this loader failed"
-    loader = Raises("[a]")
+    loader = Raises("a")
     expect("an error of `resolve`", [said(loader.get_data), said(loader.get_data)], ["KeyError: 'a'", failed])
     loader = pokhvizi.CSafeLoader("[*a]")
     expect("a fault", [said(loader.get_data), said(loader.check_event)], ["ComposerError: found undefined alias"] * 2)
@@ -181,7 +181,7 @@ def marks():
         expect("a node that is " + how, (again.end_mark.column, str(again.start_mark), again.value[1] is again),
                (10, '  in "<unicode string>", line 1, column 1', True))
     kind = type(node.start_mark)
-    expect("no mark", said(lambda: kind("name")), "TypeError: function missing required argument 'index' (pos 2)")
+    expect("no mark", "missing required argument 'index' (pos 2)" in said(lambda: kind("name")), True)
     expect("marks stay", said(lambda: setattr(node.start_mark, "line", 3)), "AttributeError: readonly attribute")
 
 
@@ -222,10 +222,11 @@ def leaks():
         gc.collect()
         return sum(it() is not None for pair in found for it in pair[:1 if sys.version_info < (3, 9) else 2])
 
-    expect("cycles are collected", rounds(300), 0)
+    expect("cycles are collected", sum(rounds(50) for _ in range(20)), 0)
     before = resident()
-    rounds(2000)
-    expect("memory after many loads, in KB", resident() - before < 500, True)
+    for _ in range(20):
+        rounds(50)
+    expect("KB after many loads beside %d" % before, max(resident() - before, 500), 500)
 
 
 for part in (deep, within_itself, finalizers, errors, hooks, marks, leaks):

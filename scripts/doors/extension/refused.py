@@ -90,7 +90,14 @@ def outcome(read, describe, source, refuse=None, number=0):
     return (error(failure) if failure else [describe(it) for it in made]), was_refused
 
 
-def refusals(refuse, reading, source, turned):
+def interpreters_errors(refuse):
+    """Returns what comes where an allocation is refused while an error of `int` passes through a function, which has nothing of
+    this package: CPython 3.11 loses the error, and says so by a SystemError."""
+    tried = [outcome(lambda source: [int(source)], repr, "x", refuse, number)[0] for number in range(1, 50)]
+    return [came for came in tried if came is not MemoryError and came[0] == "SystemError"]
+
+
+def refusals(refuse, reading, source, also, turned):
     """Refuses each allocation of a reading; returns how many there were, and the numbers of those with a wrong outcome."""
     read, describe = READINGS[reading]
     whole, _ = outcome(read, describe, source())
@@ -99,7 +106,7 @@ def refusals(refuse, reading, source, turned):
         number += 1
         came, was_refused = outcome(read, describe, source(), refuse, number)
         quiet = quiet + 1 if came == whole else 0
-        if came is not MemoryError and came != whole or turned:
+        if came is not MemoryError and came != whole and came not in also or turned:
             wrong.append((number, came))
         if not was_refused:
             break
@@ -110,16 +117,17 @@ def main(words):
     turned = "--turned" in words
     how, *rest = [word for word in words if word != "--turned"]
     refuse = LibcsAllocations() if how == "libc" else PythonsAllocations(how == "alone")
+    also = interpreters_errors(refuse)
     count = wrong = 0
     for text in TEXTS[:int(rest[0]) if rest else None]:
         for reading in READINGS:
             for source in (lambda: text, lambda: io.BytesIO(text.encode())):
-                made, bad = refusals(refuse, reading, source, turned)
+                made, bad = refusals(refuse, reading, source, also, turned)
                 count += made
                 wrong += len(bad)
                 for number, came in bad[:3]:
                     print("wrong: %r, %s, allocation %d refused: %s" % (text[:30], reading, number, str(came)[:200]))
-    print("%d allocations refused, %d wrong" % (count, wrong))
+    print("%d allocations refused, %d wrong%s" % (count, wrong, "; the interpreter loses errors by itself" if also else ""))
     sys.exit(wrong != 0)
 
 
