@@ -188,20 +188,23 @@ static uint8_t directive_fact(const yaml_parser_t *parser, const yaml_char_t *ha
                                    strlen((const char *)handle));
 }
 
-/* The fact that a step takes with a token. */
+/* The fact that a step takes with a token. Most tokens have none, and are told apart first. */
 static uint8_t fact_of(const yaml_parser_t *parser, const yaml_token_t *token, struct held *held)
 {
+    enum { WITH_FACT = 1 << YAML_VERSION_DIRECTIVE_TOKEN | 1 << YAML_TAG_DIRECTIVE_TOKEN | 1 << YAML_TAG_TOKEN | 1 << YAML_SCALAR_TOKEN };
     uint8_t none;
 
+    if ((WITH_FACT >> token->type & 1) == 0)
+        return 0;
     switch (token->type) {
+    case YAML_SCALAR_TOKEN:
+        return token->data.scalar.style == YAML_PLAIN_SCALAR_STYLE;
     case YAML_VERSION_DIRECTIVE_TOKEN:
         return pokhvizi_version_fact(token->data.version_directive.major, token->data.version_directive.minor);
     case YAML_TAG_DIRECTIVE_TOKEN:
         return directive_fact(parser, token->data.tag_directive.handle);
     case YAML_TAG_TOKEN:
         return put_tag(parser, token, &none, 0, &held->tag_length);
-    case YAML_SCALAR_TOKEN:
-        return token->data.scalar.style == YAML_PLAIN_SCALAR_STYLE;
     default:
         return 0;
     }
@@ -230,6 +233,10 @@ static int hold_tag(const yaml_parser_t *parser, const yaml_token_t *token, stru
 /* Takes what a token has for an event that comes later; 0 where memory is refused, and then its texts are the token's. */
 static int hold(yaml_parser_t *parser, const yaml_token_t *token, struct held *held)
 {
+    enum { HELD = 1 << YAML_ANCHOR_TOKEN | 1 << YAML_TAG_TOKEN | 1 << YAML_VERSION_DIRECTIVE_TOKEN | 1 << YAML_TAG_DIRECTIVE_TOKEN };
+
+    if ((HELD >> token->type & 1) == 0)
+        return 1;
     switch (token->type) {
     case YAML_ANCHOR_TOKEN:
         held->anchor = token->data.anchor.value;
@@ -380,6 +387,12 @@ static int begin(yaml_parser_t *parser)
     return 1;
 }
 
+static void end_stream(yaml_parser_t *parser)
+{
+    parser->state = YAML_PARSE_END_STATE;
+    parser->stream_end_produced = 1;
+}
+
 /* Makes the event that a step gave, and takes its token unless that stays. */
 static int give_event(yaml_parser_t *parser, const pokhvizi_event_t *made, int stays, struct held *held, yaml_event_t *event)
 {
@@ -389,10 +402,8 @@ static int give_event(yaml_parser_t *parser, const pokhvizi_event_t *made, int s
     }
     if (!stays)
         skip(parser);
-    if (event->type == YAML_STREAM_END_EVENT) {
-        parser->state = YAML_PARSE_END_STATE;
-        parser->stream_end_produced = 1;
-    }
+    if (event->type == YAML_STREAM_END_EVENT)
+        end_stream(parser);
     return 1;
 }
 
@@ -407,6 +418,23 @@ static inline uint32_t step(yaml_parser_t *parser, const yaml_token_t *token, st
                          fact_of(parser, token, held), at, made, fault);
 }
 
+/* Does what a step asks for that gave no event, and wants no other token; 0 where there is an error. */
+static int follow(yaml_parser_t *parser, uint32_t did, const pokhvizi_fault_t *fault)
+{
+    switch (did) {
+    case POKHVIZI_FULL_STATES:
+        return grow_states(parser, 2 * kept_of(parser)->states_room) || out_of_memory(parser);
+    case POKHVIZI_FULL_MARKS:
+        return grow_marks(parser) || out_of_memory(parser);
+    case POKHVIZI_FAULT:
+        return give_fault(parser, fault);
+    default:
+        parser->error = YAML_PARSER_ERROR;
+        parser->problem = "the parser's stacks were overwritten";
+        return 0;
+    }
+}
+
 /* Steps to the next event, whose token is at the head where it was given with it, and held by nobody: POKHVIZI_GAVE or
  * POKHVIZI_STAYS. 0 where there is an error. */
 static uint32_t advance(yaml_parser_t *parser, struct held *held, pokhvizi_event_t *made)
@@ -416,28 +444,13 @@ static uint32_t advance(yaml_parser_t *parser, struct held *held, pokhvizi_event
 
     while ((token = peek(parser)) != NULL) {
         uint32_t did = step(parser, token, held, made, &fault);
-        switch (did) {
-        case POKHVIZI_WANTS:
+        if (did == POKHVIZI_GAVE || did == POKHVIZI_STAYS)
+            return did;
+        if (did == POKHVIZI_WANTS) {
             if (!hold(parser, token, held))
                 return out_of_memory(parser);
             skip(parser);
-            break;
-        case POKHVIZI_GAVE:
-        case POKHVIZI_STAYS:
-            return did;
-        case POKHVIZI_FULL_STATES:
-            if (!grow_states(parser, 2 * kept_of(parser)->states_room))
-                return out_of_memory(parser);
-            break;
-        case POKHVIZI_FULL_MARKS:
-            if (!grow_marks(parser))
-                return out_of_memory(parser);
-            break;
-        case POKHVIZI_FAULT:
-            return give_fault(parser, &fault);
-        default:
-            parser->error = YAML_PARSER_ERROR;
-            parser->problem = "the parser's stacks were overwritten";
+        } else if (!follow(parser, did, &fault)) {
             return 0;
         }
     }
@@ -736,6 +749,30 @@ static int give_composer_fault(yaml_parser_t *parser, const pokhvizi_event_t *ma
     return 0;
 }
 
+/* Does what is said of an event that puts nothing at a place; 0 where there is an error. */
+static int follow_event(yaml_parser_t *parser, uint32_t deed, int32_t fact, const pokhvizi_place_t *place,
+                        const pokhvizi_event_t *made, const struct held *held, yaml_document_t *document)
+{
+    switch (deed) {
+    case POKHVIZI_CLOSES:
+        memcpy(&node_of(document, place->parent)->end_mark, &made->end_mark, sizeof(yaml_mark_t));
+        return 1;
+    case POKHVIZI_BEGINS:
+        return begin_document(parser, made, held, document) || out_of_memory(parser);
+    case POKHVIZI_ENDS:
+        document->end_implicit = made->implicit;
+        memcpy(&document->end_mark, &made->end_mark, sizeof document->end_mark);
+        return 1;
+    case POKHVIZI_PASSES:
+        return 1;
+    case POKHVIZI_UNDEFINED_ALIAS:
+    case POKHVIZI_REPEATED_ANCHOR:
+        return give_composer_fault(parser, made, document, fact);
+    default:
+        return out_of_memory(parser);
+    }
+}
+
 /* Composes an event, of the token that ends with it where there is one. Returns what was done, and
  * POKHVIZI_BAD_STACK where there is an error. */
 static uint32_t compose(yaml_parser_t *parser, struct loading *loading, const pokhvizi_event_t *made, yaml_token_t *token,
@@ -746,42 +783,35 @@ static uint32_t compose(yaml_parser_t *parser, struct loading *loading, const po
     int32_t fact = anchor == NULL ? 0 : carrier_of(parser, loading, anchor);
     pokhvizi_place_t place;
     uint32_t deed;
-    int done = 1;
+    int done;
 
     while ((deed = pokhvizi_compose(&loading->composer, loading->stack, loading->stack_room, made->kind, fact, &place)) ==
            POKHVIZI_FULL_STACK)
         if (!grow_stack(loading))
             break;
-    switch (deed) {
-    case POKHVIZI_PASSES:
-        return deed;
-    case POKHVIZI_BEGINS:
-        done = begin_document(parser, made, held, document);
-        break;
-    case POKHVIZI_ENDS:
-        document->end_implicit = made->implicit;
-        memcpy(&document->end_mark, &made->end_mark, sizeof document->end_mark);
-        break;
-    case POKHVIZI_CLOSES:
-        memcpy(&node_of(document, place.parent)->end_mark, &made->end_mark, sizeof(yaml_mark_t));
-        break;
-    case POKHVIZI_ROOT:
-    case POKHVIZI_ITEM:
-    case POKHVIZI_KEY:
-    case POKHVIZI_VALUE:
-        done = put(parser, loading, deed, &place, made, token, held, document);
-        break;
-    case POKHVIZI_UNDEFINED_ALIAS:
-    case POKHVIZI_REPEATED_ANCHOR:
-        give_composer_fault(parser, made, document, fact);
-        return POKHVIZI_BAD_STACK;
-    default:
-        done = 0;
-    }
-    if (done)
-        return deed;
-    out_of_memory(parser);
-    return POKHVIZI_BAD_STACK;
+    if (deed >= POKHVIZI_ROOT && deed <= POKHVIZI_VALUE)
+        done = put(parser, loading, deed, &place, made, token, held, document) || out_of_memory(parser);
+    else
+        done = follow_event(parser, deed, fact, &place, made, held, document);
+    return done ? deed : POKHVIZI_BAD_STACK;
+}
+
+/* After an event of the stream or of a document: what it ends is over. */
+static void leave_frame(yaml_parser_t *parser, uint8_t kind, struct held *held)
+{
+    held->has_version = 0;
+    if (kind == YAML_DOCUMENT_END_EVENT)
+        forget_directives(parser);
+    else if (kind == YAML_STREAM_END_EVENT)
+        end_stream(parser);
+}
+
+/* Lets a token go whose event is composed. */
+static void leave(yaml_parser_t *parser, yaml_token_t *token)
+{
+    if (token->type == YAML_ALIAS_TOKEN)
+        free(token->data.alias.value);
+    skip(parser);
 }
 
 /* Loads the next document, of which nothing is there yet; 0 where there is an error. At the stream's end there is none. */
@@ -795,22 +825,14 @@ static int load(yaml_parser_t *parser, struct loading *loading, struct held *hel
             return 0;
         yaml_token_t *token = did == POKHVIZI_STAYS ? NULL : parser->tokens.head;
         deed = compose(parser, loading, &made, token, held, document);
-        if (made.kind == YAML_DOCUMENT_END_EVENT)
-            forget_directives(parser);
-        if (made.kind == YAML_STREAM_END_EVENT) {
-            parser->state = YAML_PARSE_END_STATE;
-            parser->stream_end_produced = 1;
-        }
+        if (made.kind <= YAML_DOCUMENT_END_EVENT)
+            leave_frame(parser, made.kind, held);
         if (deed == POKHVIZI_BAD_STACK)
             return 0;
-        if (token != NULL) {
-            if (token->type == YAML_ALIAS_TOKEN)
-                free(token->data.alias.value);
-            skip(parser);
-        }
+        if (token != NULL)
+            leave(parser, token);
         forget(held);
-        held->has_version = 0;
-    } while (deed != POKHVIZI_ENDS && !parser->stream_end_produced);
+    } while (deed != POKHVIZI_ENDS && made.kind != YAML_STREAM_END_EVENT);
     return 1;
 }
 

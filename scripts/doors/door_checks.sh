@@ -126,9 +126,10 @@ check_compose() {
     check_header 's/int32_t node, key;/int32_t key, node;/'
     printf '%s\n' '#include <pokhvizi/compose.h>' 'int main(void) { pokhvizi_composer_t c; pokhvizi_open_t s[1]; pokhvizi_place_t p;' \
         'pokhvizi_anchor_t a; unsigned char b = 0; a.place = 0; a.length = 0; a.node = 7; pokhvizi_composer_new(&c, 9);' \
-        'if (pokhvizi_compose(&c, s, 1, 3, 0, &p) != POKHVIZI_BEGINS || pokhvizi_compose(&c, s, 1, 6, 0, &p) != POKHVIZI_ROOT)' \
-        'return 1; return p.node == 1 && pokhvizi_carrier(&a, 1, &b, 0, &b, 0) == 7 && pokhvizi_carrier(&a, 1, &b, 0, &b, 1) == 0' \
-        '? 0 : 1; }' > "$work/header.c"
+        'if (pokhvizi_compose(&c, s, 1, 3, 0, &p) != POKHVIZI_BEGINS) return 1;' \
+        'if (pokhvizi_compose(&c, s, 1, 6, 0, &p) != POKHVIZI_ROOT) return 1;' \
+        'return p.node == 1 && pokhvizi_carrier(&a, 1, &b, 0, &b, 0) == 7 && pokhvizi_carrier(&a, 1, &b, 0, &b, 1) == 0 ? 0 : 1; }' \
+        > "$work/header.c"
     check_library
     build_driver
     check "each number" "$work/plain" deeds
