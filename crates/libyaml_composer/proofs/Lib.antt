@@ -1,4 +1,5 @@
 pub mod Opens
 pub mod Children
+mod Handing
 pub mod Tops
 pub mod lent

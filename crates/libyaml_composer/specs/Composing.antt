@@ -103,10 +103,13 @@ abbrev pub at_carrier : Bool → ℤ → place_t → Composer → Told
 at_carrier false i p c = told deed.UndefinedAlias p c
 at_carrier true i p c = unless (list_full c.most c.stack) deed.FullList p c (handing (pos 0) i c)
 
--- A node, unless it has no place: the list of nodes first, then its anchor, then its parent's list.
+-- A node, unless it has no id or its anchor is another's: the list of nodes first.
+abbrev pub if_free : ℤ → place_t → Composer → Told → Told
+if_free f p c t = unless (nat_lt c.most (suc c.nodes)) deed.FullList p c (unless (is_id f) deed.RepeatedAnchor p c t)
+
+-- and then, unless it has no place in its parent's list
 abbrev pub if_placed : ℤ → place_t → Composer → Told → Told
-if_placed f p c t = unless (nat_lt c.most (suc c.nodes)) deed.FullList p c
-    (unless (is_id f) deed.RepeatedAnchor p c (unless (list_full c.most c.stack) deed.FullList p c t))
+if_placed f p c t = if_free f p c (unless (list_full c.most c.stack) deed.FullList p c t)
 
 abbrev pub new_id : Composer → ℤ
 new_id c = pos (suc c.nodes)

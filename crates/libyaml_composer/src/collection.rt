@@ -1,5 +1,5 @@
 //! A collection that is open.
-ghost use Rattle.std.specs.Prelude.{◌≡◌, ◌<◌, suc, false};
+ghost use Rattle.std.specs.Prelude.{◌≡◌, ◌↔◌, true};
 ghost use Rattle.libyaml_composer.specs.Composing.{deed_in, full_in, holding};
 ghost use Rattle.libyaml_composer.specs.Numbers.{flag, is_id};
 
@@ -20,26 +20,32 @@ impl open_t {
     pub(crate) fn is_full(&self, most: u32) -> bool
         ensures { result ≡ full_in most self.now.children (flag self.now.is_mapping) (is_id self.now.key) }
     {
-        if self.is_mapping != 0 && is_id(self.key) {
-            return false;
-        }
-        self.children >= most
+        let is_waiting = self.is_mapping != 0 && is_id(self.key);
+        !is_waiting && self.children >= most
     }
 
-    /// Takes a child. Returns what that is to it.
+    /// Takes a child, unless its list has no room for what the child needs. Returns what that is to it.
     #[inline(always)]
     pub(crate) fn hold(&mut self, child: i32, most: u32) -> Deed
-        requires { full_in most self.old.children (flag self.old.is_mapping) (is_id self.old.key) ≡ false }
-        ensures held { self.new ≡ holding child self.old }
-        ensures deed { result ≡ deed_in (flag self.old.is_mapping) (is_id self.old.key) }
+        ensures full { (result ≡ Deed.FullList)
+            ↔ (full_in most self.old.children (flag self.old.is_mapping) (is_id self.old.key) ≡ true) }
+        ensures undone { result ≡ Deed.FullList → self.new ≡ self.old }
+        ensures held { (result ≡ Deed.FullList → ⊥) → (self.new ≡ holding child self.old)
+            × (result ≡ deed_in (flag self.old.is_mapping) (is_id self.old.key)) }
     {
         if self.is_mapping == 0 {
+            if self.children >= most {
+                return Deed::FullList;
+            }
             self.children += 1;
             return Deed::Item;
         }
         if is_id(self.key) {
             self.key = 0;
             return Deed::Value;
+        }
+        if self.children >= most {
+            return Deed::FullList;
         }
         self.children += 1;
         self.key = child;

@@ -3,7 +3,7 @@ ghost use Rattle.std.specs.Prelude.{◌≡◌, ◌≤◌, ◌<◌, ◌-◌, ◌�
 ghost use Rattle.libyaml_composer.specs.declared.records.open_t.{open_t};
 ghost use Rattle.libyaml_composer.specs.declared.records.place_t.{place_t};
 ghost use Rattle.libyaml_composer.specs.Composing.{Told, at_start, between_step, composer_of, deed_for};
-ghost use Rattle.libyaml_composer.specs.Composing.{ended, handed, if_placed, is_undone, list_full};
+ghost use Rattle.libyaml_composer.specs.Composing.{ended, handed, if_free, if_placed, is_undone, list_full};
 ghost use Rattle.libyaml_composer.specs.Composing.{adding, at_carrier, most_of, place_in, stack_of, step, told};
 ghost use Rattle.libyaml_composer.specs.Numbers.{is_id, kind_of};
 
@@ -187,23 +187,31 @@ impl composer_t {
         self.top(stack).is_full(self.most())
     }
 
-    /// Hands a child to the innermost open collection, and puts where it goes.
+    /// Hands a child to the innermost open collection, unless that has no room for it, and puts where it goes.
     #[inline(always)]
     #[tactic(auto, using(crate::proofs::Tops::none_open, crate::proofs::Tops::top_below, crate::proofs::Tops::top_set))]
     fn hand(&self, stack: &mut [open_t], node: i32, child: i32, place: &mut place_t) -> Deed
         requires within { self.now.depth ≤ length stack.old }
-        requires room { list_full (most_of self.now.max_entries) (stack_of self.now.depth stack.old) ≡ false }
-        ensures deed { result ≡ deed_for (stack_of self.now.depth stack.old) }
-        ensures place { place.new ≡ place_in node child (stack_of self.now.depth stack.old) }
-        ensures handed { stack_of self.now.depth stack.new ≡ handed child (stack_of self.now.depth stack.old) }
+        ensures full { (result ≡ Deed.FullList)
+            ↔ (list_full (most_of self.now.max_entries) (stack_of self.now.depth stack.old) ≡ true) }
+        ensures undone { result ≡ Deed.FullList → (stack.new ≡ stack.old) × (place.new ≡ place.old) }
+        ensures handed { (result ≡ Deed.FullList → ⊥) → (result ≡ deed_for (stack_of self.now.depth stack.old))
+            × ((place.new ≡ place_in node child (stack_of self.now.depth stack.old))
+            × (stack_of self.now.depth stack.new ≡ handed child (stack_of self.now.depth stack.old))) }
     {
         if self.depth == 0 {
             put(place, node, child, 0, 0);
             return Deed::Root;
         }
-        let top = self.top(stack);
-        put(place, node, child, top.node, top.key);
-        stack[self.depth - 1].hold(child, self.most())
+        let top = &mut stack[self.depth - 1];
+        let parent = top.node;
+        let key = top.key;
+        let deed = top.hold(child, self.most());
+        if let Deed::FullList = deed {
+            return deed;
+        }
+        put(place, node, child, parent, key);
+        deed
     }
 
     /// Returns whether the stack has no room for one more.
@@ -243,33 +251,25 @@ impl composer_t {
         if !is_id(carrier) {
             return Deed::UndefinedAlias;
         }
-        if self.is_list_full(stack) {
-            return Deed::FullList;
-        }
         self.hand(stack, 0, carrier, place)
     }
 
-    /// Returns why a node has no place, if it has none.
+    /// Returns why a node has no id or no anchor of its own, where that is so.
     #[inline(always)]
     fn refusal(&self, stack: &[open_t], carrier: i32) -> Option<Deed>
         requires { self.now.depth ≤ length stack.now }
         ensures some { IfSome result (λ d. (is_undone d ≡ true) × ((d ≡ Deed.Bad → ⊥)
-            × ((p : place_t) (t : Told) → if_placed carrier p (composer_of self.now stack.now) t
+            × ((p : place_t) (t : Told) → if_free carrier p (composer_of self.now stack.now) t
             ≡ told d p (composer_of self.now stack.now)))) }
         ensures none { result ≡ None → (p : place_t) (t : Told)
-            → if_placed carrier p (composer_of self.now stack.now) t ≡ t }
+            → if_free carrier p (composer_of self.now stack.now) t ≡ t }
         ensures nodes { result ≡ None → self.now.nodes < 2147483647 }
-        ensures room { result ≡ None → list_full (most_of self.now.max_entries)
-            (stack_of self.now.depth stack.now) ≡ false }
     {
         if self.nodes >= self.most() {
             return Some(Deed::FullList);
         }
         if is_id(carrier) {
             return Some(Deed::RepeatedAnchor);
-        }
-        if self.is_list_full(stack) {
-            return Some(Deed::FullList);
         }
         None
     }
@@ -290,9 +290,13 @@ impl composer_t {
         if let Some(refusal) = self.refusal(stack, carrier) {
             return refusal;
         }
+        let id = self.nodes as i32 + 1;
+        let deed = self.hand(stack, id, id, place);
+        if let Deed::FullList = deed {
+            return deed;
+        }
         self.nodes += 1;
-        let id = self.nodes as i32;
-        self.hand(stack, id, id, place)
+        deed
     }
 
     /// Takes the start of a collection within a document.
@@ -317,11 +321,18 @@ impl composer_t {
             return refusal;
         }
         if self.is_stack_full(stack) {
-            return Deed::FullStack;
+            return if self.is_list_full(stack) {
+                Deed::FullList
+            } else {
+                Deed::FullStack
+            };
+        }
+        let id = self.nodes as i32 + 1;
+        let deed = self.hand(stack, id, id, place);
+        if let Deed::FullList = deed {
+            return deed;
         }
         self.nodes += 1;
-        let id = self.nodes as i32;
-        let deed = self.hand(stack, id, id, place);
         self.push(
             stack,
             open_t {
