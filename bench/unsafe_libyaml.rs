@@ -121,6 +121,13 @@ unsafe fn copy_token(copy: *mut yaml_token_t) {
     AT += 1;
     core::ptr::write(copy, *token);
     let (from, to) = (&(*token).data, &mut (*copy).data);
+    if (*token).type_ == YAML_SCALAR_TOKEN {
+        to.scalar.value = copy_bytes(from.scalar.value, from.scalar.length as usize);
+        return;
+    }
+    if (*token).type_ as u32 <= YAML_VALUE_TOKEN as u32 && (*token).type_ != YAML_TAG_DIRECTIVE_TOKEN {
+        return;
+    }
     match (*token).type_ {
         YAML_TAG_DIRECTIVE_TOKEN => {
             to.tag_directive.handle = copy_text(from.tag_directive.handle);
@@ -132,7 +139,6 @@ unsafe fn copy_token(copy: *mut yaml_token_t) {
             to.tag.handle = copy_text(from.tag.handle);
             to.tag.suffix = copy_text(from.tag.suffix);
         }
-        YAML_SCALAR_TOKEN => to.scalar.value = copy_bytes(from.scalar.value, from.scalar.length as usize),
         _ => {}
     }
 }
