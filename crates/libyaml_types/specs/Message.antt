@@ -1,4 +1,4 @@
--- What a fault says, for a reader: its problem and its context, each with its place_in_words (docs/DEFINITIONS.md, "Faults").
+-- What an error says, for a reader: its problem and its context, each with its place_in_words (docs/DEFINITIONS.md, "Errors").
 use Rattle.std.specs.Prelude.{ℕ, ◌++◌, List, [], Option, Some, None, codes}
 use Rattle.libyaml_types.specs.declared.mark.yaml_mark_t.{yaml_mark_t}
 use Rattle.libyaml_types.specs.declared.enums.yaml_error_type_t.{yaml_error_type_t}

@@ -1,4 +1,4 @@
--- What is shown of a kind of error, of a mark, and of the type of an event or a node (docs/DEFINITIONS.md, "Faults"
+-- What is shown of a kind of error, of a mark, and of the type of an event or a node (docs/DEFINITIONS.md, "Errors"
 -- and "Numbers").
 use Rattle.std.specs.Prelude.{ℕ, ◌+◌, ◌++◌, List, codes}
 use Rattle.std.specs.Fmt.{decimal}

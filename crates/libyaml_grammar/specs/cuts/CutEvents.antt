@@ -1,4 +1,4 @@
--- The events of a cut tree (docs/DEFINITIONS.md, "Cut trees"): those of its whole parts and the start events of its
+-- The events of a partial tree (docs/DEFINITIONS.md, "Partial trees"): those of its whole parts and the start events of its
 -- open ones. m is the start of the next token, and r are the events after it.
 use Rattle.std.specs.Prelude.{List, [], ◌∷◌, true, false}
 use Rattle.libyaml_grammar.specs.sentences.Tokens.{Mark, Token}

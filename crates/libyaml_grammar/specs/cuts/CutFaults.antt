@@ -1,4 +1,4 @@
--- The fault of a cut tree (docs/DEFINITIONS.md, "Cut trees"): which problem its place names, at the start m of the
+-- The error of a partial tree (docs/DEFINITIONS.md, "Partial trees"): which problem its place names, at the start m of the
 -- bad token.
 use Rattle.std.specs.Prelude.{Bool, true, false}
 use Rattle.libyaml_types.specs.Fault.{Fault}

@@ -1,4 +1,4 @@
--- Cut trees (docs/DEFINITIONS.md, "Cut trees"): a stream tree broken off at one place of its right edge. All to the
+-- Partial trees (docs/DEFINITIONS.md, "Partial trees"): a stream tree broken off at one place of its right edge. All to the
 -- left of the place is whole, and the collections and the document around it are open.
 use Rattle.std.specs.Prelude.{List, ◌∷◌, Option, Bool, ◌&&◌}
 use Rattle.libyaml_grammar.specs.sentences.Tokens.{Anchor, AnchorName, BlockEntry, BlockMappingStart, BlockSequenceStart, DocumentStart, Key, Marks, Token, Value, tok}

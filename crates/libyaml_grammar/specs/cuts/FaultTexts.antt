@@ -1,4 +1,4 @@
--- The faults of a parser, field by field (docs/DEFINITIONS.md, "Faults").
+-- The errors of a parser, field by field (docs/DEFINITIONS.md, "Errors").
 use Rattle.std.specs.Prelude.{ℕ, List, Some, Bool, true, false, codes}
 use Rattle.libyaml_types.specs.declared.mark.yaml_mark_t.{yaml_mark_t}
 use Rattle.libyaml_types.specs.declared.enums.yaml_error_type_t.TheVariants.{YAML_PARSER_ERROR}

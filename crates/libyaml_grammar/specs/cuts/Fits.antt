@@ -1,4 +1,4 @@
--- When a cut tree fits a list with the token after it (docs/DEFINITIONS.md, "When a cut tree fits").
+-- When a partial tree fits a list with the token after it (docs/DEFINITIONS.md, "When a partial tree fits").
 use Rattle.std.specs.Prelude.{◌≡◌, ◌⊎◌, List, [], ◌∷◌, ◌++◌, Option, Some, None, Bool, true, false}
 use Rattle.libyaml_grammar.specs.sentences.Tokens.{Anchor, AnchorName, BlockEnd, BlockEntry, Content, DocumentEnd, DocumentStart, FlowEntry, FlowMappingEnd, FlowSequenceEnd, Key, Marks, StreamEnd, Tag, TagDirective, Token, Value, VersionDirective, tok}
 use Rattle.libyaml_grammar.specs.sentences.Trees.{BlockItems, Directives, Documents, FlowMember, FlowSlot, Properties, Slot, behind, explicit, flow_node, flow_nothing, indentless, item, mapping, no_directives, no_value, nothing, pair, part, sequence, single, slot_of, with_value}

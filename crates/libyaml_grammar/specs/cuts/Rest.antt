@@ -1,4 +1,4 @@
--- Tokens that complete a cut tree to a stream tree (docs/DEFINITIONS.md, "Cut trees"), all with the marks m: what
+-- Tokens that complete a partial tree to a stream tree (docs/DEFINITIONS.md, "Partial trees"), all with the marks m: what
 -- is expected at its place, the closing tokens of what is open from the inside out, and the stream's end.
 use Rattle.std.specs.Prelude.{List, [], ◌∷◌}
 use Rattle.libyaml_types.specs.declared.enums.yaml_encoding_t.TheVariants.{YAML_ANY_ENCODING}

@@ -1,5 +1,5 @@
--- The events that a beginning settles (docs/DEFINITIONS.md, "Settled events"): the longest list that begins the events of
--- every sentence that begins so, as a relation, and as a function of the beginning's front tree.
+-- The events that a viable prefix determines (docs/DEFINITIONS.md, "Determined events"): the longest list that begins the
+-- events of every valid list that begins so, as a relation, and as a function of the prefix tree.
 use Rattle.std.specs.Prelude.{◌≡◌, List, [], ◌∷◌, ◌++◌, Option, Some, None, true, false}
 use Rattle.libyaml_grammar.specs.cuts.CutEvents.{shown_block, shown_open, shown_place, sort_of}
 use Rattle.libyaml_grammar.specs.cuts.CutTrees.{Cut, Place, at_directive, at_tag, at_tag_behind, block, content_due, cut_in_order, cut_tokens, declared_block, declared_open, document_due, entry_due, implicit_root, part_due, root, separator_due, start_due}

@@ -1,5 +1,5 @@
--- Worked rows of lists that are no sentences: with a bad token, or with nothing after a beginning (docs/DEFINITIONS.md,
--- "Worked rows").
+-- Test vectors of lists that are not valid: with a bad token, or with nothing after a viable prefix. A test vector is a
+-- list of tokens in a short notation, with its events and error; that the definitions give these is computed by the prover.
 use Rattle.std.specs.Prelude.{◌∷◌, [], None, Some, true, false, codes}
 use Rattle.libyaml_types.specs.declared.enums.yaml_scalar_style_t.TheVariants.{YAML_PLAIN_SCALAR_STYLE}
 use Rattle.libyaml_types.specs.declared.event.unnamed_yaml_event_t_data.TheVariants as ev

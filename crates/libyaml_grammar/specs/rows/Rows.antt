@@ -1,5 +1,5 @@
--- Worked rows of sentences: lists of tokens with their runs, in the notation of RowNotation (docs/DEFINITIONS.md,
--- "Worked rows").
+-- Test vectors of valid lists: lists of tokens with their runs, in the notation of RowNotation. That the definitions give
+-- these is computed by the prover.
 use Rattle.std.specs.Prelude.{◌∷◌, [], None, Some, true, false, codes}
 use Rattle.libyaml_types.specs.declared.enums.yaml_scalar_style_t.TheVariants.{YAML_PLAIN_SCALAR_STYLE, YAML_SINGLE_QUOTED_SCALAR_STYLE, YAML_DOUBLE_QUOTED_SCALAR_STYLE, YAML_LITERAL_SCALAR_STYLE, YAML_FOLDED_SCALAR_STYLE}
 use Rattle.libyaml_types.specs.declared.event.unnamed_yaml_event_t_data.TheVariants as ev

@@ -1,4 +1,4 @@
--- Sentences and beginnings (docs/DEFINITIONS.md, "Sentences").
+-- Valid lists and viable prefixes (docs/DEFINITIONS.md, "Valid lists").
 use Rattle.std.specs.Prelude.{◌≡◌, ◌⊎◌, List, [], ◌∷◌, ◌++◌, Bool, true, false, ◌||◌}
 use Rattle.libyaml_grammar.specs.sentences.Tokens.{Content, StreamEnd, Token}
 use Rattle.libyaml_grammar.specs.sentences.Trees.{Stream, tokens}

@@ -1,4 +1,4 @@
--- What the laws of graphs and loads say (docs/DEFINITIONS.md, "Laws of graphs and loads").
+-- What the laws of graphs and loads (src/laws.rt) say.
 use Rattle.std.specs.Prelude.{◌≡◌, ◌≤◌, ◌<◌, ◌++◌, ℕ, zero, suc, List, [], ◌∷◌, length, Option, Some, None, true, Ok, Err}
 use Rattle.libyaml_grammar.specs.cuts.CutEvents.{cut_events}
 use Rattle.libyaml_grammar.specs.cuts.CutFaults.{fault}

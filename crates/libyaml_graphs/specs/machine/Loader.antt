@@ -1,4 +1,4 @@
--- The loader as a machine over events (docs/DEFINITIONS.md, "The loader as a machine"): the nodes so far, a stack of the
+-- The loader as a machine over events: the nodes so far, a stack of the
 -- collections that are open, and the anchors. By this the loader's contracts are proved. Of the public clauses the law
 -- `machine::one_load` speaks of it, where a load may take memory (`GrowsAt`), and those of a loader that is handed its tokens.
 use Rattle.std.specs.Prelude.{ℕ, suc, ℤ, pos, List, [], ◌∷◌, ◌++◌, length, nat_lt, Option, Some, None, Bool, true, false, Ok, Err}

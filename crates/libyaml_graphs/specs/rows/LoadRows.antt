@@ -1,4 +1,4 @@
--- Worked rows of loads (docs/DEFINITIONS.md, "Worked rows of loads"): lists of tokens with the results of the loads over
+-- Test vectors of loads, without a bound and within one: lists of tokens with the results of the loads over
 -- them, in the notation of libyaml_events' RowNotation: token k begins at index 2k and ends at 2k + 1.
 use Rattle.std.specs.Prelude.{◌∷◌, ℕ, pos, ℤ, List, [], None, Some, Option, Bool, true, false, Ok, Err, codes}
 use Rattle.libyaml_types.specs.declared.directive.yaml_tag_directive_t.{yaml_tag_directive_t}
