@@ -10,6 +10,8 @@
 #     sh scripts/allocation_failures.sh [CRATE..]
 #
 # Without words: rows_hostile rows_lines rows_yaml.
+#
+# Run by check_programs.sh.
 set -u
 cd "$(dirname "$0")/.." || exit 2
 root=$PWD

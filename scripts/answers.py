@@ -8,6 +8,8 @@ functions are not proved then. Their files are put back, and the check is run ag
 still away is not needed. A check that takes longer than LIMIT seconds (900 if the variable is not set) is stopped; a
 function that it had not proved by then needs its file. Needs `rt`; a crate takes some minutes, and no file of the
 repository is changed.
+
+Run by hand, after proofs changed.
 """
 import os
 import re

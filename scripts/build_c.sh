@@ -15,6 +15,8 @@
 # Needs the kit, a C compiler, binutils, and Debian's libyaml-dev. The first run proves the crates below, which takes many
 # minutes and is told in DIR/rt_lib.log. With the word `ci`, right after `rt ci` in a fresh checkout, the libraries that it
 # left are taken as they are.
+#
+# Run by hand, and by check_programs.sh.
 set -eu
 usage='usage: sh scripts/build_c.sh DIR [ci] [aarch64]'
 case ${1-} in '' | -*) echo "$usage" >&2; exit 2 ;; esac

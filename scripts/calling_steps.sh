@@ -3,6 +3,8 @@
 # (`rt try`). The programs have to print what the page says, and then `vendor.sh` has nothing to update.
 #
 #     sh scripts/calling_steps.sh
+#
+# Run by check_programs.sh.
 set -u
 cd "$(dirname "$0")/.." || exit 2
 work=$(mktemp -d) || exit 2

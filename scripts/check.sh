@@ -5,6 +5,8 @@
 #
 # Every check is run; one that fails is named after what it says. The last line is `N passed, M failed`, and the exit
 # status is 1 where one failed. No file is changed. Needs python3 and `rt`.
+#
+# Run by hand before each commit, and by .ci/run.
 set -u
 cd "$(dirname "$0")/.." || exit 2
 work=$(mktemp -d) || exit 2
@@ -35,6 +37,7 @@ layout() {
 check python3 scripts/links.py
 check python3 scripts/layers.py
 check python3 scripts/words.py
+check python3 scripts/figures.py
 check python3 scripts/surface.py
 check python3 scripts/definitions.py --check
 check python3 scripts/unused_dependencies.py

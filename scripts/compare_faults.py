@@ -8,6 +8,8 @@ each file of `scripts/broken`. What stands in NAME.fault is expected of it. liby
 itself parse the same text; where one of them says something else, `scripts/broken/differences` names that with the reason,
 one line each: NAME SIDE REASON. The exit status is 1 where a fault is another than expected, a difference is not named, a
 named one is none or of no text, or a text or its fault stands alone. With --write, NAME.fault is written from the front.
+
+Run by check_programs.sh.
 """
 import re
 import subprocess

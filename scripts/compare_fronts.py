@@ -6,6 +6,8 @@
 YAML is a built `examples/yaml.c`; the words go to `examples/yaml_lines.py` where it writes events or nodes (`--program PATH`). The
 texts are those of `scripts/broken`, of `scripts/whole`, none of which ends with a line feed, and the examples; each is written
 as tokens, as events and as nodes. The exit status is 1 where the two differ.
+
+Run by check_programs.sh.
 """
 import subprocess
 import sys

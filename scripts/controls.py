@@ -8,6 +8,8 @@ is made in a copy, and `rt check --only` has to prove the function. One whose fi
 there the answers of the function (`proofs/**/Answers.antt`) fit no other way to write it, so they refuse an edit of
 must-fail/ whatever it means. Each function that has answers and an edit of its code in must-fail/ has one here, named as
 that edit begins; others may have one. Needs `rt`; some ten seconds an edit, after the crates below are proved.
+
+Run by hand, after mutants or their functions changed.
 """
 import re
 import subprocess

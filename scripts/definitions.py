@@ -8,6 +8,8 @@
 A definition is what stands in a file of `specs/` from one name at the left edge to the next, with the comment above it.
 A name in backticks in a heading of docs/DEFINITIONS.md has to be a definition, a file of `specs/` or a module; one on any
 page or README has to be a word of the repository's files, but for those of OUTSIDE. CHANGELOG names what is gone, too.
+
+Run by check.sh.
 """
 import re
 import sys
@@ -16,7 +18,7 @@ from pathlib import Path
 ROOT = Path(__file__).resolve().parent.parent
 PAGE = ROOT / "docs" / "HEADLINE.md"
 RUNS = [("parse_all", "yaml_parser_parse_all"), ("load_all", "yaml_parser_load_all")]
-PAGES = [*ROOT.glob("docs/*.md"), ROOT / "README.md", ROOT / "CONTRIBUTING.md", *ROOT.glob("crates/*/README.md"), *ROOT.glob("bindings/*/README.md")]
+PAGES = [*ROOT.glob("docs/*.md"), ROOT / "README.md", ROOT / "CONTRIBUTING.md", *ROOT.glob("crates/*/README.md"), *ROOT.glob("bindings/*/README.md"), *ROOT.glob("scripts/**/README.md")]
 FOLDERS = ["crates", "scripts", "examples", "bindings", "bench"]
 TEXTS = [".rt", ".antt", ".edit", ".py", ".sh", ".c", ".h", ".rs", ".txt", ""]
 # Names of other software, of the prover, and of what a reader makes.

@@ -7,6 +7,8 @@ names: names of specs/ that stand for more than one definition. dead: definition
 or proof reaches, by the names that are mentioned. twice: lemmas whose statements are equal but for the names of their
 variables. scripts/doubles.txt has the three figures, which may only fall: the exit status is 1 where one is another, and with
 --write it is written. A word prints what is counted.
+
+Run by check.sh.
 """
 import re
 import sys

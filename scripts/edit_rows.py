@@ -7,11 +7,12 @@
 Each edit is made in a copy, and the programs of its crate's line in PROGRAMS are run over it in turn, without proof
 (`rt try`), until one ends otherwise than it should: `yamltokens` over the lists of `rows_yaml` and `rows_lines`, the
 programs of rows table by table, other programs over what is stored beside them. Of the Rust crate's definitions the
-worked rows are proved. No row runs over the libraries for C. The program that WRONG_BODIES names goes first, `rows_yaml`
-where it names none; where it names `PROGRAM failing`, that runs with the allocation failed that it names, or with each of
-the first 60 in turn. With --write the place goes into WRONG_BODIES, without the name of that program's table "rows"; where
-there is none, what the page says after "Seen in no row" stays. Two edits at a time (JOBS), half a minute to three minutes
-a program; needs `rt`.
+worked rows are proved. The program that WRONG_BODIES names goes first, `rows_yaml` where it names none; where it names
+`PROGRAM failing`, that runs with the allocation failed that it names, or with each of the first 60 in turn. With --write the
+place goes into WRONG_BODIES, without the name of that program's table "rows"; where there is none, what the page says after
+"Seen in no row" stays. Two edits at a time (JOBS), half a minute to three minutes a program; needs `rt`.
+
+Run by hand, after mutants or test vectors changed.
 """
 import os
 import re

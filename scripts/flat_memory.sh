@@ -4,6 +4,8 @@
 # never frees passes every proof. The program has to be built (`rt run` in crates/rows_hostile) and GNU time be there.
 #
 #     scripts/flat_memory.sh
+#
+# Run by check_programs.sh.
 set -u
 cd "$(dirname "$0")/../crates/rows_hostile/out" || exit 2
 

@@ -3,6 +3,8 @@
 
     python3 scripts/imports.py --check        names the files where that isn't so, and fails where there is one
     python3 scripts/imports.py --write        writes them so; a module stays where its first line was
+
+Run by check.sh.
 """
 import re
 import sys

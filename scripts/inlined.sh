@@ -6,6 +6,8 @@
 # the kit's `next` by reference, which has no mark, is inlined into them, or is named.
 #
 #     sh scripts/inlined.sh crates/yamltokens/out/yamltokens crates/bench_lists/out/bench_lists
+#
+# Run by check_programs.sh.
 set -eu
 case ${1-} in '' | -*) echo "usage: inlined.sh PROGRAM.." >&2; exit 2 ;; esac
 top=$(CDPATH='' cd -- "$(dirname -- "$0")/.." && pwd)

@@ -6,6 +6,8 @@
 
 It has what a crate needs directly: crates that one of these needs itself are left out, and so are the kit's crates, and
 examples, tests and the bench, which are the last two layers.
+
+Run by check.sh.
 """
 import re
 import sys

@@ -3,6 +3,8 @@
 `specs/` names a proof of the repository, or where what is lent is named by no other crate.
 
     python3 scripts/lent.py
+
+Run by check.sh.
 """
 import re
 import sys

@@ -5,19 +5,21 @@
 - a path of this repository, in backticks or in a command, that does not exist (what a build makes is left out);
 - a heading of a page, as in `docs/DEFINITIONS.md, "Runs"`, that it does not have; comments of code are read for these too;
 - a Rust block or a clause of a contract that no file of crates/ or examples/ has word for word;
-- a line "Stands on" of a crate's README, that is not as crates.txt has it;
 - an edit that WRONG_BODIES lists and no crate has, or the other way round;
-- a script that CONTRIBUTING doesn't list;
+- a script that scripts/README.md doesn't list;
 - another version than that of the file VERSION, in CHANGELOG's first entry the macro of pokhvizi/version.h, or the Python package.
 
     python3 scripts/links.py
+
+Run by check.sh.
 """
 import re
 import sys
 from pathlib import Path
 
 TOP = Path(__file__).resolve().parent.parent
-PAGES = [*TOP.glob("*.md"), *TOP.glob("docs/*.md"), *TOP.glob("crates/*/README.md"), *TOP.glob("bindings/*/README.md")]
+PAGES = [*TOP.glob("*.md"), *TOP.glob("docs/*.md"), *TOP.glob("crates/*/README.md"), *TOP.glob("bindings/*/README.md"),
+         *TOP.glob("scripts/README.md"), *TOP.glob("scripts/*/README.md")]
 MADE = re.compile(r"(^|/)(out|build|my_project)(/|$)|^(list\.tokens|vendored\.txt)$|\b(NAME|FILE|DEST)\b")
 FILE = r"rt|antt|oantt|edit|md|py|sh|c|h|txt|yaml|tokens|events|nodes"
 PATH = re.compile(rf"[\w.*-]+(/[\w.*-]+)+/?|\w+\.({FILE})")
@@ -97,21 +99,6 @@ def missing_blocks(text, code):
                 yield f"a clause that no file has: {clause.splitlines()[0]}"
 
 
-def crates_listed():
-    """Each crate of crates.txt with the crates that it lists."""
-    lines = re.findall(r"^(\w+).*:(.*)", (TOP / "crates.txt").read_text(), flags=re.MULTILINE)
-    return {name: set(listed.split()) for name, listed in lines}
-
-
-def wrong_readmes():
-    """Where a crate's README stands on other crates than crates.txt says."""
-    for name, below in crates_listed().items():
-        readme = TOP / "crates" / name / "README.md"
-        line = re.search(r"^\*\*Stands on\*\* .*$", readme.read_text(), flags=re.M) if readme.exists() else None
-        if line and set(re.findall(r"`(\w+)`", line.group())) != below:
-            yield f"crates/{name}/README.md: stands on other crates than crates.txt says"
-
-
 def wrong_edits():
     listed = set(re.findall(r"^- `([^`]+)`", (TOP / "docs" / "WRONG_BODIES.md").read_text(), flags=re.M))
     there = {path.stem for path in TOP.glob("crates/*/must-fail/*.edit")}
@@ -119,11 +106,11 @@ def wrong_edits():
 
 
 def unlisted_scripts():
-    text = (TOP / "CONTRIBUTING.md").read_text()
+    text = (TOP / "scripts" / "README.md").read_text()
     for path in [*TOP.glob("scripts/*.sh"), *TOP.glob("scripts/*.py"), *TOP.glob("scripts/*/run.sh"), *TOP.glob("scripts/doors/*.sh"), *TOP.glob("scripts/doors/*.py")]:
         name = str(path.relative_to(TOP / "scripts"))
         if not re.search(rf"(`|/){re.escape(name)}`", text):
-            yield f"CONTRIBUTING.md: {name} is not listed"
+            yield f"scripts/README.md: {name} is not listed"
 
 
 def other_versions():
@@ -149,7 +136,7 @@ def problems():
         text = page.read_text()
         found = [*broken_links(page, text), *missing_paths(page, text), *missing_headings(text), *missing_blocks(text, code)]
         yield from (f"{page.relative_to(TOP)}: {problem}" for problem in found)
-    yield from [*wrong_readmes(), *wrong_edits(), *unlisted_scripts(), *other_versions()]
+    yield from [*wrong_edits(), *unlisted_scripts(), *other_versions()]
     for path, text in comments():
         yield from (f"{path.relative_to(TOP)}: {problem}" for problem in missing_headings(text))
 

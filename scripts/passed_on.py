@@ -6,6 +6,8 @@
 
 The public clauses are those of the items that the crate's root names, its own and those of the crates below; a clause reaches
 the modules of the words that it cites, and of the words in their definitions. Declared types are named by Rust's own paths.
+
+Run by check.sh.
 """
 import re
 import sys

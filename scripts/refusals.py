@@ -11,6 +11,8 @@ left open without the answers that it breaks: the edit is made in the repository
 function is checked with its holes; afterwards all is as before. Where no goal is left open, the refusal is by shape too.
 One in another proof is that of a lemma, as where a definition is turned. The last line counts. Needs `rt`, and the crates
 below proved.
+
+Run by hand, after mutants or their functions changed.
 """
 import re
 import subprocess

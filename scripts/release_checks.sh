@@ -9,6 +9,8 @@
 # its own; the crate below serde_yaml. What lacks a tool is skipped, which is said: clang, python3 with venv and PyYAML,
 # cargo, and the crates of Debian's librust-unsafe-libyaml-dev, librust-serde-yaml-dev and those below it, in the folder that
 # CLIENT_CRATES names or /usr/share/cargo/registry. The status is 1 where something is wrong.
+#
+# Run by check_programs.sh.
 set -u
 [ $# -ge 1 ] && [ -f "$1/libpokhvizi.a" ] && case ${2:-all} in all) ;; *) false ;; esac ||
     { echo "usage: sh scripts/release_checks.sh BUILT [all], where build_c.sh made BUILT" >&2; exit 2; }

@@ -7,6 +7,8 @@
 # `trixie`, for Rust with the tests of serde_yaml over the patched crate; one that isn't there is made by debootstrap. Packages
 # are installed in them by apt-get. Needs root, debootstrap, and Debian's packages over the network; ten minutes. What OUT has no
 # archive of is skipped, which is said. The last line counts; the exit status is 1 where something is wrong.
+#
+# Run by hand, for a release.
 set -u
 [ $# -eq 2 ] && [ -f "$1/SHA256SUMS" ] || { echo "usage: sh scripts/release_trees.sh OUT TREES, where release.sh made OUT" >&2; exit 2; }
 [ "$(id -u)" = 0 ] || { echo "release_trees.sh: needs root" >&2; exit 2; }

@@ -5,6 +5,8 @@
 
 The exit status is 1 where a line of events or nodes comes late (after ten seconds), is another, or comes too soon, and where
 the program does not end with status 0.
+
+Run by check_programs.sh.
 """
 import os
 import select

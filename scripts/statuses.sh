@@ -3,6 +3,8 @@
 # is another. The contract of `run_words` says its status; that `main` passes that on is seen here alone.
 #
 #     scripts/statuses.sh crates/yamltokens/out/yamltokens
+#
+# Run by check_programs.sh.
 set -u
 [ $# -eq 1 ] && case $1 in '' | -*) false ;; esac || { echo "usage: statuses.sh PROGRAM" >&2; exit 2; }
 program=$(realpath "$1") && [ -x "$program" ] || { echo "no program" >&2; exit 2; }

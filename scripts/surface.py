@@ -8,6 +8,8 @@ does; then, by their names, those that only crates above use, and the laws.
     python3 scripts/surface.py --write   writes the page
 
 The examples and the programs of rows are left out.
+
+Run by check.sh.
 """
 import re
 import sys

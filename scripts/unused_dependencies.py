@@ -2,6 +2,8 @@
 """Names each crate that a line of crates.txt lists and no file of that line's crate uses; fails where there is one.
 
     python3 scripts/unused_dependencies.py
+
+Run by check.sh.
 """
 import re
 import sys

@@ -17,6 +17,8 @@
 # is this repository or a folder of it, where a name is no crate of this repository, and where a crate there was not copied by
 # this script or was changed since; and with --proofs where a crate has no proved library, or one that is older than its
 # sources. Then nothing is changed.
+#
+# Run by hand.
 set -eu
 fail() {
     echo "vendor.sh: $*" >&2

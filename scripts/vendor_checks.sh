@@ -3,6 +3,8 @@
 # where one does something else than vendor.sh says.
 #
 #     sh scripts/vendor_checks.sh
+#
+# Run by check_programs.sh.
 set -u
 cd "$(dirname "$0")/.." || exit 2
 work=$(mktemp -d) || exit 2

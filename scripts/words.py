@@ -5,6 +5,8 @@
 
 The lines of a paragraph or of a comment are read as one text, so that a phrase over two of them is found; the first is named.
 Names of code, in backticks or in blocks, are not words. SURFACE, which is made of comments, is left out.
+
+Run by check.sh.
 """
 import re
 import sys

@@ -5,6 +5,8 @@
 #     sh scripts/wrong_words.sh
 #
 # vendor_checks.sh has more wrong words of vendor.sh. The exit status is 1 where a script does something else.
+#
+# Run by check.sh.
 set -u
 top=$(cd "$(dirname "$0")/.." && pwd) || exit 2
 work=$(mktemp -d) || exit 2

@@ -7,6 +7,8 @@
 # crates/yamltokens/out/yamltokens where none is named; JOBS is how many lists are compared side by side, as many as there
 # are cores; WITHOUT is a rule of libyaml_lines.h that is left out, so that lists differ. The status is 0 where no list
 # differs, 1 where one does, 2 where a tool or the program lacks. Needs a C compiler, Debian's libyaml-dev and Python 3.8.
+#
+# Run by hand after the parser changed, and by check_programs.sh.
 set -u
 lacks() {
     echo "run.sh: $*" >&2

@@ -6,6 +6,8 @@
 # Each rule by which libyaml differs is left out in turn, over COUNT lists (1000 where none is named): some must differ, or
 # the lists do not reach the rule. Then programs that are wrong in one thing, over 40 lists, a generator that draws nothing,
 # and what lacks. PROGRAM and JOBS are as for run.sh. The status is 0 where each has the status that it should have.
+#
+# Run by hand, after run.sh or a rule changed.
 set -u
 { [ $# -le 2 ] && [ "${1:-1}" -gt 0 ] && [ "${2:-1}" -ge 0 ]; } 2> /dev/null ||
     { echo "usage: sh scripts/differential/turned.sh [COUNT [SEED]], where COUNT is at least 1" >&2; exit 2; }

@@ -6,6 +6,8 @@
 bindings/c/abi.txt has that number, the layout of each struct as layout.py writes it, and each function that a header declares.
 The exit status is 1 where one of them is another. With --write the file is written, which needs a higher number in
 bindings/c/ABI_VERSION where a struct or function that was there has changed or is gone.
+
+Run by check.sh.
 """
 import contextlib
 import io

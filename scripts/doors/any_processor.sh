@@ -6,6 +6,8 @@
 # DIR has the libraries that build_c.sh made there. The programs are linked statically and run by qemu-x86_64 (Debian: qemu-user),
 # whose processor `qemu64` has no instructions but those that every x86-64 processor has. The status is 0 where all are as
 # they should be.
+#
+# Run by check_programs.sh.
 set -u
 [ $# -eq 1 ] && dir=$(realpath "$1") && [ -f "$dir/libpokhvizi.a" ] || { echo "usage: sh scripts/doors/any_processor.sh DIR" >&2; exit 2; }
 cd "$(dirname "$0")/../.." || exit 2

@@ -33,6 +33,8 @@
 #
 # A check that lacks something is skipped, which is said with what it lacks. The last line is `N passed, M failed`, and
 # `, K skipped` where some were; the exit status is 1 where one failed, 2 for wrong words.
+#
+# Run by hand after bindings changed, and by check_programs.sh with `all`.
 set -u
 [ $# -ge 1 ] && dir=$(realpath "$1") && [ -f "$dir/libpokhvizi.so" ] && [ -f "$dir/libpokhvizi.a" ] || {
     echo "usage: sh scripts/doors/clients.sh DIR [CHECK..], where build_c.sh made DIR" >&2

@@ -5,6 +5,8 @@
 #
 # PROGRAM is yamltokens. Each case has one line on standard error and its status. The exit status is 0 where all are as they should be. Needs
 # python3 with PyYAML, and GNU's timeout and truncate.
+#
+# Run by check_programs.sh.
 set -u
 cd "$(dirname "$0")/../.." || exit 2
 program=$(realpath "${1:-crates/yamltokens/out/yamltokens}") && [ -x "$program" ] || { echo "no program" >&2; exit 2; }
