@@ -1,9 +1,9 @@
 #!/usr/bin/env python3
-"""Tells which hand-written answers (`proofs/**/Answers.antt`) a proof needs; fails where one is not needed.
+"""Tells which parts of proofs by hand (`proofs/**/Answers.antt`) are needed; fails where one is not needed.
 
     python3 scripts/answers.py CRATE..        (no crate: each that has such a file)
 
-In a copy of the repository all of a crate's answers are moved away at once, and `rt check --allow-holes` says which
+In a copy of the repository all such files of a crate are moved away at once, and `rt check --allow-holes` says which
 functions are not proved then. Their files are put back, and the check is run again, until the crate is proved. What is
 still away is not needed. A check that takes longer than LIMIT seconds (900 if the variable is not set) is stopped; a
 function that it had not proved by then needs its file. Needs `rt`; a crate takes some minutes, and no file of the

@@ -1,13 +1,13 @@
 #!/usr/bin/env python3
-"""Compares the faults of broken texts: what a front tells, what was written down, libyaml's own words and PyYAML's.
+"""Compares the errors of broken texts: what a front tells, what was written down, libyaml's own words and PyYAML's.
 
     python3 scripts/compare_faults.py [--write] FRONT..
 
 FRONT is the command of a front, as `python3 examples/yaml_lines.py` or a built `examples/yaml.c`; it is called with `nodes` and
-each file of `scripts/broken`. What stands in NAME.fault is expected of it. libyaml (through PyYAML's CLoader) and PyYAML
+each file of `scripts/broken`. What stands in `NAME.fault` is expected of it. libyaml (through PyYAML's CLoader) and PyYAML
 itself parse the same text; where one of them says something else, `scripts/broken/differences` names that with the reason,
-one line each: NAME SIDE REASON. The exit status is 1 where a fault is another than expected, a difference is not named, a
-named one is none or of no text, or a text or its fault stands alone. With --write, NAME.fault is written from the front.
+one line each: NAME SIDE REASON. The exit status is 1 where an error is another than expected, a difference is not named, a
+named one is none or of no text, or a text or its error stands alone. With --write, `NAME.fault` is written from the front.
 
 Run by check_programs.sh.
 """

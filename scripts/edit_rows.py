@@ -1,16 +1,16 @@
 #!/usr/bin/env python3
-"""Tells which row sees each edit of crates/*/must-fail; fails where none does and WRONG_BODIES doesn't say so.
+"""Tells which test vector sees each mutant of crates/*/must-fail; fails where none does and WRONG_BODIES doesn't say so.
 
     python3 scripts/edit_rows.py [--write] [CRATE | CRATE/EDIT]..        (no such word: every edit)
     python3 scripts/edit_rows.py none                                    runs the programs over no edit
 
-Each edit is made in a copy, and the programs of its crate's line in PROGRAMS are run over it in turn, without proof
+Each mutant is made in a copy, and the programs of its crate's line in PROGRAMS are run over it in turn, without proof
 (`rt try`), until one ends otherwise than it should: `yamltokens` over the lists of `rows_yaml` and `rows_lines`, the
-programs of rows table by table, other programs over what is stored beside them. Of the Rust crate's definitions the
-worked rows are proved. The program that WRONG_BODIES names goes first, `rows_yaml` where it names none; where it names
+programs of test vectors table by table, other programs over what is stored beside them. Of the Rust crate's definitions
+the test vectors are proved. The program that WRONG_BODIES names goes first, `rows_yaml` where it names none; where it names
 `PROGRAM failing`, that runs with the allocation failed that it names, or with each of the first 60 in turn. With --write the
-place goes into WRONG_BODIES, without the name of that program's table "rows"; where there is none, what the page says after
-"Seen in no row" stays. Two edits at a time (JOBS), half a minute to three minutes a program; needs `rt`.
+place goes into WRONG_BODIES, without the name of that program's table `rows`; where there is none, what the page says after
+`Seen in no row` stays. Two mutants at a time (JOBS), half a minute to three minutes a program; needs `rt`.
 
 Run by hand, after mutants or test vectors changed.
 """

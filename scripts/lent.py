@@ -1,6 +1,6 @@
 #!/usr/bin/env python3
 """Fails where a crate names a proof of another crate of the repository that isn't in its `proofs/lent`, where a definition in
-`specs/` names a proof of the repository, or where what is lent is named by no other crate.
+`specs/` names a proof of the repository, or where what stands in `proofs/lent` is named by no other crate.
 
     python3 scripts/lent.py
 

@@ -5,7 +5,7 @@
 - a path of this repository, in backticks or in a command, that does not exist (what a build makes is left out);
 - a heading of a page, as in `docs/DEFINITIONS.md, "Runs"`, that it does not have; comments of code are read for these too;
 - a Rust block or a clause of a contract that no file of crates/ or examples/ has word for word;
-- an edit that WRONG_BODIES lists and no crate has, or the other way round;
+- a mutant that WRONG_BODIES lists and no crate has, or the other way round;
 - a script that scripts/README.md doesn't list;
 - another version than that of the file VERSION, in CHANGELOG's first entry the macro of pokhvizi/version.h, or the Python package.
 

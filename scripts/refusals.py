@@ -1,15 +1,15 @@
 #!/usr/bin/env python3
-"""Writes into docs/WRONG_BODIES.md which clause refuses each edit, as `rt must-fail` says.
+"""Writes into docs/WRONG_BODIES.md which clause refuses each mutant, as `rt must-fail` says.
 
     python3 scripts/refusals.py CRATE..           (runs `rt must-fail CRATE..`)
     python3 scripts/refusals.py --from FILE       (reads what `rt must-fail` wrote, in place of running it)
     python3 scripts/refusals.py --check ..        (changes nothing, and fails where the page says something else)
 
-A refusal in the hand-written answers of a function (`proofs/**/Answers.antt`) is by shape, unless an edit of equal meaning
-that turns the same lines of the function (`controls/`) is proved over them. What refuses the edit is then a goal that is
-left open without the answers that it breaks: the edit is made in the repository, these answers are left out, and the
-function is checked with its holes; afterwards all is as before. Where no goal is left open, the refusal is by shape too.
-One in another proof is that of a lemma, as where a definition is turned. The last line counts. Needs `rt`, and the crates
+What is refused in a proof by hand of a function (`proofs/**/Answers.antt`) is so by shape, unless an equivalent mutant that
+changes the same lines (`controls/`) is proved over it. What refuses the mutant is then a goal that is left open without the
+parts of the file that it breaks: the mutant is made in the repository, these parts are left out, and the function is checked
+with its holes; afterwards all is as before. Where no goal is left open, it is refused by shape too. What another proof
+refuses is so for a lemma, as where a definition is turned. The last line counts. Needs `rt`, and the crates
 below proved.
 
 Run by hand, after mutants or their functions changed.

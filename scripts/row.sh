@@ -1,11 +1,11 @@
 #!/bin/sh
-# Runs a program of rows without any proof: all its rows, those of one table, or one row. Each row that differs is named,
-# and where it has a text the first line that differs. The exit status is 0 where rows ran and none differs.
+# Runs test vectors without any proof: all of a program, those of one table, or one. Each that differs is named, and where
+# it has a text the first line that differs. The exit status is 0 where some ran and none differs.
 #
 #     scripts/row.sh CRATE [TABLE [ROW]]
 #     scripts/row.sh --write CRATE
 #
-# CRATE is rows_yaml, rows_lines or rows_hostile; the names of tables are those that it prints. With --write all rows run,
+# CRATE is rows_yaml, rows_lines or rows_hostile; the names of tables are those that it prints. With --write all run,
 # and where none differs what the program printed, the counts of its tables, becomes its `stdout`. Unproved, a program runs
 # with checks that make it many times slower: of rows_lines and rows_hostile ask for a table. Proved and built, they run by
 # `rt run -- [TABLE [ROW]]` in their folder.

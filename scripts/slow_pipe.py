@@ -1,5 +1,5 @@
 #!/usr/bin/env python3
-"""Feeds `yamltokens` a line at a time: what a token settles has to be in the output before the next token is sent.
+"""Feeds `yamltokens` a line at a time: what a token determines has to be in the output before the next token is sent.
 
     python3 scripts/slow_pipe.py PROGRAM
 

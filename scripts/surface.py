@@ -1,13 +1,13 @@
 #!/usr/bin/env python3
 """Lists every public item of the libraries in docs/SURFACE.md: first those that a program uses first, then the others that a
-user can name, by their crates, each with its signature, its fields or its variants; with the first sentence of its doc where
+user can name, by their crates, each with its signature, its fields or its variants; with what its doc says first where
 that has more than a few words and no public field or variant shows it, but of the others only where it says what a function
 does; then, by their names, those that only crates above use, and the laws.
 
     python3 scripts/surface.py           fails where the page is stale, an item has no doc, or one is `pub` for its crate alone
     python3 scripts/surface.py --write   writes the page
 
-The examples and the programs of rows are left out.
+The examples and the programs of test vectors are left out.
 
 Run by check.sh.
 """

@@ -5,7 +5,7 @@
 #
 # DEST is the top of that project. Where no CRATE is named it is unsafe_libyaml, or what it copied there earlier; token_lines
 # and yaml_path are others. What it copied there earlier is updated too, so that all is of one state. Of each crate README.md,
-# src, specs and proofs are copied to DEST/crates, and the licence beside them; kept work and edits are not, and what
+# src, specs and proofs are copied to DEST/crates, and the licence beside them; kept work and mutants are not, and what
 # a check kept there stays. Its line is put into DEST/crates.txt, whose other lines stay. DEST/vendored.txt says which version
 # and commit the crates are of, and has a checksum of each.
 #

@@ -1,10 +1,12 @@
 #!/usr/bin/env python3
-"""Fails where a page, a comment or the name of an edit has a word that is given up, and says what stands in its place: the table below.
+"""Fails where a page, a comment or the name of a mutant has a word that is given up, and says what stands in its place: the tables below.
 
     python3 scripts/words.py [CRATE..]     pages, examples, and the comments of these crates, or of all where none is named
 
 The lines of a paragraph or of a comment are read as one text, so that a phrase over two of them is found; the first is named.
-Names of code, in backticks or in blocks, are not words. SURFACE, which is made of comments, is left out.
+Names of code, in backticks, in blocks or as the target of a link, are not words. SURFACE, which is made of comments, is left out.
+The words of a reader's own field stand in for those of OWN on each page but CHANGELOG and the two that other scripts fill, in the
+first lines of scripts, and in the comments of the crates of RENAMED; in headers `fault` is the name of a struct.
 
 Run by check.sh.
 """
@@ -23,8 +25,23 @@ INSTEAD = {
     r"composer(?:'s)? faults?\b|faults? of the composer": "composer error",
     r"\bamid\b": "within, in the middle of",
 }
-GIVEN_UP = re.compile("|".join(f"({word})" for word in INSTEAD), re.IGNORECASE)
+OWN = {
+    r"cut trees?": "partial tree",
+    r"front trees?": "prefix tree",
+    r"\bfault(?:s|ed)?\b": "error",
+    r"\bsentences?\b": "valid list",
+    r"\bbeginnings?\b": "viable prefix, start",
+    r"\bsettle[sd]?\b": "determines",
+    r"\bbreak(?:s|ing)? off\b|\bbroken? off\b": "fails early",
+    r"\brows?\b": "test vector",
+    r"\bedits?\b": "mutant",
+    r"\bcarriers?\b": "anchored node",
+    r"\blent\b": "in `proofs/lent`",
+    r"\brefusals?\b": "error",
+}
 LEFT_OUT = {"SURFACE.md"}
+OLD_PAGES = {"CHANGELOG.md", "WRONG_BODIES.md", "PERFORMANCE.md"}
+RENAMED = []
 
 
 def lines_of_page(text):
@@ -42,8 +59,17 @@ def comments_of(path):
         yield "" if code.strip() else comment.lstrip("/!-")
 
 
-def given_up(lines):
+def first_lines(path):
+    """The comment that a script begins with, line by line, without commands and names of files."""
+    text = path.read_text()
+    found = re.match(r'(?:#![^\n]*\n)?(?:"""(.*?)"""|/\*(.*?)\*/|((?:#[^\n]*\n)*))', text, flags=re.S)
+    lines = [re.sub(r"^(?: ?\*|#) ?", "", line) for line in next((part for part in found.groups() if part), "").split("\n")]
+    return ["" if line.startswith("    ") else re.sub(r"\b[\w/]+\.(sh|py|c|edit)\b", "`", line) for line in lines]
+
+
+def given_up(lines, words):
     """The number of the line where each word begins that is given up, and the word with what stands in its place."""
+    pattern = re.compile("|".join(f"({word})" for word in words), re.IGNORECASE)
     for is_text, block in groupby(enumerate(lines, 1), lambda line: bool(line[1].strip())):
         if not is_text:
             continue
@@ -51,35 +77,54 @@ def given_up(lines):
         for number, line in block:
             begins.append((len(text), number))
             text += line.strip() + " "
-        text = re.sub(r"`[^`]*`", lambda code: "`" * len(code.group()), text)
-        for match in GIVEN_UP.finditer(text):
-            instead = list(INSTEAD.values())[match.lastindex - 1]
+        text = re.sub(r"`[^`]*`|\]\([^)\s]*\)", lambda code: "`" * len(code.group()), text)
+        for match in pattern.finditer(text):
+            instead = list(words.values())[match.lastindex - 1]
             yield max(number for begin, number in begins if begin <= match.start()), f"{match.group()} (now: {instead})"
 
 
+def pages():
+    for pattern in ("*.md", "docs/*.md", "crates/*/README.md", "bindings/*/README.md", "scripts/**/README.md"):
+        yield from (page for page in TOP.glob(pattern) if page.name not in LEFT_OUT)
+
+
+def headers():
+    return [*TOP.glob("examples/*.[hc]"), *TOP.glob("bindings/c/**/*.[hc]")]
+
+
+def scripts():
+    return [path for path in TOP.glob("scripts/**/*") if path.suffix in (".sh", ".py", ".c", ".h") and path.name != "words.py"]
+
+
 def files(crates):
-    for page in [*TOP.glob("*.md"), *TOP.glob("docs/*.md"), *TOP.glob("crates/*/README.md"), *TOP.glob("bindings/*/README.md"), *TOP.glob("examples/*.[hc]"), *TOP.glob("bindings/c/**/*.[hc]")]:
-        if page.name not in LEFT_OUT:
-            yield page, lines_of_page(page.read_text())
+    """Each text, line by line, with the words that it may not have."""
+    both = INSTEAD | OWN
+    for page in pages():
+        yield page, lines_of_page(page.read_text()), INSTEAD if page.name in OLD_PAGES else both
+    for path in headers():
+        yield path, lines_of_page(path.read_text()), INSTEAD
+    for path in scripts():
+        yield path, first_lines(path), both
     for crate in crates:
         for room in ("src", "specs", "proofs"):
             for path in sorted((TOP / "crates" / crate / room).rglob("*")):
                 if path.suffix in (".rt", ".antt"):
-                    yield path, comments_of(path)
+                    yield path, comments_of(path), both if crate in RENAMED else INSTEAD
 
 
 def edits():
-    """The words given up that the name of an edit has after its function's."""
+    """The words given up that the name of a mutant has after its function's."""
+    pattern = re.compile("|".join(f"({word})" for word in INSTEAD), re.IGNORECASE)
     for path in sorted(TOP.glob("crates/*/must-fail/*.edit")):
-        for match in GIVEN_UP.finditer(path.stem.partition("-")[2].replace("_", " ")):
+        for match in pattern.finditer(path.stem.partition("-")[2].replace("_", " ")):
             yield path, list(INSTEAD.values())[match.lastindex - 1]
 
 
 def main():
     found = [
         f"{path.relative_to(TOP)}:{number}: {word}"
-        for path, lines in files(sys.argv[1:] or sorted(crate.name for crate in TOP.glob("crates/*")))
-        for number, word in given_up(lines)
+        for path, lines, words in files(sys.argv[1:] or sorted(crate.name for crate in TOP.glob("crates/*")))
+        for number, word in given_up(lines, words)
     ]
     found += [f"{path.relative_to(TOP)}: its name (now: {instead})" for path, instead in edits()]
     if found:

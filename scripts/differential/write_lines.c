@@ -1,4 +1,4 @@
-/* The lines of events, documents and faults (docs/DEFINITIONS.md, "Lines", "Document text" and "Fault text"). */
+/* The lines of events, documents and errors (docs/DEFINITIONS.md, "Lines", "Document text" and "Error text"). */
 #include "libyaml_lines.h"
 #include <stdio.h>
 #include <string.h>

@@ -1,5 +1,5 @@
 #!/usr/bin/env python3
-"""Feeds a program a line of YAML at a time: the events that a line settles have to be there before the next line is sent.
+"""Feeds a program a line of YAML at a time: the events that a line determines have to be there before the next line is sent.
 
     slow_pipe.py PROGRAM WORD..
 
