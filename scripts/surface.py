@@ -1,10 +1,10 @@
 #!/usr/bin/env python3
-"""Lists every public item of the libraries in docs/SURFACE.md: first those that a program uses first, then the others that a
-user can name, by their crates, each with its signature, its fields or its variants; with what its doc says first where
-that has more than a few words and no public field or variant shows it, but of the others only where it says what a function
-does; then, by their names, those that only crates above use, and the laws.
+"""Lists in docs/SURFACE.md every public item that a user of the libraries can name: first those that a program uses first, with
+what the doc of each says first where that has more than a few words and no public field or variant shows it; then the others,
+by their crates; each with its signature, its fields or its variants.
 
-    python3 scripts/surface.py           fails where the page is stale, an item has no doc, or one is `pub` for its crate alone
+    python3 scripts/surface.py           fails where the page is stale, an item has no doc, one is `pub` for its crate alone, or
+                                         docs/PROVED.md doesn't name a law (those of `rows` and `productions` by their module)
     python3 scripts/surface.py --write   writes the page
 
 The examples and the programs of test vectors are left out.
@@ -33,7 +33,7 @@ WIDTH = 110
 
 HEAD = """# Every public item
 
-This page is made from the sources by `python3 scripts/surface.py --write`. You name `unsafe_libyaml`, which re-exports the crates of events, documents and loads, and `token_lines`, which re-exports those of lines. `fn T::f` is a method or a function of the type `T`; a struct that is shown without fields has private ones. [CALLING.md](CALLING.md) shows their use; what each is, returns and asks for is in the comment and the contract beside it.
+`python3 scripts/surface.py --write` makes this page. You name `unsafe_libyaml`, which re-exports the crates of events, documents and loads, and `token_lines`, which re-exports those of lines. `fn T::f` is a method or a function of the type `T`; a struct that is shown without fields has private ones. What each is, returns and asks for is in the comment and the contract beside it, and [CALLING.md](CALLING.md) shows their use. [PROVED.md](PROVED.md) has the laws; what only crates above use is left out.
 """
 
 FIRST = [
@@ -118,10 +118,10 @@ class Item:
         return self.name.startswith("unnamed_") or is_open or is_name or words <= (13 if self.says.startswith("Returns ") else 10)
 
     def lines(self, is_brief):
-        """The code after what the doc says first; a brief one without what a type is and what a function returns."""
+        """The code after what the doc says first; a brief one with the types alone that a method is of."""
         says = self.says
         if is_brief:
-            says = re.sub(r"^Returns .*?\.(?= T is |$) ?", "", says) if self.kind in ("fn", "impl") else ""
+            says = "".join(re.findall(r"T is .*$", says))
         if says and not self.says_itself():
             yield from textwrap.wrap(says, WIDTH, initial_indent="/// ", subsequent_indent="/// ", break_on_hyphens=False)
         yield from wrapped(self.code)
@@ -286,19 +286,14 @@ def in_order(rows):
     return [row for _, row in sorted(enumerate(rows), key=place)]
 
 
-def families(names):
-    """The names in a text; those of laws that several enums have alike stand once, with the enums after them."""
-    laws = {}
-    for name in names:
-        law, _, of = name.partition("_of_")
-        laws.setdefault(of, []).append(law)
-    most = max(laws.values(), key=len)
-    alike = [of for of in laws if of and laws[of] == most and len(most) > 2]
-    if not alike:
-        return ", ".join(names)
-    others = [name for name in names if name.partition("_of_")[2] not in alike]
-    heads = ", ".join(f"{law}_of_E" for law in most)
-    return f"{heads} for E each of {', '.join(alike)}; {', '.join(others)}"
+def unnamed_laws(laws):
+    """The laws that PROVED doesn't name; of those that many enums have alike and of those in rows and productions no name is asked."""
+    proved = set(re.findall(r"`(?:\w+::)*(\w+)`", (TOP / "docs" / "PROVED.md").read_text()))
+    for crate, names in laws:
+        for name in names:
+            *modules, law = name.split("::")
+            if not {"rows", "productions", law} & {*modules, *(proved & {law})} and not re.match(r"(order|equality|hash)_of_", law):
+                yield f"{crate}: docs/PROVED.md doesn't name the law {name}"
 
 
 def block(items, is_brief=False):
@@ -323,6 +318,7 @@ def page():
         everything.update(listed[crate])
     first = {name for _, names in FIRST for name in names.split()}
     without += [f"{name}, which surface.py puts first, is no item" for name in sorted(first - set(everything))]
+    without += unnamed_laws(laws)
     if without:
         return "", without
     lines = [HEAD.rstrip(), "", "## What a program uses first"]
@@ -330,23 +326,13 @@ def page():
         lines += ["", f"### {title}", "", *block(everything[name] for name in names.split())]
     lines += ["", "## The others, by their crates"]
     passing = {user: {name for _, name in names_passed_on(user)} for user in NAMED if user in listed}
-    inner = []
     for crate, rows in listed.items():
         users = [user for user, names in passing.items() if crate != user and any(name in names for name, _ in rows)]
         can_name = [(n, i) for n, i in rows if crate in NAMED and not INNER.match(n) or any(n.split("::")[0] in passing[user] for user in users)]
-        inner += [(crate, [row[0] for row in rows if row not in can_name])] if len(can_name) < len(rows) else []
         left = [(name, item) for name, item in in_order(can_name) if name not in first]
         if left:
             title = f"### `{crate}`" + (f", re-exported by `{'` and `'.join(users)}`" if users else "")
             lines += ["", title, "", *block(grouped(left), is_brief=True)]
-    lines += ["", "## For the crates above alone", ""]
-    lines += [f"- `{crate}`: {', '.join(names)}" for crate, names in inner]
-    lines += ["", "## Laws", "", "[PROVED.md](PROVED.md) says what each says.", ""]
-    for crate, names in laws:
-        modules = {}
-        for name in names:
-            modules.setdefault("::".join(name.split("::")[:-1]), []).append(name.split("::")[-1])
-        lines.append(f"- `{crate}`, " + "; ".join(f"`{module}`: {families(its)}" for module, its in modules.items()))
     return "\n".join(lines) + "\n", without
 
 
