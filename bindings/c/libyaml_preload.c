@@ -460,7 +460,7 @@ static uint32_t advance(yaml_parser_t *parser, struct held *held, pokhvizi_event
 /* Gives back what neither an event nor a node has taken: after an error; the tag `!`, in whose place a node has its kind's. */
 static void forget(struct held *held)
 {
-    if (held->anchor != NULL || held->tag != NULL) {
+    if (held->anchor != NULL || held->tag != NULL) {  /* an error came, or a document's node has no use for its anchor's text or the tag `!` */
         free(held->anchor);
         free(held->tag);
         held->anchor = held->tag = NULL;
