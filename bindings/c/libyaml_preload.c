@@ -457,10 +457,10 @@ static uint32_t advance(yaml_parser_t *parser, struct held *held, pokhvizi_event
     return 0;
 }
 
-/* Gives back what neither an event nor a node has taken: after an error; the tag `!`, in whose place a node has its kind's. */
+/* Frees what an error left, and what a document's node has no use for: its anchor's text, the tag `!`. */
 static void forget(struct held *held)
 {
-    if (held->anchor != NULL || held->tag != NULL) {  /* an error came, or a document's node has no use for its anchor's text or the tag `!` */
+    if (held->anchor != NULL || held->tag != NULL) {
         free(held->anchor);
         free(held->tag);
         held->anchor = held->tag = NULL;
