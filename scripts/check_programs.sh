@@ -11,8 +11,8 @@
 # Every check is run. It is passed, failed, or skipped: where a tool, a library or a program isn't there, which is named; it
 # doesn't count as passed. A check that doesn't end within half an hour fails. The last line is `N passed, M failed`, and
 # `, K skipped` where some were; the exit status is 1 where one failed. Tools: a C and a C++ compiler, binutils, python3 with
-# PyYAML, libyaml's header, valgrind, GNU time, qemu-x86_64 (Debian: build-essential python3-yaml libyaml-dev valgrind time
-# qemu-user), and `rt`.
+# PyYAML and Python's header, libyaml's header, valgrind, GNU time, qemu-x86_64 (Debian: build-essential python3-yaml python3-dev
+# libyaml-dev valgrind time qemu-user), and `rt`.
 #
 # Run by hand after a build, and by .ci/run.
 set -u

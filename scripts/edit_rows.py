@@ -7,7 +7,7 @@
 Each mutant is made in a copy, and the programs of its crate's line in PROGRAMS are run over it in turn, without proof
 (`rt try`), until one ends otherwise than it should: `yamltokens` over the lists of `rows_yaml` and `rows_lines`, the
 programs of test vectors table by table, other programs over what is stored beside them. Of the Rust crate's definitions
-the test vectors are proved. The program that WRONG_BODIES names goes first, `rows_yaml` where it names none; where it names
+the test vectors are proved. None runs over the libraries for C. The program that WRONG_BODIES names goes first, `rows_yaml` where it names none; where it names
 `PROGRAM failing`, that runs with the allocation failed that it names, or with each of the first 60 in turn. With --write the
 place goes into WRONG_BODIES, without the name of that program's table `rows`; where there is none, what the page says after
 `Seen in no row` stays. Two mutants at a time (JOBS), half a minute to three minutes a program; needs `rt`.

@@ -4,6 +4,8 @@
 #     sh scripts/over_kept.sh CRATE ARCHIVE TOOLCHAIN WORD..
 #
 # TOOLCHAIN has the tools of the kit's compiler, or others in their place; the words are the compiler's, for another machine.
+#
+# Run by build_c.sh and llvm_source.sh.
 set -eu
 [ $# -ge 3 ] || { echo "usage: sh scripts/over_kept.sh CRATE ARCHIVE TOOLCHAIN WORD.." >&2; exit 2; }
 crate=$1 archive=$2 toolchain=$3

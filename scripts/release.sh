@@ -16,8 +16,9 @@
 # in /usr/share/cargo/registry; without one there is no archive for Rust, which is said. Times are those of the last commit, so
 # two runs over one commit write the same bytes.
 #
-# Needs the kit, gcc, binutils, python3 with its headers, libyaml-dev, and for aarch64 gcc-aarch64-linux-gnu with libyaml's library for that machine
-# (Debian: libyaml-dev:arm64), without which that archive has no preload library, which is said.
+# Needs the kit, gcc, binutils, python3 with its headers, libyaml-dev, and for aarch64 gcc-aarch64-linux-gnu with libyaml's library
+# and Python's headers for that machine (Debian: libyaml-dev:arm64 and libpython3-dev:arm64), without which that archive has no
+# preload library, and the wheel no extension, which is said.
 #
 # Run by hand for a release, and by release_checks.sh.
 set -eu

@@ -5,10 +5,10 @@
 #     scripts/row.sh CRATE [TABLE [ROW]]
 #     scripts/row.sh --write CRATE
 #
-# CRATE is rows_yaml, rows_lines or rows_hostile; the names of tables are those that it prints. With --write all run,
-# and where none differs what the program printed, the counts of its tables, becomes its `stdout`. Unproved, a program runs
-# with checks that make it many times slower: of rows_lines and rows_hostile ask for a table. Proved and built, they run by
-# `rt run -- [TABLE [ROW]]` in their folder.
+# CRATE is rows_yaml, rows_lines, rows_hostile or rows_steps; the names of tables are those that it prints. With --write all
+# run, and where none differs what the program printed, the counts of its tables, becomes its `stdout`. Unproved, a program
+# runs with checks that make it many times slower: of rows_lines and rows_hostile ask for a table. Proved and built, they run
+# by `rt run -- [TABLE [ROW]]` in their folder.
 #
 # Run by hand, while test vectors are written.
 set -u

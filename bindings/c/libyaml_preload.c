@@ -457,7 +457,7 @@ static uint32_t advance(yaml_parser_t *parser, struct held *held, pokhvizi_event
     return 0;
 }
 
-/* Frees what an error left, and what a document's node has no use for: its anchor's text, the tag `!`. */
+/* Gives back what neither an event nor a node has taken: after an error; the tag `!`, in whose place a node has its kind's. */
 static void forget(struct held *held)
 {
     if (held->anchor != NULL || held->tag != NULL) {

@@ -13,6 +13,8 @@
 #                      valgrind; each allocation refused in turn; an output that is full or closed
 #
 # The status is 0 where all is as it should be. Needs what build_c.sh needs, and valgrind, c++, readelf and python3.
+#
+# Run by check_programs.sh.
 set -u
 case $# in
 1 | 2) case $1 in steps | compose | yaml) ;; *) false ;; esac ;;

@@ -12,6 +12,8 @@
 #
 # PYTHON is python3 where it isn't set. Needs what build_extension.sh needs, and PyYAML with its C form for that Python. Where the
 # Python has no _testcapi, its allocations are not refused, which is said.
+#
+# Run by check_programs.sh.
 set -u
 [ $# -ge 1 ] && dir=$(realpath "$1") && [ -f "$dir/libpokhvizi.a" ] || {
     echo "usage: sh scripts/doors/extension_checks.sh DIR [all], where build_c.sh made DIR" >&2

@@ -7,7 +7,7 @@ declare them: as many bytes, and each field by its name, with its type, at its o
 The table is made of the Rust structs alone. Each has `#[repr(C)]`, so its fields stand in their order, each at the next
 multiple of its alignment. A struct that has no name in C is a part of another one.
 
-Run by steps_checks.sh and compose_checks.sh.
+Run by door_checks.sh.
 """
 import re
 from pathlib import Path

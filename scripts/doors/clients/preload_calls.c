@@ -1,6 +1,7 @@
 /* Calls of libyaml where bindings/c/libyaml_preload.c is preloaded: each allocation refused in turn, parsers that are
  * deleted at each event, moved, used after an error or after the end, and by several threads; documents; more states, marks,
- * tag directives and texts than there was room for at first. Says what was wrong, and exits with 1 where anything was. */
+ * tag directives, texts and anchors than there was room for at first; the time that anchors take. Says what was wrong, and exits
+ * with 1 where anything was. */
 #include <pthread.h>
 #include <stdio.h>
 #include <stdlib.h>
