@@ -41,7 +41,8 @@ OWN = {
 }
 LEFT_OUT = {"SURFACE.md"}
 OLD_PAGES = {"CHANGELOG.md", "WRONG_BODIES.md", "PERFORMANCE.md"}
-RENAMED = []
+RENAMED = ["libyaml_types", "libyaml_grammar", "libyaml_documents", "libyaml_graphs", "unsafe_libyaml", "yaml_path", "line_reading", "line_writing",
+           "token_lines", *(path.name for path in TOP.glob("crates/example_*"))]
 
 
 def lines_of_page(text):

@@ -17,7 +17,7 @@ use libyaml_loader::yaml_push_loader_t;
 use libyaml_types::{yaml_event_t, yaml_parser_t_prefix, yaml_token_source_t, yaml_token_t};
 use std::alloc::Global;
 
-/// Pushes each token of the list, and returns the events, or the fault.
+/// Pushes each token of the list, and returns the events, or the error.
 pub fn events_of(
     alloc: Global,
     tokens: Vec<yaml_token_t>,
@@ -37,7 +37,7 @@ pub fn events_of(
     Ok(events)
 }
 
-/// Pushes each token of the list, and returns the documents, or the fault.
+/// Pushes each token of the list, and returns the documents, or the error.
 pub fn documents_of(
     alloc: Global,
     tokens: Vec<yaml_token_t>,
@@ -58,7 +58,7 @@ pub fn documents_of(
     Ok(documents)
 }
 
-/// Returns the events of a parser over this source, collected by a `for` loop, or the fault that ended them.
+/// Returns the events of a parser over this source, collected by a `for` loop, or the error that ended them.
 pub fn collected_events<S: yaml_token_source_t + Drop>(
     alloc: Global,
     source: S,

@@ -44,7 +44,7 @@ fn write_line(outline: &mut String, event: &yaml_event_t, depth: u32) -> Result<
 ///
 /// # Errors
 ///
-/// The fault of the tokens, or that memory ran out.
+/// The error of the tokens, or that memory ran out.
 pub fn outline_of(alloc: Global, tokens: Vec<yaml_token_t>) -> Result<String> {
     let mut parser = yaml_parser_initialize(alloc, yaml_list_source_t::from(tokens));
     let mut outline = String::new(alloc);

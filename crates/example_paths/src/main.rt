@@ -1,10 +1,10 @@
 //! `example_paths WORD..`: the scalar at the end of a path, in the first document of the token lines on
 //! standard input.
 //!
-//! The exit status is 0 where the scalar was printed, and 2 where there are no words, or words that are not
-//! text. It is 1 where no scalar was printed for another reason: the tokens have a fault, the path leads to
-//! nothing or to a collection, or memory or the output failed. Where the status is not 0, a line on standard
-//! error says why.
+//! The exit status is 0 where the scalar was printed, and 2 where there are no words, or words that are
+//! not text. It is 1 where no scalar was printed for another reason: the tokens have an error, the path
+//! leads to nothing or to a collection, or memory or the output failed. Where the status is not 0, a line
+//! on standard error says why.
 #![tactic(auto)]
 
 use anyhow::{Context, Result};
@@ -65,7 +65,7 @@ fn print_value(rt: &HostRuntime, words: &[String]) -> Result<()> {
 ///
 /// # Errors
 ///
-/// The tokens have a fault, or memory was not found.
+/// The tokens have an error, or memory was not found.
 fn first_document(rt: &HostRuntime) -> Result<yaml_document_t> {
     let alloc = rt.alloc();
     let reader = BufReader::with_capacity(alloc, BUFFER_SIZE, rt.stdin())?;

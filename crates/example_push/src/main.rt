@@ -25,7 +25,7 @@ fn content(alloc: Global, character: char) -> Result<unnamed_yaml_token_t_data> 
     })
 }
 
-/// Pushes a token, and prints the events that it settles.
+/// Pushes a token, and prints the events that it determines.
 fn push(
     rt: &HostRuntime,
     parser: &mut yaml_push_parser_t,

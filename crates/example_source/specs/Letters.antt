@@ -14,12 +14,12 @@ letter_content c = cond (c == 91) (Some FlowSequenceStart) (cond (c == 93) (Some
 abbrev pub letter_token_at : ℕ → Content → Token
 letter_token_at n content = record { content = content; start_mark = place n; end_mark = place n }
 
--- a token and what comes after it, or the fault of a character that is none
+-- a token and what comes after it, or the error of a character that is none
 abbrev pub from_here : ℕ → Option Content → Coming → Coming
 from_here n None rest = coming [] (scanner_fault (codes "found no token") (place n))
 from_here n (Some content) rest = coming (letter_token_at n content ∷ rest.tokens) rest.fault
 
--- the tokens of the characters from a place on, and the fault after them
+-- the tokens of the characters from a place on, and the error after them
 abbrev pub letters_from : ℕ → List ℕ → Coming
 letters_from n [] = coming (letter_token_at n StreamEnd ∷ []) (scanner_fault (codes "text ended") (place n))
 letters_from n (c ∷ cs) = from_here n (letter_content c) (letters_from (n + 1) cs)
@@ -34,7 +34,7 @@ letters_coming text next (Some fault) = coming [] fault
 letters_coming text None None = all_tokens text
 letters_coming text (Some n) None = letters_from n (drop n text)
 
--- the list's next token; or its fault, and where a token is left a failed allocation's, for good
+-- the list's next token; or its error, and where a token is left a failed allocation's, for good
 abbrev pub LettersGive : Coming → Answer → Coming → Type 0
 LettersGive s (Ok token) t = (s.tokens ≡ token ∷ t.tokens) × (t.fault ≡ s.fault)
 LettersGive s (Err f) t = (t ≡ coming [] f) × (s.tokens ≡ [] → f ≡ s.fault) × (s.tokens ≢ [] → f ≡ memory_fault)

@@ -22,7 +22,7 @@ pub struct Letters<'a> {
     text: &'a [u8],
     /// The place of the next character, or `None` before the first token.
     next: Option<usize>,
-    /// The fault that each call returns, where the tokens have ended.
+    /// The error that each call returns, where the tokens have ended.
     fault: Option<yaml_source_fault_t>,
 }
 
@@ -50,7 +50,7 @@ impl<'a> Letters<'a> {
         }
     }
 
-    /// Ends the tokens by this fault.
+    /// Ends the tokens by this error.
     fn end(&mut self, fault: yaml_source_fault_t) -> Result<yaml_token_t, yaml_source_fault_t>
         ensures fault { result ≡ Err fault }
         ensures for_good { self.new ≡ coming [] (source_fault fault) }

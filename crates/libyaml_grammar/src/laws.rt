@@ -35,36 +35,37 @@ pub fn one_tree()
     ensures { (s t : Stream) → tokens s ≡ tokens t → s ≡ t }
 {}
 
-/// At most one cut tree fits a list with the token after it.
+/// At most one partial tree fits a list with the token after it.
 pub fn one_cut()
     ensures { (l : List Token) (b : Token) (c d : Cut) → Fits l b c → Fits l b d → c ≡ d }
 {}
 
-/// A list whose only STREAM-END is its last token is a sentence, or a cut tree fits a prefix of it, and not
-/// both. A list without STREAM-END is a beginning, or has such a cut tree, and not both.
+/// A list whose only STREAM-END is its last token is valid, or a partial tree fits a prefix of it, and not
+/// both. A list without STREAM-END is a viable prefix, or has such a partial tree, and not both.
 pub fn tree_or_cut()
     ensures with_end { (l : List Token) (m : Marks) → has_end l ≡ false
         → EitherNotBoth (IsSentence (l ++ tok StreamEnd m ∷ [])) (HasCut (l ++ tok StreamEnd m ∷ [])) }
     ensures without_end { (l : List Token) → has_end l ≡ false → EitherNotBoth (IsBeginning l) (HasCut l) }
 {}
 
-/// The tokens of a cut tree in order, with its rest after them, are a sentence; so the token of a cut tree
-/// that fits is the first that no sentence has at its place.
+/// The tokens of a partial tree in order, with its rest after them, are a valid list; so the token of a
+/// partial tree that fits is the first that no valid list has at its place.
 pub fn cut_begins()
     ensures completed { (c : Cut) → cut_in_order c true ≡ true
         → IsSentence (cut_tokens c [] ++ rest zero_marks c) }
     ensures bad_token { (l : List Token) (b : Token) (c : Cut) → Fits l b c → IsBadToken l b }
 {}
 
-/// Each beginning without STREAM-END has one front tree, and only beginnings without STREAM-END have one.
+/// Each viable prefix without STREAM-END has one prefix tree, and only viable prefixes without STREAM-END
+/// have one.
 pub fn one_front()
     ensures some { (l : List Token) → IsBeginning l → has_end l ≡ false → (c : Cut) × IsFront l c }
     ensures one { (l : List Token) (c d : Cut) → IsFront l c → IsFront l d → c ≡ d }
     ensures begins { (l : List Token) (c : Cut) → IsFront l c → IsBeginning l × (has_end l ≡ false) }
 {}
 
-/// What a beginning settles is what its front tree shows. A sentence settles all events of its tree, and no
-/// tokens settle nothing.
+/// What a viable prefix determines is what its prefix tree shows. A valid list determines all events of
+/// its tree, and no tokens determine nothing.
 pub fn settled()
     ensures of_front { (l : List Token) (c : Cut) (e : List Event) → IsFront l c
         → (IsSettled l e ↔ (e ≡ sure c)) }
@@ -73,23 +74,23 @@ pub fn settled()
     ensures of_nothing { (e : List Event) → IsSettled [] e ↔ (e ≡ []) }
 {}
 
-/// After a beginning without STREAM-END the next event depends on tokens still to come: two sentences begin
-/// with it whose events begin with those that it settles and differ in the next.
+/// After a viable prefix without STREAM-END the next event depends on tokens still to come: two valid
+/// lists begin with it whose events begin with those that it determines and differ in the next.
 pub fn next_is_open()
     ensures { (l : List Token) (e : List Event) → IsBeginning l → has_end l ≡ false → IsSettled l e
         → IsOpen l e }
 {}
 
-/// Each list of tokens has one run for each fault after it.
+/// Each list of tokens has one run for each error after it.
 pub fn one_run()
     ensures some { (l : List Token) (f : Fault) → (e : List Event) × (x : Ending) × IsRun l f e x }
     ensures one { (l : List Token) (f : Fault) (d e : List Event) (x y : Ending) → IsRun l f d x
         → IsRun l f e y → (d ≡ e) × (x ≡ y) }
 {}
 
-/// The run over a list that begins with a known tree's tokens: a sentence's with anything after it, a
-/// cut tree's that fits with the token after it and anything after that, or a beginning's with nothing
-/// after it.
+/// The run over a list that begins with a known tree's tokens: a valid list's with anything after it, a
+/// partial tree's that fits with the token after it and anything after that, or a viable prefix's with
+/// nothing after it.
 pub fn run_of_tree()
     ensures sentence { (t : Stream) (r : List Token) (f : Fault) → in_order t ≡ true
         → IsRun (tokens t ++ r) f (events t) Ends }
@@ -102,8 +103,9 @@ pub fn run_of_tree()
         → IsSettled l e → IsRun l f e (Fails f) }
 {}
 
-/// A run ends only over a sentence, with its tree's events. Where the fault after the list is a source's, a
-/// run fails with a parser's error only where a cut tree fits, with its events and its fault.
+/// A run ends only over a valid list, with its tree's events. Where the error after the list is a
+/// source's, a run fails with a parser's error only where a partial tree fits, with its events and its
+/// error.
 pub fn run_ends()
     ensures ended { (l : List Token) (f : Fault) (e : List Event) → IsRun l f e Ends → (t : Stream)
         × (in_order t ≡ true) × (up_to_end l ≡ tokens t) × (e ≡ events t) }
@@ -153,7 +155,7 @@ pub fn tag_places()
 {}
 
 /// The headline: a list whose only STREAM-END is its last token runs to the events of its one tree, or to
-/// the events and the fault of the one cut tree that fits.
+/// the events and the error of the one partial tree that fits.
 pub fn headline()
     ensures { (l : List Token) (m : Marks) (f : Fault) → has_end l ≡ false
         → RunsWhole (l ++ tok StreamEnd m ∷ []) f }

@@ -41,8 +41,8 @@ use libyaml_types::{unnamed_yaml_event_t_data_scalar, yaml_error_type_t};
 
 /// The headline of loads: over a list whose only STREAM-END is its last token, the loads are the graphs of
 /// its one tree's documents, up to the first composer error, and then the document without root; or those
-/// of the one cut tree that fits, and then the composer error of the document that is open in it, or the
-/// cut tree's own fault.
+/// of the one partial tree that fits, and then the composer error of the document that is open in it, or
+/// the partial tree's own error.
 pub fn headline()
     ensures { (l : List Token) (m : Marks) (f : Fault) → has_end l ≡ false
         → LoadsWhole (l ++ tok StreamEnd m ∷ []) f }
@@ -65,8 +65,8 @@ pub fn linear_size()
         → bounded_loads n e x ≡ map Ok ds ++ l → documents_size ds ≤ 2 * length e }
 {}
 
-/// A fault that a load of events has whatever follows them, or where the stream ends after them, is out of
-/// memory, at the bound, or a composer error: none of the parser or the source.
+/// An error that a load of events has whatever follows them, or where the stream ends after them, is out
+/// of memory, at the bound, or a composer error: none of the parser or the source.
 pub fn faults_of_loads()
     ensures whatever_follows { (n : ℕ) (e : List Event) (f : Fault)
         → ((rest : List Event) (x : Ending) → next_bounded n (e ++ rest) x ≡ Err f)
@@ -75,7 +75,7 @@ pub fn faults_of_loads()
         → (f ≡ memory_fault) ⊎ (f.error ≡ yaml_error_type_t.YAML_COMPOSER_ERROR) }
 {}
 
-/// For each list of tokens and each fault after it there is exactly one list of loads.
+/// For each list of tokens and each error after it there is exactly one list of loads.
 pub fn one_loads()
     ensures some { (l : List Token) (f : Fault) → (a : List Load) × IsLoads l f a }
     ensures one { (l : List Token) (f : Fault) (a b : List Load) → IsLoads l f a → IsLoads l f b → a ≡ b }
@@ -90,9 +90,9 @@ pub fn loads_of_run()
     ensures of_events { (l : List Event) (x : Ending) → NestsSoFar l → NestedLoads l x (loads l x) }
 {}
 
-/// The loads over a list that begins with a known tree's tokens: a sentence's with anything after it, a
-/// cut tree's that fits with the token after it and anything after that, or a beginning's with nothing
-/// after it.
+/// The loads over a list that begins with a known tree's tokens: a valid list's with anything after it, a
+/// partial tree's that fits with the token after it and anything after that, or a viable prefix's with
+/// nothing after it.
 pub fn loads_of_tree()
     ensures sentence { (t : Stream) (r : List Token) (f : Fault) → in_order t ≡ true
         → (n : IsNested (events t)) × IsLoads (tokens t ++ r) f (loads_of n.texts (last_load Ends ∷ [])) }
@@ -123,7 +123,7 @@ pub fn graph_forgets()
         ≡ nodes_of (scalar_value (record s { tag = None }) m n) es [] }
 {}
 
-/// A document's composer error is that of its heads: the ends of collections have none.
+/// A document's composer error is one of an alias, a scalar or a start: the ends of collections have none.
 pub fn fault_of_heads()
     ensures { (l : List Part) (es : List Start) → composer_fault es l ≡ composer_fault es (heads l) }
 {}
@@ -157,7 +157,7 @@ pub fn one_nesting()
     ensures of_documents { (l : List Event) (a b : IsNested l) → a.texts ≡ b.texts }
 {}
 
-/// The first load is the next load's result, and those after it are its fault again and again, or the
+/// The first load is the next load's result, and those after it are its error again and again, or the
 /// loads of the events that it leaves; the same holds within a bound.
 pub fn load_by_load()
     ensures first { (r : List Event) (x : Ending) (z : Load) → load_at z 0 (loads r x) ≡ next_load r x }
@@ -174,7 +174,7 @@ pub fn load_by_load()
 
 /// In a run each document's root begins after its start, and so it is in the events that a load leaves. So
 /// a document without nodes is the last load, at the run's end; after one with nodes come the loads of
-/// the events that it leaves; and a fault is the last load.
+/// the events that it leaves; and an error is the last load.
 pub fn whole_documents_have_roots()
     ensures roots_follow { (l : List Event) → NestsSoFar l → RootsFollow l }
     ensures left_over { (l : List Event) → RootsFollow l → RootsFollow (left_over l) }

@@ -1,4 +1,4 @@
--- The errors that a token source may return: out of memory, or a fault of its reader or scanner.
+-- The errors that a token source may return: out of memory, or an error of its reader or scanner.
 use Rattle.std.specs.Prelude.{Bool, true, false, IsTrue}
 use Rattle.libyaml_types.specs.declared.enums.yaml_error_type_t.{yaml_error_type_t}
 use Rattle.libyaml_types.specs.declared.enums.yaml_error_type_t.TheVariants.{YAML_NO_ERROR, YAML_MEMORY_ERROR, YAML_READER_ERROR, YAML_SCANNER_ERROR, YAML_PARSER_ERROR, YAML_COMPOSER_ERROR, YAML_WRITER_ERROR, YAML_EMITTER_ERROR}

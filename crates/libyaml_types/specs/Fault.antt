@@ -1,4 +1,4 @@
--- what a fault says
+-- what an error says
 use Rattle.std.specs.Prelude.{ℕ, ℤ, pos, List, Option, None, Some, Result, Ok, Err}
 use Rattle.std.specs.Option.{option_copied}
 use Rattle.libyaml_types.specs.declared.mark.yaml_mark_t.{yaml_mark_t}
@@ -18,7 +18,7 @@ pub record Fault : Type 0 where
   pub context : Option (List ℕ)
   pub context_mark : yaml_mark_t
 
--- what is kept before any fault
+-- what is kept before any error
 abbrev pub no_fault : Fault
 no_fault = record {
   error = YAML_NO_ERROR;
@@ -34,7 +34,7 @@ no_fault = record {
 abbrev pub memory_fault : Fault
 memory_fault = record no_fault { error = YAML_MEMORY_ERROR }
 
--- a scanner's fault of a problem at a mark, and nothing else
+-- a scanner's error of a problem at a mark, and nothing else
 abbrev pub scanner_fault : (problem : List ℕ) → (mark : yaml_mark_t) → Fault
 scanner_fault problem mark = record no_fault { error = YAML_SCANNER_ERROR; problem = Some problem; problem_mark = mark }
 
@@ -52,7 +52,7 @@ fault_of p = record {
 abbrev pub source_fault : yaml_source_fault_t → Fault
 source_fault f = fault_of f.prefix
 
--- a source's result: a token or a fault
+-- a source's result: a token or an error
 abbrev pub Answer : Type 0
 Answer = Result yaml_token_t Fault
 

@@ -9,7 +9,7 @@ use Rattle.libyaml_types.specs.Fault.{Fault}
 abbrev pub said_at : List ℕ → yaml_mark_t → List ℕ
 said_at words m = words ++ codes " at " ++ place_in_words m
 
--- the problem at its place, or else the kind of the fault
+-- the problem at its place, or else the kind of the error
 abbrev pub problem_said : yaml_error_type_t → Option (List ℕ) → yaml_mark_t → List ℕ
 problem_said e None m = error_words e
 problem_said e (Some words) m = said_at words m

@@ -5,7 +5,7 @@ use Rattle.libyaml_types.specs.declared.enums.yaml_error_type_t.TheVariants.{YAM
 use Rattle.libyaml_types.specs.Fault.{Fault, Answer, no_fault}
 
 -- a source: its scanner, how many tokens it has given and how many it may give, where the last of them ends, and
--- the fault that it keeps
+-- the error that it keeps
 pub record Scanned (S : Type 0) : Type 0 where
   pub scanner : S
   pub given : ℕ
@@ -13,7 +13,7 @@ pub record Scanned (S : Type 0) : Type 0 where
   pub end : yaml_mark_t
   pub fault : Option Fault
 
--- the fault after the last token that a source may give
+-- the error after the last token that a source may give
 abbrev pub too_many_tokens : (given : ℕ) → (end : yaml_mark_t) → Fault
 too_many_tokens given end = record no_fault {
   error = YAML_READER_ERROR;
@@ -23,7 +23,7 @@ too_many_tokens given end = record no_fault {
   problem_mark = end;
 }
 
--- how many tokens a result is, where the last token ends after it, and which fault it is
+-- how many tokens a result is, where the last token ends after it, and which error it is
 abbrev pub tokens_in_answer : Answer → ℕ
 tokens_in_answer (Ok token) = 1
 tokens_in_answer (Err fault) = 0
@@ -36,7 +36,7 @@ abbrev pub fault_in_answer : Answer → Option Fault
 fault_in_answer (Ok token) = None
 fault_in_answer (Err fault) = Some fault
 
--- a source that asks its scanner: it keeps no fault, and may give a token
+-- a source that asks its scanner: it keeps no error, and may give a token
 abbrev pub Asks : {S : Type 0} → Scanned S → Type 0
 Asks s = (s.fault ≡ None) × (s.given < s.max_tokens)
 

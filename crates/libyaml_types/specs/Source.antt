@@ -10,7 +10,7 @@ abbrev pub answer_in : Result (Unit {0}) yaml_source_fault_t → yaml_token_t �
 answer_in (Ok u) token = Ok token
 answer_in (Err fault) token = Err (source_fault fault)
 
--- the tokens to come, and the fault that ends them
+-- the tokens to come, and the error that ends them
 pub record Coming : Type 0 where
   pub tokens : List yaml_token_t
   pub fault : Fault
@@ -18,7 +18,8 @@ pub record Coming : Type 0 where
 abbrev pub coming : List yaml_token_t → Fault → Coming
 coming ts f = record { tokens = ts; fault = f }
 
--- The next token of the list, then its fault; or a fault by which the source may have broken off, which then ends the list.
+-- The next token of the list, then its error; or an error by which the source may have failed early, which then ends
+-- the list.
 abbrev pub FollowsList : (Fault → Type 0) → List yaml_token_t → Fault → Answer → Option Coming → Type 0
 FollowsList MayBreak [] f (Ok t) after = ⊥
 FollowsList MayBreak [] f (Err e) after = ((e ≡ f) ⊎ MayBreak e) × (after ≡ Some (coming [] e))
@@ -29,7 +30,7 @@ abbrev pub Follows : (Fault → Type 0) → Option Coming → Answer → Option 
 Follows MayBreak None answer after = Unit {0}
 Follows MayBreak (Some c) answer after = FollowsList MayBreak c.tokens c.fault answer after
 
--- the fault of a list that ends before its STREAM-END
+-- the error of a list that ends before its STREAM-END
 abbrev pub no_more_tokens : Fault
 no_more_tokens = record no_fault {
   error = YAML_READER_ERROR;

@@ -1,4 +1,4 @@
-//! Faults: why a source or a parser gave no more.
+//! Errors: why a source or a parser gave no more.
 
 ghost use Rattle.std.specs.Prelude.{◌≡◌};
 ghost use Rattle.std.specs.Option.{option_copied};
@@ -6,12 +6,12 @@ ghost use Rattle.libyaml_types.specs.Errors.{IsSourceError};
 
 use crate::{ZERO_MARK, yaml_error_type_t, yaml_mark_t};
 
-/// A fault with all its fields, as a parser keeps it. A parser without fault keeps `NO_FAULT`.
+/// An error with all its fields, as a parser keeps it. A parser without error keeps `NO_FAULT`.
 ///
 /// libyaml: `yaml_parser_t_prefix`.
 #[derive(Copy, Clone, PartialEq, Eq, Debug)]
 pub struct yaml_parser_t_prefix {
-    /// The kind of the fault.
+    /// The kind of the error.
     pub error: yaml_error_type_t,
     /// What went wrong, in words.
     pub problem: Option<&'static str>,
@@ -27,7 +27,7 @@ pub struct yaml_parser_t_prefix {
     pub context_mark: yaml_mark_t,
 }
 
-/// What a parser without fault keeps.
+/// What a parser without error keeps.
 pub const NO_FAULT: yaml_parser_t_prefix = yaml_parser_t_prefix {
     error: yaml_error_type_t::YAML_NO_ERROR,
     problem: None,
@@ -44,7 +44,7 @@ pub const MEMORY_FAULT: yaml_parser_t_prefix = yaml_parser_t_prefix {
     ..NO_FAULT
 };
 
-/// The fault of a token source. Its error is `YAML_MEMORY_ERROR`, `YAML_READER_ERROR` or
+/// The error of a token source. Its kind is `YAML_MEMORY_ERROR`, `YAML_READER_ERROR` or
 /// `YAML_SCANNER_ERROR`.
 #[derive(Copy, Clone, PartialEq, Eq, Debug)]
 pub struct yaml_source_fault_t {
@@ -55,7 +55,7 @@ pub struct yaml_source_fault_t {
 impl yaml_source_fault_t {
     ghost use Rattle.libyaml_types.specs.Fault.{source_fault, fault_of, memory_fault, scanner_fault};
 
-    /// Returns the fault of these fields. `error` must be one of the three that a source may have. Takes no
+    /// Returns the error of these fields. `error` must be one of the three that a source may have. Takes no
     /// memory.
     pub fn new(
         error: yaml_error_type_t,
@@ -90,7 +90,7 @@ impl yaml_source_fault_t {
         }
     }
 
-    /// Returns a scanner's fault of this problem at this mark. It has no context, and its offset and value
+    /// Returns a scanner's error of this problem at this mark. It has no context, and its offset and value
     /// are 0. Takes no memory.
     pub fn scanner_error(problem: &'static str, problem_mark: yaml_mark_t) -> Self
         ensures { source_fault result ≡ scanner_fault problem.now problem_mark }
@@ -105,7 +105,7 @@ impl yaml_source_fault_t {
         }
     }
 
-    /// Returns the fault of a failed allocation. Takes no memory.
+    /// Returns the error of a failed allocation. Takes no memory.
     pub fn out_of_memory() -> Self
         ensures { source_fault result ≡ memory_fault }
     {
@@ -121,7 +121,7 @@ impl yaml_source_fault_t {
         self.prefix
     }
 
-    /// Returns the kind of the fault.
+    /// Returns the kind of the error.
     pub fn error(&self) -> yaml_error_type_t
         ensures value { result ≡ (source_fault self.now).error }
         ensures of_source { IsSourceError result }

@@ -1,4 +1,4 @@
-//! The data types of libyaml's event parser: marks, directives, tokens, events, faults, sources of tokens.
+//! The data types of libyaml's event parser: marks, directives, tokens, events, errors, sources of tokens.
 #![tactic(auto)]
 
 pub mod constructors;

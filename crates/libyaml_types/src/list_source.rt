@@ -10,7 +10,7 @@ use crate::{ZERO_MARK, yaml_error_type_t, yaml_token_t};
 use std::marker::Model;
 use std::vec::IntoIter;
 
-/// A source that gives the tokens of a list, and from then on returns its fault.
+/// A source that gives the tokens of a list, and from then on returns its error.
 #[derive(Drop)]
 pub struct yaml_list_source_t {
     tokens: IntoIter<yaml_token_t>,
@@ -28,7 +28,7 @@ impl Model for yaml_list_source_t {
 }
 
 impl yaml_list_source_t {
-    /// Returns a source of these tokens, and of this fault after the last of them. Takes no memory.
+    /// Returns a source of these tokens, and of this error after the last of them. Takes no memory.
     pub fn new(tokens: Vec<yaml_token_t>, fault: yaml_source_fault_t) -> Self
         ensures { result ≡ coming tokens.items (source_fault fault) }
     {
@@ -49,7 +49,7 @@ impl From<Vec<yaml_token_t>> for yaml_list_source_t {
     }
 }
 
-/// Returns the fault of a list that ends before its STREAM-END.
+/// Returns the error of a list that ends before its STREAM-END.
 fn no_more_tokens() -> yaml_source_fault_t
     ensures { source_fault result ≡ no_more_tokens }
 {

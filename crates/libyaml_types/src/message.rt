@@ -1,4 +1,4 @@
-//! The messages of faults.
+//! The messages of errors.
 ghost use Rattle.std.specs.Prelude.{Some};
 ghost use Rattle.libyaml_types.specs.Fault.{fault_of, source_fault};
 ghost use Rattle.libyaml_types.specs.Message.{message};

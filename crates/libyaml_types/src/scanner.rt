@@ -9,13 +9,13 @@ pub trait yaml_scanner_t {
     /// that leaves this out says nothing of its tokens.
     ghost scans: { Self → Answer → Self → Type 0 } = { λ _ _ _. Unit {0} };
 
-    /// Returns the next token. The source does not call it again after a fault.
+    /// Returns the next token. The source does not call it again after an error.
     ///
     /// libyaml: `yaml_parser_scan`.
     ///
     /// # Errors
     ///
-    /// The fault that ends the tokens.
+    /// The error that ends the tokens.
     fn scan(&mut self) -> Result<yaml_token_t, yaml_source_fault_t>
         ensures { scans self.old (answer_of result) self.new };
 

@@ -12,7 +12,7 @@ use crate::{
 };
 use std::marker::Model;
 
-/// The tokens of a scanner up to a bound, and from then on its fault, or `too many tokens`.
+/// The tokens of a scanner up to a bound, and from then on its error, or `too many tokens`.
 #[derive(Drop)]
 pub struct yaml_scanner_source_t<S> {
     scanner: S,
@@ -20,7 +20,7 @@ pub struct yaml_scanner_source_t<S> {
     max_tokens: u64,
     /// Where the last token ends, or zeros before the first.
     end: yaml_mark_t,
-    /// The fault that each call returns, where the tokens have ended.
+    /// The error that each call returns, where the tokens have ended.
     fault: Option<yaml_source_fault_t>,
 }
 
@@ -68,7 +68,7 @@ impl<S> yaml_scanner_source_t<S> {
         scanner
     }
 
-    /// Keeps a fault for good, and returns it.
+    /// Keeps an error for good, and returns it.
     fn keep(&mut self, fault: yaml_source_fault_t) -> yaml_source_fault_t
         ensures fault { result ≡ fault }
         ensures kept { self.new ≡ record self.old { fault = Some (source_fault fault) } }
@@ -93,11 +93,11 @@ impl<S: yaml_scanner_t> yaml_token_source_t for yaml_scanner_source_t<S> {
 
     ghost repeats = { scanned_repeats S.scans };
 
-    /// Returns the scanner's next token, with no call of the scanner after a fault.
+    /// Returns the scanner's next token, with no call of the scanner after an error.
     ///
     /// # Errors
     ///
-    /// The fault of an earlier call again; `too many tokens`, a reader error at the end of the last token,
+    /// The error of an earlier call again; `too many tokens`, a reader error at the end of the last token,
     /// after `max_tokens` of them; the scanner's.
     fn next_token(&mut self) -> Result<yaml_token_t, yaml_source_fault_t> {
         if let Some(fault) = self.fault {
@@ -128,7 +128,7 @@ impl<S: yaml_scanner_t> yaml_token_source_t for yaml_scanner_source_t<S> {
     }
 }
 
-/// Returns the fault of a scanner that has given all the tokens that it may.
+/// Returns the error of a scanner that has given all the tokens that it may.
 fn too_many_tokens(given: u64, end: yaml_mark_t) -> yaml_source_fault_t
     ensures { source_fault result ≡ too_many_tokens given end }
 {

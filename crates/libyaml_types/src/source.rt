@@ -7,7 +7,7 @@ ghost use Rattle.libyaml_types.specs.Source.{Coming, Follows, answer_in};
 use crate::fault::yaml_source_fault_t;
 use crate::yaml_token_t;
 
-/// A source of tokens, which ends by a fault.
+/// A source of tokens, which ends by an error.
 ///
 /// Of the seven ghost items the first four say what the source does, and the last three are proofs of it. A
 /// program that `rt try` runs may leave each as a hole, `{ ? }`.
@@ -19,10 +19,10 @@ pub trait yaml_token_source_t {
     /// `next_token`.
     ghost gives: { Self → Answer → Self → Type 0 };
 
-    /// The tokens to come and the fault after them, or `None` where the source does not know them in advance.
+    /// The tokens to come and the error after them, or `None` where the source does not know them in advance.
     ghost known: { Self → Option Coming };
 
-    /// The faults with which the source may end before the list of `known` does, as where its input fails or
+    /// The errors with which the source may end before the list of `known` does, as where its input fails or
     /// memory runs out. The source is the one after that call.
     ghost may_break: { Self → Fault → Type 0 };
 
@@ -30,7 +30,7 @@ pub trait yaml_token_source_t {
     ///
     /// # Errors
     ///
-    /// The fault that ends the tokens; each later call returns it again.
+    /// The error that ends the tokens; each later call returns it again.
     fn next_token(&mut self) -> Result<yaml_token_t, yaml_source_fault_t>
         ensures { gives self.old (answer_of result) self.new };
 
@@ -59,13 +59,13 @@ pub trait yaml_token_source_t {
     /// A proof that each token lowers the bound by exactly one.
     ghost falls: { (s t : Self) (token : yaml_token_t) → gives s (Ok token) t → bound s ≡ bound t + 1 };
 
-    /// A proof that each result agrees with `known`: it is the next token of that list, or the fault of the
-    /// list where no token is left, or a fault of `may_break`, after which no token is left. Where `known` is
-    /// `None` there is nothing to prove: `λ s t answer h. tt`.
+    /// A proof that each result agrees with `known`: it is the next token of that list, or the error of
+    /// the list where no token is left, or an error of `may_break`, after which no token is left. Where
+    /// `known` is `None` there is nothing to prove: `λ s t answer h. tt`.
     ghost follows: { (s t : Self) (answer : Answer) → gives s answer t
         → Follows (may_break t) (known s) answer (known t) };
 
-    /// A proof that after a fault each later call returns that fault again.
+    /// A proof that after an error each later call returns that error again.
     ghost repeats: { (s t u : Self) (fault : Fault) (answer : Answer) → gives s (Err fault) t
         → gives t answer u → answer ≡ Err fault };
 }

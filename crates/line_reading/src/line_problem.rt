@@ -25,7 +25,7 @@ pub(crate) enum LineProblem {
     NoMoreTokens,
 }
 
-/// The words of the fault of a failed read.
+/// The words of the error of a failed read.
 pub const READ_FAILED: &str = "read failed";
 
 impl From<AllocError> for LineProblem {
@@ -51,7 +51,7 @@ impl From<io::Error> for LineProblem {
 }
 
 impl LineProblem {
-    /// Returns the fault of a source that has given so many tokens.
+    /// Returns the error of a source that has given so many tokens.
     pub(crate) fn fault(self, given: u64) -> yaml_source_fault_t
         ensures { source_fault result ≡ line_fault self given }
     {
@@ -68,7 +68,7 @@ impl LineProblem {
     }
 }
 
-/// Returns the fault of the line that follows so many tokens, without a context.
+/// Returns the error of the line that follows so many tokens, without a context.
 fn fault_at(error: yaml_error_type_t, problem: &'static str, given: u64) -> yaml_source_fault_t
     requires { IsSourceError error }
     ensures { source_fault result ≡ problem_at error problem.entry.now given }

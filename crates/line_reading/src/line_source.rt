@@ -19,7 +19,7 @@ use std::alloc::Global;
 use std::io::BufRead;
 use std::marker::Model;
 
-/// The tokens of a reader's lines, and from then on its fault.
+/// The tokens of a reader's lines, and from then on its error.
 ///
 /// Each call reads one line, and no byte after it and its LF.
 #[derive(Drop)]
@@ -77,7 +77,7 @@ impl<R: BufRead> yaml_line_source_t<R> {
         reader
     }
 
-    /// Keeps a problem for good, and returns it as a fault.
+    /// Keeps a problem for good, and returns it as an error.
     fn keep(&mut self, problem: LineProblem) -> yaml_source_fault_t
         ensures fault { source_fault result ≡ line_fault problem self.old.given }
         ensures kept { self.new ≡ record self.old { fault = Some (line_fault problem self.old.given) } }
@@ -106,7 +106,7 @@ impl<R: BufRead> yaml_token_source_t for yaml_line_source_t<R> {
     ///
     /// # Errors
     ///
-    /// Why there is none. A kept fault is returned again; then `too many tokens` comes before a line is read.
+    /// Why there is none. A kept error is returned again; then `too many tokens` comes before a line is read.
     fn next_token(&mut self) -> Result<yaml_token_t, yaml_source_fault_t>
         ensures gives { Gives R.remaining self.old (answer_of result) self.new }
         ensures leaves { IfOk result (λ _. IsBehindLine (R.remaining self.old.reader)
@@ -126,7 +126,7 @@ impl<R: BufRead> yaml_token_source_t for yaml_line_source_t<R> {
         Ok(token)
     }
 
-    /// Puts the token of the next line straight into `token`; after a fault its value is unspecified.
+    /// Puts the token of the next line straight into `token`; after an error its value is unspecified.
     fn next_token_into(&mut self, token: &mut yaml_token_t) -> Result<(), yaml_source_fault_t>
         ensures gives { Gives R.remaining self.old (answer_in result token.new) self.new }
         ensures leaves { IfOk result (λ _. IsBehindLine (R.remaining self.old.reader)

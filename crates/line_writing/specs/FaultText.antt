@@ -1,4 +1,4 @@
--- The text of a fault: what went wrong and where, and in what, if that is known (docs/DEFINITIONS.md, "Lines").
+-- The text of an error: what went wrong and where, and in what, if that is known (docs/DEFINITIONS.md, "Lines").
 use Rattle.std.specs.Prelude.{ℕ, List, [], ◌∷◌, ◌++◌, Option, Some, None, codes}
 use Rattle.libyaml_types.specs.declared.mark.yaml_mark_t.{yaml_mark_t}
 use Rattle.libyaml_types.specs.declared.enums.yaml_error_type_t.{yaml_error_type_t}

@@ -1,4 +1,4 @@
--- The numbers and texts of the refusals to write a line (docs/DEFINITIONS.md, "Numbers").
+-- The numbers and texts of the errors of writing a line (docs/DEFINITIONS.md, "Numbers").
 use Rattle.std.specs.Prelude.{ℕ, List, codes}
 use Rattle.line_writing.specs.declared.refusal.line_refusal_t.{line_refusal_t}
 use Rattle.line_writing.specs.declared.refusal.line_refusal_t.TheVariants.{Memory, Output}

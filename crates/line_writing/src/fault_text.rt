@@ -1,4 +1,4 @@
-//! Faults as lines.
+//! Errors as lines.
 ghost use Rattle.std.specs.Prelude.{◌≡◌, OnOk, IsOkUnless, Some};
 ghost use Rattle.std.specs.Io.KnownBytes.{Appends};
 ghost use Rattle.libyaml_types.specs.Fault.{fault_of};
@@ -10,7 +10,7 @@ use crate::refusal::line_refusal_t;
 use libyaml_types::{yaml_error_type_t, yaml_mark_t, yaml_parser_t_prefix};
 use std::io::Write;
 
-/// Writes the text of a fault: its line, and the line of its context where there is one. Takes no
+/// Writes the text of an error: its line, and the line of its context where there is one. Takes no
 /// memory.
 ///
 /// # Errors

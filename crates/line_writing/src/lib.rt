@@ -1,4 +1,4 @@
-//! Events, documents and faults as lines of text.
+//! Events, documents and errors as lines of text.
 #![tactic(auto)]
 
 mod document_text;

@@ -18,9 +18,9 @@ pub use nodes::nodes_in_memory;
 pub enum memory_outcome_t {
     /// The bytes are all lines of the run.
     Ended,
-    /// The bytes are all lines of the run, followed by the text of its fault.
+    /// The bytes are all lines of the run, followed by the text of its error.
     Faulted,
-    /// An allocation failed. The bytes are the text of that fault alone.
+    /// An allocation failed. The bytes are the text of that error alone.
     OutOfMemory,
 }
 
@@ -35,7 +35,7 @@ pub struct memory_run_t {
     pub wanted: usize,
 }
 
-/// The text of the fault of a failed allocation.
+/// The text of the error of a failed allocation.
 const MEMORY_TEXT: &[u8] = b"FAULT memory 0:0:0 -\n";
 
 /// Hands out what a run wrote: its bytes where it was whole, and else the text of a failed allocation.
@@ -61,7 +61,7 @@ fn outcome_of(end: &run_end_t) -> memory_outcome_t
     }
 }
 
-/// Returns whether this is the fault of a failed allocation, or of a failed read, which memory doesn't know.
+/// Returns whether this is the error of a failed allocation, or of a failed read, which memory doesn't know.
 fn cuts_short(fault: &yaml_parser_t_prefix) -> bool
     ensures { (n : ℕ) → BreaksOffAt n (fault_of fault.now) → result ≡ true }
 {

@@ -19,25 +19,25 @@ use std::io::Write;
 pub enum Outcome {
     /// All was written, or nothing was left to write.
     Ended,
-    /// The text of a fault was written.
+    /// The text of an error was written.
     Faulted,
     /// A write or a flush failed.
     OutputFailed,
 }
 
-/// How a run ended, with the fault whose text it wrote.
+/// How a run ended, with the error whose text it wrote.
 #[derive(Copy, Clone, PartialEq, Eq, Debug)]
 pub enum run_end_t {
     /// All was written, or nothing was left to write.
     Ended,
-    /// The text of this fault was written.
+    /// The text of this error was written.
     Faulted(yaml_parser_t_prefix),
     /// A write or a flush failed.
     OutputFailed,
 }
 
 impl run_end_t {
-    /// Returns how the run ended, without its fault.
+    /// Returns how the run ended, without its error.
     pub fn outcome(&self) -> Outcome
         ensures { result ≡ outcome_of self.now }
     {
@@ -56,13 +56,13 @@ enum RunStep {
     Written,
     /// The last was written, or none was left.
     Ended,
-    /// A fault came, whose text is still to be written.
+    /// An error came, whose text is still to be written.
     Failed(yaml_parser_t_prefix),
     /// A write failed.
     OutputFailed,
 }
 
-/// Writes the text of a fault.
+/// Writes the text of an error.
 fn faulted<W: Write>(prefix: &yaml_parser_t_prefix, writer: &mut W) -> run_end_t
     ensures { WroteFault result (fault_of prefix.now) (W.contents writer.old) (W.contents writer.new) }
 {

@@ -187,7 +187,7 @@ module _ {S : Type 0} (g : Ghosts S) (source : S) (old new : Parser S) (r : Docu
               stopped = λ (f : yaml_parser_t_prefix) (h : all.fault ≡ Some f). absurd (none_is_some f (sym no_fault ∙ h));
             }
 
-    -- where the fault is not out of memory
+    -- where the error is not out of memory
     module _ (y : yaml_error_type_t) (is : r ≡ Err y) (p : yaml_parser_t_prefix)
         (kept : faults.fault_of p ≡ kept_fault new) (fault_is : all.fault ≡ Some p)
         (other : p.error ≢ YAML_MEMORY_ERROR) where

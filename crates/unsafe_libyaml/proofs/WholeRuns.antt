@@ -83,7 +83,7 @@ module _ {S : Type 0} {gives : S → Answer → S → Type 0} {source : S} {p : 
     needed_last = fails.needed;
   }
 
--- the fault of a call that failed, which is not out of memory
+-- the error of a call that failed, which is not out of memory
 pub stopped_so : {S : Type 0} {gives : S → Answer → S → Type 0} {old new : Parser S} {asked : List Token}
     {given : List Event} (p f : yaml_parser_t_prefix)
     → ◌≡◌ {A = Option yaml_parser_t_prefix} (Some p) (Some f) → fault_of p ≡ kept_fault new → p.error ≢ YAML_MEMORY_ERROR
@@ -108,7 +108,7 @@ module _ {S : Type 0} (gives : S → Answer → S → Type 0) (source : S) (p : 
     stopped = λ (f : yaml_parser_t_prefix) (h : run.fault ≡ Some f). absurd (none_is_some f (sym no_fault ∙ h));
   }
 
-  -- where the fault is not out of memory
+  -- where the error is not out of memory
   pub gathers_some : (new : Parser S) → ForHistory p (FailsBy gives p new) → (f : yaml_parser_t_prefix)
       → fault_of f ≡ kept_fault new → run.fault ≡ Some f
       → f.error ≢ YAML_MEMORY_ERROR → Gathers gives source run

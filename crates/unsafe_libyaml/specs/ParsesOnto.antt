@@ -7,7 +7,7 @@ use Rattle.libyaml_events.specs.sources.History.{is_stream_end}
 use Rattle.libyaml_events.specs.machine.Config.{Parser}
 use Rattle.libyaml_events.specs.sources.ParsesNext.{ParsesNext}
 
--- a call that gave an event, or the error of a fault
+-- a call that gave an event, or an error
 abbrev pub ParsesOnto : {S : Type 0} → (g : Ghosts S) → (old : Parser S) → (before : List yaml_event_t)
     → (is_last : Result Bool yaml_error_type_t) → (new : Parser S) → (after : List yaml_event_t) → Type 0
 ParsesOnto g old before (Ok is_last) new after = (event : yaml_event_t) × ParsesNext g old (Ok event) new

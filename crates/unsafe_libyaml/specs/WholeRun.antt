@@ -16,12 +16,12 @@ use Rattle.libyaml_types.specs.declared.fault.yaml_parser_t_prefix.{yaml_parser_
 use Rattle.libyaml_types.specs.declared.source.yaml_token_source_t.{Ghosts}
 use Rattle.unsafe_libyaml.specs.declared.parse_all.yaml_run_t.{yaml_run_t}
 
--- how a run ended, by the fault after its events
+-- how a run ended, by the error after its events
 abbrev pub ending_of : Option yaml_parser_t_prefix → Ending
 ending_of None = Ends
 ending_of (Some f) = Fails (fault_of f)
 
--- These events and this ending; or the source broke off after the results that it gave, by a fault that it names as
+-- These events and this ending; or the source failed early after the results that it gave, by an error that it names as
 -- possible where it then stood, and the events are a prefix. A list never does.
 pub data RunsTo {S : Type 0} (g : Ghosts S) (source : S) (run : yaml_run_t) (events : List Event)
     (ending : Ending) : Type 0 where
@@ -38,15 +38,15 @@ pub record Asked {S : Type 0} (gives : S → Answer → S → Type 0) (source : 
   pub needed : EachWasNeeded [] asked [] given
   pub needed_last : EachNeeded asked last given
 
--- Why the parser failed after these tokens and events, in a call that asked for the results `last`: by a fault of the
+-- Why the parser failed after these tokens and events, in a call that asked for the results `last`: by an error of the
 -- grammar, or by the source's own, which is kept with all its fields.
 pub data StoppedBy (asked : List Token) (last : List Answer) (given : List Event) (f : Fault) : Type 0 where
   of_grammar : (l : List Token) → last ≡ answers l [] → HasFailed (asked ++ l) given f → StoppedBy asked last given f
   of_source : (l : List Token) → last ≡ answers l (Err f ∷ []) → IsSourceError f.error
       → StopsShort (asked ++ l) given → StoppedBy asked last given f
 
--- A run over any source: the events begin those of each sentence that begins with the tokens, and of each run that
--- does, and nest; without a fault they are a whole tree's, and so are the tokens; and a fault came of these tokens.
+-- A run over any source: the events begin those of each valid list that begins with the tokens, and of each run that
+-- does, and nest; without an error they are a whole tree's, and so are the tokens; and an error came of these tokens.
 pub record Gathers {S : Type 0} (gives : S → Answer → S → Type 0) (source : S) (run : yaml_run_t) : Type 0 where
   pub asked : List Token
   pub last : List Answer

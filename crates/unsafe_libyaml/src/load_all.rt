@@ -30,17 +30,17 @@ use std::alloc::{AllocError, Global};
 pub struct yaml_documents_t {
     /// The documents in their order. Each has a root.
     pub documents: Vec<yaml_document_t>,
-    /// The fault after them, or `None` where the stream ends after the last.
+    /// The error after them, or `None` where the stream ends after the last.
     pub fault: Option<yaml_parser_t_prefix>,
 }
 
 /// Returns all documents of a source, and how they ended: the calls of `yaml_parser_load` until the stream's
-/// end or a fault, as one value.
+/// end or an error, as one value.
 ///
 /// # Errors
 ///
 /// `AllocError` where an allocation fails, where a list of a document would have more than 2,147,483,647
-/// entries, or where the source's fault is out of memory.
+/// entries, or where the source's error is out of memory.
 ///
 /// libyaml: a loop over `yaml_parser_load`.
 pub fn yaml_parser_load_all<S: yaml_token_source_t + Drop>(
@@ -52,8 +52,8 @@ pub fn yaml_parser_load_all<S: yaml_token_source_t + Drop>(
         → S.known source ≡ Some (coming (tokens t) f)
         → IfOk result (λ all. (n : IsNested (events t))
         × LoadsTo S.yaml_token_source_t source all (loads_of n.texts (last_load Ends ∷ []))) }
-    // a cut tree that fits gives those of its whole documents, and then the open one's composer error or
-    // its own
+    // a partial tree that fits gives those of its whole documents, and then the open one's composer error
+    // or its own
     ensures of_cut_tree { (before : List Token) (token : Token) (behind : List Token) (c : Cut) (f : Fault)
         → Fits before token c
         → is_behind_properties c behind ≡ true → S.known source ≡ Some (coming (before ++ token ∷ behind) f)
@@ -91,7 +91,7 @@ pub fn yaml_parser_load_all<S: yaml_token_source_t + Drop>(
     }
 }
 
-/// Returns these documents and the fault after them, but out of memory as `AllocError`.
+/// Returns these documents and the error after them, but out of memory as `AllocError`.
 fn failed_load(
     documents: Vec<yaml_document_t>,
     fault: yaml_parser_t_prefix,

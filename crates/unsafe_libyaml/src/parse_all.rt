@@ -26,16 +26,16 @@ use std::alloc::{AllocError, Global};
 pub struct yaml_run_t {
     /// The events in their order.
     pub events: Vec<yaml_event_t>,
-    /// The fault after them, or `None` where the last is the stream's end.
+    /// The error after them, or `None` where the last is the stream's end.
     pub fault: Option<yaml_parser_t_prefix>,
 }
 
 /// Returns all events of a source, and how they ended: the calls of `yaml_parser_parse` until the stream's
-/// end or a fault, as one value.
+/// end or an error, as one value.
 ///
 /// # Errors
 ///
-/// `AllocError` where an allocation fails, or where the source's fault is out of memory.
+/// `AllocError` where an allocation fails, or where the source's error is out of memory.
 ///
 /// libyaml: a loop over `yaml_parser_parse`.
 pub fn yaml_parser_parse_all<S: yaml_token_source_t + Drop>(
@@ -46,7 +46,7 @@ pub fn yaml_parser_parse_all<S: yaml_token_source_t + Drop>(
     ensures of_tree { (t : Stream) (f : Fault) → in_order t ≡ true
         → S.known source ≡ Some (coming (tokens t) f)
         → IfOk result (λ run. RunsTo S.yaml_token_source_t source run (events t) Ends) }
-    // a cut tree that fits gives its events, and its fault
+    // a partial tree that fits gives its events, and its error
     ensures of_cut_tree { (before : List Token) (token : Token) (behind : List Token) (c : Cut) (f : Fault)
         → Fits before token c
         → is_behind_properties c behind ≡ true → S.known source ≡ Some (coming (before ++ token ∷ behind) f)
@@ -77,7 +77,7 @@ pub fn yaml_parser_parse_all<S: yaml_token_source_t + Drop>(
 }
 
 /// Parses the next event into a place at the list's end, and returns whether it is the stream's end. After a
-/// fault the place is gone.
+/// error the place is gone.
 fn parse_onto<S: yaml_token_source_t>(
     parser: &mut yaml_parser_t<S>,
     events: &mut Vec<yaml_event_t>,
@@ -96,7 +96,7 @@ fn parse_onto<S: yaml_token_source_t>(
     }
 }
 
-/// Returns the run of these events, which this fault ended, but out of memory as `AllocError`.
+/// Returns the run of these events, which this error ended, but out of memory as `AllocError`.
 fn failed_run(
     events: Vec<yaml_event_t>,
     fault: yaml_parser_t_prefix,
@@ -112,11 +112,11 @@ fn failed_run(
     })
 }
 
-/// Returns this fault.
+/// Returns this error.
 ///
 /// # Errors
 ///
-/// The fault is that memory ran out.
+/// The error is that memory ran out.
 pub(crate) fn unless_memory(fault: yaml_parser_t_prefix) -> Result<yaml_parser_t_prefix, AllocError>
     ensures ok { IfOk result (λ f. (f ≡ fault) × (fault.error ≢ yaml_error_type_t.YAML_MEMORY_ERROR)) }
     ensures memory { IfErr result (λ _. fault.error ≡ yaml_error_type_t.YAML_MEMORY_ERROR) }

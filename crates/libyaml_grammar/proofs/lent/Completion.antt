@@ -1,5 +1,5 @@
--- Each position can be completed to a stream, so reading goes on exactly through beginnings; and one list of tokens has one
--- stream tree.
+-- Each position can be completed to a stream, so reading goes on exactly through viable prefixes; and one list of
+-- tokens has one stream tree.
 use Rattle.std.proofs.Common.{◌≡◌, List, [], ◌∷◌, ◌++◌, refl, sym, ap, ◌∙◌, subst, ◌⊎◌, inl, inr, Bool, true, append-nil}
 use Rattle.libyaml_grammar.specs.sentences.Tokens.{Marks, Token, empty_plain, zero_marks}
 use Rattle.libyaml_grammar.specs.sentences.Trees.{BlockNode, FlowNode, Stream, behind, block_mapping, block_sequence, collection, directive, explicit, flow, flow_node, free, implicit, indentless, item, last, mapping, no_directives, no_last, no_value, node, nothing, opened, pair, part, scalar}
@@ -67,7 +67,7 @@ position_ends m (flow_behind (open_collection p o sequence s is) e) = flow_ends 
 position_ends m (flow_behind (open_collection p o mapping s is) e) = flow_ends m p (collection o mapping s is (last e) m)
 position_ends m (done t) = (t, refl, refl)
 
--- a position in order is completed to a sentence
+-- a position in order is completed to a valid list
 pub position_begins : (m : Marks) (q : Position) → position_in_order q true ≡ true
     → IsSentence (position_tokens q (position_rest m q))
 position_begins m q h =
@@ -96,7 +96,7 @@ pub cut_begins_proof : (c : Cut) → cut_in_order c true ≡ true → IsSentence
 cut_begins_proof c h = subst IsSentence (ap (position_tokens (stand c)) (stand_rest zero_marks c)
     ∙ stand_tokens c (rest zero_marks c)) (position_begins zero_marks (stand c) (stand_order c true ∙ h))
 
--- what is read is in order, and begins a sentence
+-- what is read is in order, and begins a valid list
 pub read_order : (l : List Token) (q : Position) → reads_all l unopened ≡ goes q → position_in_order q true ≡ true
 read_order l q e =
     let (f, g) = reads_to l unopened q e in
@@ -112,7 +112,7 @@ reached_begins l q e =
           (position_begins zero_marks q (read_order l q e));
     }
 
--- what is read to the stream's end is a sentence, and a sentence is read to its end
+-- what is read to the stream's end is a valid list, and a valid list is read to its end
 pub read_sentence : (l : List Token) (t : Stream) → reads_all l unopened ≡ goes (done t) → IsSentence l
 read_sentence l t e = record {
   tree = t;
@@ -142,14 +142,14 @@ goes_before (goes q) f p e = (q, refl, e)
 goes_before (bad c) f p e = cc
 goes_before over f p e = cc
 
--- a beginning is read
+-- a viable prefix is read
 pub begin_reads : (a : List Token) → IsBeginning a → (q : Position) × (reads_all a unopened ≡ goes q)
 begin_reads a h =
     let (q, e, f) = goes_before (reads_all a unopened) (reads_all h.rest) (done h.sentence.tree)
     (sym (reads_append a h.rest unopened) ∙ sentence_reads (a ++ h.rest) h.sentence) in
     (q, e)
 
--- a list that stops begins no sentence
+-- a list that stops begins no valid list
 pub not_done : (a : List Token) (s : Step) → ((q : Position) → s ≡ goes q → ⊥) → reads_all a unopened ≡ s
     → IsBeginning a → ⊥
 not_done a s n e h =

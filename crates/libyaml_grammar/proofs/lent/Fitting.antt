@@ -1,4 +1,4 @@
--- Where reading stops with a cut tree, it has the tokens read, and fits.
+-- Where reading stops with a partial tree, it has the tokens read, and fits.
 use Rattle.std.proofs.Common.{◌≡◌, List, [], ◌∷◌, ◌++◌, refl, sym, ap, ◌∙◌, subst, ◌⊎◌, inl, inr, Bool, true, false, append-nil}
 use Rattle.libyaml_grammar.specs.sentences.Tokens.{Content, Marks, Token, marks_of, tok}
 use Rattle.libyaml_grammar.specs.sentences.Trees.{Stream}

@@ -1,4 +1,5 @@
--- Each beginning that is no sentence has one front tree: the cut tree at which a NO-TOKEN, bad everywhere, is bad.
+-- Each viable prefix that is no valid list has one prefix tree: the partial tree at which a NO-TOKEN, bad everywhere,
+-- is bad.
 use Rattle.std.proofs.Common.{◌≡◌, List, [], ◌∷◌, ◌++◌, Option, Some, None, true, false, refl, sym, ap, ◌∙◌, subst}
 use Rattle.libyaml_grammar.specs.sentences.Tokens.{Marks, NoToken, Token, marks_of, tok}
 use Rattle.libyaml_grammar.specs.sentences.Trees.{Properties, Stream, alone, free}
@@ -90,7 +91,7 @@ never_goes q p e = go q refl
     go x f = let g : bad (front x) ≡ goes p = sym (none_stops x (marks_of nowhere) tt)
         ∙ (ap (λ (y : Position). reads y nowhere) f ∙ e) in cc
 
--- the front tree's tokens lead to its right edge
+-- the prefix tree's tokens lead to its right edge
 pub front_reads : (l : List Token) (c : Cut) → IsFront l c → reads_all l unopened ≡ goes (reached c)
 front_reads l c f =
     let e : feeds l unopened ≡ goes (reached c) = subst (λ (x : List Token). feeds x unopened ≡ goes (reached c))
@@ -132,7 +133,7 @@ front_of l q e n =
           none_empty (last_empty (front q)) f.empty_end;
     }
 
--- a front tree is no whole stream
+-- a prefix tree is no whole stream
 pub front_not_done : (l : List Token) (c : Cut) → IsFront l c → (t : Stream) → reached c ≡ done t → ⊥
 front_not_done l c f t e = let g : bad c ≡ over = sym (fits_stop l nowhere c (front_fits l c f))
     ∙ ap (λ (x : Position). reads x nowhere) e in cc

@@ -1,4 +1,4 @@
--- A list whose only STREAM-END is its last token runs to its tree's events, or to its cut tree's events and fault.
+-- A list whose only STREAM-END is its last token runs to its tree's events, or to its partial tree's events and error.
 use Rattle.std.proofs.Common.{◌≡◌, List, [], ◌∷◌, ◌++◌, refl, sym, ap, ◌∙◌, subst, Bool, true, false, inl, inr, append-nil}
 use Rattle.libyaml_types.specs.Fault.{Fault}
 use Rattle.libyaml_grammar.specs.sentences.Tokens.{Anchor, Content, Marks, StreamEnd, Tag, Token, tok}

@@ -17,7 +17,7 @@ use Rattle.libyaml_grammar.proofs.lent.Run.{first_mark, given_shown}
 use Rattle.libyaml_grammar.proofs.lent.Running.{ended_run}
 use Rattle.libyaml_grammar.proofs.lent.Splits.{Splits, both_split, event_splits, member_end_splits, missing_value_splits, position_splits, value_splits}
 
--- what a cut tree shows stands before the events after it
+-- what a partial tree shows stands before the events after it
 cut_splits : (c : Cut) (m : Mark) → Splits (shown_cut c m)
 cut_splits (document_due d) m = both_split (position_splits (between (behind d)) m) (event_splits _)
 cut_splits (at_directive (free f) no_directives) m = position_splits (between (free f)) m
@@ -27,7 +27,7 @@ cut_splits (part_due c o s ps) m = both_split (position_splits (in_mapping c o s
 cut_splits (separator_due c e) m = both_split (position_splits (flow_behind c e) m) (member_end_splits (sort_of c) e m)
 cut_splits c m = position_splits (stand c) m
 
--- a tree whose events go on from those of a cut tree
+-- a tree whose events go on from those of a partial tree
 abbrev GoesOn : Cut → Mark → Type 0
 GoesOn c m = (t : Stream) × (later : List Event) × (events t ≡ shown_cut c m later)
 

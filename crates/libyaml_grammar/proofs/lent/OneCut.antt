@@ -1,4 +1,4 @@
--- Where a cut tree fits, reading stops at its bad token with that cut tree; so one cut tree fits.
+-- Where a partial tree fits, reading stops at its bad token with that partial tree; so one partial tree fits.
 use Rattle.std.proofs.Common.{◌≡◌, List, [], ◌∷◌, ◌++◌, Some, None, refl, sym, ap, ◌∙◌, subst, inl, inr, Bool, true, false}
 use Rattle.libyaml_grammar.specs.sentences.Tokens.{AnchorName, Content, HandleDeclared, Marks, Tag, TagDirective, TagName, Token, VersionAsked, VersionDirective, marks_of, tok}
 use Rattle.libyaml_grammar.specs.sentences.Trees.{Before, BlockNode, Directives, Documents, FlowNode, Properties, alone, anchor, anchor_tag, behind, directive, empty, explicit, flow, flow_node, flow_node_tokens, flow_nothing, free, implicit, indentless, item, no_directives, no_parts, no_value, node}
@@ -297,7 +297,7 @@ cut_stops l (separator_due c (pair e y (with_value v flow_nothing))) k m t o r w
 cut_stops l (separator_due c (pair e y (with_value v (flow_node x)))) k m t o r w d u n
     = stops_edge_flow (flow_value c e y v) x k m l (record { same = t; good = o; way = d; none = u }) n
 
--- a cut tree that fits is where the reading stops
+-- a partial tree that fits is where the reading stops
 pub fits_reach : (l : List Token) (b : Token) (c : Cut) → Fits l b c → reads_all l unopened ≡ goes (reached c)
 fits_reach l b c f =
     let e : feeds l unopened ≡ goes (reached c) = subst (λ (x : List Token). feeds x unopened ≡ goes (reached c))

@@ -98,7 +98,7 @@ position_rest m (flow_keyed c e n) = rest_open m c
 position_rest m (flow_behind c e) = rest_open m c
 position_rest m (done t) = []
 
--- the position at which a cut tree is broken off
+-- the position at which a partial tree ends
 abbrev pub stand : Cut → Position
 stand before_stream = unopened
 stand (document_due d) = between (behind d)

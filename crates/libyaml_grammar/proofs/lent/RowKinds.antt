@@ -1,4 +1,4 @@
--- How a worked row is shown: its tokens are read to their end, to the bad token, or to where they stop.
+-- How a test vector is shown: its tokens are read to their end, to the bad token, or to where they stop.
 use Rattle.std.proofs.Common.{◌≡◌, ◌++◌, ◌∷◌, ℕ, suc, List, [], ap, ◌∙◌, subst, true, false, append-nil}
 use Rattle.std.specs.Prelude.{take, drop}
 use Rattle.libyaml_grammar.specs.cuts.CutEvents.{cut_events}
@@ -23,7 +23,7 @@ use Rattle.libyaml_grammar.proofs.lent.Running.{amid_run, begin_run, cut_run, se
 use Rattle.libyaml_grammar.proofs.lent.Settling.{front_settles}
 use Rattle.libyaml_grammar.proofs.lent.StreamEnds.{not_end_not_done}
 
--- the first n tokens are a sentence
+-- the first n tokens are a valid list
 pub sentence_row : (n : ℕ) (l : List Token) (f : Fault) (e : List Event) (t : Stream)
     → reads_all (take n l) unopened ≡ goes (done t) → take n l ++ drop n l ≡ l
     → events t ≡ e → IsRun l f e Ends

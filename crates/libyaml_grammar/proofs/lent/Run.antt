@@ -46,7 +46,7 @@ given_append a b q p e r
     (λ t l y x f h. ap (gives y t.content (marks_of t))
     (subst (λ (s : Step). if_all s (gives_all (l ++ b)) r ≡ if_all s (gives_all l) (gives_all b p r)) (sym f) h)) a q e
 
--- what a beginning has given begins the events of each sentence that it begins
+-- what a viable prefix has given begins the events of each valid list that it begins
 pub begin_events : (a b : List Token) (q : Position) (t : Stream) → feeds a unopened ≡ goes q → a ++ b ≡ tokens t
     → events t ≡ gives_all a unopened (gives_all b q [])
 begin_events a b q t e f = sym (tree_run t)

@@ -1,4 +1,4 @@
--- Each list has one run for each fault of its source.
+-- Each list has one run for each error of its source.
 use Rattle.std.specs.Prelude.{◌||◌}
 use Rattle.std.proofs.Common.{◌≡◌, ◌⊎◌, inl, inr, List, [], ◌∷◌, ◌++◌, Bool, true, false, refl, sym, ap, ◌∙◌, subst, append-nil}
 use Rattle.std.proofs.lemmas.List.{append_cancel_left}
@@ -201,7 +201,7 @@ begin_has_run l f q e false h =
     let (c, i) = begin_front (up_to_end l) b h in
     (sure c, Fails f, of_beginning b h (front_settles (up_to_end l) c i) refl)
 
--- a token after a sentence is none of the prefix's
+-- a token after a valid list is none of the prefix's
 not_past : (l before : List Token) (token : Token) (behind : List Token) (q : Position)
     → up_to_end l ≡ before ++ token ∷ behind
     → reads_all before unopened ≡ goes q → reads q token ≡ over → ⊥
@@ -231,7 +231,7 @@ sentence_run t r f o =
     of_sentence t (up_to_read (tokens t) unopened (done t) r (sentence_reads (tokens t) s)
     (sentence_has_end (tokens t) s)) o refl refl
 
--- no cut tree has a STREAM-END
+-- no partial tree has a STREAM-END
 cut_not_ended : (l : List Token) (b : Token) (c : Cut) → Fits l b c → has_end l ≡ false
 cut_not_ended l b c f
     = false_from_ne_true (has_end l) (λ e. no (reached c) refl (end_is_done l unopened (reached c) (fits_reach l b c f) e))
@@ -240,7 +240,7 @@ cut_not_ended l b c f
     no (done t) g d = let h : bad c ≡ over = sym (fits_stop l b c f) ∙ ap (λ (y : Position). reads y b) g in cc
     no _ g d = d
 
--- what follows the token of a cut tree
+-- what follows the token of a partial tree
 behind_token : Token → List Token → List Token
 behind_token b r = elim (is_end b.content) [ true ↦ [] | false ↦ up_to_end r ]
 

@@ -1,4 +1,4 @@
--- What a front tree settles is what its sentences' events have in common.
+-- What a prefix tree determines is what its valid lists' events have in common.
 use Rattle.std.proofs.Common.{◌≡◌, ◌↔◌, ℕ, List, [], ◌∷◌, ◌++◌, None, true, false, refl, sym, ap, ◌∙◌, subst, append_assoc, arith, append-nil}
 use Rattle.std.proofs.lemmas.Bool.{false_from_ne_true}
 use Rattle.libyaml_types.specs.Events.{zero_mark}
@@ -110,7 +110,7 @@ begin_each_other a b (r, e) (s, f) =
 pub one_settled_proof : (l : List Token) (d e : List Event) → IsSettled l d → IsSettled l e → d ≡ e
 one_settled_proof l d e s t = begin_each_other d e (t.longest d s.begins_each) (s.longest e t.begins_each)
 
--- two completions of a front tree
+-- two completions of a prefix tree
 abbrev mark_at : ℕ → Mark
 mark_at n = record { index = n; line = 0; column = 0 }
 
@@ -166,7 +166,7 @@ feeds_append : (a b : List Token) (q p : Position) → feeds a q ≡ goes p → 
 feeds_append a b q p e = along (λ (l : List Token) (x : Position). feeds (l ++ b) x ≡ feeds b p) p refl
     (λ t l y x f h. ap (λ (s : Step). then_all s (feeds (l ++ b))) f ∙ h) a q e
 
--- a sentence begins itself alone
+-- a valid list begins itself alone
 only_itself : (s t : Stream) (rest : List Token) → tokens t ≡ tokens s ++ rest → s ≡ t
 only_itself s t rest e = go rest (sym (feeds_append (tokens s) rest unopened (done s) (stream_reads s))
     ∙ (ap (λ (l : List Token). feeds l unopened) (sym e) ∙ stream_reads t))
@@ -181,7 +181,7 @@ sentence_settles t o = record {
   longest = λ d b. b t [] o (sym (append-nil (tokens t)));
 }
 
--- each beginning without STREAM-END
+-- each viable prefix without STREAM-END
 pub begin_front : (l : List Token) → IsBeginning l → has_end l ≡ false → (c : Cut) × IsFront l c
 begin_front l b h =
     let (q, e) = begin_reads l b in

@@ -1,4 +1,4 @@
--- A STREAM-END is the last token of a sentence, and each sentence has one.
+-- A STREAM-END is the last token of a valid list, and each valid list has one.
 use Rattle.std.specs.Prelude.{◌||◌}
 use Rattle.std.proofs.Common.{◌≡◌, List, [], ◌∷◌, Bool, true, false, refl, subst}
 use Rattle.libyaml_grammar.specs.sentences.Sentences.{IsSentence, has_end, is_end}

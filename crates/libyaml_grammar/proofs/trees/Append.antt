@@ -1,5 +1,5 @@
--- A cut tree's tokens, and their order, are those of its right edge; so its tokens with a list after them are its tokens
--- followed by the list.
+-- A partial tree's tokens, and their order, are those of its right edge; so its tokens with a list after them are its
+-- tokens followed by the list.
 use Rattle.std.proofs.Common.{◌≡◌, List, [], ◌++◌, refl, sym, ap, ◌∙◌, Bool}
 use Rattle.std.proofs.lemmas.List.{append_cancel_right}
 use Rattle.libyaml_grammar.specs.sentences.Trees.{BlockNode, BlockSlot, Documents, FlowNode, FlowSlot, alone, behind, block_node_tokens, block_slot_tokens, documents_tokens, explicit, flow, flow_node, flow_node_tokens, flow_nothing, flow_slot_tokens, free, implicit, indentless, item, no_directives}
@@ -63,7 +63,7 @@ edge_told _ = (λ r. refl, λ r. refl)
 pub cut_append : (c : Cut) (r : List Token) → cut_tokens c r ≡ cut_tokens c [] ++ r
 cut_append c r = sym ((edge_told c).0 r) ∙ feeds_keep (cut_tokens c []) unopened (reached c) (cut_reads c []) r
 
--- two cut trees with equal tokens before one list have equal tokens before each
+-- two partial trees with equal tokens before one list have equal tokens before each
 pub cut_swap : (c d : Cut) (r a : List Token) → cut_tokens c r ≡ cut_tokens d r → cut_tokens c a ≡ cut_tokens d a
 cut_swap c d r a e = cut_append c a
     ∙ (ap (λ (l : List Token). l ++ a) (append_cancel_right (cut_tokens c []) (cut_tokens d []) r (sym (cut_append c r)

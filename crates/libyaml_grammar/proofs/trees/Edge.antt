@@ -1,4 +1,4 @@
--- The position that a cut tree's tokens lead to: its right edge, with all that is open around it.
+-- The position that a partial tree's tokens lead to: its right edge, with all that is open around it.
 use Rattle.std.proofs.Common.{◌≡◌, List, ◌∷◌, Option, Some, None, refl, ◌∙◌}
 use Rattle.libyaml_grammar.specs.sentences.Tokens.{Anchor, BlockEntry, BlockMappingStart, BlockSequenceStart, Key, Marks, Token, Value, tok}
 use Rattle.libyaml_grammar.specs.sentences.Trees.{Before, BlockItems, BlockSlot, Directive, Directives, Documents, FlowMember, FlowSlot, Parts, Properties, Sort, anchor, before_tokens, behind, block_node_tokens, block_slot_tokens, directive, directive_token, directives_tokens, documents_tokens}
@@ -77,7 +77,7 @@ mutual
   open_reads : (c : Open) (r : List Token) → feeds (open_tokens c r) unopened ≡ feeds r (flow_due c)
   open_reads (open_collection p o k m is) r = place_reads p _ ∙ (home_collection o p k m _ ∙ flow_items_read is p o k m r)
 
--- the position after the tokens of a cut tree
+-- the position after the tokens of a partial tree
 abbrev pub edge_documents : Documents → Position
 edge_documents (implicit f n) = edge_block (root (implicit_root f)) n
 edge_documents (explicit b ds m x) = edge_slot (root (explicit_root b ds m)) x

@@ -1,4 +1,4 @@
--- Where reading stops with a cut tree, the rules name that one: what ends it, what its place wants, and whether its
+-- Where reading stops with a partial tree, the rules name that one: what ends it, what its place wants, and whether its
 -- token is a directive or a TAG.
 use Rattle.std.specs.Prelude.{◌&&◌, not}
 use Rattle.std.proofs.Common.{◌≡◌, List, [], ◌∷◌, Option, Some, None, refl, sym, ap, ◌∙◌, subst, ◌⊎◌, inl, inr, ⊎_elim, Bool, true, false}

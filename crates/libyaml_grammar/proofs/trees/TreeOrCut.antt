@@ -1,4 +1,4 @@
--- Each list is a sentence or a beginning, or a cut tree fits it, and not both.
+-- Each list is valid or a viable prefix, or a partial tree fits it, and not both.
 use Rattle.std.proofs.Common.{◌≡◌, List, [], ◌∷◌, ◌++◌, refl, sym, ap, ◌∙◌, subst, true, false, ◌⊎◌, inl, inr, append-nil}
 use Rattle.std.proofs.lemmas.Bool.{false≢true, or_from, or_parts}
 use Rattle.libyaml_grammar.specs.sentences.Tokens.{Marks, StreamEnd, Token, tok, zero_marks}
@@ -14,7 +14,7 @@ use Rattle.libyaml_grammar.proofs.lent.Completion.{Stops, cut_begins_proof, goes
 use Rattle.libyaml_grammar.proofs.trees.Ending.{ends_done, stays_open}
 use Rattle.libyaml_grammar.proofs.lent.Fitting.{read_over, stops_fits}
 
--- a prefix of a beginning is a beginning
+-- a prefix of a viable prefix is a viable prefix
 shift : (a b r : List Token) (t : Token) → (a ++ t ∷ []) ++ (b ++ r) ≡ (a ++ t ∷ b) ++ r
 shift [] b r t = refl
 shift (x ∷ a) b r t = ap (λ (l : List Token). x ∷ l) (shift a b r t)
@@ -28,7 +28,7 @@ not_both l h c = c.fits.bad_token (begins_front c.before c.after c.token (subst 
 sentence_begins : (l : List Token) → IsSentence l → IsBeginning l
 sentence_begins l h = record { rest = []; sentence = subst IsSentence (sym (append-nil l)) h }
 
--- where reading stops there is a cut tree, or the stream had ended
+-- where reading stops there is a partial tree, or the stream had ended
 stopped : (l : List Token) (h : Stops l unopened)
     → HasCut l ⊎ ((t : Stream) × (reads_all h.before unopened ≡ goes (done t)))
 stopped l h = go (reads h.at h.token) refl
@@ -119,7 +119,7 @@ sentence_or_cut l m n = (
     go (inl (p, e)) = ended p e (reads_all l unopened) refl (sym (reads_append l (tok StreamEnd m ∷ []) unopened) ∙ e)
     go (inr h) = late h (stopped all h)
 
--- a cut tree's tokens and its rest are a sentence
+-- a partial tree's tokens and its rest are a valid list
 pub cut_completes : (c : Cut) → cut_in_order c true ≡ true → IsSentence (cut_tokens c [] ++ rest zero_marks c)
 cut_completes c h = subst IsSentence (cut_append c (rest zero_marks c)) (cut_begins_proof c h)
 

@@ -45,7 +45,7 @@ abbrev mutual
   shown_open (open_collection p o k s is) r
       = shown_place p (first_of o s.start) (start_of (declared p) k flow_layout o s ∷ flow_items_events (declared p) k is r)
 
--- the events of a cut tree before a bad token at m; an ANCHOR before a bad TAG gives none
+-- the events of a partial tree before a bad token at m; an ANCHOR before a bad TAG gives none
 abbrev pub shown_cut : Cut → Mark → List Event → List Event
 shown_cut before_stream m r = r
 shown_cut (document_due d) m r = documents_events d m (document_end_at true m m ∷ r)
@@ -64,6 +64,6 @@ shown_cut (part_due c o s ps) m r
 shown_cut (separator_due c e) m r =
     shown_open c (flow_member_events (declared_open c) (sort_of c) e m (member_end (sort_of c) e m r))
 
--- the events of a cut tree with its bad token after it
+-- the events of a partial tree with its bad token after it
 abbrev pub cut_events : Cut → Token → List Event
 cut_events c b = shown_cut c b.start_mark []

@@ -22,7 +22,7 @@ abbrev pub separator_fault : Open → Mark → Fault
 separator_fault (open_collection p o sequence s is) m = sequence_fault s.start m
 separator_fault (open_collection p o mapping s is) m = mapping_fault s.start m
 
--- the fault of a cut tree at the bad token of this content, which begins at m
+-- the error of a partial tree at the bad token of this content, which begins at m
 abbrev pub fault : Cut → Content → Mark → Fault
 fault before_stream k m = stream_start_fault m
 fault (document_due d) k m = document_start_fault m

@@ -1,4 +1,4 @@
--- Partial trees (docs/DEFINITIONS.md, "Partial trees"): a stream tree broken off at one place of its right edge. All to the
+-- Partial trees (docs/DEFINITIONS.md, "Partial trees"): a stream tree that stops at one place of its right edge. All to the
 -- left of the place is whole, and the collections and the document around it are open.
 use Rattle.std.specs.Prelude.{List, ◌∷◌, Option, Bool, ◌&&◌}
 use Rattle.libyaml_grammar.specs.sentences.Tokens.{Anchor, AnchorName, BlockEntry, BlockMappingStart, BlockSequenceStart, DocumentStart, Key, Marks, Token, Value, tok}
@@ -37,7 +37,7 @@ mutual
   pub data Open : Type 0 where
     open_collection : Place → Option Properties → Sort → Marks → FlowItems → Open
 
--- The place at which the tree is broken off: before STREAM-START; where a document's start is expected, after a whole
+-- The place at which the tree ends: before STREAM-START; where a document's start is expected, after a whole
 -- document or after a directive; at a directive; where a node's content is expected, with no property before it; at a TAG
 -- that begins a node, or after an ANCHOR that begins one; and in a block sequence, a block mapping or a flow
 -- collection after its start or a whole entry.
@@ -81,7 +81,7 @@ abbrev mutual
   pub open_tokens : Open → List Token → List Token
   open_tokens (open_collection p o k m is) r = place_tokens p (option_tokens o (tok (opening k) m ∷ flow_items_tokens is r))
 
--- the tokens of a cut tree, and after them the list r
+-- the tokens of a partial tree, and after them the list r
 abbrev pub cut_tokens : Cut → List Token → List Token
 cut_tokens before_stream r = r
 cut_tokens (document_due d) r = documents_tokens d r
@@ -148,7 +148,7 @@ abbrev mutual
   open_in_order (open_collection p o k m is) b =
       place_in_order p (option_in_order (declared p) o (flow_items_in_order (declared p) is b))
 
--- whether the documents of a cut tree are in order as far as they go, and b
+-- whether the documents of a partial tree are in order as far as they go, and b
 abbrev pub cut_in_order : Cut → Bool → Bool
 cut_in_order before_stream b = b
 cut_in_order (document_due d) b = documents_in_order d b

@@ -56,7 +56,7 @@ ends_empty (flow_entry c) k = false
 ends_empty (flow_key c e) k = ends_empty_key c k
 ends_empty (flow_value c e x v) k = ends_empty_value c k
 
--- the place of a node that is nothing and ends the cut tree, so that no token of the tree follows it
+-- the place of a node that is nothing and ends the partial tree, so that no token of the tree follows it
 abbrev pub empty_root : Documents → Option Place
 empty_root (explicit b ds m nothing) = Some (block (root (explicit_root b ds m)))
 empty_root _ = None
@@ -128,8 +128,8 @@ FitsTag l (at_tag p) k = IsUnknown (declared p) k
 FitsTag l (at_tag_behind p a m) k = IsUnknown (declared p) k
 FitsTag l _ k = IsUnknownTag l k → ⊥
 
--- The cut tree c fits the list l and the token b after it: its tokens are l and its documents in order, no sentence
--- begins with l and b, and where several places would serve, the place is the one that the rules above name.
+-- The partial tree c fits the list l and the token b after it: its tokens are l and its documents in order, no valid
+-- list begins with l and b, and where several places would serve, the place is the one that the rules above name.
 pub record Fits (l : List Token) (b : Token) (c : Cut) : Type 0 where
   pub tokens : cut_tokens c [] ≡ l
   pub order : cut_in_order c true ≡ true
@@ -139,7 +139,7 @@ pub record Fits (l : List Token) (b : Token) (c : Cut) : Type 0 where
   pub directive : FitsDirective c b.content
   pub tag : FitsTag l c b.content
 
--- a cut tree that fits a prefix of the list with the token after it
+-- a partial tree that fits a prefix of the list with the token after it
 pub record HasCut (l : List Token) : Type 0 where
   pub before : List Token
   pub token : Token

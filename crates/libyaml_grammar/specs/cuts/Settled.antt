@@ -16,7 +16,7 @@ use Rattle.libyaml_grammar.specs.sentences.Trees.{nothing, pair, part, sequence,
 abbrev pub Begins : List Event → List Event → Type 0
 Begins a b = (rest : List Event) × (b ≡ a ++ rest)
 
--- the events begin those of every sentence that the tokens begin
+-- the events begin those of every valid list that the tokens begin
 abbrev pub BeginsEach : List Token → List Event → Type 0
 BeginsEach l e = (t : Stream) (rest : List Token) → in_order t ≡ true → tokens t ≡ l ++ rest → Begins e (events t)
 
@@ -29,7 +29,7 @@ abbrev pub next_event : List Event → Option Event
 next_event [] = None
 next_event (e ∷ r) = Some e
 
--- two sentences that begin with the tokens l, whose events begin with e and differ directly after these
+-- two valid lists that begin with the tokens l, whose events begin with e and differ directly after these
 pub record IsOpen (l : List Token) (e : List Event) : Type 0 where
   pub first : Stream
   pub second : Stream
@@ -45,7 +45,7 @@ pub record IsOpen (l : List Token) (e : List Event) : Type 0 where
   pub second_goes_on : events second ≡ e ++ second_events
   pub differ : next_event first_events ≡ next_event second_events → ⊥
 
--- The front tree of a beginning: the cut tree of its tokens that is broken off at no directive or tag, and of which no
+-- The prefix tree of a viable prefix: the partial tree of its tokens that ends at no directive or tag, and of which no
 -- node that is nothing stands at the end.
 abbrev pub IsFrontPlace : Cut → Type 0
 IsFrontPlace (at_directive b ds) = ⊥
@@ -59,7 +59,7 @@ pub record IsFront (l : List Token) (c : Cut) : Type 0 where
   pub place : IsFrontPlace c
   pub full : last_empty c ≡ None
 
--- What the front tree settles is all that it shows, except what depends on the tokens after it: its mark, and
+-- What the prefix tree determines is all that it shows, except what depends on the tokens after it: its mark, and
 -- properties alone at its end, which may be those of a content after them.
 abbrev pub sure_flow_node : Directives → FlowNode → List Event
 sure_flow_node ds (alone p) = []
@@ -108,7 +108,7 @@ abbrev pub sure_place : Place → List Event
 sure_place (block (root (implicit_root f))) = free_events f []
 sure_place p = shown_place p zero_mark []
 
--- the events that a front tree settles
+-- the events that a prefix tree determines
 abbrev pub sure : Cut → List Event
 sure (document_due d) = sure_documents d
 sure (start_due b ds d) = before_events b (first_directive ds (directive_start d)) []

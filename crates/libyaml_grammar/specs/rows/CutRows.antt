@@ -8,7 +8,7 @@ use Rattle.libyaml_grammar.specs.rows.RowNotation.{ALIAS, ANCHOR, HANDLE, SCALAR
 use Rattle.libyaml_grammar.specs.rows.RowNotation.{says_while, scalar, sequence, sequence_of, stream, text}
 use Rattle.libyaml_grammar.specs.runs.Runs.{Fails, IsRun}
 
--- Each fault, and the events before it.
+-- Each error, and the events before it.
 abbrev pub RowNoStreamStart : Type 0
 RowNoStreamStart = IsRun (list (
     SCALAR (codes "a") ∷ [])) no_more (
@@ -290,7 +290,7 @@ RowWrongEndOfFlowMapping = IsRun (list (
     at 0 0 stream ∷ at 2 2 bare_document ∷ at 2 3 flow_mapping ∷ at 6 7 (text (codes "a")) ∷ at 10 11 (text (codes "b"))
     ∷ []) (Fails (says_while (codes "while parsing a flow mapping") 2 (codes "did not find expected ',' or '}'") 12))
 
--- What a beginning settles where the source fails after it.
+-- What a viable prefix determines where the source fails after it.
 abbrev pub RowNoTokens : Type 0
 RowNoTokens = IsRun (list (
     [])) no_more (

@@ -1,5 +1,5 @@
--- The notation of worked rows. Token k of a list, counted from 0, begins at index and column 2k and ends at 2k + 1, on
--- line 0; events and faults are written out field by field.
+-- The notation of test vectors. Token k of a list, counted from 0, begins at index and column 2k and ends at 2k + 1, on
+-- line 0; events and errors are written out field by field.
 use Rattle.std.specs.Prelude.{◌∷◌, ◌+◌, ◌*◌, ℕ, pos, List, [], Option, Some, None, Bool, true, false, codes}
 use Rattle.libyaml_types.specs.declared.directive.yaml_tag_directive_t.{yaml_tag_directive_t}
 use Rattle.libyaml_types.specs.declared.directive.yaml_version_directive_t.{yaml_version_directive_t}
@@ -136,7 +136,7 @@ mapping_of a t i = ev.MappingStart (record { anchor = a; tag = t; implicit = i; 
 abbrev pub flow_mapping_of : (anchor tag : Option (List ℕ)) → (implicit : Bool) → unnamed_yaml_event_t_data
 flow_mapping_of a t i = ev.MappingStart (record { anchor = a; tag = t; implicit = i; style = YAML_FLOW_MAPPING_STYLE })
 
--- the source's fault after each list
+-- the source's error after each list
 abbrev pub no_more : Fault
 no_more = record {
   error = YAML_READER_ERROR;
@@ -149,7 +149,7 @@ no_more = record {
   context_mark = record { index = 4; line = 5; column = 6 };
 }
 
--- a parser's fault: its problem at an index, and its context at another, or none
+-- a parser's error: its problem at an index, and its context at another, or none
 abbrev pub says : List ℕ → ℕ → Fault
 says p i = record {
   error = YAML_PARSER_ERROR;

@@ -1,4 +1,4 @@
--- The run over a list of tokens and a source's fault: all events, and how it ends (docs/DEFINITIONS.md, "Runs").
+-- The run over a list of tokens and a source's error: all events, and how it ends (docs/DEFINITIONS.md, "Runs").
 use Rattle.std.specs.Prelude.{◌≡◌, List, [], ◌∷◌, ◌++◌, Bool, true, false}
 use Rattle.libyaml_grammar.specs.cuts.CutEvents.{cut_events}
 use Rattle.libyaml_grammar.specs.cuts.CutFaults.{fault}
@@ -34,8 +34,8 @@ is_behind_properties (at_tag p) (t ∷ l) = is_behind t.content l
 is_behind_properties (at_tag_behind p a m) l = has_token l
 is_behind_properties c l = true
 
--- The four cases: a sentence, which ends; a cut tree that fits, with its fault; a cut tree at a TAG after whose node's
--- properties no token stands, with the source's fault f; a beginning without STREAM-END, with f.
+-- The four cases: a valid list, which ends; a partial tree that fits, with its error; a partial tree at a TAG after
+-- whose node's properties no token stands, with the source's error f; a viable prefix without STREAM-END, with f.
 pub data IsRun (l : List Token) (f : Fault) (e : List Event) (x : Ending) : Type 0 where
   of_sentence : (t : Stream) → up_to_end l ≡ tokens t → in_order t ≡ true → e ≡ events t → x ≡ Ends → IsRun l f e x
   of_cut_tree : (before : List Token) (token : Token) (behind : List Token) (c : Cut)
@@ -48,7 +48,7 @@ pub data IsRun (l : List Token) (f : Fault) (e : List Event) (x : Ending) : Type
   of_beginning : IsBeginning (up_to_end l) → has_end (up_to_end l) ≡ false → IsSettled (up_to_end l) e → x ≡ Fails f
       → IsRun l f e x
 
--- a cut tree fits, with these events and this fault
+-- a partial tree fits, with these events and this error
 pub record HasFault (l : List Token) (e : List Event) (g : Fault) : Type 0 where
   pub before : List Token
   pub token : Token
@@ -60,7 +60,7 @@ pub record HasFault (l : List Token) (e : List Event) (g : Fault) : Type 0 where
   pub fails : g ≡ fault cut token.content token.start_mark
 
 -- The run of a list whose only STREAM-END is its last token: the events of its one tree, and the end; or the events of the
--- one cut tree that fits, and its fault. The fault after the list never shows.
+-- one partial tree that fits, and its error. The error after the list never shows.
 pub data RunsWhole (l : List Token) (f : Fault) : Type 0 where
   to_its_end : (t : Stream) → in_order t ≡ true → l ≡ tokens t → IsRun l f (events t) Ends → RunsWhole l f
   to_its_fault : (before : List Token) (token : Token) (behind : List Token) (c : Cut)

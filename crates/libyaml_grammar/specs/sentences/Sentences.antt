@@ -10,12 +10,12 @@ pub record IsSentence (l : List Token) : Type 0 where
   pub all : l ≡ tokens tree
   pub order : in_order tree ≡ true
 
--- a list that begins a sentence
+-- a list that begins a valid list
 pub record IsBeginning (l : List Token) : Type 0 where
   pub rest : List Token
   pub sentence : IsSentence (l ++ rest)
 
--- b is the first token with which no sentence goes on
+-- b is the first token with which no valid list goes on
 abbrev pub IsBadToken : List Token → Token → Type 0
 IsBadToken l b = IsBeginning l × (IsBeginning (l ++ b ∷ []) → ⊥)
 

@@ -1,5 +1,5 @@
 //! One law for each production of the grammar: its tokens, with the same tokens after them, belong to one
-//! tree. A whole collection and a sentence need not even the same tokens after them.
+//! tree. A whole collection and a valid list need not even the same tokens after them.
 
 ghost use Rattle.std.specs.Prelude.{◌≡◌, ◌++◌, List};
 ghost use Rattle.libyaml_grammar.specs.cuts.CutTrees.{Place, place_tokens};
@@ -80,7 +80,7 @@ pub fn one_collection()
         → block_node_tokens s a ≡ block_node_tokens t b → (s ≡ t) × (a ≡ b) }
 {}
 
-/// No sentence begins another, whatever follows the two.
+/// No valid list begins another, whatever follows the two.
 pub fn one_sentence()
     ensures { (l m a b : List Token) → IsSentence l → IsSentence m → l ++ a ≡ m ++ b → (l ≡ m) × (a ≡ b) }
 {}

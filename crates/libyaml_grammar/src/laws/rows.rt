@@ -1,5 +1,5 @@
-//! Worked rows of the definitions: lists of tokens with their events and how each run ends. Each function
-//! does nothing when it runs: its contract is the rows.
+//! Test vectors of the definitions: lists of tokens with their events and how each run ends. Each function
+//! does nothing when it runs: its contract is these.
 
 ghost use Rattle.libyaml_grammar.specs.rows.EmptyRows.{NeverEmptyFlowEntry, NeverEmptyRoot};
 ghost use Rattle.libyaml_grammar.specs.rows.EmptyRows.{RowEmptyDocument, RowEmptyEntry};
@@ -145,7 +145,7 @@ pub fn properties()
     ensures handles_with_zero_bytes { RowHandlesWithZeroBytes }
 {}
 
-/// Each fault, and the events before it.
+/// Each error, and the events before it.
 pub fn faults()
     ensures no_stream_start { RowNoStreamStart }
     ensures no_token { RowNoToken }
@@ -195,7 +195,7 @@ pub fn faults()
     ensures wrong_end_of_flow_mapping { RowWrongEndOfFlowMapping }
 {}
 
-/// What a beginning settles where the source fails after it.
+/// What a viable prefix determines where the source fails after it.
 pub fn beginnings()
     ensures no_tokens { RowNoTokens }
     ensures stream_begun { RowStreamBegun }

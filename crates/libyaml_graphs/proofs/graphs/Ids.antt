@@ -34,7 +34,7 @@ carrier_before : (a : List ℕ) (es : List Start) → id_or (carrier a es) ≤ l
 carrier_before a [] = le_refl _
 carrier_before a (s ∷ es) = carried (carries s.anchor a) (length es) s.mark (carrier a es) (carrier_before a es)
 
--- and is not zero where the alias has no fault
+-- and is not zero where the alias has no error
 named : (b : Bool) (n : ℕ) (i m : Mark) (o : Option Carrier) → (alias_fault o m ≡ None → 1 ≤ id_or o)
     → alias_fault (elim b [ true ↦ Some (record { id = suc n; mark = i }) | false ↦ o ]) m ≡ None
     → 1 ≤ id_or (elim b [ true ↦ Some (record { id = suc n; mark = i }) | false ↦ o ])
@@ -70,7 +70,7 @@ abbrev AllUpTo : ℕ → List ℕ → Type 0
 AllUpTo n [] = Unit {0}
 AllUpTo n (i ∷ is) = IsUpTo n i × AllUpTo n is
 
--- where the composer finds no fault in values they have ids, and there is none in what follows them
+-- where the composer finds no error in values they have ids, and there is none in what follows them
 mutual
   value_sound : (v : Value) (es : List Start) (r : List Event) → composer_fault es (parts (value_events v r)) ≡ None
       → (1 ≤ id_of v es)

@@ -238,7 +238,7 @@ opened_stack x es b s =
     ∙ ap (λ (k : Option ℤ). record { node = pos (suc (length b.held)); key = k } ∷ stack_of b.places hs)
     (sym (new_key (suc (length es)) b.places b.held x s.there)))
 
--- the map of anchors has the carriers
+-- the map of anchors has the anchored nodes
 abbrev pub Agrees : List Start → Anchors → Type 0
 Agrees es xs = (a : List ℕ) → get xs a ≡ carrier a es
 

@@ -8,7 +8,7 @@ use Rattle.libyaml_documents.specs.declared.node.yaml_node_t.{yaml_node_t}
 use Rattle.libyaml_graphs.specs.graphs.GraphParts.{Part, part_in}
 use Rattle.libyaml_graphs.proofs.machine.Built.{BeginsEmpty}
 
--- what comes of a document, by its fault or by its nodes
+-- what comes of a document, by its error or by its nodes
 pub record Answering (A : Type 0) : Type 0 where
   pub of_fault : Fault → A
   pub of_nodes : List yaml_node_t → A

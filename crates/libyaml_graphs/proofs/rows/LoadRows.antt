@@ -1,4 +1,4 @@
--- How a worked row is shown: it is read token by token, and all else is computed.
+-- How a test vector is shown: it is read token by token, and all else is computed.
 use Rattle.std.proofs.Common.{◌≡◌, ◌++◌, ◌∷◌, ℕ, suc, List, refl, true, false}
 use Rattle.std.specs.Prelude.{take, drop}
 use Rattle.libyaml_grammar.specs.cuts.CutEvents.{cut_events}

@@ -1,5 +1,5 @@
--- The composer errors (docs/DEFINITIONS.md, "Composer errors"): an alias whose anchor no earlier head carries, and an
--- anchor that an earlier head carries.
+-- The composer errors (docs/DEFINITIONS.md, "Composer errors"): an alias whose anchor no earlier node has, and an
+-- anchor that an earlier node has.
 use Rattle.std.specs.Prelude.{ℕ, List, [], ◌∷◌, Option, Some, None, codes}
 use Rattle.libyaml_types.specs.declared.enums.yaml_error_type_t.TheVariants.{YAML_COMPOSER_ERROR}
 use Rattle.libyaml_types.specs.Fault.{Fault, no_fault}
@@ -24,7 +24,7 @@ repeated_anchor m n = record no_fault {
   context_mark = m;
 }
 
--- the heads of a document: its aliases, scalars and starts of collections
+-- the aliases, scalars and starts of collections of a document
 abbrev pub heads : List Part → List Part
 heads [] = []
 heads (alias_part a m ∷ r) = alias_part a m ∷ heads r

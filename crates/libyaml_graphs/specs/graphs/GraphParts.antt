@@ -1,5 +1,5 @@
 -- The parts of a document by its events, and its graph by parts (docs/DEFINITIONS.md, "Graphs"). This is the form
--- of the graph that needs no tree, so that it is also that of a document which a fault cuts off.
+-- of the graph that needs no tree, so that it is also that of a document which an error cuts off.
 use Rattle.std.specs.Prelude.{ℕ, zero, suc, List, [], ◌∷◌, ◌++◌, length, Option, Some, None, Bool}
 use Rattle.libyaml_types.specs.declared.event.unnamed_yaml_event_t_data.TheVariants as ev
 use Rattle.libyaml_types.specs.declared.event.unnamed_yaml_event_t_data.{unnamed_yaml_event_t_data}

@@ -71,7 +71,7 @@ load_at z n [] = z
 load_at z zero (a ∷ l) = a
 load_at z (suc n) (a ∷ l) = load_at a n l
 
--- a fault again and again, else what comes after
+-- an error again and again, else what comes after
 abbrev pub unless_fault : Load → Load → Load
 unless_fault (Ok d) b = b
 unless_fault (Err f) b = Err f
@@ -112,8 +112,8 @@ pub data NestedLoads (e : List Event) (x : Ending) (a : List Load) : Type 0 wher
   whole : (n : IsNested e) → a ≡ loads_of n.texts (last_load x ∷ []) → NestedLoads e x a
 
 -- The loads over a list whose only STREAM-END is its last token: the graphs of its one tree's documents, up to the first
--- composer error, and then the document without root; or those of the one cut tree that fits, and then the composer
--- error of the document that is open in it, or the cut tree's own. The fault after the list never shows.
+-- composer error, and then the document without root; or those of the one partial tree that fits, and then the composer
+-- error of the document that is open in it, or the partial tree's own. The error after the list never shows.
 pub data LoadsWhole (l : List Token) (f : Fault) : Type 0 where
   to_its_end : (t : Stream) → in_order t ≡ true → l ≡ tokens t → (a : List Load) → IsLoads l f a → (n : IsNested (events t))
       → a ≡ loads_of n.texts (last_load Ends ∷ []) → LoadsWhole l f

@@ -19,7 +19,7 @@ use Rattle.libyaml_graphs.specs.graphs.Graphs.{Carrier}
 use Rattle.libyaml_graphs.specs.loads.Loads.{Load, behind_document, document, last_load, left_over}
 use Rattle.libyaml_graphs.specs.graphs.GraphParts.{Opening, Part, alias_part, closing_of, end_part, leaf_part, opening_of, part_of, start_part}
 
--- the carrier of each anchor
+-- the node that each anchor names
 abbrev pub Anchors : Type 0
 Anchors = FinMap (slice_cmp nat_cmp) Carrier
 
@@ -173,7 +173,7 @@ pub data State : Type 0 where
   between : State
   within : Opening → Loader → State
 
--- what comes of an outcome: its fault in the form of a result, or what the loader goes on to
+-- what comes of an outcome: its error in the form of a result, or what the loader goes on to
 abbrev pub if_going : {A : Type 0} → (Fault → A) → Loading → (Loader → A) → A
 if_going fault (going l) f = f l
 if_going fault (failed x) f = fault x

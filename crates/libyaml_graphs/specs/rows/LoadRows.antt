@@ -93,7 +93,7 @@ block_mapping ps m n = record {
 abbrev pub pair : (key value : ℕ) → yaml_node_pair_t
 pair k v = record { key = pos k; value = pos v }
 
--- composer errors: an alias at an index that nothing carries, and the second of two carriers
+-- composer errors: an alias at an index whose anchor no node has, and the second of two nodes with one
 abbrev pub no_carrier : ℕ → Load
 no_carrier m = Err (record {
   error = YAML_COMPOSER_ERROR;
@@ -229,13 +229,13 @@ RowAnchorOfDocumentBefore = IsLoads (list (
     StreamEnd ∷ [])) no_more (
     loaded [] false true 2 8 (text_node (codes "x") 4 7 ∷ []) ∷ no_carrier 10 ∷ [])
 
--- the parser's own fault comes later, and is hidden
+-- the parser's own error comes later, and is hidden
 abbrev pub RowSecondAnchor : Type 0
 RowSecondAnchor = IsLoads (list (
     STREAM ∷ FlowSequenceStart ∷ ANCHOR (codes "a") ∷ SCALAR (codes "x") ∷ FlowEntry ∷ ANCHOR (codes "a") ∷
     ALIAS (codes "b") ∷ FlowSequenceEnd ∷ StreamEnd ∷ [])) no_more (second_carrier 4 10 ∷ [])
 
--- Runs that a fault cuts off: the parser's, and the source's after a whole document and within one.
+-- Runs that an error cuts off: the parser's, and the source's after a whole document and within one.
 abbrev pub RowParserFault : Type 0
 RowParserFault = IsLoads (list (
     STREAM ∷ DocumentStart ∷ SCALAR (codes "x") ∷ DocumentStart ∷ FlowSequenceStart ∷ SCALAR (codes "a") ∷

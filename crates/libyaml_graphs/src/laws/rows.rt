@@ -1,5 +1,5 @@
-//! Worked rows of loads: lists of tokens with the results of the loads over them. Each function does
-//! nothing when it runs: its contract is the rows.
+//! Test vectors of loads: lists of tokens with the results of the loads over them. Each function does
+//! nothing when it runs: its contract is these.
 
 ghost use Rattle.libyaml_graphs.specs.rows.LoadRows.{RowAliasBeforeBound, RowAnchorOfDocumentBefore};
 ghost use Rattle.libyaml_graphs.specs.rows.LoadRows.{RowBoundBeforeAnchor, RowBoundOfEachDocument};
@@ -55,7 +55,7 @@ pub fn composer_faults()
     ensures second_anchor { RowSecondAnchor }
 {}
 
-/// Shows runs that a fault of the parser or the source cuts off.
+/// Shows runs that an error of the parser or the source cuts off.
 pub fn cut_off()
     ensures parser_fault { RowParserFault }
     ensures source_ends { RowSourceEnds }

@@ -1,4 +1,4 @@
--- The faults of a line source (docs/DEFINITIONS.md, "Lines").
+-- The errors of a line source (docs/DEFINITIONS.md, "Lines").
 use Rattle.std.specs.Prelude.{ℕ, negsuc, List, Some, None, codes}
 use Rattle.libyaml_types.specs.declared.enums.yaml_error_type_t.{yaml_error_type_t}
 use Rattle.libyaml_types.specs.declared.enums.yaml_error_type_t.TheVariants.{YAML_READER_ERROR, YAML_SCANNER_ERROR}

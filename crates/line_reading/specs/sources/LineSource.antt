@@ -8,7 +8,7 @@ use Rattle.line_reading.specs.sources.LineFault.{line_fault}
 use Rattle.line_reading.specs.sources.ReadLines.{lines, coming_from}
 use Rattle.line_reading.specs.sources.NextLine.{LineAnswer, BreaksOffAt}
 
--- a source: its reader, how many tokens it has given and how many it may give, and the fault that it keeps
+-- a source: its reader, how many tokens it has given and how many it may give, and the error that it keeps
 pub record LineSource (R : Type 0) : Type 0 where
   pub reader : R
   pub given : ℕ
@@ -24,7 +24,7 @@ source_at reader given max_tokens problem = record {
   fault = option_map (λ p. line_fault p given) problem;
 }
 
--- how many tokens, and which fault, a result is
+-- how many tokens, and which error, a result is
 abbrev pub answer_tokens : Answer → ℕ
 answer_tokens (Ok token) = 1
 answer_tokens (Err fault) = 0
@@ -33,7 +33,7 @@ abbrev pub answer_fault : Answer → Option Fault
 answer_fault (Ok token) = None
 answer_fault (Err fault) = Some fault
 
--- what a source that keeps no fault returns, and where that leaves it
+-- what a source that keeps no error returns, and where that leaves it
 pub record GivesNext {R : Type 0} (remaining : R → Option (List ℕ)) (s : LineSource R) (answer : Answer)
     (t : LineSource R) : Type 0 where
   pub below : s.given < s.max_tokens → LineAnswer (remaining s.reader) s.given answer (remaining t.reader)
@@ -43,7 +43,7 @@ pub record GivesNext {R : Type 0} (remaining : R → Option (List ℕ)) (s : Lin
   pub max_tokens : t.max_tokens ≡ s.max_tokens
   pub fault : t.fault ≡ answer_fault answer
 
--- a kept fault is given again, and nothing changes
+-- a kept error is given again, and nothing changes
 abbrev pub GivesBy : {R : Type 0} → Option Fault → (R → Option (List ℕ)) → LineSource R → Answer → LineSource R → Type 0
 GivesBy None remaining s answer t = GivesNext remaining s answer t
 GivesBy (Some fault) remaining s answer t = (answer ≡ Err fault) × (t ≡ s)
@@ -63,6 +63,6 @@ known_by (Some fault) bytes given max_tokens = Some (coming [] fault)
 abbrev pub known_of : {R : Type 0} → (R → Option (List ℕ)) → LineSource R → Option Coming
 known_of remaining s = known_by s.fault (remaining s.reader) s.given s.max_tokens
 
--- a source that has given so many tokens may have broken off out of memory, or where a read failed
+-- a source that has given so many tokens may have failed early out of memory, or where a read failed
 abbrev pub BreaksOff : {R : Type 0} → LineSource R → Fault → Type 0
 BreaksOff s fault = BreaksOffAt s.given fault

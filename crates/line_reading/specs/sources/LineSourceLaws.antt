@@ -44,14 +44,14 @@ pub source_repeats : {R : Type 0} (remaining : R → Option (List ℕ)) (s t u :
 source_repeats remaining s t u fault answer h k = repeats_by remaining t u fault answer t.fault
     (kept_by remaining s t fault s.fault refl h) k
 
--- a fault that breaks off
+-- an error by which a source fails early
 break_off : (MayBreak : Fault → Type 0) (tokens : List yaml_token_t) (end fault : Fault) (after : Option Coming)
     → MayBreak fault
     → after ≡ Some (coming [] fault) → FollowsList MayBreak tokens end (Err fault) after
 break_off MayBreak [] end fault after h e = (inr h, e)
 break_off MayBreak (t ∷ ts) end fault after h e = (h, e)
 
--- the fault of a list that has no token
+-- the error of a list that has no token
 end_fault : (MayBreak : Fault → Type 0) (c : Coming) (fault : Fault) (after : Option Coming) → c ≡ coming [] fault
     → after ≡ Some (coming [] fault)
     → Follows MayBreak (Some c) (Err fault) after

@@ -50,15 +50,15 @@ abbrev pub first_answer : ℕ → List (List ℕ) → Answer
 first_answer n [] = Err (line_fault NoMoreTokens n)
 first_answer n (line ∷ more) = line_answer n line
 
--- the faults by which a source may break off that has given n tokens
+-- the errors by which a source may fail early that has given n tokens
 abbrev pub BreaksOffAt : ℕ → Fault → Type 0
 BreaksOffAt n fault = (fault ≡ line_fault Memory n) ⊎ (fault ≡ line_fault ReadFailed n)
 
--- a fault of a source that has given n tokens
+-- an error of a source that has given n tokens
 abbrev pub IsFaultAt : ℕ → Fault → Type 0
 IsFaultAt n fault = (problem : LineProblem) × (fault ≡ line_fault problem n)
 
--- a result over a reader whose bytes are known: of its first line, or a fault that breaks off
+-- a result over a reader whose bytes are known: of its first line, or an error by which a source fails early
 abbrev pub KnownAnswer : List ℕ → ℕ → Answer → Option (List ℕ) → Type 0
 KnownAnswer bytes n (Ok token) after = (first_answer n (lines bytes) ≡ Ok token) × (after ≡ Some (behind_line bytes))
 KnownAnswer bytes n (Err fault) after = (first_answer n (lines bytes) ≡ Err fault) ⊎ BreaksOffAt n fault

@@ -31,7 +31,7 @@ abbrev pub behind_line : List ℕ → List ℕ
 behind_line [] = []
 behind_line (b ∷ bs) = if b == 10 then bs else behind_line bs
 
--- a line's token, or its fault where n tokens were given before it
+-- a line's token, or its error where n tokens were given before it
 abbrev pub token_or_fault : Option yaml_token_t → ℕ → Answer
 token_or_fault (Some token) n = Ok token
 token_or_fault None n = Err (line_fault BadTokenLine n)
@@ -40,12 +40,12 @@ abbrev pub line_answer : ℕ → List ℕ → Answer
 line_answer n line = if nat_lt longest_line (length line) then Err (line_fault LineTooLong n) else token_or_fault
     (token_of_line line) n
 
--- a result, and what comes after it: nothing after a fault
+-- a result, and what comes after it: nothing after an error
 abbrev pub coming_behind : Answer → Coming → Coming
 coming_behind (Ok token) behind = coming (token ∷ behind.tokens) behind.fault
 coming_behind (Err fault) behind = coming [] fault
 
--- the tokens of lines, up to the first that gives a fault, where n tokens were given and max may be given
+-- the tokens of lines, up to the first that gives an error, where n tokens were given and max may be given
 abbrev pub coming_from : ℕ → ℕ → List (List ℕ) → Coming
 coming_from n max [] = coming [] (line_fault (if nat_lt n max then NoMoreTokens else TooManyTokens) n)
 coming_from n max (line ∷ more) =
@@ -53,6 +53,6 @@ coming_from n max (line ∷ more) =
     then coming_behind (line_answer n line) (coming_from (n + 1) max more)
     else coming [] (line_fault TooManyTokens n)
 
--- the tokens and the fault of an input of which at most max tokens are read
+-- the tokens and the error of an input of which at most max tokens are read
 abbrev pub read_lines : List ℕ → ℕ → Coming
 read_lines bytes max = coming_from 0 max (lines bytes)

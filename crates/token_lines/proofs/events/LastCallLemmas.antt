@@ -28,7 +28,7 @@ failed_no_end f h = cc
 pub output_no_end : {A : Type 0} → step.OutputFailed ≡ step.Ended → A
 output_no_end h = cc
 
--- the text of a fault that was kept
+-- the text of an error that was kept
 pub fault_after : (end : run_end_t) (f : yaml_parser_t_prefix) (kept : Fault) (b c d : Option (List ℕ))
     → (fault_of f ≡ kept) × Keeps b c
     → WroteFault end (fault_of f) c d → WroteFault end kept b d
@@ -53,7 +53,7 @@ module _ {S : Type 0} (gives : S → Answer → S → Type 0) where
   ends_by OutputFailed p q b c d asked given is (gave_event e on wrote) kept = gave_event e on tt
   ends_by end p q b c d asked given is (failed by wrote) kept = absurd wrote
 
-  -- the text of a fault was written
+  -- the text of an error was written
   pub fails_by : (end : run_end_t) (f : yaml_parser_t_prefix) (p q : Parser S) (b c d : Option (List ℕ))
       (asked : List yaml_token_t)
       (given : List yaml_event_t) → Turn gives (step.Failed f) p q b c asked given → WroteFault end (fault_of f) c d

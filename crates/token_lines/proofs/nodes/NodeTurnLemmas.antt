@@ -124,7 +124,7 @@ loads_end (Faulted f) kept b c d (inr is) keeps (Ok x) w = cc
 loads_end OutputFailed kept b c d is keeps (Ok x) w = tt
 loads_end end kept b c d is keeps (Err x) w = absurd w
 
--- the text of a fault was written
+-- the text of an error was written
 pub loads_failed : (end : run_end_t) (f : yaml_parser_t_prefix) (kept : Fault) (b c d : Option (List ℕ))
     → WroteFault end (fault_of f) c d
     → (r : DocumentOrError) → StepForLoad (step.Failed f) r kept b c → WroteForLoad end r kept b d

@@ -18,7 +18,7 @@ StepForEvent Ended e before after = (is_stream_end e ≡ true) × Appends before
 StepForEvent (Failed f) e before after = (fault_of f ≡ memory_fault) × Keeps before after
 StepForEvent OutputFailed e before after = Unit {0}
 
--- what a step wrote after a call that failed by this fault
+-- what a step wrote after a call that failed by this error
 abbrev pub StepForFault : RunStep → Fault → (before after : Option (List ℕ)) → Type 0
 StepForFault (Failed f) kept before after = (fault_of f ≡ kept) × Keeps before after
 StepForFault _ kept before after = ⊥

@@ -11,7 +11,7 @@ use Rattle.libyaml_events.specs.sources.History.{History, answers, is_over, kept
 use Rattle.libyaml_events.specs.sources.Parsing.{CarriesOn, FailsBy}
 use Rattle.libyaml_types.specs.Fault.{Answer, Fault}
 
--- a call of the parser, which returned an event or failed, and what is said of that event or fault
+-- a call of the parser, which returned an event or failed, and what is said of that event or error
 pub data CallSays {S : Type 0} (gives : S → Answer → S → Type 0) (ForEvent : yaml_event_t → Type 0) (ForFault : Fault
     → Type 0) (old new : Parser S) (asked : List yaml_token_t) (given : List yaml_event_t) : Type 0 where
   gave_event : (e : yaml_event_t) → CarriesOn gives old e new asked given → ForEvent e

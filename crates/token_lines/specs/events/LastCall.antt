@@ -23,7 +23,7 @@ WroteForEvent Ended e before after = (is_stream_end e ≡ true) × Appends befor
 WroteForEvent (Faulted f) e before after = (fault_of f ≡ memory_fault) × Appends before after (fault_text memory_fault)
 WroteForEvent OutputFailed e before after = Unit {0}
 
--- the last call of a run, and what was written after it: the text of the fault, where the call failed
+-- the last call of a run, and what was written after it: the text of the error, where the call failed
 abbrev pub Closes : {S : Type 0} → (gives : S → Answer → S → Type 0) → run_end_t → (old new : Parser S)
     → (before after : Option (List ℕ)) → List yaml_token_t
     → List yaml_event_t → Type 0
@@ -49,8 +49,9 @@ pub record StartsAt {R : Type 0} (reader : R) (p : Parser (LineSource R)) : Type
   pub source : p.source ≡ record { reader = reader; given = 0; max_tokens = most_tokens; fault = None }
   pub begins : History p [] []
 
--- A run over a reader's lines: what it wrote, where a source of these lines may have broken off as it then was; and that a
--- parser which starts there can have written it in turn. Which calls were made is said of `write_events`, whose parser stays.
+-- A run over a reader's lines: what it wrote, where a source of these lines may have failed early as it then was; and
+-- that a parser which starts there can have written it in turn. Which calls were made is said of `write_events`, whose
+-- parser stays.
 pub record RunsOver {R W : Type 0} (remaining : R → Option (List ℕ)) (contents : W
     → Option (List ℕ)) (reader : R) (outcome : Outcome) (before after : Option (List ℕ)) : Type 0 where
   pub end : run_end_t

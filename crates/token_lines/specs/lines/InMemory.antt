@@ -16,18 +16,18 @@ use Rattle.token_lines.specs.declared.memory.memory_run_t.{memory_run_t}
 use Rattle.token_lines.specs.declared.run.run_end_t.{run_end_t}
 use Rattle.token_lines.specs.declared.run.run_end_t.TheVariants as end
 
--- the text of the fault of a failed allocation
+-- the text of the error of a failed allocation
 abbrev pub memory_text : List ℕ
 memory_text = codes "FAULT memory 0:0:0 -\n"
 
 -- The bytes of a run that has these lines and this ending: all lines, where it ended; all lines and then the text
--- of the run's own fault, where it failed; and where an allocation failed, the text of that fault alone.
+-- of the run's own error, where it failed; and where an allocation failed, the text of that error alone.
 abbrev pub Has : memory_outcome_t → (lines : List (List ℕ)) → Ending → (bytes : List ℕ) → Type 0
 Has Ended lines ending bytes = (ending ≡ Ends) × (bytes ≡ concat lines)
 Has Faulted lines ending bytes = (f : Fault) × (ending ≡ Fails f) × (bytes ≡ concat lines ++ fault_text f)
 Has OutOfMemory lines ending bytes = bytes ≡ memory_text
 
--- How a run in memory that ended so tells it. A fault that is told is none of a failed allocation or a failed read; of
+-- How a run in memory that ended so tells it. An error that is told is none of a failed allocation or a failed read; of
 -- where one of these is told nothing is asked here.
 abbrev pub EndsAs : run_end_t → memory_outcome_t → Type 0
 EndsAs end.Ended Ended = Unit {0}

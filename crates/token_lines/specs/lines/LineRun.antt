@@ -1,4 +1,4 @@
--- What a run writes, as lines and the text of a fault (docs/DEFINITIONS.md, "Runs over lines").
+-- What a run writes, as lines and the text of an error (docs/DEFINITIONS.md, "Runs over lines").
 use Rattle.std.specs.Prelude.{◌≡◌, ◌++◌, ◌⊎◌, ℕ, List, Option}
 use Rattle.std.specs.List.{concat}
 use Rattle.std.specs.Io.KnownBytes.{Appends}
@@ -10,20 +10,20 @@ use Rattle.token_lines.specs.declared.run.Outcome.TheVariants as outcome
 use Rattle.token_lines.specs.declared.run.run_end_t.{run_end_t}
 use Rattle.token_lines.specs.declared.run.run_end_t.TheVariants.{Ended, Faulted, OutputFailed}
 
--- how a run ended, without its fault
+-- how a run ended, without its error
 abbrev pub outcome_of : run_end_t → Outcome
 outcome_of Ended = outcome.Ended
 outcome_of (Faulted f) = outcome.Faulted
 outcome_of OutputFailed = outcome.OutputFailed
 
--- the text of this fault was written, and the run says so; nothing is said where the output failed
+-- the text of this error was written, and the run says so; nothing is said where the output failed
 abbrev pub WroteFault : run_end_t → Fault → (before after : Option (List ℕ)) → Type 0
 WroteFault Ended f before after = ⊥
 WroteFault (Faulted told) f before after = (fault_of told ≡ f) × Appends before after (fault_text f)
 WroteFault OutputFailed f before after = Unit {0}
 
--- The text of this fault was written: after all lines, where the run fails by it; or after a prefix of them, where an
--- allocation failed or the source broke off.
+-- The text of this error was written: after all lines, where the run fails by it; or after a prefix of them, where an
+-- allocation failed or the source failed early.
 pub data WritesFault (MayBreak : Fault → Type 0) (f : Fault) (old new : Option (List ℕ)) (lines : List (List ℕ))
     (ending : Ending) : Type 0 where
   whole : ending ≡ Fails f → Appends old new (concat lines ++ fault_text f) → WritesFault MayBreak f old new lines ending

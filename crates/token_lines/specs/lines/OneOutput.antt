@@ -1,5 +1,5 @@
--- Two outcomes of one run over lines that its contract allows: they wrote the same, unless one of them broke off or its
--- output failed (docs/DEFINITIONS.md, "One outcome").
+-- Two outcomes of one run over lines that its contract allows: they wrote the same, unless one of them failed early or
+-- its output failed (docs/DEFINITIONS.md, "One outcome").
 use Rattle.std.specs.Prelude.{◌≡◌, ◌⊎◌, ◌++◌, ℕ, List, Option}
 use Rattle.std.specs.Io.KnownBytes.{Appends}
 use Rattle.libyaml_types.specs.Fault.{Fault, memory_fault}
@@ -7,7 +7,7 @@ use Rattle.line_writing.specs.FaultText.{fault_text}
 use Rattle.token_lines.specs.declared.run.Outcome.{Outcome}
 use Rattle.token_lines.specs.declared.run.Outcome.TheVariants.{Faulted, OutputFailed}
 
--- A run ended by a failed allocation or a fault by which its source breaks off: its bytes end in that fault's text.
+-- A run ended by a failed allocation or an error by which its source fails early: its bytes end in that error's text.
 pub record BrokeOff (MayBreak : Fault → Type 0) (outcome : Outcome) (before after : Option (List ℕ)) : Type 0 where
   pub faulted : outcome ≡ Faulted
   pub fault : Fault

@@ -38,6 +38,6 @@ results_of_nodes {g} {n} {last} {asked} {given} o
     (asked ++ o.earlier.more) (given ++ o.earlier.events)
     o.earlier.history o.loaded o.load)
 
--- such a source breaks off by no fault
+-- such a source fails early by no error
 abbrev pub BreaksOffByNone : Fault → Type 0
 BreaksOffByNone f = ⊥

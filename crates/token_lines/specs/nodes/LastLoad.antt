@@ -35,7 +35,7 @@ pub record CutText (before after : Option (List ℕ)) (lines : List (List ℕ)) 
   pub wrote : Appends before after (concat written ++ fault_text memory_fault)
 
 -- What a run wrote after a last load that returned this: nothing, where it is the document without root; the text of the
--- fault that is kept; or a document's text that was cut. Where the output failed, nothing is said.
+-- error that is kept; or a document's text that was cut. Where the output failed, nothing is said.
 abbrev pub WroteForLoad : run_end_t → DocumentOrError → (kept : Fault) → (before after : Option (List ℕ)) → Type 0
 WroteForLoad Ended (Ok d) kept before after = (d.nodes ≡ []) × Keeps before after
 WroteForLoad (Faulted f) (Ok d) kept before after = (fault_of f ≡ memory_fault) × (d.nodes ≢ [])
@@ -72,7 +72,7 @@ pub record LastLoad {S W : Type 0} (g : Ghosts S) (contents : W → Option (List
   -- the run ends only where the parser has ended
   pub ends : end ≡ Ended → HasEnded last
 
--- a fault that the parser kept was written again
+-- an error that the parser kept was written again
 pub record WritesKept {S : Type 0} (end : run_end_t) (old new : Parser S) (before after : Option (List ℕ)) : Type 0 where
   pub parser : new ≡ old
   pub wrote : WroteFault end (kept_fault old) before after
@@ -90,10 +90,10 @@ line_source remaining = record {
 abbrev pub most_entries : ℕ
 most_entries = 2147483647
 
--- A run over a reader's lines: what it wrote, where a source of these lines may have broken off as it then was; and that a
--- parser which starts there can have written it in turn. Which loads were made is said of `write_nodes`, whose parser stays.
--- The nodes of the documents that it wrote, and the entries of their lists, are together at most eight for each token that
--- such a parser asked for.
+-- A run over a reader's lines: what it wrote, where a source of these lines may have failed early as it then was; and
+-- that a parser which starts there can have written it in turn. Which loads were made is said of `write_nodes`, whose
+-- parser stays. The nodes of the documents that it wrote, and the entries of their lists, are together at most eight
+-- for each token that such a parser asked for.
 pub record NodesOver {R W : Type 0} (remaining : R → Option (List ℕ)) (contents : W
     → Option (List ℕ)) (reader : R) (outcome : Outcome) (before after : Option (List ℕ)) : Type 0 where
   pub end : run_end_t

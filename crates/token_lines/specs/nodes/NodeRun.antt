@@ -11,7 +11,7 @@ use Rattle.token_lines.specs.declared.run.run_end_t.{run_end_t}
 use Rattle.token_lines.specs.events.EventRun.{most_tokens}
 use Rattle.token_lines.specs.lines.LineRun.{Writes}
 
--- the lines of a load: those of a document with nodes. The document without root has none, nor has a fault.
+-- the lines of a load: those of a document with nodes. The document without root has none, nor has an error.
 abbrev pub lines_with : List yaml_node_t → List (List ℕ) → List (List ℕ)
 lines_with [] lines = []
 lines_with (n ∷ ns) lines = lines
@@ -23,7 +23,7 @@ load_lines (Err f) = []
 abbrev pub loads_lines : List Load → List (List ℕ)
 loads_lines loads = flat_map load_lines loads
 
--- loads end by a fault, or else with the document without root
+-- loads end by an error, or else with the document without root
 abbrev pub loads_ending : List Load → Ending
 loads_ending [] = Ends
 loads_ending (Ok d ∷ loads) = loads_ending loads

@@ -31,7 +31,7 @@ pub record LoadTurn {S : Type 0} (g : Ghosts S) (n : ℕ) (step : RunStep) (old 
   pub wrote : StepForLoad step loaded (kept_fault new) before after
   pub ends : step ≡ Ended → ForHistory old (λ _ _. HasEnded new)
 
--- a fault that the parser kept is the step's, and nothing changed
+-- an error that the parser kept is the step's, and nothing changed
 abbrev pub IsKept : RunStep → Fault → Type 0
 IsKept (Failed f) kept = fault_of f ≡ kept
 IsKept _ kept = ⊥

@@ -8,10 +8,10 @@ use line_reading::yaml_line_source_t;
 use std::alloc::Global;
 
 /// Runs over these token lines, of which it reads at most `max_tokens`, and puts the lines of their events
-/// into `out`, followed by the text of a fault, if there is one: as many bytes as `out` has room for. The
+/// into `out`, followed by the text of an error, if there is one: as many bytes as `out` has room for. The
 /// bytes of `out` that follow them stay as they are.
 ///
-/// Where an allocation fails, the run's only text is that of this fault.
+/// Where an allocation fails, the run's only text is that of this error.
 pub fn events_in_memory(
     alloc: Global,
     tokens: &[u8],

@@ -24,10 +24,10 @@ use std::alloc::Global;
 use std::io::{BufRead, Write};
 
 /// Writes the line of each event of the token lines, before the next event is parsed, and then the
-/// text of the fault, if there is one. Reads at most `MAX_TOKENS` tokens. A caller who needs the reader
+/// text of the error, if there is one. Reads at most `MAX_TOKENS` tokens. A caller who needs the reader
 /// back, as the last line left it, calls `write_events` over a `yaml_line_source_t`.
 ///
-/// If memory runs out for a line, the fault of a failed allocation is written. The writer is flushed
+/// If memory runs out for a line, the error of a failed allocation is written. The writer is flushed
 /// before `Ended` and `Faulted`; after `OutputFailed` nothing is said of it.
 pub fn run_events<R: BufRead + Drop, W: Write>(alloc: Global, reader: R, writer: &mut W) -> Outcome
     ensures { RunsOver R.remaining W.contents reader result (W.contents writer.old) (W.contents writer.new) }
@@ -38,11 +38,11 @@ pub fn run_events<R: BufRead + Drop, W: Write>(alloc: Global, reader: R, writer:
 }
 
 /// Writes the line of each event that is to come, before the next event is parsed, and then the text
-/// of the fault, if there is one, which is returned. The parser may have given events before; after the
-/// stream end event or a fault nothing is left to write, and `Ended` is returned.
+/// of the error, if there is one, which is returned. The parser may have given events before; after the
+/// stream end event or an error nothing is left to write, and `Ended` is returned.
 ///
-/// If memory runs out for a line, the fault of a failed allocation is written. The writer is flushed
-/// before `Ended` and `Faulted`. After `OutputFailed`, and after the fault of a line that found no
+/// If memory runs out for a line, the error of a failed allocation is written. The writer is flushed
+/// before `Ended` and `Faulted`. After `OutputFailed`, and after the error of a line that found no
 /// memory, the parser has given the event whose line was to be written: a further call goes on after
 /// that event, whose line is lost.
 pub fn write_events<S: yaml_token_source_t, W: Write>(

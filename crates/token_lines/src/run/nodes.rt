@@ -22,10 +22,10 @@ use std::alloc::Global;
 use std::io::{BufRead, Write};
 
 /// Writes the text of each document of the token lines, before anything of the next is read, and then
-/// the text of the fault, if there is one. Reads at most `MAX_TOKENS` tokens. A caller who needs the reader
+/// the text of the error, if there is one. Reads at most `MAX_TOKENS` tokens. A caller who needs the reader
 /// back, as the last line left it, calls `write_nodes` over a `yaml_line_source_t`.
 ///
-/// If memory runs out for a line, the fault of a failed allocation follows the lines before it. The
+/// If memory runs out for a line, the error of a failed allocation follows the lines before it. The
 /// writer is flushed before `Ended` and `Faulted`; after `OutputFailed` nothing is said of it.
 pub fn run_nodes<R: BufRead + Drop, W: Write>(alloc: Global, reader: R, writer: &mut W) -> Outcome
     ensures { NodesOver R.remaining W.contents reader result (W.contents writer.old) (W.contents writer.new) }
@@ -36,14 +36,14 @@ pub fn run_nodes<R: BufRead + Drop, W: Write>(alloc: Global, reader: R, writer: 
 }
 
 /// Writes the text of each document that is to come, before the next is loaded, and then the text of the
-/// fault, if there is one, which is returned. The parser may have given documents before. The document
-/// without root, which comes at the stream's end, writes nothing; a fault that the parser keeps is written
-/// again.
+/// error, if there is one, which is returned. The parser may have given documents before. The document
+/// without root, which comes at the stream's end, writes nothing; an error that the parser keeps is
+/// written again.
 ///
-/// If memory runs out for a line, the fault of a failed allocation follows the lines before it. The
-/// writer is flushed before `Ended` and `Faulted`. After `OutputFailed`, and after the fault of a line that
-/// found no memory, the parser has loaded the document whose text was to be written: a further call goes
-/// on after that document, the rest of whose text is lost.
+/// If memory runs out for a line, the error of a failed allocation follows the lines before it. The writer
+/// is flushed before `Ended` and `Faulted`. After `OutputFailed`, and after the error of a line that found
+/// no memory, the parser has loaded the document whose text was to be written: a further call goes on
+/// after that document, the rest of whose text is lost.
 pub fn write_nodes<S: yaml_token_source_t, W: Write>(
     parser: &mut yaml_parser_t<S>,
     writer: &mut W,
