@@ -13,8 +13,10 @@ RUN_TOKENS = 250000
 # Lists that grow stay in the heap, and what is freed at its end isn't given back.
 KEEPS_PAGES = {"GLIBC_TUNABLES": "glibc.malloc.trim_threshold=67108864:glibc.malloc.mmap_threshold=67108864"}
 
-# The tables: their heads, the work of ours and of the peers, and the settings of glibc.
-TABLES = (
+PEERS = ("libyaml", "unsafe_libyaml")
+
+# The columns: their heads, the work of ours and of the peers, and the settings of glibc.
+COLUMNS = (
     ("events in place", "place-events", "events", {}),
     ("events by iterator", "iterate-events", "events", {}),
     ("events, texts kept", "reuse-events", "events", {}),
@@ -66,33 +68,39 @@ def ratio(peer, ours):
     return lower_fifth(peer) / lower_fifth(ours), min(parts), max(parts)
 
 
-def print_means(peers, ratios):
-    """The geometric mean and the least of each peer's ratios, and in how many kinds ours is not behind."""
-    for peer in peers:
-        found = [each[peer][0] for each in ratios]
-        mean = math.exp(sum(map(math.log, found)) / len(found))
-        ahead = sum(each >= 0.995 for each in found)
-        print(f"{peer}: mean {mean:.2f}, least {min(found):.2f}, ours ahead or even in {ahead} of {len(found)} kinds")
+def measured(bench, kind, ours, theirs, settings):
+    """Nanoseconds a token of ours over a kind of list, and each peer's ratio."""
+    count, turns = bench.token_count(kind), int(os.environ.get("TURNS", "24"))
+    rounds = math.ceil(RUN_TOKENS / count)
+    first = (bench.program("bench_lists"), ours)
+    peers = {peer: (bench.program(peer), theirs) for peer in PEERS if bench.has(peer)}
+    times = times_of([first, *peers.values()], bench.tokens(kind), rounds, turns, settings)
+    ratios = {peer: ratio(times[work], times[first]) for peer, work in peers.items()}
+    return lower_fifth(times[first]) * 1e9 / rounds / count, ratios
 
 
-def print_table(bench, head, kinds, names, settings):
-    """One table: a line a kind."""
-    turns = int(os.environ.get("TURNS", "24"))
-    peers = [peer for peer in ("libyaml", "unsafe_libyaml") if bench.has(peer)]
-    ours = (bench.program("bench_lists"), names[0])
-    works = [ours] + [(bench.program(peer), names[1]) for peer in peers]
-    columns = "".join(f" {peer.replace('_', '-')} takes |" for peer in peers)
-    print(f"\n| {head} | ours, nanoseconds a token |{columns}\n|---|---|" + "---|" * len(peers))
-    ratios = []
-    for kind, title in kinds.items():
-        rounds = math.ceil(RUN_TOKENS / bench.token_count(kind))
-        times = times_of(works, bench.tokens(kind), rounds, turns, settings)
-        nanoseconds = lower_fifth(times[ours]) * 1e9 / rounds / bench.token_count(kind)
-        ratios.append({peer: ratio(times[work], times[ours]) for peer, work in zip(peers, works[1:])})
-        cells = "".join(f" {middle:.2f} ({low:.2f} to {high:.2f}) |" for middle, low, high in ratios[-1].values())
-        print(f"| {title} | {nanoseconds:.1f} |{cells}", flush=True)
-    print()
-    print_means(peers, ratios)
+def print_table(title, rows):
+    """A table: a line a kind, a column a work."""
+    print(f"\n| {title} | " + " | ".join(head for head, *_ in COLUMNS) + " |")
+    print("|---|" + "---|" * len(COLUMNS))
+    for kind, cells in rows.items():
+        print(f"| {kind} | " + " | ".join(cells) + " |")
+
+
+def print_lists(bench, kinds):
+    """Ours in nanoseconds, and each peer's ratios, with their geometric means."""
+    found = {title: [measured(bench, kind, *column[1:]) for column in COLUMNS] for kind, title in kinds.items()}
+    print_table("nanoseconds a token", {title: [f"{ns:.1f}" for ns, _ in cells] for title, cells in found.items()})
+    for peer in PEERS:
+        if bench.has(peer):
+            ratios = {title: [each[peer] for _, each in cells] for title, cells in found.items()}
+            shown = {
+                title: [f"{middle:.2f} ({low:.2f} to {high:.2f})" for middle, low, high in cells]
+                for title, cells in ratios.items()
+            }
+            columns = [[middle for middle, _, _ in column] for column in zip(*ratios.values())]
+            shown["geometric mean"] = [f"{math.exp(sum(map(math.log, column)) / len(column)):.2f}" for column in columns]
+            print_table(f"how many times as long {peer.replace('_', '-')} takes", shown)
 
 
 def print_program(bench, turns):
@@ -113,7 +121,7 @@ def print_clock(bench, kinds, with_program):
     core = int(os.environ.get("CORE", max(os.sched_getaffinity(0))))
     os.sched_setaffinity(0, {core})
     print(f"\nMachine: {machine()}; load {os.getloadavg()[0]:.1f} as the clock is started.")
-    for head, ours, theirs, settings in TABLES if kinds else ():
-        print_table(bench, head, kinds, (ours, theirs), settings)
+    if kinds:
+        print_lists(bench, kinds)
     if with_program:
         print_program(bench, int(os.environ.get("TURNS", "24")))

@@ -1,15 +1,12 @@
 -- What is handed to a parent is done, and its list has room for it.
 use Rattle.std.proofs.Common.{◌≡◌, ◌∙◌, ◌∷◌, List, [], Bool, true, false, refl, sym, ap}
+use Rattle.std.proofs.lemmas.Bool.{true≢false}
 use Rattle.libyaml_composer.specs.declared.deed.Deed.{Deed}
 use Rattle.libyaml_composer.specs.declared.deed.Deed.TheVariants as deed
 use Rattle.libyaml_composer.specs.declared.records.open_t.{open_t}
 use Rattle.libyaml_composer.specs.declared.records.place_t.{place_t}
 use Rattle.libyaml_composer.specs.Composing.{Composer, Told, deed_for, deed_in, is_undone, list_full, unless}
 use Rattle.libyaml_composer.specs.Numbers.{flag, is_id}
-
-pub not_full : (b : Bool) → (b ≡ true → ⊥) → b ≡ false
-not_full true h = absurd (h refl)
-not_full false h = refl
 
 done_in : (is_mapping waits : Bool) → is_undone (deed_in is_mapping waits) ≡ false
 done_in false waits = refl
@@ -21,10 +18,7 @@ done_for [] = refl
 done_for (o ∷ s) = done_in (flag o.is_mapping) (is_id o.key)
 
 pub is_done : (d : Deed) (s : List open_t) → d ≡ deed_for s → is_undone d ≡ true → ⊥
-is_done d s e u = differ (sym (done_for s) ∙ (ap is_undone (sym e) ∙ u))
-  where
-    differ : ◌≡◌ {A = Bool} false true → ⊥
-    differ i = cc
+is_done d s e u = absurd (true≢false (sym (ap is_undone (sym e) ∙ u) ∙ done_for s))
 
 pub is_good : (d : Deed) (s : List open_t) → d ≡ deed_for s → d ≡ deed.Bad → ⊥
 is_good d s e b = is_done d s e (ap is_undone b)

@@ -1,8 +1,9 @@
 use Rattle.std.proofs.Common.{◌∙◌, length, nat_le, rules, sym, w32}
+use Rattle.std.proofs.lemmas.Bool.{false_from_ne_true}
 use Rattle.std.proofs.lemmas.Int.{to_z-of_z}
 use Rattle.libyaml_composer.specs.declared.deed.Deed.TheVariants as deed
 use Rattle.libyaml_composer.specs.Composing.{adding, composer_of, list_full, new_id, opened, stack_of, unless}
-use Rattle.libyaml_composer.proofs.Handing.{is_done, is_good, not_full, opened_so}
+use Rattle.libyaml_composer.proofs.Handing.{is_done, is_good, opened_so}
 use Rattle.libyaml_composer.proofs.composer.composer_t.start.Goals as goal
 
 pub returns-clause-tells : goal.returns-clause-tells
@@ -12,7 +13,7 @@ returns-clause-tells c =
     let k = composer_of c.args.self.now c.args.stack.now in
     let new = opened c.args.is_mapping (new_id k) (adding k) in
     let is_over = nat_le k.room (length k.stack) in
-    let f = not_full (list_full k.most k.stack) (λ e. n (c.hand-deed.ensures.full.1 e)) in
+    let f = false_from_ne_true (list_full k.most k.stack) (λ e. n (c.hand-deed.ensures.full.1 e)) in
     let g = sym c.is_stack_full.ensures.full ∙ c.if-is_stack_full.false in
     let free = rw (to_z-of_z w32 c.args.carrier c.ranges.carrier) at c.refusal.ensures.none c.in_default.is
     c.args.place.now (unless (list_full k.most k.stack) deed.FullList c.args.place.now k
