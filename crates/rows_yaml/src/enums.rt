@@ -6,7 +6,8 @@ use std::alloc::Global;
 use std::fmt::Debug;
 use unsafe_libyaml::{
     YAML_EMITTER_ERROR, YAML_MAPPING_END_EVENT, YAML_PLAIN_SCALAR_STYLE, YAML_SCALAR_TOKEN,
-    unnamed_yaml_event_t_data, unnamed_yaml_event_t_data_alias, unnamed_yaml_token_t_data,
+    unnamed_yaml_event_t_data, unnamed_yaml_event_t_data_alias,
+    unnamed_yaml_event_t_data_document_start, unnamed_yaml_token_t_data,
     unnamed_yaml_token_t_data_scalar, yaml_parser_state_t, yaml_refusal_t,
 };
 
@@ -40,6 +41,18 @@ fn shows_event(alloc: Global) -> Result<bool> {
     )
 }
 
+fn shows_document_start(alloc: Global) -> Result<bool> {
+    let start = unnamed_yaml_event_t_data_document_start {
+        implicit: true,
+        version_directive: None,
+        tag_directives: Vec::new(alloc),
+    };
+    let name = "unnamed_yaml_event_t_data_document_start";
+    let fields = "version_directive: None, tag_directives: [], implicit: true";
+    let wanted = format!(in alloc; "{name} {{ {fields} }}")?;
+    is_shown(alloc, &start, wanted.as_str())
+}
+
 /// The numbers of four variants.
 fn numbers() -> [u32; 4] {
     [
@@ -51,7 +64,7 @@ fn numbers() -> [u32; 4] {
 }
 
 /// What is wrong with enums.
-pub fn checks(alloc: Global) -> [Option<&'static str>; 7] {
+pub fn checks(alloc: Global) -> [Option<&'static str>; 8] {
     let (no_text, too_many) = (yaml_refusal_t::NotUtf8, yaml_refusal_t::TooManyNodes);
     let memory = yaml_refusal_t::Memory;
     [
@@ -71,5 +84,9 @@ pub fn checks(alloc: Global) -> [Option<&'static str>; 7] {
         unless_made(is_told(alloc, too_many, "too many nodes"), "too many nodes"),
         unless_made(shows_token(alloc), "a token is shown"),
         unless_made(shows_event(alloc), "an event is shown"),
+        unless_made(
+            shows_document_start(alloc),
+            "the start of a document is shown",
+        ),
     ]
 }
