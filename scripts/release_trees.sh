@@ -49,6 +49,15 @@ want() {
     fi
 }
 
+# Unpacks Debian's Python for aarch64 into /srv/arm of the tree, where nothing but qemu finds it.
+unpack_arm_python() {
+    chroot "$root" sh -eu -c 'dpkg --add-architecture arm64 && apt-get -q update
+        rm -rf /srv/arm && mkdir -p /srv/arm/packages && cd /srv/arm/packages
+        apt-get -q download python3.11-minimal:arm64 libpython3.11-minimal:arm64 libpython3.11-stdlib:arm64 libexpat1:arm64 \
+            zlib1g:arm64 libffi8:arm64 libc6:arm64 libgcc-s1:arm64
+        for package in *.deb; do dpkg -x "$package" /srv/arm; done' > "$root.log" 2>&1 || { tail -n 5 "$root.log"; exit 1; }
+}
+
 has() {
     for archive in "$out"/$1; do [ ! -e "$archive" ] || return 0; done
     echo "skipped: $2, of which there is no archive"
@@ -118,6 +127,12 @@ if has "pokhvizi-$version-aarch64-linux.tar.gz" aarch64; then
     done
     want 'the wheel for aarch64' 'libpokhvizi.so _yaml.abi3.so' "python3 -m zipfile -e pokhvizi-$version-*aarch64.whl w &&
         for file in libpokhvizi.so _yaml.abi3.so; do readelf -h w/pokhvizi/\$file | grep -q AArch64 && echo \$file; done | xargs"
+    unpack_arm_python
+    for loader in CSafeLoader SafeLoader; do
+        want "the wheel for aarch64, by qemu: $loader" "aarch64 {'a': [1, {'b': 'c'}]} ['a', 'b']" "qemu-aarch64 -L /srv/arm -E PYTHONHOME=/srv/arm/usr \
+            -E PYTHONPATH=w:/usr/lib/python3/dist-packages /srv/arm/usr/bin/python3.11 -c 'import platform, yaml; from pokhvizi import $loader as Loader
+print(platform.machine(), yaml.load(\"a: [1, {b: c}]\", Loader=Loader), list(yaml.load_all(\"a\\n...\\nb\\n\", Loader=Loader)))'"
+    done
 fi
 if has "pokhvizi-$version-llvm.tar.gz" 'the LLVM modules'; then
     want 'the objects of the modules, by clang-22' 'steps_module.o: OK compose_module.o: OK' \
