@@ -217,15 +217,21 @@ static char *make_anchors(long count)
     return text;
 }
 
+/* The least time of three loads. */
 static double time_of_anchors(long count)
 {
     char *text = make_anchors(count);
     yaml_error_type_t error;
-    clock_t begun = clock();
+    double least = 1e9;
 
-    expect(load_text(text, &error) == count + 1 && error == YAML_NO_ERROR, "anchors", count);
+    for (int i = 0; i < 3; i++) {
+        clock_t begun = clock();
+        expect(load_text(text, &error) == count + 1 && error == YAML_NO_ERROR, "anchors", count);
+        double taken = (double)(clock() - begun) / CLOCKS_PER_SEC;
+        least = taken < least ? taken : least;
+    }
     free(text);
-    return (double)(clock() - begun) / CLOCKS_PER_SEC;
+    return least;
 }
 
 /* Eight times the anchors take no more than 24 times the time; as the square it would be 64. */
