@@ -99,15 +99,14 @@ c_archive() {
     sed "s/@VERSION@/$version/" bindings/c/pokhvizi.pc.in > "$tree/lib/pkgconfig/pokhvizi.pc"
     cp bindings/c/install.mk "$tree/Makefile"
     install -m 755 bindings/c/proved-libyaml "$tree/bin"
-    if ! "$(tools_of "$machine")gcc" -O2 -Wall -Wextra -shared -fPIC -fvisibility=hidden -Ibindings/c/include -Wl,--exclude-libs,ALL \
-        -Wl,-z,relro,-z,now -Wl,--build-id=sha1 -ffile-prefix-map="$top=." -o "$work/preload.so" bindings/c/libyaml_preload.c \
-        "$folder/steps.o" "$folder/compose.o" -lyaml 2> "$work/said"; then
+    tools=$(tools_of "$machine")
+    if CC="${tools}gcc" STRIP="${tools}strip" sh bindings/c/build_preload.sh "$folder" > "$work/said" 2>&1; then
+        cp "$folder/libyaml_preload.so" "$tree/lib/pokhvizi"
+    else
         [ "$machine" != x86_64 ] || { cat "$work/said" >&2; exit 1; }
         echo "no preload library for $machine: $(tail -n 1 "$work/said")"
         rm -r "$tree/bin" "$tree/lib/pokhvizi"
         sed -i '/preload\|proved-libyaml/d' "$tree/Makefile"
-    else
-        "$(tools_of "$machine")strip" --strip-unneeded -o "$tree/lib/pokhvizi/libyaml_preload.so" "$work/preload.so"
     fi
     glibc=$(for file in "$tree"/lib/libpokhvizi.so "$tree"/lib/pokhvizi/*.so; do
         [ ! -e "$file" ] || "$(tools_of "$machine")objdump" -T "$file"

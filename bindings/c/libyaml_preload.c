@@ -1,10 +1,9 @@
 /* This parser in the place of libyaml's, in programs that link libyaml's shared library and stay as they are:
  *
- *     cc -O2 -shared -fPIC -fvisibility=hidden -Wl,--exclude-libs,ALL -o libyaml_preload.so \
- *         bindings/c/libyaml_preload.c DIR/libpokhvizi.a -lyaml
- *     LD_PRELOAD=$PWD/libyaml_preload.so PROGRAM
+ *     sh bindings/c/build_preload.sh DIR
+ *     LD_PRELOAD=DIR/libyaml_preload.so PROGRAM
  *
- * DIR is that of scripts/build_c.sh. `yaml_parser_parse` and `yaml_parser_load` are replaced. libyaml's scanner gives the
+ * DIR is that of scripts/build_c.sh, and begins with a slash. `yaml_parser_parse` and `yaml_parser_load` are replaced. libyaml's scanner gives the
  * tokens, and its `yaml_event_delete`, `yaml_document_delete` and `yaml_parser_delete` free all there is.
  *
  * A call reads no token past those that its event needs, and moves their texts into the event. What is kept between two
@@ -20,6 +19,7 @@
 #include <assert.h>
 #include <stdlib.h>
 #include <string.h>
+#include <sys/syscall.h>
 #include <unistd.h>
 #include <yaml.h>
 
@@ -535,7 +535,7 @@ static uint32_t key_of(yaml_parser_t *parser)
     uint32_t drawn;
 
     if (kept->key == 0) {
-        if (getentropy(&drawn, sizeof drawn) != 0)
+        if (syscall(SYS_getrandom, &drawn, sizeof drawn, 0) != sizeof drawn)  /* getentropy needs a C library of 2017 */
             drawn = (uint32_t)((uintptr_t)kept >> 4);
         kept->key = 1u << 28 | drawn >> 4;
     }

@@ -122,8 +122,7 @@ as_listed() {
 # ---- libyaml, preloaded ----
 
 build_preload() {
-    cc -O2 -Wall -Wextra -Werror -pedantic -shared -fPIC -fvisibility=hidden -Wl,--exclude-libs,ALL -Ibindings/c/include \
-        -o "$preloaded" bindings/c/libyaml_preload.c "$dir/libpokhvizi.a" -lyaml
+    sh bindings/c/build_preload.sh "$dir" && cp "$dir/libyaml_preload.so" "$preloaded"
 }
 
 # Writes 350 KB of documents, so often.
