@@ -8,7 +8,8 @@
 # checks, of which all are run where none is named:
 #
 #     preload            this parser by LD_PRELOAD (bindings/c/libyaml_preload.c): each of its allocations refused, parsers deleted,
-#                        moved, used after a fault and by threads; and libyaml's memory over 7 MB
+#                        moved, used after a fault and by threads; libyaml's memory over 7 MB, for events and for documents; and
+#                        where valgrind is there, the instructions of loads, which are at most 1.04 of libyaml's
 #     events             libyaml's events and nodes of YAML files of this machine, broken texts and the YAML test suite,
 #                        preloaded, with all fields
 #     pipe_c             events before a slow pipe's end, preloaded
@@ -135,17 +136,54 @@ documents() {
     done
 }
 
+# compare_memory MODE LEAST: the same count, which is more, in libyaml's memory and 400 KB; says so.
+compare_memory() {
+    set -- "$1" "$2" $("$work/events" "$1" < "$work/text.yaml") $(LD_PRELOAD=$preloaded "$work/events" "$1" < "$work/text.yaml")
+    if [ "$3" -gt "$2" ] && [ "$3" = "$5" ] && [ "$6" -le $(($4 + 400)) ]; then
+        memory="$memory; $1: $5 in $6 KB, libyaml in $4"
+    else
+        echo "$1: $3 in $4 KB plainly, $5 in $6"
+        return 1
+    fi
+}
+
+# Three texts of one document, of small documents, and of anchors.
+write_texts() {
+    awk 'BEGIN { for (n = 0; n < 8000; n++) printf "- {a%d: b%d}\n- c%d\n- key: value %d\n  list: [1, two, \047three\047]\n", n, n, n, n }' \
+        > "$work/plain.yaml"
+    awk 'BEGIN { for (n = 0; n < 2000; n++) printf "---\nname: document %d\nvalues:\n- first\n- {a: b, c: [d, e]}\ntext: \"quoted\"\n", n }' \
+        > "$work/small.yaml"
+    awk 'BEGIN { for (n = 0; n < 1800; n++) printf "- &a%d {name: value %d, list: [a, b]}\n- *a%d\n- some words\n", n, n, n }' \
+        > "$work/anchors.yaml"
+}
+
+# The instructions of a load.
+instructions() {
+    LD_PRELOAD=$1 valgrind --tool=callgrind --callgrind-out-file=/dev/null --log-file="$work/counted" "$work/events" loads < "$2" \
+        > /dev/null && sed -n 's/.*Collected : //p' "$work/counted"
+}
+
+compare_instructions() {
+    write_texts
+    for text in plain small anchors; do
+        set -- "$(instructions '' "$work/$text.yaml")" "$(instructions "$preloaded" "$work/$text.yaml")"
+        ratios="$ratios $(awk "BEGIN { printf \"%.3f\", $2 / $1 }")"
+        awk "BEGIN { exit !($1 > 1000000 && $2 <= 1.04 * $1) }" || { echo "loads of $text: $2 instructions, libyaml has $1"; return 1; }
+    done
+    memory="$memory; loads have$ratios of libyaml's instructions"
+}
+
 preload() {
+    memory='' ratios=''
     cc -O1 -g -Wall -Wextra -Werror -o "$work/preload_calls" scripts/doors/clients/preload_calls.c -lyaml -lpthread || return 1
     if "$work/preload_calls" > "$work/calls" 2>&1; then
         echo "without the preload, the calls should differ"
         return 1
     fi
     documents 20 > "$work/text.yaml"
-    set -- $("$work/events" memory < "$work/text.yaml") $(LD_PRELOAD=$preloaded "$work/events" memory < "$work/text.yaml")
-    [ "$1" -gt 900000 ] && [ "$1" = "$3" ] && [ "$4" -le $(($2 + 400)) ] ||
-        { echo "$1 events in $2 KB plainly, $3 in $4"; return 1; }
-    said=$(LD_PRELOAD=$preloaded "$work/preload_calls") && echo "$said; $3 events in $4 KB, libyaml in $2"
+    compare_memory memory 900000 && compare_memory loads 400000 || return 1
+    ! command -v valgrind > /dev/null || compare_instructions || return 1
+    said=$(LD_PRELOAD=$preloaded "$work/preload_calls") && echo "$said$memory"
 }
 
 # Names YAML files of this machine.

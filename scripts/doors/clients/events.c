@@ -4,7 +4,8 @@
  *     events nodes < NAMES     each node of their documents, by yaml_parser_load
  *     events pipe < YAML       the kind of each event of the input, as soon as it is there
  *     events late < YAML       the same, where the input is read to its end first
- *     events memory < YAML     how many events there are, and the peak of resident memory in KB */
+ *     events memory < YAML     how many events there are, and the peak of resident memory in KB
+ *     events loads < YAML      the same of nodes, by yaml_parser_load */
 #define _DEFAULT_SOURCE
 #include <stdio.h>
 #include <stdlib.h>
@@ -99,6 +100,13 @@ static void put_node(const yaml_node_t *node)
     putchar('\n');
 }
 
+static void put_document(const yaml_document_t *document)
+{
+    printf("document %d %d\n", document->start_implicit, document->end_implicit);
+    for (yaml_node_t *node = document->nodes.start; node != document->nodes.top; node++)
+        put_node(node);
+}
+
 static void put_error(const yaml_parser_t *parser)
 {
     printf("error %d %s", parser->error, parser->problem ? parser->problem : "-");
@@ -129,7 +137,8 @@ static long parse(yaml_parser_t *parser, void (*put)(const yaml_event_t *))
     return count;
 }
 
-static long load(yaml_parser_t *parser)
+/* Loads all documents, and gives each to `put`, where there is one; how many nodes there were. */
+static long load(yaml_parser_t *parser, void (*put)(const yaml_document_t *))
 {
     yaml_document_t document;
     long count = 0;
@@ -140,9 +149,9 @@ static long load(yaml_parser_t *parser)
             put_error(parser);
             return count;
         }
-        printf("document %d %d\n", document.start_implicit, document.end_implicit);
-        for (yaml_node_t *node = document.nodes.start; node != document.nodes.top; node++, count++)
-            put_node(node);
+        if (put != NULL)
+            put(&document);
+        count += document.nodes.top - document.nodes.start;
         more = yaml_document_get_root_node(&document) != NULL;
         yaml_document_delete(&document);
     } while (more);
@@ -163,7 +172,7 @@ static int each_file(int by_nodes)
             return 3;
         yaml_parser_set_input_file(&parser, file);
         printf("file %s\n", name);
-        count += by_nodes ? load(&parser) : parse(&parser, put_event);
+        count += by_nodes ? load(&parser, put_document) : parse(&parser, put_event);
         yaml_parser_delete(&parser);
         fclose(file);
         files++;
@@ -214,14 +223,15 @@ static long peak(void)
 
 static int input(const char *how)
 {
+    int is_memory = strcmp(how, "memory") == 0, is_loads = strcmp(how, "loads") == 0;
     yaml_parser_t parser;
 
     if (!yaml_parser_initialize(&parser))
         return 3;
     yaml_parser_set_input(&parser, strcmp(how, "late") == 0 ? read_all : read_some, NULL);
-    long count = parse(&parser, strcmp(how, "memory") == 0 ? NULL : put_kind);
+    long count = is_loads ? load(&parser, NULL) : parse(&parser, is_memory ? NULL : put_kind);
     yaml_parser_delete(&parser);
-    if (strcmp(how, "memory") == 0)
+    if (is_memory || is_loads)
         printf("%ld %ld\n", count, peak());
     return 0;
 }
