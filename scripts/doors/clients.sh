@@ -22,6 +22,8 @@
 #     cloaders           the C loaders of bindings/python and PyYAML's over YAML files of this machine, PyYAML's test data, the
 #                        test suite and broken texts, with all fields
 #     crate              the tests of bindings/rust
+#     loads_rust         nodes, memory over 7 MB and instructions of loads by that crate and by the original; of one large
+#                        document, small documents and anchors they are at most 1.31, 1.28 and .68 of the original's
 #     pipe_rust          events before a slow pipe's end, by that crate
 #     yaml_test_suite    the parser of unsafe-libyaml's own tests over the YAML test suite
 #     serde_yaml         serde_yaml's own tests
@@ -157,18 +159,23 @@ write_texts() {
         > "$work/anchors.yaml"
 }
 
-# The instructions of a load.
+# The instructions of a command.
 instructions() {
-    LD_PRELOAD=$1 valgrind --tool=callgrind --callgrind-out-file=/dev/null --log-file="$work/counted" "$work/events" loads < "$2" \
-        > /dev/null && sed -n 's/.*Collected : //p' "$work/counted"
+    valgrind --tool=callgrind --callgrind-out-file=/dev/null --log-file="$work/counted" "$@" > /dev/null &&
+        sed -n 's/.*Collected : //p' "$work/counted"
 }
 
+# compare_instructions TEXT BOUND PLAIN PROVED: what is proved has at most so many times the instructions; adds how many to ratios.
 compare_instructions() {
+    ratios="$ratios $(awk "BEGIN { printf \"%.3f\", $4 / $3 }")"
+    awk "BEGIN { exit !($3 > 1000000 && $4 <= $2 * $3) }" || { echo "loads of $1: $4 instructions, and $3 plainly"; return 1; }
+}
+
+compare_preloaded() {
     write_texts
     for text in plain small anchors; do
-        set -- "$(instructions '' "$work/$text.yaml")" "$(instructions "$preloaded" "$work/$text.yaml")"
-        ratios="$ratios $(awk "BEGIN { printf \"%.3f\", $2 / $1 }")"
-        awk "BEGIN { exit !($1 > 1000000 && $2 <= 1.04 * $1) }" || { echo "loads of $text: $2 instructions, libyaml has $1"; return 1; }
+        compare_instructions $text 1.04 "$(instructions "$work/events" loads < "$work/$text.yaml")" \
+            "$(LD_PRELOAD=$preloaded instructions "$work/events" loads < "$work/$text.yaml")" || return 1
     done
     memory="$memory; loads have$ratios of libyaml's instructions"
 }
@@ -182,7 +189,7 @@ preload() {
     fi
     documents 20 > "$work/text.yaml"
     compare_memory memory 900000 && compare_memory loads 400000 || return 1
-    ! command -v valgrind > /dev/null || compare_instructions || return 1
+    ! command -v valgrind > /dev/null || compare_preloaded || return 1
     said=$(LD_PRELOAD=$preloaded "$work/preload_calls") && echo "$said$memory"
 }
 
@@ -371,6 +378,30 @@ crate() {
     echo "$(grep -c '^#\[test\]' bindings/rust/tests/calls.rs) tests"
 }
 
+loads_rust() {
+    ratios=''
+    prepare_cargo
+    for how in plain proved; do
+        mkdir -p "$work/loads_source/src"
+        cp "$lists/loads.rs" "$work/loads_source/src/main.rs"
+        printf '[package]\nname = "loads_%s"\nversion = "0.0.0"\nedition = "2021"\n[dependencies]\nunsafe-libyaml = "0.2"\n' $how \
+            > "$work/loads_source/Cargo.toml"
+        copy_crate "$work/loads_source" "$work/loads_$how" $how
+        (cd "$work/loads_$how" && cargo build -q --release -j 1) || return 1
+    done
+    uses_patch "$work/loads_proved" || return 1
+    set -- "$CARGO_TARGET_DIR/release/loads_plain" "$CARGO_TARGET_DIR/release/loads_proved"
+    documents 20 > "$work/text.yaml"
+    set -- "$@" $("$1" "$work/text.yaml") $("$2" "$work/text.yaml")
+    [ "$3" -gt 400000 ] && [ "$3" = "$5" ] && [ "$6" -le $(($4 + 1000)) ] || { echo "$3 nodes in $4 KB, $5 in $6"; return 1; }
+    write_texts
+    for text in plain:1.31 small:1.28 anchors:0.68; do
+        compare_instructions ${text%:*} ${text#*:} "$(instructions "$1" "$work/${text%:*}.yaml")" \
+            "$(instructions "$2" "$work/${text%:*}.yaml")" || return 1
+    done
+    echo "$5 nodes in $6 KB, the original in $4; loads have$ratios of its instructions"
+}
+
 pipe_rust() {
     prepare_cargo
     mkdir -p "$work/pipe/src"
@@ -424,7 +455,7 @@ serde_yaml() {
 
 wanted=$*
 for word in $wanted; do
-    case " preload events pipe_c pyyaml_c psych pyyaml_pure loaders pipe_python pyyaml_ext cloaders crate pipe_rust yaml_test_suite serde_yaml " in
+    case " preload events pipe_c pyyaml_c psych pyyaml_pure loaders pipe_python pyyaml_ext cloaders crate loads_rust pipe_rust yaml_test_suite serde_yaml " in
     *" $word "*) ;;
     *) echo "no check has the name $word" >&2; exit 2 ;;
     esac
@@ -442,6 +473,7 @@ check pipe_python PyYAML -- pipe_python
 check pyyaml_ext PyYAML cc yaml.h pyyaml _yaml.abi3.so -- pyyaml_ext
 check cloaders PyYAML cc yaml.h pyyaml libyaml-pp-perl _yaml.abi3.so -- cloaders
 check crate cargo unsafe-libyaml -- crate
+check loads_rust cargo valgrind unsafe-libyaml -- loads_rust
 check pipe_rust cargo unsafe-libyaml -- pipe_rust
 check yaml_test_suite cargo unsafe-libyaml libyaml-pp-perl -- yaml_test_suite
 check serde_yaml cargo unsafe-libyaml serde_yaml serde_derive anyhow indoc -- serde_yaml

@@ -72,7 +72,10 @@ pub enum Refusal {
 /// The open collections of a document, and its anchors.
 pub struct Composer {
     record: Record,
-    stack: Vec<Open>,
+    /// The first stack.
+    few: [Open; Composer::ROOM],
+    /// The stack in its place, if it was too small.
+    many: Vec<Open>,
     anchors: HashMap<Vec<u8>, i32>,
 }
 
@@ -85,8 +88,17 @@ impl Composer {
         unsafe { pokhvizi_composer_new(&mut record, i32::MAX as u32) };
         Composer {
             record,
-            stack: vec![Open([0; 4]); Composer::ROOM],
+            few: [Open([0; 4]); Composer::ROOM],
+            many: Vec::new(),
             anchors: HashMap::new(),
+        }
+    }
+
+    #[inline]
+    fn stack(&mut self) -> &mut [Open] {
+        match self.many.is_empty() {
+            true => &mut self.few,
+            false => &mut self.many,
         }
     }
 
@@ -95,17 +107,9 @@ impl Composer {
     pub fn compose(&mut self, kind: u8, anchor: Option<&[u8]>, place: &mut Place) -> Result<Deed, Refusal> {
         let fact = anchor.and_then(|anchor| self.anchors.get(anchor)).copied().unwrap_or(0);
         loop {
+            let (stack, room) = (self.stack().as_mut_ptr(), self.stack().len());
             // SAFETY: the pointers are to as many entries as are said.
-            let deed = unsafe {
-                pokhvizi_compose(
-                    &mut self.record,
-                    self.stack.as_mut_ptr(),
-                    self.stack.len(),
-                    kind,
-                    fact,
-                    place,
-                )
-            };
+            let deed = unsafe { pokhvizi_compose(&mut self.record, stack, room, kind, fact, place) };
             return match deed {
                 0 => Ok(Deed::Passes),
                 1 => Ok(Deed::Begins),
@@ -133,10 +137,14 @@ impl Composer {
 
     #[cold]
     fn grow(&mut self) -> Result<(), Refusal> {
-        let room = self.stack.len();
-        let grown = self.stack.try_reserve_exact(room);
-        grown.map_err(|_| Refusal::Fault(Fault::memory()))?;
-        self.stack.resize(2 * room, Open([0; 4]));
+        let room = self.stack().len();
+        let mut grown = Vec::new();
+        grown
+            .try_reserve_exact(2 * room)
+            .map_err(|_| Refusal::Fault(Fault::memory()))?;
+        grown.extend_from_slice(self.stack());
+        grown.resize(2 * room, Open([0; 4]));
+        self.many = grown;
         Ok(())
     }
 }
