@@ -130,11 +130,6 @@ impl Parser {
         let mut event = NO_EVENT;
         let mut fault = NO_FAULT;
         let fact = self.fact(alloc, token, texts)?;
-        let kind = token_kind(byte_of(token.kind));
-        let at = step_span_t {
-            start_mark: mark_of(&token.start_mark),
-            end_mark: mark_of(&token.end_mark),
-        };
         if !self.are_short_stacks_bad(token, fact) {
             self.lines
                 .extend_from_slice(b"stacks that are too short are taken\n")?;
@@ -144,9 +139,9 @@ impl Parser {
             .step(
                 self.states.as_mut_slice(),
                 self.marks.as_mut_slice(),
-                kind,
+                token_kind(byte_of(token.kind)),
                 fact,
-                &at,
+                &span_of(token),
                 &mut event,
                 &mut fault,
             )
@@ -163,7 +158,7 @@ impl Parser {
         Ok(did)
     }
 
-    /// Whether a step is told as bad with one state or one mark fewer than the record counts.
+    /// Whether a step over stacks of a state or a mark fewer than the record counts does nothing, and says so.
     fn are_short_stacks_bad(&mut self, token: &token_record_t, fact: u8) -> bool {
         let states = self.steps.machine.states_count;
         let marks = self.steps.machine.marks_count;
@@ -180,10 +175,6 @@ impl Parser {
         marks: usize,
     ) -> u32 {
         let mut steps = self.steps;
-        let at = step_span_t {
-            start_mark: mark_of(&token.start_mark),
-            end_mark: mark_of(&token.end_mark),
-        };
         let states = states.min(self.states.len());
         let marks = marks.min(self.marks.len());
         steps
@@ -192,7 +183,7 @@ impl Parser {
                 &mut self.marks.as_mut_slice()[..marks],
                 token_kind(byte_of(token.kind)),
                 fact,
-                &at,
+                &span_of(token),
                 &mut NO_EVENT,
                 &mut NO_FAULT,
             )
@@ -437,6 +428,13 @@ fn mark_of(record: &mark_record_t) -> yaml_mark_t {
         index: record.index,
         line: record.line,
         column: record.column,
+    }
+}
+
+fn span_of(token: &token_record_t) -> step_span_t {
+    step_span_t {
+        start_mark: mark_of(&token.start_mark),
+        end_mark: mark_of(&token.end_mark),
     }
 }
 

@@ -1,9 +1,9 @@
 //! Lists of tokens, each with what steps over it give, which stand as files in `data`.
 //!
-//! Each line of `data/lists/index` names a list and says what it shows. Its tokens become records, and steps over
-//! these give the lines of its events, and the number and the marks of the fault that ends them. The composer's
-//! steps over the same events give what is done to each document. The program compares both with `NAME.steps` and
-//! `NAME.deeds`, and counts. `rows_steps TABLE [NAME]` compares one table, or one list of it.
+//! Each line of `data/lists/index` names a list and says what it shows. Its tokens become records, and steps
+//! over these give the lines of its events, and the number and the marks of the fault that ends them. The
+//! composer's steps over the same events give what is done to each document. The program compares both with
+//! `NAME.steps` and `NAME.deeds`, and counts. `rows_steps TABLE [NAME]` compares one table, or a list of it.
 #![tactic(auto)]
 
 mod deeds;
