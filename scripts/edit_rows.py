@@ -27,7 +27,7 @@ from controls import edited
 
 PAGE = TOP / "docs" / "WRONG_BODIES.md"
 PROGRAMS = {
-    "libyaml_types": ["rows_yaml", "example_push", "rows_hostile", "example_outline"],
+    "libyaml_types": ["rows_yaml", "example_scanner", "rows_hostile", "example_outline"],
     "libyaml_automaton": ["yamltokens", "rows_yaml", "rows_lines", "rows_hostile"],
     "libyaml_events": ["yamltokens", "rows_yaml", "rows_lines", "rows_hostile"],
     "rust_original": ["rows"],

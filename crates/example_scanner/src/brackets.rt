@@ -1,5 +1,4 @@
-//! A scanner that pushes its tokens. docs/CALLING.md, "A scanner that pushes", shows it.
-#![tactic(auto)]
+//! A scanner of brackets, commas and letters, which pushes its tokens.
 
 use anyhow::{Result, bail};
 use std::alloc::Global;
@@ -45,16 +44,21 @@ fn push(
     pushed.map_err(|_| (*parser.prefix()).into())
 }
 
-fn main(rt: HostRuntime) -> Result<()> {
+/// Pushes the tokens of a text, and prints the type and the place of each event.
+///
+/// # Errors
+///
+/// A character that is no token, the error of the tokens, or that memory or the output failed.
+pub fn push_text(rt: &HostRuntime, text: &str) -> Result<()> {
     use unnamed_yaml_token_t_data::{StreamEnd, StreamStart};
     let encoding = YAML_UTF8_ENCODING;
     let start = StreamStart(unnamed_yaml_token_t_data_stream_start { encoding });
     let mut parser = yaml_push_parser_t::new(rt.alloc());
-    push(&rt, &mut parser, start, 0)?;
+    push(rt, &mut parser, start, 0)?;
     let mut column = 0u64;
-    for character in "[a,[b]]".chars() {
-        push(&rt, &mut parser, content(rt.alloc(), character)?, column)?;
+    for character in text.chars() {
+        push(rt, &mut parser, content(rt.alloc(), character)?, column)?;
         column = column.saturating_add(1);
     }
-    push(&rt, &mut parser, StreamEnd, column)
+    push(rt, &mut parser, StreamEnd, column)
 }
