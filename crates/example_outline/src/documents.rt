@@ -1,6 +1,4 @@
-//! A walk over the pairs of a root: of a document made by calls, and of each document of the token lines on
-//! standard input. docs/CALLING.md, "Documents", shows it.
-#![tactic(auto)]
+//! The pairs of a root: of a document made by calls, and of documents that are loaded.
 
 use anyhow::Result;
 use std::alloc::Global;
@@ -61,8 +59,14 @@ fn print_documents(rt: &HostRuntime) -> Result<()> {
     Ok(())
 }
 
-fn main(rt: HostRuntime) -> Result<()> {
+/// Prints the pairs of the document of a box, and then those of each document of the token lines on standard
+/// input.
+///
+/// # Errors
+///
+/// The error of the tokens, or that memory or the output failed.
+pub fn print_all_pairs(rt: &HostRuntime) -> Result<()> {
     let document = document_of_a_box(rt.alloc())?;
-    print_pairs(&rt, &document)?;
-    print_documents(&rt)
+    print_pairs(rt, &document)?;
+    print_documents(rt)
 }
