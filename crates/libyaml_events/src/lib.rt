@@ -23,7 +23,7 @@ pub use parser::{
     yaml_parser_set_max_entries, yaml_parser_t,
 };
 pub use push::yaml_push_parser_t;
-// Where tokens come from, and what a fault says.
+// Where tokens come from, and what an error says.
 pub use libyaml_types::{
     MEMORY_FAULT, NO_FAULT, yaml_list_source_t, yaml_parser_t_prefix, yaml_source_fault_t,
     yaml_token_source_t,

@@ -141,13 +141,13 @@ fn clear(event: &mut yaml_event_t)
     *event = no_event();
 }
 
-/// Returns the next event of the stream. After the stream's end or a fault it is the empty event: nothing
+/// Returns the next event of the stream. After the stream's end or an error it is the empty event: nothing
 /// changes, and the source is asked for nothing.
 ///
 /// # Errors
 ///
-/// The error of a fault, which the parser keeps for good: an allocation that failed, a fault of the source,
-/// or a fault of the grammar.
+/// The kind of the error, which the parser keeps for good: an allocation that failed, an error of the source,
+/// or an error of the grammar.
 ///
 /// libyaml: `yaml_parser_parse`.
 #[inline(always)]

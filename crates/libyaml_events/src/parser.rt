@@ -109,7 +109,7 @@ pub fn yaml_parser_initialize<S>(alloc: Global, source: S) -> yaml_parser_t<S>
     ensures between { between_documents result ≡ true }
     ensures begins { History result [] [] }
     ensures running { is_over result ≡ false }
-    // over a source that knows its tokens and the fault that follows them, their whole run is to come
+    // over a source that knows its tokens and the error that follows them, their whole run is to come
     ensures run_to_come { (known : S → Option Coming) (tokens : List yaml_token_t) (f : Fault)
         → known source ≡ Some (coming tokens f) → (events : List yaml_event_t) (ending : Ending)
         → IsRun tokens f events ending → RunToCome known result events ending }
@@ -135,7 +135,7 @@ pub fn yaml_parser_delete<S>(parser: yaml_parser_t<S>) -> S
     source
 }
 
-/// Returns whether no document is open, or a fault is kept.
+/// Returns whether no document is open, or an error is kept.
 ///
 /// A document is open from its start event until its end event.
 pub fn yaml_parser_between_documents<S>(parser: &yaml_parser_t<S>) -> bool
@@ -162,12 +162,12 @@ pub fn yaml_parser_set_max_entries<S>(parser: &mut yaml_parser_t<S>, n: i32)
 }
 
 impl<S> yaml_parser_t<S> {
-    /// Returns the fault that the parser keeps, or `NO_FAULT` where it keeps none.
+    /// Returns the error that the parser keeps, or `NO_FAULT` where it keeps none.
     ///
     /// libyaml: the fields of `yaml_parser_t` from `error` to `context_mark`.
     pub fn prefix(&self) -> &yaml_parser_t_prefix
         ensures kept { fault_of result.now ≡ kept_fault self.now }
-        // before a fault it is `NO_FAULT`
+        // before an error it is `NO_FAULT`
         ensures before_fault { ForHistory self.now (λ _ _. fault_of result.now ≡ no_fault) }
     {
         self.machine.kept_prefix()
@@ -181,9 +181,9 @@ impl<S> yaml_parser_t<S> {
         self.max_entries.number()
     }
 
-    /// Keeps a fault of the loader for good: out of memory, or a composer error.
+    /// Keeps an error of the loader for good: out of memory, or a composer error.
     ///
-    /// The parser must not keep a fault already.
+    /// The parser must not keep an error already.
     pub fn keep_fault(&mut self, fault: yaml_parser_t_prefix)
         requires first { has_failed self.old ≡ false }
         requires of_loader { (fault.error ≡ yaml_error_type_t.YAML_MEMORY_ERROR)
@@ -203,7 +203,7 @@ impl<S> yaml_parser_t<S> {
         self.source.may_wait()
     }
 
-    /// Does nothing. A parser that keeps no fault has a history: some calls lead to a parser like it.
+    /// Does nothing. A parser that keeps no error has a history: some calls lead to a parser like it.
     pub fn remembered(&self)
         ensures { Remembers self.now }
     {
@@ -240,14 +240,14 @@ impl Machine {
         }
     }
 
-    /// Returns the fault that is kept, or `NO_FAULT`.
+    /// Returns the error that is kept, or `NO_FAULT`.
     pub(crate) fn kept_prefix(&self) -> &yaml_parser_t_prefix
         ensures { fault_of result.now ≡ self.now.fault }
     {
         &self.prefix
     }
 
-    /// Keeps a fault.
+    /// Keeps an error.
     fn keep_prefix(&mut self, fault: yaml_parser_t_prefix)
         ensures { self.new ≡ with_fault self.old (fault_of fault) }
     {
@@ -259,7 +259,7 @@ impl Machine {
         self.alloc
     }
 
-    /// Returns the error of the fault that is kept, if one is.
+    /// Returns the kind of the error that is kept, if one is.
     pub(crate) fn kept_error(&self) -> Result<(), yaml_error_type_t>
         ensures { result ≡ done_by self.now.fault }
     {
@@ -269,14 +269,14 @@ impl Machine {
         Ok(())
     }
 
-    /// Returns whether a fault is kept.
+    /// Returns whether an error is kept.
     fn has_failed(&self) -> bool
         ensures { result ≡ is_fault self.now.fault.error }
     {
         !matches!(self.prefix.error, yaml_error_type_t::YAML_NO_ERROR)
     }
 
-    /// Returns whether no document is open, or a fault is kept.
+    /// Returns whether no document is open, or an error is kept.
     fn stands_between_documents(&self) -> bool
         ensures { result ≡ (is_fault self.now.fault.error || is_between self.now.state) }
     {
@@ -290,7 +290,7 @@ impl Machine {
             )
     }
 
-    /// Returns whether no more events come: the stream has ended, or a fault is kept.
+    /// Returns whether no more events come: the stream has ended, or an error is kept.
     pub(crate) fn is_over(&self) -> bool
         ensures { result ≡ ended_or_failed self.now }
     {

@@ -58,13 +58,13 @@ impl yaml_push_parser_t {
         }
     }
 
-    /// Takes a token, and appends the events that it settles: at most four. After the stream end event or a
-    /// fault it takes none.
+    /// Takes a token, and appends the events that it determines: at most four. After the stream end event or
+    /// an error it takes none.
     ///
     /// # Errors
     ///
-    /// The error of a fault of the grammar or of an allocation that failed. The parser keeps it for good, and
-    /// each further call returns it.
+    /// The kind of an error of the grammar or of an allocation that failed. The parser keeps the error for
+    /// good, and each further call returns its kind.
     pub fn push(
         &mut self,
         token: yaml_token_t,
@@ -97,14 +97,14 @@ impl yaml_push_parser_t {
         self.machine.feed(token, &mut self.pending, events)
     }
 
-    /// Does nothing. A parser that keeps no fault has a history: some pushes lead to a parser like it.
+    /// Does nothing. A parser that keeps no error has a history: some pushes lead to a parser like it.
     pub fn remembered(&self)
         ensures { RemembersPushes self.now }
     {
         let _ = &self.machine;
     }
 
-    /// Returns the fault that the parser keeps, or `NO_FAULT` where it keeps none.
+    /// Returns the error that the parser keeps, or `NO_FAULT` where it keeps none.
     pub fn prefix(&self) -> &yaml_parser_t_prefix
         ensures kept { fault_of result.now ≡ fault_in self.now }
         ensures before_fault { ForPushed self.now (λ _ _. fault_of result.now ≡ no_fault) }

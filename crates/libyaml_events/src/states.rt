@@ -60,7 +60,7 @@ fn give(
 
 impl Machine {
     /// Takes one token in the function that `pending.reading` names, and returns what it led to. `out` gets
-    /// the event. A fault is kept.
+    /// the event. An error is kept.
     ///
     /// libyaml: `yaml_parser_state_machine`.
     #[inline(always)]
@@ -304,7 +304,7 @@ impl Machine {
         }
     }
 
-    /// Keeps the fault of this number, which the parser without texts gave.
+    /// Keeps the error of this number, which the parser without texts gave.
     #[cold]
     #[inline(never)]
     fn set_problem(&mut self, problem: u8, context_mark: &yaml_mark_t, mark: &yaml_mark_t) -> Step

@@ -10,7 +10,7 @@ pub(crate) enum Step {
     Given,
     /// A further token is wanted. `Pending` says for what, and has what was read before it.
     Wants,
-    /// The parser keeps the fault.
+    /// The parser keeps the error.
     Failed,
 }
 

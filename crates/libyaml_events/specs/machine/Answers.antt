@@ -38,7 +38,7 @@ wanted p = record {
   texts = texts_for (automaton_want.wanted p.reading) p.properties p.directives;
 }
 
--- a step that failed has the error of the fault that is kept
+-- a step that failed has the kind of the error that is kept
 abbrev pub answer : Step → Pending → yaml_event_t → Config → Result Progress yaml_error_type_t
 answer led.Given p e c = Ok (Given e)
 answer led.Wants p e c = Ok (Wants (wanted p))

@@ -195,7 +195,7 @@ abbrev pub is_end_state : yaml_parser_state_t → Bool
 is_end_state st.YAML_PARSE_END_STATE = true
 is_end_state _ = false
 
--- after the stream's end or a fault
+-- after the stream's end or an error
 abbrev pub ended_or_failed : Config → Bool
 ended_or_failed c = is_fault c.fault.error || is_end_state c.state
 

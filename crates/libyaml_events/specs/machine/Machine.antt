@@ -30,7 +30,7 @@ use Rattle.libyaml_automaton.specs.Automaton as automaton
 use Rattle.libyaml_events.specs.machine.Config.{Config, Handles, no_handles, config_of, config_with}
 use Rattle.libyaml_events.specs.machine.Want.{Texts, Want, Progress, Given, Wants, texts_behind}
 
--- a step gives an event or wants a token, or ends in a fault
+-- a step gives an event or wants a token, or ends in an error
 abbrev pub Progressed : Type 0
 Progressed = Result (Progress × Config) Fault
 

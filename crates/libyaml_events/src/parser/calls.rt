@@ -20,8 +20,8 @@ impl Machine {
         self.automaton.begin(&mut pending.reading);
     }
 
-    /// Drops the stacks and the lookahead, since after a fault nothing asks for them. Returns the fault's
-    /// error.
+    /// Drops the stacks and the lookahead, since after an error nothing asks for them. Returns the kind of
+    /// the error.
     #[cold]
     #[inline(never)]
     pub(crate) fn fail(&mut self) -> yaml_error_type_t

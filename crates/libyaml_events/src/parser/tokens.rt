@@ -96,7 +96,7 @@ impl Machine {
         }
     }
 
-    /// Asks the source for a token, and keeps its fault for good.
+    /// Asks the source for a token, and keeps its error for good.
     fn ask<S: yaml_token_source_t>(
         &mut self,
         source: &mut S,
@@ -117,7 +117,7 @@ impl Machine {
         }
     }
 
-    /// Puts the lookahead, or else the source's next token, into `token`. A fault of the source is kept for
+    /// Puts the lookahead, or else the source's next token, into `token`. An error of the source is kept for
     /// good.
     #[tactic(auto, using(crate::proofs::code::SourceErrors::source_error_is_fault))]
     pub(crate) fn next_token<S: yaml_token_source_t>(

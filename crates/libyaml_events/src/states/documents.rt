@@ -332,7 +332,7 @@ impl Machine {
         }
     }
 
-    /// Keeps the fault of this number, which has no context.
+    /// Keeps the error of this number, which has no context.
     #[cold]
     #[inline(never)]
     fn set_document_problem(&mut self, problem: u8, mark: &yaml_mark_t) -> Step
