@@ -42,6 +42,7 @@ OWN = {
 LEFT_OUT = {"SURFACE.md"}
 OLD_PAGES = {"CHANGELOG.md", "WRONG_BODIES.md", "PERFORMANCE.md"}
 RENAMED = ["libyaml_types", "libyaml_grammar", "libyaml_documents", "libyaml_graphs", "unsafe_libyaml", "yaml_path", "line_reading", "line_writing",
+           "libyaml_automaton", "libyaml_events", "libyaml_composer", "token_steps", "token_steps_c", "document_steps", "document_steps_c",
            "token_lines", *(path.name for path in TOP.glob("crates/example_*"))]
 
 

@@ -22,7 +22,7 @@ abbrev pub id_of : Option Carrier → Option ℤ
 id_of None = None
 id_of (Some c) = Some (pos c.id)
 
--- the table has these carriers
+-- the table has these anchored nodes
 abbrev pub Tabled : List ℕ → List anchor_t → Anchors → Type 0
 Tabled texts table xs = (a : List ℕ) → entry_in texts table a ≡ id_of (get xs a)
 

@@ -29,7 +29,7 @@ abbrev pub RunIsLoads : Type 0
 RunIsLoads = (most : ℕ) (d : composer_t) (ss : List open_t) (h : Held) (es : List Event) (ds : List Document)
     → Run most d ss h es ds → (x : Ending) → bounded_loads most es x ≡ as_loads ds ++ last_load x ∷ []
 
--- where a call refuses an event, the loads end there with its fault, whatever comes after it
+-- where a call refuses an event, the loads end there with its error, whatever comes after it
 abbrev pub RunFails : Type 0
 RunFails = (most : ℕ) (d d' : composer_t) (ss ss' : List open_t) (h : Held) (es : List Event) (ds : List Document) (a : Deed)
     (e : Event) (p p' : place_t) → Run most d ss h es ds → ComposeCalls a d ss h e d' ss' p p' → IsRefused a

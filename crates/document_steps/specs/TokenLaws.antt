@@ -34,7 +34,7 @@ BetweenBoth P = (d : steps_t) (ss : List ℕ) (ms : List yaml_mark_t) (hs : Hand
     (g : List Event) → tokens.Run d ss ms hs kept None l g → (most : ℕ) (c : composer_t) (os : List open_t) (h : Held)
     (ds : List Document) → Run most c os h g ds → P most l ds
 
--- and of those that ended with a fault of the parser
+-- and of those that ended with an error of the parser
 abbrev pub FailedTokens : (ℕ → List Token → List Document → Fault → Type 0) → Type 0
 FailedTokens P = (d d' : steps_t) (ss ss' : List ℕ) (ms ms' : List yaml_mark_t) (hs : Handles) (kept : Texts)
     (l : List Token) (g : List Event) (t : Token) (e : step_event_t) (f : step_fault_t)
@@ -42,7 +42,7 @@ FailedTokens P = (d d' : steps_t) (ss ss' : List ℕ) (ms ms' : List yaml_mark_t
     → (most : ℕ) (c : composer_t) (os : List open_t) (h : Held) (ds : List Document) → Run most c os h g ds
     → P most l ds (fault_with (step_fault f))
 
--- and of those that ended with a refusal of the event that was given last
+-- and of those that ended where the event that was given last was refused
 abbrev pub RefusedEvents : (ℕ → List Token → List Document → Fault → Type 0) → Type 0
 RefusedEvents P = (d : steps_t) (ss : List ℕ) (ms : List yaml_mark_t) (hs : Handles) (kept : Texts) (l : List Token)
     (g : List Event) (e : Event) → tokens.Run d ss ms hs kept None l (g ++ e ∷ [])

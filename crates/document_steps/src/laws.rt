@@ -25,7 +25,7 @@ pub fn run_is_loads()
     ensures { RunIsLoads }
 {}
 
-/// Where a call refuses an event, the loads end there with its fault, whatever comes after it.
+/// Where a call refuses an event, the loads end there with its error, whatever comes after it.
 pub fn run_fails()
     ensures { RunFails }
 {}
@@ -43,9 +43,9 @@ pub fn stack_fits()
     ensures full { FullWhereOpen }
 {}
 
-/// The function over a table of anchors returns the fact of an event, where the table has the carriers that are
-/// held. An empty one does at a document's start; and one entry more for each node that is put with an anchor,
-/// with its text after the others, keeps it so.
+/// The function over a table of anchors returns the fact of an event, where the table has the anchored nodes
+/// that are held. An empty one does at a document's start; and one entry more for each node that is put with
+/// an anchor, with its text after the others, keeps it so.
 pub fn tables_follow()
     ensures found { (texts : List ℕ) (table : List anchor_t) (anchors : Anchors) (anchor : List ℕ)
         → Tabled texts table anchors → node_in texts table anchor ≡ pos (id_or (get anchors anchor)) }
@@ -56,9 +56,9 @@ pub fn tables_follow()
         → Tabled (texts ++ more) (table ++ entry ∷ []) (insert anchors anchor carrier) }
 {}
 
-/// Steps from tokens to events and from these to documents: before STREAM-END the documents are all loads of the
-/// tokens so far, whatever the source's fault after them; with it they are those of all lists that begin so. A
-/// fault of the parser ends the loads, whatever comes after it.
+/// Steps from tokens to events and from these to documents: before STREAM-END the documents are all loads of
+/// the tokens so far, whatever the source's error after them; with it they are those of all lists that begin
+/// so. An error of the parser ends the loads, whatever comes after it.
 pub fn documents_of_tokens()
     ensures so_far { BetweenBoth (λ most tokens documents. has_end tokens ≡ false → (source : Fault)
         → AreThen most tokens source documents (Err source)) }

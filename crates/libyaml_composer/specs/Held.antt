@@ -20,7 +20,7 @@ use Rattle.libyaml_composer.specs.declared.records.place_t.{place_t}
 use Rattle.libyaml_composer.specs.Composing.{Composer}
 use Rattle.libyaml_composer.specs.Numbers.{is_id}
 
--- the start of the document that is open, its nodes so far, and the carriers of their anchors
+-- the start of the document that is open, its nodes so far, and the anchored nodes among them
 pub record Held : Type 0 where
   pub opening : Option Opening
   pub nodes : List yaml_node_t
@@ -112,7 +112,7 @@ abbrev pub given : Deed → Event → Held → List Document
 given deed.Ends e h = whole h.opening h.nodes (closing_of e)
 given _ e h = []
 
--- the fault that a refusal stands for
+-- the error of a deed that refuses an event
 abbrev pub first_mark : Option Carrier → Mark → Mark
 first_mark None m = m
 first_mark (Some c) m = c.mark

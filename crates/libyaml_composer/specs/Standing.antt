@@ -44,7 +44,7 @@ Opens most nodes n [] = Unit {0}
 Opens most nodes n (o ∷ s) = (k : ℕ) × (o.node ≡ pos (suc k)) × (k < n) × IsOpen (slice_get nodes k) o × IsKeyIn most o.key
     × Opens most nodes k s
 
--- a carrier is one of so many nodes
+-- an anchored node is one of so many nodes
 abbrev pub IsCarried : ℕ → Option Carrier → Type 0
 IsCarried most None = Unit {0}
 IsCarried most (Some c) = (0 < c.id) × (c.id ≤ most)

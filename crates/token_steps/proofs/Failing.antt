@@ -1,4 +1,4 @@
--- A fault of a call is the parser's.
+-- An error of a call is the parser's.
 use Rattle.std.proofs.Common.{◌≡◌, ◌∙◌, ◌==◌, ℕ, sym, ap, Err}
 use Rattle.libyaml_automaton.specs.Config.{Config, config_of}
 use Rattle.token_steps.specs.declared.did.Did.{Did}

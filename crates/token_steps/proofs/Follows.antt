@@ -1,5 +1,5 @@
 -- Where a step of the automaton leads: which properties an event has, which token is taken without one, and which numbers
--- faults have.
+-- errors have.
 use mathlib.Core.Bool.{true≢false}
 use Rattle.std.proofs.Common.{◌≡◌, Bool, true, false, refl, sym, arith, if◌then◌else◌}
 use Rattle.libyaml_types.specs.declared.mark.yaml_mark_t.{yaml_mark_t}

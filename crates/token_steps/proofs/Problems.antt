@@ -1,4 +1,4 @@
--- Each fault of a call has a number from 1 to 12.
+-- Each error of a call has a number from 1 to 12.
 use Rattle.std.proofs.Common.{◌≡◌, Bool, true, false, ℕ, Ok, Err, subst, arith}
 use Rattle.libyaml_types.specs.declared.mark.yaml_mark_t.{yaml_mark_t}
 use Rattle.libyaml_types.specs.declared.enums.yaml_token_type_t.{yaml_token_type_t}

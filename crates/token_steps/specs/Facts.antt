@@ -64,7 +64,7 @@ pub data Progress : Type 0 where
   Given : Event → Progress
   Wants : Want → Progress
 
--- a step gives an event or wants a token, or ends in a fault
+-- a step gives an event or wants a token, or ends in an error
 abbrev pub Progressed : Type 0
 Progressed = Result (Progress × Config) Fault
 

@@ -24,7 +24,7 @@ is_undone n = (n == 3) || ((n == 4) || (n == 6))
 abbrev pub IsEventNumber : ℕ → Type 0
 IsEventNumber n = (1 ≤ n) × (n ≤ 10)
 
--- the number of a fault (libyaml_automaton, Problems)
+-- the number of an error (libyaml_automaton, Problems)
 abbrev pub IsFaultNumber : ℕ → Type 0
 IsFaultNumber n = (1 ≤ n) × (n ≤ 12)
 

@@ -48,14 +48,14 @@ ForStacks P = (d : steps_t) (ss : List ℕ) (ms : List yaml_mark_t) (hs : Handle
     (o : Option Token) (l : List Token) (g : List Event) → Run d ss ms hs kept o l g → Within d.machine ss ms
     → P d.machine.states_count d.machine.marks_count g
 
--- and of the tokens, the events and the fault of each run that ended with a fault, which has the text of its
+-- and of the tokens, the events and the error of each run that ended with an error, which has the text of its
 -- number
 abbrev pub ForFailed : (List Token → List Event → Fault → Type 0) → Type 0
 ForFailed P = (d d' : steps_t) (ss ss' : List ℕ) (ms ms' : List yaml_mark_t) (hs : Handles) (kept : Texts)
     (l : List Token) (g : List Event) (t : Token) (e : step_event_t) (f : step_fault_t)
     → Run d ss ms hs kept (Some t) l g → StepCalls 5 d ss ms hs t d' ss' ms' e f → P l g (fault_with (step_fault f))
 
--- a parser that was handed these tokens, and gave these events, has this fault with the token in hand
+-- a parser that was handed these tokens, and gave these events, has this error with the token in hand
 abbrev pub FailsInHand : List Token → List Event → Fault → Type 0
 FailsInHand l g f = (w : Want) × (c : Config) × (hs : Handles) × (t : Token)
     × Fed w (config_with c hs no_fault None) (Some t) l g

@@ -19,7 +19,7 @@ use Rattle.token_steps.specs.Tells.{TellsNumber, want_in, tag_in}
 use Rattle.token_steps.specs.Texts.{event_with, handles_after, kept_behind, token_of}
 
 -- A call with this record and these stacks at the token t, with its fact by the handles hs, returned the
--- number n to C, and left that record, those stacks, the event e and the fault f.
+-- number n to C, and left that record, those stacks, the event e and the error f.
 abbrev pub StepCalls : (n : ℕ) → (old : steps_t) → (states : List ℕ) → (marks : List yaml_mark_t) → (hs : Handles)
     → (t : Token) → (new : steps_t) → (states' : List ℕ) → (marks' : List yaml_mark_t) → (e : step_event_t)
     → (f : step_fault_t) → Type 0

@@ -27,7 +27,7 @@ want_in d = record { next = wanted d.read; tag = d.tag }
 abbrev pub tag_in : steps_t → TagRead
 tag_in d = tag_for (wanted d.read) d.tag
 
--- p is what the automaton does with the token's fact; d, e, f and c are the record, the event, the fault and the
+-- p is what the automaton does with the token's fact; d, e, f and c are the record, the event, the error and the
 -- configuration after it. After an event no text is kept.
 abbrev pub Tells : Did → (p : Progressed) → (d : steps_t) → (e : step_event_t) → (f : step_fault_t) → (c : Config) → Type 0
 Tells did.Wants p d e f c = p ≡ Ok (Wants (want_in d), c)

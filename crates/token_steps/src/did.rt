@@ -15,7 +15,7 @@ pub enum Did {
     FullStates,
     /// Nothing was done: the stack of marks has no room for one more.
     FullMarks,
-    /// A fault was put. No token is to be handed in after it.
+    /// An error was put. No token is to be handed in after it.
     Failed,
     /// Nothing was done: the record counts more states or marks than their stacks have room for.
     Bad,

@@ -26,9 +26,9 @@ pub fn run_is_fed()
     ensures { RunIsFed }
 {}
 
-/// Before STREAM-END the events are those that the tokens settle, each given as soon as its token came; with
-/// it they are those of the whole tree, and of the run of all lists that begin so. They nest, and are at most
-/// four for each token.
+/// Before STREAM-END the events are those that the tokens determine, each given as soon as its token came;
+/// with it they are those of the whole tree, and of the run of all lists that begin so. They nest, and are at
+/// most four for each token.
 pub fn run_is_right()
     ensures settled { BetweenTokens (λ tokens events. has_end tokens ≡ false → StopsShort tokens events) }
     ensures whole { BetweenTokens (λ tokens events. has_end tokens ≡ true → IsWhole tokens events) }
@@ -48,7 +48,7 @@ pub fn stacks_fit()
     ensures marks { ForStacks (λ _ marks events. marks ≤ open_collections (stage_of events)) }
 {}
 
-/// A fault is that of a parser which was handed the same tokens, with its text and its marks, and so that of
+/// An error is that of a parser which was handed the same tokens, with its text and its marks, and so that of
 /// the run, whatever comes after.
 pub fn run_fails()
     ensures parser { ForFailed FailsInHand }

@@ -32,7 +32,7 @@ pub struct step_event_t {
     pub end_mark: yaml_mark_t,
 }
 
-/// A fault of the parser, without its words. A mark that it doesn't have is zero.
+/// An error of the parser, without its words. A mark that it doesn't have is zero.
 #[repr(C)]
 #[derive(Copy, Clone)]
 pub struct step_fault_t {

@@ -77,7 +77,7 @@ impl steps_t {
         }
     }
 
-    /// Takes a token by its kind, fact and marks. Puts at most one event, or a fault, and returns which.
+    /// Takes a token by its kind, fact and marks. Puts at most one event, or an error, and returns which.
     ///
     /// The states and marks that the record counts lie at the start of their slices. The fact says what the
     /// parser has to know of a token's texts: of a VERSION-DIRECTIVE 1 where its version is accepted, of a

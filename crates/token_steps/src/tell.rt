@@ -124,7 +124,7 @@ impl steps_t {
         did
     }
 
-    /// Puts a fault.
+    /// Puts an error.
     #[cold]
     #[inline(never)]
     pub(crate) fn fail(
@@ -149,7 +149,7 @@ impl steps_t {
         Did::Failed
     }
 
-    /// Puts the event or the fault of a step that asks nothing further. Returns what the call did.
+    /// Puts the event or the error of a step that asks nothing further. Returns what the call did.
     #[inline(always)]
     pub(crate) fn tell(
         &mut self,

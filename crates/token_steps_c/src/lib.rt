@@ -33,7 +33,7 @@ pub extern "C" fn pokhvizi_steps_new(steps: &mut steps_t)
 
 /// Takes a token by its kind, fact and marks, as `steps_t::step` does. Returns 0 where the next token is
 /// wanted; 1 where an event was put, and 2 where one was put and the same token is to be handed in again; 3
-/// and 4 where the stack of states, or that of marks, has no room, and nothing was done; 5 where a fault was
+/// and 4 where the stack of states, or that of marks, has no room, and nothing was done; 5 where an error was
 /// put; and 6 where the record counts more than the stacks have room for, and nothing was done.
 #[unsafe(no_mangle)]
 pub extern "C" fn pokhvizi_step(

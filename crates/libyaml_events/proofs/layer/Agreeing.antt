@@ -34,7 +34,7 @@ fetched_ready gives p old now t h a = record {
     none (Some u) f = ap (λ (x : Parser _). x.config.lookahead) f.1
     none None f = ap (λ (c : Config). c.lookahead) f.1
 
--- a fault of the source is kept
+-- an error of the source is kept
 pub fetched_fault : {S : Type 0} (gives : S → Answer → S → Type 0) (old now : Parser S) (x : yaml_error_type_t)
     → Fetches gives old (Err x) now → x ≡ now.config.fault.error
 fetched_fault gives old now x h = by old.config.lookahead h

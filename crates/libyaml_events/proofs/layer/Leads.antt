@@ -34,7 +34,7 @@ use Rattle.libyaml_events.specs.machine.Want.{Texts}
 use Rattle.libyaml_events.specs.automaton.Led.{GrowsBehind, IsHeld, IsPlain, Led, SaysIn}
 use Rattle.libyaml_events.specs.automaton.View.{Ready}
 
--- What a step does with texts hangs on the handles, the fault and the lookahead, which the automaton leaves alone.
+-- What a step does with texts hangs on the handles, the error and the lookahead, which the automaton leaves alone.
 module _ (hs : Handles) (f : Fault) (o : Option yaml_token_t) (a b : automaton_config.Config) (h : Texts) (t : yaml_token_t)
     (k : unnamed_yaml_token_t_data) where
   put_same : (anchor tag : Option (List ℕ)) (x : automaton.Step)

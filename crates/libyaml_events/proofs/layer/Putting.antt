@@ -42,7 +42,7 @@ from_before out old mid (Ok (Given e)) new o m h = h
 from_before out old mid (Ok (Wants w)) new o m h = (h.0, h.1 ∙ (m ∙ sym o))
 from_before out old mid (Err e) new o m h = h
 
--- a fault is kept
+-- an error is kept
 pub fails_as : (out : Progressed) (new : Config) (f : Fault) → new.fault.error ≡ YAML_PARSER_ERROR → new.fault ≡ f
     → out ≡ Err f → FailsAs new out new.fault.error
 fails_as out new f e k o = subst (λ (x : yaml_error_type_t). FailsAs new out x) (sym e) (o ∙ ap Err (sym k), e)

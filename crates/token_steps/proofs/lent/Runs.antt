@@ -1,3 +1,3 @@
--- A run of calls is what a parser was handed and gave, and a fault of a call is the parser's.
+-- A run of calls is what a parser was handed and gave, and an error of a call is the parser's.
 pub use Rattle.token_steps.proofs.Running.{fed}
 pub use Rattle.token_steps.proofs.Failing.{fails}
