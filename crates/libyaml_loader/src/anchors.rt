@@ -12,7 +12,7 @@ use std::alloc::{AllocError, Global};
 use std::collections::BTreeMap;
 use std::marker::Model;
 
-/// The first carrier of each anchor that came so far.
+/// The first anchored node of each anchor that came so far.
 ///
 /// libyaml: the parser's field `aliases`.
 #[derive(Drop)]
@@ -41,7 +41,7 @@ impl Anchors {
         }
     }
 
-    /// Returns the carrier of this anchor.
+    /// Returns the anchored node of this anchor.
     #[tactic(auto, using(crate::proofs::document::AnchorLemmas::get_anchor))]
     pub(crate) fn find(&self, anchor: &str) -> Option<Carrier>
         ensures { option_map carrier_of result ≡ get self.now anchor.now }
@@ -49,7 +49,7 @@ impl Anchors {
         self.inner.get(anchor).copied()
     }
 
-    /// Registers the carrier of this anchor, and returns the one that it had before.
+    /// Registers the anchored node of this anchor, and returns the one that it had before.
     ///
     /// # Errors
     ///

@@ -45,14 +45,14 @@ pub(crate) struct Composer {
     /// The document that is open, if one is.
     pub ctx: loader_ctx,
     pub is_open: bool,
-    /// The fault that is kept, or `NO_FAULT`.
+    /// The error that is kept, or `NO_FAULT`.
     pub fault: yaml_parser_t_prefix,
     /// How many entries each list of a document may have.
     pub max_entries: u32,
 }
 
 impl Composer {
-    /// Returns a composer without an open document and without a fault. Each list of a document may have
+    /// Returns a composer without an open document and without an error. Each list of a document may have
     /// `max_entries` entries.
     pub(crate) fn new(alloc: Global, max_entries: u32) -> Self
         requires { max_entries ≤ 2147483647 }
@@ -69,11 +69,11 @@ impl Composer {
         }
     }
 
-    /// Tells the fault that is kept, if there is one.
+    /// Tells the error that is kept, if there is one.
     ///
     /// # Errors
     ///
-    /// The error of that fault.
+    /// The kind of that error.
     pub(crate) fn kept(&self) -> Result<(), yaml_error_type_t>
         ensures { result ≡ done_by (fault_of self.now.fault) }
     {
@@ -83,7 +83,7 @@ impl Composer {
         }
     }
 
-    /// Keeps this fault for good. The document that is open is dropped.
+    /// Keeps this error for good. The document that is open is dropped.
     #[cold]
     pub(crate) fn keep(&mut self, fault: yaml_parser_t_prefix)
         requires { self.old.max_entries ≤ 2147483647 }
@@ -101,7 +101,7 @@ impl Composer {
     ///
     /// # Errors
     ///
-    /// The error of the fault that is then kept.
+    /// The kind of the error that is then kept.
     pub(crate) fn compose_all(
         &mut self,
         events: &mut Vec<yaml_event_t>,
@@ -158,7 +158,7 @@ impl Composer {
     ///
     /// # Errors
     ///
-    /// The error of the fault that is then kept.
+    /// The kind of the error that is then kept.
     #[inline(always)]
     pub(crate) fn compose(
         &mut self,
@@ -225,7 +225,7 @@ impl Composer {
         self.ctx.into_document(closing.implicit, closing.mark)
     }
 
-    /// Keeps the fault of this refusal, of an event that starts at `mark`, and returns its error.
+    /// Keeps this error, of an event that starts at `mark`, and returns its kind.
     #[cold]
     fn refuse(&mut self, refusal: Refusal, mark: yaml_mark_t) -> yaml_error_type_t
         requires { self.old.max_entries ≤ 2147483647 }

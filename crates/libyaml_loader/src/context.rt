@@ -253,7 +253,7 @@ impl loader_ctx {
         }
     }
 
-    /// Registers the next node, which starts at `mark`, as the carrier of the anchor, if there is an anchor.
+    /// Registers the next node, which starts at `mark`, as the anchored node of the anchor, if there is one.
     /// Returns the id of the node that carried it before, or 0 where none did. The anchor is moved out.
     ///
     /// libyaml: `yaml_parser_register_anchor`.
@@ -445,11 +445,11 @@ pub(crate) fn empty_document(alloc: Global) -> yaml_document_t
     begin_document(alloc, start, ZERO_MARK)
 }
 
-/// Returns this deed, unless it is a refusal.
+/// Returns this deed, unless it is an error.
 ///
 /// # Errors
 ///
-/// The refusal.
+/// The error.
 #[inline(always)]
 fn taken(deed: Deed) -> Result<Deed, Refusal>
     ensures ok { IfOk result (λ d. (d ≡ deed) × (IsRefused deed → ⊥)) }

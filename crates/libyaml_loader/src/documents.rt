@@ -20,8 +20,8 @@ pub struct yaml_parser_documents_t<'a, S> {
 
 /// Returns an iterator over the documents that the parser has still to load.
 ///
-/// It yields each document as `yaml_parser_load` returns it, or the whole fault once in its place. After
-/// the last document or a fault it yields no more: never the document without nodes. The parser must stand
+/// It yields each document as `yaml_parser_load` returns it, or the whole error once in its place. After
+/// the last document or an error it yields no more: never the document without nodes. The parser must stand
 /// between documents (`yaml_parser_between_documents`).
 ///
 /// libyaml: a loop over `yaml_parser_load`.
@@ -45,7 +45,7 @@ impl<'a, S: yaml_token_source_t> Iterator for yaml_parser_documents_t<'a, S> {
 
     ghost remaining = { λ s. at_most (items_left S.bound s.parser.now) };
 
-    /// Returns the next document, or the fault that ends them. After the last document or a fault: `None`.
+    /// Returns the next document, or the error that ends them. After the last document or an error: `None`.
     fn next(&mut self) -> Option<Result<yaml_document_t, yaml_parser_t_prefix>> {
         if has_failed(self.parser) {
             return None;

@@ -1,4 +1,4 @@
-//! Where a carrier of an anchor stands.
+//! Where an anchored node stands.
 
 ghost use Rattle.std.specs.Prelude.{pos, ◌≤ℤ◌};
 

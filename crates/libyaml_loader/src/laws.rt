@@ -30,7 +30,7 @@ use libyaml_events::yaml_token_source_t;
 
 /// What a whole loop over the documents of a parser yielded: over a list of tokens from the start, or over
 /// events that are to come and nest, exactly the loads within the parser's bound; or memory ran out, or the
-/// source broke off, and the documents are a prefix of these.
+/// source failed early, and the documents are a prefix of these.
 pub fn loop_yields_loads<S: yaml_token_source_t>()
     ensures of_list { (old new : Parser S) (documents : List Document) (ending : Ending) (l : List Token)
         (f : Fault) (loads : List Load) → History old [] [] → S.known old.source ≡ Some (coming l f)
@@ -44,8 +44,8 @@ pub fn loop_yields_loads<S: yaml_token_source_t>()
 {}
 
 /// What a load says of each run that its parser had to come: a document is the run's first load, and the
-/// events that it leaves are to come; a fault is the run's first load, or an allocation failed, or the source
-/// broke off.
+/// events that it leaves are to come; an error is the run's first load, or an allocation failed, or the
+/// source failed early.
 pub fn load_of_run<S: yaml_token_source_t>()
     ensures { (n : ℕ) (old new : Parser S) (r : DocumentOrError) (events : List Event) (ending : Ending)
         → RunToCome S.known old events ending

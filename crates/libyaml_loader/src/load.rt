@@ -30,7 +30,7 @@ use libyaml_types::{yaml_error_type_t, yaml_event_t};
 ///
 /// # Errors
 ///
-/// The error of a fault, which the parser keeps for good: one of the parser; an alias whose anchor no
+/// The kind of an error, which the parser keeps for good: one of the parser; an alias whose anchor no
 /// node before it carries, or a second node with an anchor; out of memory, where an allocation failed
 /// or a list of the document would have more than `max_entries` entries.
 ///
@@ -39,7 +39,7 @@ pub fn yaml_parser_load<S: yaml_token_source_t>(
     parser: &mut yaml_parser_t<S>,
 ) -> Result<yaml_document_t, yaml_error_type_t>
     requires between { between_documents parser.old ≡ true }
-    // a fault that is kept is returned for good
+    // an error that is kept is returned for good
     ensures kept { has_failed parser.old ≡ true → (result ≡ Err (kept_fault parser.old).error)
         × (parser.new ≡ parser.old) }
     // after the stream's end nothing changes
@@ -47,14 +47,14 @@ pub fn yaml_parser_load<S: yaml_token_source_t>(
         → (result ≡ Ok (empty_document None [] false false)) × (parser.new ≡ parser.old) }
     ensures fails { IfErr result (λ x. (x ≡ (kept_fault parser.new).error) × (is_over parser.new ≡ true)) }
     ensures failed { IfErr result (λ _. has_failed parser.new ≡ true) }
-    // with a document no fault is kept
+    // with a document no error is kept
     ensures faultless { has_failed parser.old ≡ false → IfOk result (λ _. has_failed parser.new ≡ false) }
     ensures bound { parser.new.max_entries ≡ parser.old.max_entries }
     ensures between { between_documents parser.new ≡ true }
     // so a loop over the documents ends
     ensures falls { IfOk result (λ d. (d ≡ empty_document None [] false false)
         ⊎ (events_left S.bound parser.new < events_left S.bound parser.old)) }
-    // over every source, by the events that were taken; a parser with a history keeps no fault
+    // over every source, by the events that were taken; a parser with a history keeps no error
     ensures no_fault { ForHistory parser.old (λ _ _. has_failed parser.old ≡ false) }
     ensures loads { has_failed parser.old ≡ false
         → LoadsFrom S.yaml_token_source_t (next_bounded (magnitude parser.old.max_entries)) left_over
@@ -81,7 +81,7 @@ pub fn yaml_parser_load<S: yaml_token_source_t>(
     next_document(parser, composer, &mut event)
 }
 
-/// Returns the next document, where no fault is kept. Its events come in `event`, one after another.
+/// Returns the next document, where no error is kept. Its events come in `event`, one after another.
 ///
 /// libyaml: `yaml_parser_load`, `yaml_parser_load_document` and `yaml_parser_load_nodes`.
 fn next_document<S: yaml_token_source_t>(

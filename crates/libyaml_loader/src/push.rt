@@ -68,12 +68,12 @@ impl yaml_push_loader_t {
         }
     }
 
-    /// Takes a token, and appends the documents that end with it. After the stream's end or a fault it takes
+    /// Takes a token, and appends the documents that end with it. After the stream's end or an error it takes
     /// none.
     ///
     /// # Errors
     ///
-    /// The error of a fault, which the loader keeps for good, so that each further call returns it: one of
+    /// The kind of an error, which the loader keeps for good, so that each further call returns it: one of
     /// the grammar; an alias whose anchor no node before it carries, or a second node with an anchor; out of
     /// memory, where an allocation failed or a list of the document would have more entries than it may. The
     /// documents that ended before it are appended.
@@ -98,14 +98,14 @@ impl yaml_push_loader_t {
         Ok(())
     }
 
-    /// Does nothing. A loader that keeps no fault has a history: some pushes lead to a loader like it.
+    /// Does nothing. A loader that keeps no error has a history: some pushes lead to a loader like it.
     pub fn remembered(&self)
         ensures { RemembersLoads self.now }
     {
         let _ = &self.parser;
     }
 
-    /// Returns the fault that the loader keeps, or `NO_FAULT` where it keeps none.
+    /// Returns the error that the loader keeps, or `NO_FAULT` where it keeps none.
     pub fn prefix(&self) -> &yaml_parser_t_prefix
         ensures kept { fault_of result.now ≡ loader_fault self.now }
         ensures before_fault { ForLoaded self.now (λ _ _. fault_of result.now ≡ no_fault) }

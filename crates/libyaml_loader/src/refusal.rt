@@ -40,14 +40,14 @@ impl From<yaml_refusal_t> for Refusal {
     }
 }
 
-/// Returns whether the parser keeps a fault.
+/// Returns whether the parser keeps an error.
 pub(crate) fn has_failed<S>(parser: &yaml_parser_t<S>) -> bool
     ensures { result ≡ has_failed parser.now }
 {
     !matches!(parser.prefix().error, yaml_error_type_t::YAML_NO_ERROR)
 }
 
-/// Keeps this fault of a load for good, and returns its error.
+/// Keeps this error of a load for good, and returns its kind.
 #[cold]
 pub(crate) fn keep_fault<S>(
     parser: &mut yaml_parser_t<S>,
@@ -66,7 +66,7 @@ pub(crate) fn keep_fault<S>(
     fault.error
 }
 
-/// Returns the fault of this refusal: out of memory, or a composer error.
+/// Returns this error as it is kept: out of memory, or a composer error.
 ///
 /// libyaml: `yaml_parser_set_composer_error` and `yaml_parser_set_composer_error_context`.
 pub(crate) fn fault_by(

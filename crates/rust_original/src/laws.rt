@@ -18,7 +18,7 @@ ghost use Rattle.rust_original.specs.parser.Runs.{Runs, RunsThere, as_here, call
 ghost use Rattle.rust_original.specs.parser.Runs.{run_within};
 ghost use Rattle.rust_original.specs.parser.Texts.{NoneHoldsZero, as_held};
 
-/// The Rust crate has one run over each list of tokens and fault of a source after it. Its events nest, and
+/// The Rust crate has one run over each list of tokens and error of a source after it. Its events nest, and
 /// to the end only where it ends. A run that is computed within so many calls is a run.
 pub fn runs_there()
     ensures some { (l : List Token) (f : Fault) → (e : List Event) × (x : Ending) × RunsThere l f e x }
@@ -41,7 +41,7 @@ pub fn runs_here()
 {}
 
 /// A call of any parser does the same with the mends and without, but at three places; what it does there.
-/// After the stream's end, and after a fault, it returns the empty event and changes nothing.
+/// After the stream's end, and after an error, it returns the empty event and changes nothing.
 pub fn calls()
     ensures places { (p : Parser) → (call_there p ≡ call_here p) ⊎ Differs p (call_there p) (call_here p) }
     ensures after_the_end { (m : Mends) (kept : Fault) (p : Parser) → p.stream_end_produced ≡ true

@@ -1,4 +1,4 @@
-//! Worked rows, by computation: lists of tokens with the run there, the run here, and the loads there.
+//! Test vectors, by computation: lists of tokens with the run there, the run here, and the loads there.
 
 ghost use Rattle.rust_original.specs.rows.ExampleRows.{RowCompose, RowFault, RowList, RowListBegun};
 ghost use Rattle.rust_original.specs.rows.ExampleRows.{RowLoadsOfFault};

@@ -170,7 +170,7 @@ module _ (old : loader_ctx) (new : Composer) (e : Event) (stands : Stands old) (
       go (fails refused fault) = fault
       go (full f) = absurd (subst IsRefused f is)
 
-  -- the fault of the refusal, where the first mark is that of the node that carries the event's anchor
+  -- the error, where the first mark is that of the node that carries the event's anchor
   pub refused_at : (ctx : loader_ctx) → IsRefused d → (d ≡ deed.RepeatedAnchor
       → ctx.first_mark ≡ held.first_mark (held.carrier_of old.anchors (anchor_in (part_of e))) e.start_mark)
       → Refuses old ctx (part_of e) e.start_mark (refusal_of d)

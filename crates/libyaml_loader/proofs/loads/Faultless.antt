@@ -1,4 +1,4 @@
--- After a document no fault is kept.
+-- After a document no error is kept.
 use Rattle.std.proofs.Common.{◌≡◌, List, Ok, Err, IfOk, inl, inr, false, sym, ◌∙◌}
 use Rattle.std.proofs.lemmas.Bool.{true≢false}
 use Rattle.libyaml_events.specs.machine.Config.{Parser}

@@ -57,12 +57,12 @@ one_loaded_proof p q tokens a b bound h k =
           (sym (ends_there p.max_entries h.events a p.state h.leads) ∙ ends_there p.max_entries h.events b q.state led)).0,
     )
 
--- what was pushed has these documents before every fault of a source, or has ended
+-- what was pushed has these documents before every error of a source, or has ended
 data LoadsSo (n : ℕ) (l : List Token) (g : List Document) : Type 0 where
   so_far : ((f : Fault) → AreThen n l f g (Err f)) → LoadsSo n l g
   to_end : ((f : Fault) → AreThen n (l ++ []) f g (last_load Ends)) → LoadsSo n l g
 
--- so its loads have no fault of their own
+-- so its loads have no error of their own
 no_failure : (n : ℕ) (l : List Token) (g k : List Document) (x : Fault) → LoadsSo n l g
     → ((f : Fault) → AreThen n (l ++ []) f k (Err x)) → ⊥
 no_failure n l g k x (to_end r) s = never (last_load Ends) refl

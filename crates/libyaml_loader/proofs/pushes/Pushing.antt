@@ -149,7 +149,7 @@ parser_stops Full Room n tokens given added documents here f leads (pushes.by_me
     = by_memory is added here (fed_begins_run fed) leads
     (in_parser w c u fed (any_room Room w c u needs))
 
--- the loader keeps no fault, and its parser was handed a token; the events that came were composed
+-- the loader keeps no error, and its parser was handed a token; the events that came were composed
 module _ (Full Room : Type 0) (p q : PushParser) (t : Token) (given : List Event) (r : Done)
     (pushes_so : Pushes Room p t [] r q given) (old new : Composer)
     (before after : List Document) (s : Done) (composes : Composes Full old given before s new after)
@@ -321,7 +321,7 @@ module _ (Full Room : Type 0) (p q : PushParser) (t : Token) (given : List Event
           (subst (λ (z : Done). pushes.EndsSo Room (tokens ++ t ∷ []) (k.events ++ given) z q) so
           (all_begin h tokens l k)))
 
--- after a push a fault is kept, or there is a history
+-- after a push an error is kept, or there is a history
 pub push_remembers : (Full : Type 0) (old new : PushLoader) (t : Token) (before after : List Document) (r : Done)
     → PushesLoads Full old t before r new after
     → RemembersLoads old → RemembersLoads new
@@ -341,7 +341,7 @@ pub on_ok : (P : Type 0) (s : Done) → OnOk s P → s ≡ Ok tt → P
 on_ok P (Ok u) h is = h
 on_ok P (Err x) h is = absurd cc
 
--- the parser's fault is kept
+-- the parser's error is kept
 pub kept_fault : (q : PushParser) (k : Composer) (n : ℕ) (f : Fault) → k.is_open ≡ false → fault_of k.fault ≡ f
     → k.max_entries ≡ n
     → standing_loader q between f n ≡ standing_loader q (composer_state k) (fault_of k.fault) k.max_entries

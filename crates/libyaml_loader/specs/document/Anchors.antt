@@ -7,7 +7,7 @@ use Rattle.libyaml_graphs.specs.machine.Loader as machine
 use Rattle.libyaml_loader.specs.declared.ids.Carrier.{Carrier}
 use Rattle.libyaml_loader.specs.document.Ids.{carrier_of}
 
--- a carrier is stored as the tuple of its numbers
+-- an anchored node is stored as the tuple of its numbers
 abbrev pub carrier_code : Coded graphs.Carrier
 carrier_code =
     code_by (ℕ × (ℕ × (ℕ × ℕ))) (coded× coded_ℕ (coded× coded_ℕ (coded× coded_ℕ coded_ℕ)))

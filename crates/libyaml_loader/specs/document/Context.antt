@@ -68,7 +68,8 @@ IsListed _ = ⊥
 abbrev pub Grows : Deed → place_t → Type 0
 Grows d p = (IsPut d × (is_id p.node ≡ true)) ⊎ IsListed d
 
--- The next node is named by this anchor, if there is one. The id is that of the node which carried it before; 0 where none did.
+-- The next node is named by this anchor, if there is one. The id is that of the node which carried it before; 0
+-- where none did.
 pub record Named (old new : loader_ctx) (a : Option (List ℕ)) (m : yaml_mark_t) (id : ℤ) : Type 0 where
   pub carrier : id ≡ pos (id_or (carrier_of old.anchors a))
   pub context : new ≡ record old {
@@ -103,7 +104,7 @@ pub record Decided (old new : loader_ctx) (q : Option Part) (end : yaml_mark_t) 
   pub numbered : IsNode q → p.node ≡ pos (suc (length old.document.nodes))
   pub grows : Grows d p → load_may_grow (loader_of old) q ≡ true
 
--- an allocation failed, where there may be one, or the machine fails by this refusal
+-- an allocation failed, where there may be one, or the machine fails by this error
 abbrev pub RefusedBy : (grows : Bool) → Loading → Refusal → Fault → Type 0
 RefusedBy grows o r f = ((r ≡ Memory) × (grows ≡ true)) ⊎ (o ≡ failed f)
 

@@ -1,4 +1,4 @@
--- Carriers, as the loader's machine has them.
+-- Anchored nodes, as the loader's machine has them.
 use Rattle.std.specs.Prelude.{ℕ, zero, ℤ, pos, negsuc, Option, Some, None}
 use Rattle.libyaml_graphs.specs.graphs.Graphs as graphs
 use Rattle.libyaml_loader.specs.declared.ids.Carrier.{Carrier}

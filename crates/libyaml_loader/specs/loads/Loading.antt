@@ -37,11 +37,11 @@ pub record ParserFails {S : Type 0} (g : Ghosts S) (old new : Parser S) : Type 0
   pub no_lookahead : lookahead_tokens new ≡ []
   pub depth_left : ForHistory old (λ _ given. stack_depth new ≤ open_collections (stage_of given) + 1)
 
--- the parser keeps a fault of the loader
+-- the parser keeps an error of the loader
 abbrev pub KeptBy : {S : Type 0} → Fault → (parser new : Parser S) → Type 0
 KeptBy f parser new = (asked : List Token) (given : List Event) → History parser asked given → new ≡ keeping f parser
 
--- The parser has ended without a fault: it asked for the tokens of a whole tree, and gave the tree's events.
+-- The parser has ended without an error: it asked for the tokens of a whole tree, and gave the tree's events.
 pub record HasEnded {S : Type 0} (p : Parser S) : Type 0 where
   pub over : is_over p ≡ true
   pub no_fault : has_failed p ≡ false
@@ -64,7 +64,7 @@ pub data Loads {S : Type 0} (g : Ghosts S) (load : List Event → Ending → Loa
       → ((asked : List Token) (given : List Event) → History old asked given → HasEnded new)
       → Loads g load left old new d
 
--- A load that failed: after the events that it took the parser did, and these have no fault of a load; or the last of these
+-- A load that failed: after the events that it took the parser did, and these have no error of a load; or the last of these
 -- has one, which the parser keeps; or an allocation failed at the last of them, where the load may take memory.
 pub data LoadFails {S : Type 0} (g : Ghosts S) (load : List Event → Ending → Load) (left : List Event → List Event)
     (old new : Parser S) : Type 0 where

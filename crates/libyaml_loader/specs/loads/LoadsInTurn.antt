@@ -17,7 +17,7 @@ use Rattle.libyaml_loader.specs.document.Ids.{magnitude}
 use Rattle.libyaml_loader.specs.loads.Loading.{DocumentOrError, HasEnded, LoadsFrom, Took}
 use Rattle.libyaml_loader.specs.loads.NextLoad.{Answers}
 
--- what the clauses of `yaml_parser_load` say of a parser that keeps no fault
+-- what the clauses of `yaml_parser_load` say of a parser that keeps no error
 pub record LoadsNext {S : Type 0} (g : Ghosts S) (old : Parser S) (r : DocumentOrError) (new : Parser S) : Type 0 where
   pub ended : is_over old ≡ true → (r ≡ Ok (empty_document None [] false false)) × (new ≡ old)
   pub fails : IfErr r (λ x. (x ≡ (kept_fault new).error) × (is_over new ≡ true))
@@ -33,7 +33,7 @@ pub record LoadsNext {S : Type 0} (g : Ghosts S) (old : Parser S) (r : DocumentO
   pub next_load : ForRun g.known old (λ events ending. UnlessBroken g.may_break r new
       (Answers g.known (next_bounded (magnitude old.max_entries) events ending) r new (left_over events) ending))
 
--- The next document as `yaml_parser_load` returns it, or the fault once; after the stream's end or a fault no item.
+-- The next document as `yaml_parser_load` returns it, or the error once; after the stream's end or an error no item.
 -- A document without nodes is no item.
 abbrev pub YieldsDocument : {S : Type 0} → Ghosts S → Parser S → Option (Result Document yaml_parser_t_prefix)
     → Parser S → Type 0
@@ -45,7 +45,7 @@ YieldsDocument g old (Some (Ok d)) new = (has_failed old ≡ false) × (d.nodes 
 YieldsDocument g old (Some (Err f)) new =
     (has_failed old ≡ false) × LoadsNext g old (Err f.error) new × (fault_of f ≡ kept_fault new)
 
--- A whole loop over the documents, from one parser to a later one: these documents came, and then no item, or this fault.
+-- A whole loop over the documents, from one parser to a later one: these documents came, and then no item, or this error.
 pub data LoopYields {S : Type 0} (g : Ghosts S) : Parser S → List Document → Ending → Parser S → Type 0 where
   no_item : {old new : Parser S} → YieldsDocument g old None new → LoopYields g old [] Ends new
   fault : (f : yaml_parser_t_prefix) → {old new : Parser S} → YieldsDocument g old (Some (Err f)) new
@@ -54,8 +54,8 @@ pub data LoopYields {S : Type 0} (g : Ghosts S) : Parser S → List Document →
       → YieldsDocument g old (Some (Ok d)) next → LoopYields g next later ending new
       → LoopYields g old (d ∷ later) ending new
 
--- The documents of a loop and its ending are these loads; or memory ran out, or the source broke off by a fault
--- that it names as possible where it then stands, and the documents are a prefix.
+-- The documents of a loop and its ending are these loads; or memory ran out, or the source failed early, with an
+-- error that it names as possible where it then stands, and the documents are a prefix.
 pub data AreLoadsOf {S : Type 0} (MayBreak : S → Fault → Type 0) (new : Parser S) (documents : List Document)
     (ending : Ending) (loads : List Load)
     : Type 0 where

@@ -58,7 +58,7 @@ pub data LoadRunsOut {S : Type 0} (gives : S → Answer → S → Type 0) (load 
       → CarriedOn gives old parser asked given (before ++ e ∷ [])
       → GrowsAt load before e → new ≡ keeping memory_fault parser → LoadRunsOut gives load old r new asked given
 
--- One result, and what is kept: the bound; after a document all, after an error the fault.
+-- One result, and what is kept: the bound; after a document all, else the error.
 pub record LoadsAlike {S : Type 0} (r : DocumentOrError) (p : Parser S) (s : DocumentOrError) (q : Parser S) : Type 0 where
   pub result : r ≡ s
   pub bound : p.max_entries ≡ q.max_entries

@@ -42,13 +42,13 @@ pub record IsSound (c : Composer) : Type 0 where
   pub bound : c.ctx.collections.most ≡ c.max_entries
   pub most : c.max_entries ≤ 2147483647
 
--- The event is refused: the loads end there with this fault, whatever comes after it; or an allocation failed.
+-- The event is refused: the loads end there with this error, whatever comes after it; or an allocation failed.
 pub data RefusesEvent (Full : Type 0) (n : ℕ) (here : State) (e : Event) (f : Fault) : Type 0 where
   by_loads : ((rest : List Event) (x : Ending) → loads_from n here (e ∷ rest) x ≡ Err f ∷ []) → RefusesEvent Full n here e f
   by_memory : f ≡ memory_fault → NeedsMemoryAt Full here e → RefusesEvent Full n here e f
 
 -- What one event did: it ended no document; or it ends the one that is open, and nothing is done yet; or it was
--- refused, and the fault is kept.
+-- refused, and the error is kept.
 abbrev pub ComposesEvent : (old : Composer) → Event → Result (Option Closing) yaml_error_type_t → (new : Composer) → Type 0
 ComposesEvent old e (Ok None) new = Leads old.max_entries (composer_state old) (e ∷ []) [] (composer_state new)
 ComposesEvent old e (Ok (Some c)) new = (old.is_open ≡ true) × (closing_of e ≡ Some (closing_by c)) × (new ≡ old)

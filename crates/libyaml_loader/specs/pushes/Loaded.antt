@@ -1,4 +1,4 @@
--- What a loader was handed since it was made_loader, and the documents that it gave (docs/DEFINITIONS.md, "Documents pushed").
+-- What a loader was handed since it was made, and the documents that it gave (docs/DEFINITIONS.md, "Documents pushed").
 use Rattle.std.specs.Prelude.{◌≡◌, ◌⊎◌, ◌||◌, ℕ, List, Bool, true}
 use Rattle.libyaml_types.specs.Fault.{Fault, no_fault}
 use Rattle.libyaml_grammar.specs.sentences.Tokens.{Token}
@@ -10,7 +10,7 @@ use Rattle.libyaml_events.specs.sources.Pushed.{PushParser, Pushed}
 use Rattle.libyaml_graphs.specs.machine.Loader.{State, between}
 use Rattle.libyaml_graphs.specs.loads.Leads.{Leads}
 
--- What is kept between two tokens: the parser; whether a document is open, and its nodes so far; the fault; and how
+-- What is kept between two tokens: the parser; whether a document is open, and its nodes so far; the error; and how
 -- many entries each list of a document may have.
 pub record PushLoader : Type 0 where
   pub parser : PushParser
@@ -25,7 +25,7 @@ standing_loader p s f n = record { parser = p; state = s; fault = f; max_entries
 abbrev pub made_loader : ℕ → PushLoader
 made_loader n = standing_loader pushed.made between no_fault n
 
--- Since the loader was made it was handed these tokens and gave these documents, without a fault: its parser gave
+-- Since the loader was made it was handed these tokens and gave these documents, without an error: its parser gave
 -- some events, and the loads of all that begin so are these documents and then those from where it stands.
 pub record Loaded (l : PushLoader) (tokens : List Token) (documents : List Document) : Type 0 where
   pub events : List Event
@@ -43,11 +43,11 @@ loader_fault l = l.fault
 abbrev pub loader_keeps_fault : PushLoader → Bool
 loader_keeps_fault l = is_fault l.fault.error
 
--- the stream's end was handed to the loader, or it keeps a fault
+-- the stream's end was handed to the loader, or it keeps an error
 abbrev pub loader_has_stopped : PushLoader → Bool
 loader_has_stopped l = loader_keeps_fault l || pushed.has_stopped l.parser
 
--- a fault is kept, or some pushes lead to a loader that stands so
+-- an error is kept, or some pushes lead to a loader that stands so
 abbrev pub RemembersLoads : PushLoader → Type 0
 RemembersLoads l = (loader_keeps_fault l ≡ true)
     ⊎ ((tokens : List Token) × (documents : List Document) × Loaded l tokens documents)

@@ -13,7 +13,7 @@ use Rattle.libyaml_graphs.specs.loads.Leads.{Leads}
 use Rattle.libyaml_loader.specs.pushes.Loaded.{PushLoader, loader_fault}
 use Rattle.libyaml_loader.specs.pushes.PushesLoads.{LoadNeedsMemory}
 
--- An allocation failed: after the events that were given before, some more that the tokens settle gave the documents
+-- An allocation failed: after the events that were given before, some more that the tokens determine gave the documents
 -- and those that were added, and then memory is needed.
 pub record PushLoadsRunOut (Full : Type 0) (tokens : List Token) (given : List Event) (documents before : List Document)
     (r : Done) (new : PushLoader) (after : List Document)
@@ -28,7 +28,7 @@ pub record PushLoadsRunOut (Full : Type 0) (tokens : List Token) (given : List E
   pub leads : Leads new.max_entries between (given ++ more) (documents ++ added) here
   pub needs : LoadNeedsMemory Full tokens (given ++ more) here
 
--- One result, the same documents and bound; without an error the same loader, and with one the same fault.
+-- One result, the same documents and bound; without an error the same loader, and with one the same error.
 pub record PushLoadsAlike (r : Done) (p : PushLoader) (after : List Document) (s : Done) (q : PushLoader)
     (later : List Document) : Type 0 where
   pub result : r ≡ s

@@ -23,7 +23,7 @@ use Rattle.libyaml_loader.specs.pushes.Loaded.{ForLoaded, Loaded, PushLoader, lo
 abbrev pub AreThen : ℕ → List Token → Fault → List Document → Load → Type 0
 AreThen n tokens source documents last = IsBoundedLoads n tokens source (as_loads documents ++ last ∷ [])
 
--- the documents are the first of the loads of all tokens that begin so, also of tokens with a fault
+-- the documents are the first of the loads of all tokens that begin so, also of tokens with an error
 abbrev pub BeginsEachLoads : ℕ → List Token → List Document → Type 0
 BeginsEachLoads n tokens documents = (rest : List Token) (source : Fault) (loads : List Load)
     → IsBoundedLoads n (tokens ++ rest) source loads
@@ -31,15 +31,15 @@ BeginsEachLoads n tokens documents = (rest : List Token) (source : Fault) (loads
 
 -- Where memory is needed, after these tokens, these events and where they led: for the next step of the parser, or
 -- for the event that it gives, for which the loader's own list may have no room; or at an event that the tokens
--- settle.
+-- determine.
 pub data LoadNeedsMemory (Full : Type 0) (tokens : List Token) (events : List Event) (here : State) : Type 0 where
   in_parser : (w : Want) (c : Config) (u : Token) → Fed w c (Some u) tokens events → NeedsMemory (Unit {0}) w c u
       → LoadNeedsMemory Full tokens events here
   in_loader : (e : Event) → BeginsEachRun tokens (events ++ e ∷ []) → NeedsMemoryAt Full here e
       → LoadNeedsMemory Full tokens events here
 
--- The loads of the tokens are these documents and then this fault, whatever comes after them. Or an allocation
--- failed: after the events that were given before, some more that the tokens settle have these documents, and then
+-- The loads of the tokens are these documents and then this error, whatever comes after them. Or an allocation
+-- failed: after the events that were given before, some more that the tokens determine have these documents, and then
 -- memory is needed.
 pub data StopsLoading (Full : Type 0) (n : ℕ) (tokens : List Token) (given : List Event) (documents : List Document)
     (f : Fault) : Type 0 where
@@ -68,15 +68,15 @@ pub record TakesLoads (Full : Type 0) (old : PushLoader) (t : Token) (before : L
 pub record PushesLoads (Full : Type 0) (old : PushLoader) (t : Token) (before : List Document) (r : Done)
     (new : PushLoader) (after : List Document)
     : Type 0 where
-  -- after the stream's end or a fault nothing is taken
+  -- after the stream's end or an error nothing is taken
   pub stopped : loader_has_stopped old ≡ true → (new ≡ old) × (after ≡ before) × (r ≡ done_by (loader_fault old))
   -- else the token is taken, and documents are appended
   pub takes : loader_has_stopped old ≡ false → TakesLoads Full old t before r new after
-  -- a fault is kept for good
+  -- an error is kept for good
   pub kept : IfErr r (λ x. (x ≡ (loader_fault new).error) × (loader_keeps_fault new ≡ true))
   pub bound : new.max_entries ≡ old.max_entries
   -- what was handed and given since the loader was made: before STREAM-END the documents are all that the tokens
-  -- have, whatever the source's fault; and with it those of the whole stream
+  -- have, whatever the source's error; and with it those of the whole stream
   pub so_far : ForLoaded new (λ tokens documents. has_end tokens ≡ false → (source : Fault)
       → AreThen new.max_entries tokens source documents (Err source))
   pub whole : ForLoaded new (λ tokens documents. has_end tokens ≡ true → (more : List Token) (source : Fault)

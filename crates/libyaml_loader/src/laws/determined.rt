@@ -40,7 +40,7 @@ pub fn one_load<S: yaml_token_source_t>()
         ⊎ (LoadsAlike r p s q × (p.source ≡ q.source)) }
 {}
 
-/// Loaders with one bound that were handed the same tokens, without a fault, gave the same documents and
+/// Loaders with one bound that were handed the same tokens, without an error, gave the same documents and
 /// stand the same.
 pub fn one_loaded()
     ensures { (p q : PushLoader) (tokens : List Token) (documents given : List Document)

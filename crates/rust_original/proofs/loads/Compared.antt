@@ -1,4 +1,4 @@
--- Where the runs there and here are the same, so are the loads. Where they part, the loads are the same after a fault of
+-- Where the runs there and here are the same, so are the loads. Where they part, the loads are the same after an error of
 -- the events before, and else the documents of these begin both.
 use Rattle.std.proofs.Common.{◌≡◌, ◌∷◌, ◌++◌, ◌∙◌, ℕ, List, [], Ok, Err, map, refl, sym, ap}
 use Rattle.libyaml_types.specs.declared.event.unnamed_yaml_event_t_data.{unnamed_yaml_event_t_data}
@@ -17,7 +17,7 @@ use Rattle.rust_original.specs.parser.Differences.{Compares, parts, same}
 use Rattle.rust_original.specs.parser.Runs.{new_parser}
 use Rattle.rust_original.specs.parser.Texts.{as_held}
 
--- the loads b and c are the same, or the loads a are documents without a fault, which begin both
+-- the loads b and c are the same, or the loads a are documents without an error, which begin both
 data Shares (a b c : List Load) : Type 0 where
   equal : b ≡ c → Shares a b c
   begin : (documents : List Document) (left right : List Load) → a ≡ map Ok documents ++ last_load Ends ∷ []

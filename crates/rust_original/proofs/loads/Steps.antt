@@ -32,7 +32,7 @@ abbrev pub Follows : LoaderResult → Option Fault → List Start → Built → 
 Follows (FAIL f) w es b = w ≡ Some f
 Follows (OK m) w es b = (w ≡ None) × ((xs : List yaml_alias_data_t) × (m ≡ there xs b) × Agrees es xs × AllSound b.held)
 
--- a carrier's id is one
+-- an anchored node's id is one
 carrier_id : (a : List ℕ) (es : List Start) (c : Carrier) → carrier a es ≡ Some c → (i : ℕ) × (c.id ≡ suc i)
 carrier_id a [] c e = absurd cc
 carrier_id a (s ∷ es) c e = go (carries s.anchor a) (λ k. carrier_id a es c k) e

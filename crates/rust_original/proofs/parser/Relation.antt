@@ -159,7 +159,7 @@ standing {tags} {flag} {ended} {state} {marks} {tokens} i fits fresh = record {
   fresh = fresh;
 }
 
--- the same event, and parsers that stand so again; or the same fault
+-- the same event, and parsers that stand so again; or the same error
 abbrev pub Matches : Fault → Outcome → HereCall → Type 0
 Matches f (OK e q) (given x d l) = (e ≡ x) × Stands f q d l
 Matches f (OK e q) (stopped h) = ⊥

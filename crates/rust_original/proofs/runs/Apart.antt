@@ -247,7 +247,7 @@ one_run (fails i) d y (ends j g) = absurd (apart_outcomes (sym j ∙ i))
 one_run (fails i) d y (goes_on j g later) = absurd (apart_outcomes (sym j ∙ i))
 one_run (fails i) d y (fails j) = (refl, ap Fails (fail_same (sym i ∙ j)))
 
--- after the stream's end, and after a fault
+-- after the stream's end, and after an error
 pub after_the_end : (m : Mends) (kept : Fault) (p : Parser) → p.stream_end_produced ≡ true
     → yaml_parser_parse m kept p ≡ OK empty_event p
 after_the_end m kept p h

@@ -1,4 +1,4 @@
--- What our machine does in a call, of a list that it is handed token by token and then a fault.
+-- What our machine does in a call, of a list that it is handed token by token and then an error.
 use Rattle.std.proofs.Common.{◌≡◌, ◌∷◌, ◌++◌, List, [], Option, Some, None, Ok, Err, false, append-nil, append_assoc, refl, sym, subst, ◌∙◌}
 use Rattle.libyaml_types.specs.Fault.{Fault}
 use Rattle.libyaml_grammar.specs.runs.Runs.{Fails, IsRun}
@@ -15,7 +15,7 @@ use Rattle.libyaml_events.proofs.lent.RunStops.{short_run}
 use Rattle.rust_original.proofs.parser.Relation.{HereCall, feed, given, led, stopped, tokens_of}
 
 module _ (f : Fault) where
-  -- From where it was handed l and gave g it takes some of the tokens and gives an event, or has the run's fault.
+  -- From where it was handed l and gave g it takes some of the tokens and gives an event, or has the run's error.
   pub data Does (l : List Token) (g : List Event) (rest : List Token) : HereCall → Type 0 where
     gives : {e : Event} {d : Config} {r : List Token} (more : List Token) → rest ≡ more ++ r
         → Fed AtState (taken d) d.lookahead (l ++ more) (g ++ e ∷ []) → ended_or_failed d ≡ is_stream_end e

@@ -14,7 +14,7 @@ use Rattle.rust_original.proofs.runs.Apart.{may_differ, one_run}
 use Rattle.rust_original.proofs.runs.Ended.{ends_whole}
 use Rattle.rust_original.proofs.runs.Total.{has_run}
 
--- Over each list of tokens and fault of a source after it there is a run of a parser that does what the mended one does,
+-- Over each list of tokens and error of a source after it there is a run of a parser that does what the mended one does,
 -- but at the three places. Its events nest, to the end only where the run ends; and where it differs nowhere, the run is
 -- that of the grammar.
 pub some_run : (m : Mends) (differs : Bool) → ((p : Parser) → (call m p ≡ call_here p)

@@ -3,7 +3,7 @@
 --
 -- Memory is left out, and the bound on lists is a number: STACK_LIMIT there is met where a list has
 -- 2147483646 entries. Where the Rust asserts what always holds (the kinds of events and parents, an open
--- collection at its end), or is called after a fault, the outcome here is any.
+-- collection at its end), or is called after an error, the outcome here is any.
 use Rattle.std.specs.Prelude.{◌∷◌, ◌++◌, ◌&&◌, ℕ, zero, suc, ℤ, pos, List, [], nat_lt, length, codes, bytes_eq, Option, Some, None, Bool, true, false, not, Ok, Err, if◌then◌else◌}
 use Rattle.libyaml_types.specs.declared.enums.yaml_error_type_t.TheVariants.{YAML_COMPOSER_ERROR}
 use Rattle.libyaml_types.specs.declared.event.unnamed_yaml_event_t_data.TheVariants as ev
@@ -36,7 +36,7 @@ pub record Loader : Type 0 where
 abbrev pub new_loader : Loader
 new_loader = record { aliases = []; nodes = []; ctx = [] }
 
--- What a function returns: the loader after it, or the fault that is set.
+-- What a function returns: the loader after it, or the error that is set.
 pub data LoaderResult : Type 0 where
   OK : Loader → LoaderResult
   FAIL : Fault → LoaderResult
@@ -49,9 +49,9 @@ if_ok (OK l) next = next l
 abbrev pub STACK_LIMIT : (limit length : ℕ) → LoaderResult → LoaderResult
 STACK_LIMIT limit length next = if nat_lt length limit then next else FAIL memory_fault
 
--- faults
+-- errors
 
--- A fault of kind YAML_COMPOSER_ERROR with its problem.
+-- An error of kind YAML_COMPOSER_ERROR with its problem.
 abbrev pub yaml_parser_set_composer_error : (problem : List ℕ) → (problem_mark : Mark) → LoaderResult
 yaml_parser_set_composer_error problem problem_mark
     = FAIL (record
@@ -75,7 +75,7 @@ abbrev pub alias_of : List yaml_alias_data_t → (anchor : List ℕ) → Option 
 alias_of [] anchor = None
 alias_of (d ∷ ds) anchor = if bytes_eq d.anchor anchor then Some d.carrier else alias_of ds anchor
 
--- A node's anchor comes after the others; one that is there already is a fault. `mark` is the node's start.
+-- A node's anchor comes after the others; one that is there already is an error. `mark` is the node's start.
 abbrev pub yaml_parser_register_anchor : Loader → (index : ℕ) → (mark : Mark) → (anchor : Option (List ℕ))
     → (Loader → LoaderResult) → LoaderResult
 yaml_parser_register_anchor l index mark None next = next l
@@ -153,7 +153,7 @@ yaml_parser_load_node_add limit l index
 
 -- events
 
--- An alias: the id of its carrier is handed to the parent.
+-- An alias: the id of its anchored node is handed to the parent.
 abbrev pub yaml_parser_load_alias : (limit : ℕ) → Loader → (anchor : List ℕ) → Mark → LoaderResult
 yaml_parser_load_alias limit l anchor mark = elim (alias_of l.aliases anchor) [
   | Some found ↦ yaml_parser_load_node_add limit l found.id
@@ -222,7 +222,7 @@ pub data State : Type 0 where
   within : Opening → Loader → State
 
 -- yaml_parser_load, yaml_parser_load_document and yaml_parser_load_nodes, again and again: a document each,
--- up to a fault or, at the stream's end, the document without root.
+-- up to an error or, at the stream's end, the document without root.
 abbrev pub loads_from : (limit : ℕ) → State → List Event → Ending → List Load
 loads_from limit s [] Ends = Ok (empty_document None [] false false) ∷ []
 loads_from limit s [] (Fails f) = Err f ∷ []

@@ -20,7 +20,7 @@ pub record LoadsThere (limit : ℕ) (l : List Token) (f : Fault) (a : List Load)
   pub all : a ≡ loads_there limit events ending
 
 -- Loads there and here, of a parser and its tokens: they are the same; or calls do the same up to one of the
--- three kinds, the loads of the events before it have no fault, and their documents begin both.
+-- three kinds, the loads of the events before it have no error, and their documents begin both.
 pub data LoadsCompare (limit : ℕ) (p : Parser) (a b : List Load) : Type 0 where
   same_loads : a ≡ b → LoadsCompare limit p a b
   loads_part : (before : List Event) (q : Parser) → Reaches p before q

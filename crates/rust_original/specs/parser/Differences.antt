@@ -37,13 +37,13 @@ pub data Differs (p : Parser) : Outcome → Outcome → Type 0 where
       (set_state st.YAML_PARSE_FLOW_SEQUENCE_ENTRY_MAPPING_VALUE_STATE (SKIP_TOKEN p)))
       (yaml_parser_process_empty_scalar t.start_mark
       (set_state st.YAML_PARSE_FLOW_SEQUENCE_ENTRY_MAPPING_VALUE_STATE p))
-  -- A VALUE where a block mapping's KEY is due is a fault there, and after an empty key here.
+  -- A VALUE where a block mapping's KEY is due is an error there, and after an empty key here.
   value_first : (q : Parser) (t : Token) (l : List Token) → KeyDue p q → q.tokens ≡ t ∷ l → t.content ≡ Value
       → Differs p
       (FAIL (parser_fault_in (codes "while parsing a block mapping") (top_mark q.marks)
       (codes "did not find expected key") t.start_mark))
       (yaml_parser_process_empty_scalar t.start_mark (set_state st.YAML_PARSE_BLOCK_MAPPING_VALUE_STATE q))
-  -- After a document with an explicit end, a token that begins no explicit document is a fault there, and
+  -- After a document with an explicit end, a token that begins no explicit document is an error there, and
   -- begins an implicit one here.
   bare_document : (q : Parser) (t : Token) (l : List Token) → p.state ≡ st.YAML_PARSE_DOCUMENT_START_STATE
       → p.behind_explicit_end ≡ true → skip_document_ends p.tokens p ≡ q → q.tokens ≡ t ∷ l → is_one_of t (

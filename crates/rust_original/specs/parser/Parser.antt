@@ -51,7 +51,7 @@ pub record Parser : Type 0 where
   pub tag_directives : List yaml_tag_directive_t
   pub behind_explicit_end : Bool
 
--- What a function returns: an event and the parser after it, or the fault that is set.
+-- What a function returns: an event and the parser after it, or the error that is set.
 pub data Outcome : Type 0 where
   OK : Event → Parser → Outcome
   FAIL : Fault → Outcome
@@ -104,9 +104,9 @@ abbrev pub opened : (first : Bool) → Parser → (Parser → Outcome) → Outco
 opened first p next
     = if first then PEEK_TOKEN p (λ token. next (SKIP_TOKEN (PUSH_mark token.start_mark p))) else next p
 
--- faults
+-- errors
 
--- A fault of kind YAML_PARSER_ERROR with its problem.
+-- An error of kind YAML_PARSER_ERROR with its problem.
 abbrev pub yaml_parser_set_parser_error : (problem : List ℕ) → (problem_mark : Mark) → Outcome
 yaml_parser_set_parser_error problem problem_mark = FAIL (parser_fault problem problem_mark)
 
@@ -160,7 +160,7 @@ abbrev pub directive_of : List yaml_tag_directive_t → (handle : List ℕ) → 
 directive_of [] handle = None
 directive_of (d ∷ ds) handle = if bytes_eq d.handle handle then Some d.prefix else directive_of ds handle
 
--- The directive comes after the others; one whose handle is there already is a fault, or left out.
+-- The directive comes after the others; one whose handle is there already is an error, or left out.
 abbrev pub yaml_parser_append_tag_directive : yaml_tag_directive_t → (allow_duplicates : Bool) → Mark → Parser
     → (Parser → Outcome) → Outcome
 yaml_parser_append_tag_directive value allow_duplicates mark p next
@@ -280,7 +280,7 @@ pub record WrittenTag : Type 0 where
   pub suffix : List ℕ
   pub mark : Mark
 
--- The prefix that was found, and the suffix after it; none is a fault.
+-- The prefix that was found, and the suffix after it; none is an error.
 abbrev pub prefixed : (start_mark : Mark) → WrittenTag → Option (List ℕ) → (Option (List ℕ) → Outcome)
     → Outcome
 prefixed start_mark g None next
@@ -306,7 +306,7 @@ abbrev pub is_quoted_implicit : (tag : Option (List ℕ)) → yaml_scalar_style_
 is_quoted_implicit None style = if is_plain style then false else true
 is_quoted_implicit (Some tag) style = false
 
--- The last two branches: an empty scalar where there is a property, else a fault. No token is skipped.
+-- The last two branches: an empty scalar where there is a property, else an error. No token is skipped.
 abbrev pub without_content : Parser → (block : Bool) → (anchor tag : Option (List ℕ))
     → (start_mark end_mark : Mark) → Token → Outcome
 without_content p block None None start_mark end_mark token = yaml_parser_set_parser_error_context
@@ -499,7 +499,7 @@ yaml_parser_parse_block_mapping_value p = PEEK_TOKEN p λ token. elim token.cont
 
 -- flow collections
 
--- `if !first { .. }`: the token after FLOW-ENTRY, without which there is a fault.
+-- `if !first { .. }`: the token after FLOW-ENTRY, without which there is an error.
 abbrev pub separated : (first : Bool) → (context problem : List ℕ) → Token → Parser
     → (Token → Parser → Outcome) → Outcome
 separated true context problem token p next = next token p
@@ -650,8 +650,8 @@ yaml_parser_state_machine m st.YAML_PARSE_FLOW_MAPPING_EMPTY_VALUE_STATE p
     = yaml_parser_parse_flow_mapping_value p true
 yaml_parser_state_machine m st.YAML_PARSE_END_STATE p = FAIL p.scanner_fault
 
--- The next event, where `kept` is the fault that an earlier call set, or none. After the stream's end or a
--- fault it is the empty event, and the parser stays as it is.
+-- The next event, where `kept` is the error that an earlier call set, or none. After the stream's end or an
+-- error it is the empty event, and the parser stays as it is.
 abbrev pub yaml_parser_parse : Mends → (kept : Fault) → Parser → Outcome
 yaml_parser_parse mends kept p =
     if p.stream_end_produced || (is_fault kept.error || is_end_state p.state)

@@ -28,11 +28,11 @@ as_there = record { pair_key_stays = false; value_begins_entry = false; bare_doc
 abbrev pub as_here : Mends
 as_here = record { pair_key_stays = true; value_begins_entry = true; bare_document_behind_end = true }
 
--- A call of a parser that keeps no fault.
+-- A call of a parser that keeps no error.
 abbrev pub call : Mends → Parser → Outcome
 call mends p = yaml_parser_parse mends no_fault p
 
--- Calls in turn, up to the stream end event or a fault.
+-- Calls in turn, up to the stream end event or an error.
 pub data Runs (mends : Mends) : Parser → List Event → Ending → Type 0 where
   ends : {p : Parser} {e : Event} {q : Parser} → call mends p ≡ OK e q → q.stream_end_produced ≡ true
       → Runs mends p (e ∷ []) Ends

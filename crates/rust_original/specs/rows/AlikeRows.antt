@@ -1,4 +1,4 @@
--- Worked rows where both parsers do the same, at places that the lists in examples do not reach, in the notation of
+-- Test vectors where both parsers do the same, at places that the lists in examples do not reach, in the notation of
 -- Notation.
 use Rattle.std.specs.Prelude.{◌≡◌, ◌∷◌, List, [], codes, Err}
 use Rattle.libyaml_types.specs.declared.event.unnamed_yaml_event_t_data.TheVariants as ev

@@ -1,4 +1,4 @@
--- Worked rows of the three places where the parsers differ: the run there, the run here, and the loads there, in the
+-- Test vectors of the three places where the parsers differ: the run there, the run here, and the loads there, in the
 -- notation of Notation.
 use Rattle.std.specs.Prelude.{◌≡◌, ◌∷◌, [], None, true, false, codes, Err}
 use Rattle.libyaml_types.specs.declared.event.unnamed_yaml_event_t_data.TheVariants as ev

@@ -1,4 +1,4 @@
--- Worked rows of the lists in examples (list, compose and fault, with .tokens, .events and .nodes), line by line of
+-- Test vectors of the lists in examples (`list`, `compose` and `fault`, with .tokens, .events and .nodes), line by line of
 -- their texts, in the notation of Notation.
 use Rattle.std.specs.Prelude.{◌≡◌, ◌∷◌, ◌++◌, List, [], None, Some, true, codes, take, Err}
 use Rattle.libyaml_types.specs.declared.event.unnamed_yaml_event_t_data.TheVariants as ev
@@ -194,7 +194,7 @@ fault_events =
     line 0 0 (e 0 0 stream ∷ e 0 0 bare_document ∷ e 0 0 mapping ∷ e 0 5 (text (codes "ports")) ∷ e 7 8 flow_sequence ∷
     e 8 10 (text (codes "80")) ∷ e 12 15 (text (codes "443")) ∷ [])
 
--- A list that breaks off: the events of its tokens so far, and then the source's fault.
+-- A list whose source fails early: the events of its tokens so far, and then the source's error.
 abbrev pub RowListBegun : Type 0
 RowListBegun = parse (take 10 list_tokens) ≡ alike (fails no_more (take 7 list_events)) (Err no_more ∷ [])
 

@@ -1,4 +1,4 @@
--- The notation of worked rows, beside that of RowNotation and of LoadRows, where token k of a list begins at index and
+-- The notation of test vectors, beside that of RowNotation and of LoadRows, where token k of a list begins at index and
 -- column 2k and ends at 2k + 1, on line 0.
 use Rattle.std.specs.Prelude.{◌∷◌, ◌++◌, ◌+◌, ℕ, pos, List, [], map, Option, Some, None, true, false, codes, Ok}
 use Rattle.libyaml_types.specs.declared.enums.yaml_mapping_style_t.TheVariants.{YAML_BLOCK_MAPPING_STYLE, YAML_FLOW_MAPPING_STYLE}
@@ -20,7 +20,7 @@ use Rattle.libyaml_graphs.specs.loads.Loads.{Load}
 use Rattle.rust_original.specs.loader.Loader.{loads_there}
 use Rattle.rust_original.specs.parser.Runs.{run_here, run_there}
 
--- What a row compares: the run of a list there and here, and the loads there, with the bound that lists have there.
+-- What a test vector compares: the run of a list there and here, and the loads there, with the bound that lists have there.
 -- After the list the source fails with `no_more`.
 pub record Parsed : Type 0 where
   pub there : List Event × Option Ending
@@ -47,14 +47,14 @@ fails f e = (e, Some (Fails f))
 abbrev pub alike : List Event × Option Ending → List Load → Parsed
 alike r loads = record { there = r; here = r; loads = loads }
 
--- the runs of one implicit document, which begins at 2: with these events in it up to its end, or to a fault
+-- the runs of one implicit document, which begins at 2: with these events in it up to its end, or to an error
 abbrev pub run_to : ℕ → List Event → List Event × Option Ending
 run_to n e = ends (at 0 0 stream ∷ at 2 2 bare_document ∷ e ++ at n n no_document_end ∷ at n (n + 1) ev.StreamEnd ∷ [])
 
 abbrev pub broken_run : Fault → List Event → List Event × Option Ending
 broken_run f e = fails f (at 0 0 stream ∷ at 2 2 bare_document ∷ e)
 
--- faults: where the collection begins and where the problem is, or where the problem alone is
+-- errors: where the collection begins and where the problem is, or where the problem alone is
 abbrev pub no_separator : ℕ → ℕ → Fault
 no_separator i j = says_while (codes "while parsing a flow sequence") i (codes "did not find expected ',' or ']'") j
 

@@ -1,4 +1,4 @@
--- Worked rows of texts with zero bytes: the run there, the run here, and the loads there, in the notation of Notation.
+-- Test vectors of texts with zero bytes: the run there, the run here, and the loads there, in the notation of Notation.
 use Rattle.std.specs.Prelude.{◌≡◌, ◌∷◌, ◌++◌, [], None, Some, true, false, codes, Err}
 use Rattle.libyaml_types.specs.declared.event.unnamed_yaml_event_t_data.TheVariants as ev
 use Rattle.libyaml_types.specs.declared.token.unnamed_yaml_token_t_data.TheVariants.{DocumentStart, FlowEntry, FlowSequenceEnd, FlowSequenceStart, StreamEnd}
