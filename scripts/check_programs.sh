@@ -103,7 +103,7 @@ check calling rt -- sh scripts/calling_steps.sh
 check statuses $yamltokens -- sh scripts/statuses.sh $yamltokens
 check slow_pipe python3 $yamltokens -- python3 scripts/slow_pipe.py $yamltokens
 check inlined nm $yamltokens crates/bench_lists/out/bench_lists -- sh scripts/inlined.sh $yamltokens crates/bench_lists/out/bench_lists
-check faults_of_yaml_lines.py PyYAML $yamltokens -- python3 scripts/compare_faults.py $front
+check faults_of_yaml_lines.py PyYAML $yamltokens -- python3 scripts/compare_errors.py $front
 for rows in rows_hostile rows_lines rows_yaml; do
     check "allocations_of_$rows" cc timeout crates/$rows/out/$rows -- sh scripts/allocation_failures.sh $rows
 done
@@ -111,7 +111,7 @@ check flat_memory /usr/bin/time crates/rows_hostile/out/rows_hostile -- sh scrip
 check differential python3 cc yaml.h $yamltokens -- env JOBS=4 sh scripts/differential/run.sh $lists
 
 check libraries_for_c rt cc ld objcopy ar nm yaml.h -- sh scripts/build_c.sh "$libraries" $ci
-check faults_of_yaml.c PyYAML "$yaml" -- python3 scripts/compare_faults.py "$yaml"
+check faults_of_yaml.c PyYAML "$yaml" -- python3 scripts/compare_errors.py "$yaml"
 check fronts PyYAML $yamltokens "$yaml" -- python3 scripts/compare_fronts.py "$yaml"
 check python PyYAML timeout truncate $yamltokens -- sh scripts/doors/python_checks.sh $yamltokens
 for door in steps compose yaml; do

@@ -35,7 +35,7 @@ refuses() {
 
 for script in bench/clients.sh scripts/build_c.sh scripts/doors/any_processor.sh scripts/doors/clients.sh \
     scripts/doors/door_checks.sh scripts/doors/extension_checks.sh scripts/inlined.sh scripts/llvm_source.sh scripts/release.sh \
-    scripts/release_checks.sh scripts/release_trees.sh scripts/row.sh scripts/statuses.sh scripts/vendor.sh; do
+    scripts/release_checks.sh scripts/release_trees.sh scripts/vectors.sh scripts/statuses.sh scripts/vendor.sh; do
     refuses $script
     refuses $script --help
 done
@@ -48,7 +48,7 @@ refuses scripts/build_c.sh "$work/built" no_such_word
 refuses scripts/doors/door_checks.sh no_such_door
 refuses scripts/llvm_source.sh ''
 refuses scripts/llvm_source.sh one two
-refuses scripts/row.sh no_such_rows
+refuses scripts/vectors.sh no_such_rows
 refuses bench/run.sh clock no_such_word
 echo "$runs runs, $wrong wrong"
 [ "$wrong" = 0 ]

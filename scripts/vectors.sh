@@ -2,8 +2,8 @@
 # Runs test vectors without any proof: all of a program, those of one table, or one. Each that differs is named, and where
 # it has a text the first line that differs. The exit status is 0 where some ran and none differs.
 #
-#     scripts/row.sh CRATE [TABLE [ROW]]
-#     scripts/row.sh --write CRATE
+#     scripts/vectors.sh CRATE [TABLE [ROW]]
+#     scripts/vectors.sh --write CRATE
 #
 # CRATE is rows_yaml, rows_lines, rows_hostile or rows_steps; the names of tables are those that it prints. With --write all
 # run, and where none differs what the program printed, the counts of its tables, becomes its `stdout`. Unproved, a program
@@ -16,7 +16,7 @@ cd "$(dirname "$0")/../crates" || exit 2
 write=no
 [ "${1-}" != --write ] || { write=yes; shift; }
 crate=${1:-none}
-[ -d "$crate/data" ] || { echo 'usage: scripts/row.sh CRATE [TABLE [ROW]] | --write CRATE; no such program of rows' >&2; exit 2; }
+[ -d "$crate/data" ] || { echo 'usage: scripts/vectors.sh CRATE [TABLE [ROW]] | --write CRATE; no such program of rows' >&2; exit 2; }
 shift
 cd "$crate" || exit 2
 

@@ -1,8 +1,8 @@
 #!/usr/bin/env python3
 """Tells which test vector sees each mutant of crates/*/must-fail; fails where none does and WRONG_BODIES doesn't say so.
 
-    python3 scripts/edit_rows.py [--write] [CRATE | CRATE/EDIT]..        (no such word: every edit)
-    python3 scripts/edit_rows.py none                                    runs the programs over no edit
+    python3 scripts/mutants_seen.py [--write] [CRATE | CRATE/EDIT]..        (no such word: every edit)
+    python3 scripts/mutants_seen.py none                                    runs the programs over no edit
 
 Each mutant is made in a copy, and the programs of its crate's line in PROGRAMS are run over it in turn, without proof
 (`rt try`), until one ends otherwise than it should: `yamltokens` over the lists of `rows_yaml` and `rows_lines`, the

@@ -1,7 +1,7 @@
 #!/usr/bin/env python3
 """Compares the errors of broken texts: what a front tells, what was written down, libyaml's own words and PyYAML's.
 
-    python3 scripts/compare_faults.py [--write] FRONT..
+    python3 scripts/compare_errors.py [--write] FRONT..
 
 FRONT is the command of a front, as `python3 examples/yaml_lines.py` or a built `examples/yaml.c`; it is called with `nodes` and
 each file of `scripts/broken`. What stands in `NAME.fault` is expected of it. libyaml (through PyYAML's CLoader) and PyYAML
