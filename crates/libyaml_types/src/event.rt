@@ -9,7 +9,6 @@ use crate::enums::{
     yaml_sequence_style_t,
 };
 use crate::mark::yaml_mark_t;
-use std::fmt;
 use std::marker::Model;
 
 /// The start of a stream, in an encoding.
@@ -24,25 +23,14 @@ pub struct unnamed_yaml_event_t_data_stream_start {
 /// The start of a document: its directives, and whether it has no DOCUMENT-START.
 ///
 /// libyaml: `unnamed_yaml_event_t_data_document_start`.
-#[derive(Drop)]
+#[derive(Debug, Drop)]
 pub struct unnamed_yaml_event_t_data_document_start {
-    // first, so that the version's numbers lie in one word with nothing beside them
-    /// Whether no `---` is written.
-    pub implicit: bool,
     /// The version, where one is given.
     pub version_directive: Option<yaml_version_directive_t>,
     /// The tag directives.
     pub tag_directives: Vec<yaml_tag_directive_t>,
-}
-
-impl fmt::Debug for unnamed_yaml_event_t_data_document_start {
-    fn fmt<W: fmt::Write>(&self, f: &mut fmt::Formatter<W>) -> fmt::Result {
-        f.debug_struct("unnamed_yaml_event_t_data_document_start")
-            .field("version_directive", &self.version_directive)
-            .field("tag_directives", &self.tag_directives)
-            .field("implicit", &self.implicit)
-            .finish()
-    }
+    /// Whether no `---` is written.
+    pub implicit: bool,
 }
 
 impl Model for unnamed_yaml_event_t_data_document_start {
