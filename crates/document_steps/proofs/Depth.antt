@@ -10,66 +10,66 @@ use Rattle.libyaml_composer.specs.declared.deed.Deed.{Deed}
 use Rattle.libyaml_composer.specs.declared.deed.Deed.TheVariants as deed
 use Rattle.libyaml_composer.specs.declared.records.open_t.{open_t}
 use Rattle.libyaml_composer.specs.declared.records.place_t.{place_t}
-use Rattle.libyaml_composer.specs.Composing.{Composer, Told, adding, at_carrier, at_start, between_step, composer_of, ended, handed, handing, if_placed, is_start, list_full, new_id, opened, stack_of, step, step_in, unless, within_step}
-use Rattle.libyaml_composer.specs.Held.{Held, fact_of}
-use Rattle.libyaml_composer.specs.Numbers.{flag, is_id}
+use Rattle.libyaml_composer.specs.Composing.{Composer, Told, adding, at_carrier, at_start, between_step, composer_of, collection_ended, holding_top, handing, if_placed, is_start, is_list_full, new_id, with_open_node, stack_of, composer_step, step_in, unless, within_step}
+use Rattle.libyaml_composer.specs.Held.{Held, event_fact}
+use Rattle.libyaml_composer.specs.Numbers.{is_set, is_id}
 use Rattle.libyaml_composer.proofs.lent.Full.{full_starts}
 use Rattle.libyaml_composer.proofs.lent.Stacks.{depth_is}
 use Rattle.document_steps.specs.Open.{less_one, open_after, open_from, still_open, or_none}
 use Rattle.document_steps.specs.RunLaws.{FullWhereOpen, StackFits}
-use Rattle.document_steps.specs.Runs.{Run, begins, moves, takes}
+use Rattle.document_steps.specs.Runs.{ComposerRun, begins, moves, takes}
 
 -- the record says whether a document is open, and within it the stack has at most so many entries
-abbrev Few : ℕ → Composer → Type 0
-Few n c = (c.is_within ≡ true) × (length c.stack ≤ n)
+abbrev OpenWithAtMost : ℕ → Composer → Type 0
+OpenWithAtMost n c = (c.is_within ≡ true) × (length c.stack ≤ n)
 
 abbrev Fits : Option ℕ → Composer → Type 0
 Fits None c = c.is_within ≡ false
-Fits (Some n) c = Few n c
+Fits (Some n) c = OpenWithAtMost n c
 
-handed_length : (i : ℤ) (s : List open_t) → length (handed i s) ≡ length s
+handed_length : (i : ℤ) (s : List open_t) → length (holding_top i s) ≡ length s
 handed_length i [] = refl
 handed_length i (o ∷ s) = refl
 
 -- what a test refuses changes nothing
-unless_few : (b : Bool) (d : Deed) (p : place_t) (c : Composer) (t : Told) (n : ℕ) → Few n c → Few n t.composer
-    → Few n (unless b d p c t).composer
+unless_few : (b : Bool) (d : Deed) (p : place_t) (c : Composer) (t : Told) (n : ℕ) → OpenWithAtMost n c → OpenWithAtMost n t.composer
+    → OpenWithAtMost n (unless b d p c t).composer
 unless_few true d p c t n h g = h
 unless_few false d p c t n h g = g
 
-placed_few : (f : ℤ) (p : place_t) (c : Composer) (t : Told) (n : ℕ) → Few n c → Few n t.composer
-    → Few n (if_placed f p c t).composer
+placed_few : (f : ℤ) (p : place_t) (c : Composer) (t : Told) (n : ℕ) → OpenWithAtMost n c → OpenWithAtMost n t.composer
+    → OpenWithAtMost n (if_placed f p c t).composer
 placed_few f p c t n h g = unless_few _ deed.FullList p c _ n h
-    (unless_few (is_id f) deed.RepeatedAnchor p c _ n h (unless_few (list_full c.most c.stack) deed.FullList p c t n h g))
+    (unless_few (is_id f) deed.RepeatedAnchor p c _ n h (unless_few (is_list_full c.most c.stack) deed.FullList p c t n h g))
 
-handing_few : (i j : ℤ) (c : Composer) (n : ℕ) → Few n c → Few n (handing i j c).composer
+handing_few : (i j : ℤ) (c : Composer) (n : ℕ) → OpenWithAtMost n c → OpenWithAtMost n (handing i j c).composer
 handing_few i j c n h = let e = handed_length j c.stack in let l = h.1 in (h.0, omega arith)
 
-alias_few : (b : Bool) (i : ℤ) (p : place_t) (c : Composer) (n : ℕ) → Few n c → Few n (at_carrier b i p c).composer
+alias_few : (b : Bool) (i : ℤ) (p : place_t) (c : Composer) (n : ℕ) → OpenWithAtMost n c → OpenWithAtMost n (at_carrier b i p c).composer
 alias_few false i p c n h = h
 alias_few true i p c n h
-    = unless_few (list_full c.most c.stack) deed.FullList p c _ n h (handing_few (pos 0) i c n h)
+    = unless_few (is_list_full c.most c.stack) deed.FullList p c _ n h (handing_few (pos 0) i c n h)
 
-start_few : (m : ℕ) (f : ℤ) (p : place_t) (c : Composer) (n : ℕ) → Few n c → Few (suc n) (at_start m f p c).composer
+start_few : (m : ℕ) (f : ℤ) (p : place_t) (c : Composer) (n : ℕ) → OpenWithAtMost n c → OpenWithAtMost (suc n) (at_start m f p c).composer
 start_few m f p c n h =
     let l = h.1 in
-    let same : Few (suc n) c = (h.0, omega arith) in
+    let same : OpenWithAtMost (suc n) c = (h.0, omega arith) in
     let e = handed_length (new_id c) c.stack in
     placed_few f p c _ (suc n) same
-    (unless_few (nat_le c.room (length c.stack)) deed.FullStack p c (opened m (new_id c) (adding c)) (suc n) same
+    (unless_few (nat_le c.room (length c.stack)) deed.FullStack p c (with_open_node m (new_id c) (adding c)) (suc n) same
     (h.0, omega arith))
 
 fewer : (s n : ℕ) → suc s ≤ n → s ≤ less_one n
 fewer s zero h = omega arith
 fewer s (suc n) h = omega arith
 
-ended_few : (s : List open_t) (p : place_t) (c : Composer) (n : ℕ) → c.stack ≡ s → Few n c
-    → Few (less_one n) (ended s p c).composer
+ended_few : (s : List open_t) (p : place_t) (c : Composer) (n : ℕ) → c.stack ≡ s → OpenWithAtMost n c
+    → OpenWithAtMost (less_one n) (collection_ended s p c).composer
 ended_few [] p c n e h = let i : length c.stack ≡ zero = ap length e in (h.0, omega arith)
 ended_few (o ∷ s) p c n e h =
     let i : length c.stack ≡ suc (length s) = ap length e in let l = h.1 in (h.0, fewer (length s) n (omega arith))
 
-within_fits : (k : yaml_event_type_t) (f : ℤ) (p : place_t) (c : Composer) (n : ℕ) → Few n c
+within_fits : (k : yaml_event_type_t) (f : ℤ) (p : place_t) (c : Composer) (n : ℕ) → OpenWithAtMost n c
     → Fits (open_after (Some n) k) (within_step k f p c).composer
 within_fits ev.YAML_DOCUMENT_END_EVENT f p c n h = refl
 within_fits ev.YAML_ALIAS_EVENT f p c n h = alias_few (is_id f) f p c n h
@@ -87,7 +87,7 @@ between_fits ev.YAML_DOCUMENT_START_EVENT p c h = (refl, omega arith)
 between_fits _ p c h = h
 
 step_fits : (o : Option ℕ) (k : yaml_event_type_t) (f : ℤ) (p : place_t) (c : Composer) → Fits o c
-    → Fits (open_after o k) (step k f p c).composer
+    → Fits (open_after o k) (composer_step k f p c).composer
 step_fits None k f p c h = subst (λ (b : Bool). Fits (open_after None k) (step_in b k f p c).composer) (sym h)
     (between_fits k p c h)
 step_fits (Some n) k f p c h
@@ -103,14 +103,14 @@ roomy None c room h = h
 roomy (Some n) c room h = h
 
 fits : {most : ℕ} (d : composer_t) (ss : List open_t) (h : Held) (es : List Event) (ds : List Document)
-    → Run most d ss h es ds → Fits (open_from None es) (composer_of d ss)
+    → ComposerRun most d ss h es ds → Fits (open_from None es) (composer_of d ss)
 fits d ss _ _ _ (begins _ _ is) = ap (λ (c : Composer). c.is_within) is
 fits d' ss' h es ds (moves d _ ss _ _ _ _ run is) =
     subst (Fits (open_from None es)) (sym is) (roomy (open_from None es) (composer_of d ss) (length ss') (fits d ss h es ds run))
 fits _ _ _ _ _ (takes d d' ss ss' h es ds a e p p' run calls taken) =
     subst (λ (o : Option ℕ). Fits o (composer_of d' ss')) (sym (open_more None es e))
     (subst (λ (t : Told). Fits (open_after (open_from None es) (event_type e.content)) t.composer) (sym calls)
-    (step_fits (open_from None es) (event_type e.content) (fact_of h e) p (composer_of d ss) (fits d ss h es ds run)))
+    (step_fits (open_from None es) (event_type e.content) (event_fact h e) p (composer_of d ss) (fits d ss h es ds run)))
 
 pub stack_fits : StackFits
 stack_fits most d ss h es ds run inside within = go (open_from None es) (fits d ss h es ds run)
@@ -136,11 +136,11 @@ pub full_where_open : FullWhereOpen
 full_where_open most d d' ss ss' h es ds e p p' run calls =
     let c = composer_of d ss in
     let k = event_type e.content in
-    let full : (step k (fact_of h e) p c).deed ≡ deed.FullStack = sym (ap (λ (t : Told). t.deed) calls) in
-    go (open_from None es) (fits d ss h es ds run) (full_inside c.is_within k (fact_of h e) p c full)
-    (full_starts k (fact_of h e) p c full).0 (full_starts k (fact_of h e) p c full).1 (open_more None es e)
+    let full : (composer_step k (event_fact h e) p c).deed ≡ deed.FullStack = sym (ap (λ (t : Told). t.deed) calls) in
+    go (open_from None es) (fits d ss h es ds run) (full_inside c.is_within k (event_fact h e) p c full)
+    (full_starts k (event_fact h e) p c full).0 (full_starts k (event_fact h e) p c full).1 (open_more None es e)
   where
-    go : (o : Option ℕ) → Fits o (composer_of d ss) → flag d.is_within ≡ true → is_start (event_type e.content) ≡ true
+    go : (o : Option ℕ) → Fits o (composer_of d ss) → is_set d.is_within ≡ true → is_start (event_type e.content) ≡ true
         → nat_le (length ss) (length (stack_of d.depth ss)) ≡ true
         → open_from None (es ++ e ∷ []) ≡ open_after o (event_type e.content) → length ss < still_open (es ++ e ∷ [])
     go None out inside start more is = absurd (true≢false (sym inside ∙ out))

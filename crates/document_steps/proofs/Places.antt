@@ -9,16 +9,16 @@ use Rattle.libyaml_composer.specs.declared.composer.composer_t.{composer_t}
 use Rattle.libyaml_composer.specs.declared.deed.Deed.TheVariants as deed
 use Rattle.libyaml_composer.specs.declared.records.open_t.{open_t}
 use Rattle.libyaml_composer.specs.declared.records.place_t.{place_t}
-use Rattle.libyaml_composer.specs.Composing.{Composer, Told, adding, at_carrier, at_start, between_step, composer_of, deed_for, deed_in, ended, handed, handing, holding_in, if_placed, list_full, new_id, opened, place_in, step_in, unless, within_step}
-use Rattle.libyaml_composer.specs.Held.{Held, fact_of}
-use Rattle.libyaml_composer.specs.Numbers.{flag, is_id}
+use Rattle.libyaml_composer.specs.Composing.{Composer, Told, adding, at_carrier, at_start, between_step, composer_of, deed_for, deed_in, collection_ended, holding_top, handing, holding_in, if_placed, is_list_full, new_id, with_open_node, place_in, step_in, unless, within_step}
+use Rattle.libyaml_composer.specs.Held.{Held, event_fact}
+use Rattle.libyaml_composer.specs.Numbers.{is_set, is_id}
 use Rattle.document_steps.specs.Places.{UnusedAreZero}
 use Rattle.document_steps.specs.RunLaws.{RunPlaces}
-use Rattle.document_steps.specs.Runs.{Run, begins, moves, takes}
+use Rattle.document_steps.specs.Runs.{ComposerRun, begins, moves, takes}
 
 -- no key waits in a sequence
 abbrev HasNoKey : open_t → Type 0
-HasNoKey o = flag o.is_mapping ≡ false → o.key ≡ pos 0
+HasNoKey o = is_set o.is_mapping ≡ false → o.key ≡ pos 0
 
 abbrev HaveNoKeys : List open_t → Type 0
 HaveNoKeys [] = Unit {0}
@@ -33,16 +33,16 @@ not_id (pos zero) h = refl
 not_id (pos (suc n)) h = absurd (true≢false h)
 not_id (negsuc n) h = absurd (true≢false h)
 
-holds : (i : ℤ) (o : open_t) (b w : Bool) → flag o.is_mapping ≡ b → HasNoKey o → HasNoKey (holding_in i o b w)
+holds : (i : ℤ) (o : open_t) (b w : Bool) → is_set o.is_mapping ≡ b → HasNoKey o → HasNoKey (holding_in i o b w)
 holds i o false w e h = h
 holds i o true false e h = λ f. absurd (true≢false (sym e ∙ f))
 holds i o true true e h = λ f. refl
 
-handed_keys : (i : ℤ) (s : List open_t) → HaveNoKeys s → HaveNoKeys (handed i s)
+handed_keys : (i : ℤ) (s : List open_t) → HaveNoKeys s → HaveNoKeys (holding_top i s)
 handed_keys i [] h = h
-handed_keys i (o ∷ s) h = (holds i o (flag o.is_mapping) (is_id o.key) refl h.0, h.1)
+handed_keys i (o ∷ s) h = (holds i o (is_set o.is_mapping) (is_id o.key) refl h.0, h.1)
 
-placed : (n i : ℤ) (o : open_t) (s : List open_t) (b w : Bool) → flag o.is_mapping ≡ b → is_id o.key ≡ w → HasNoKey o
+placed : (n i : ℤ) (o : open_t) (s : List open_t) (b w : Bool) → is_set o.is_mapping ≡ b → is_id o.key ≡ w → HasNoKey o
     → UnusedAreZero (deed_in b w) (place_in n i (o ∷ s))
 placed n i o s false w e f h = h e
 placed n i o s true false e f h = not_id o.key f
@@ -50,7 +50,7 @@ placed n i o s true true e f h = tt
 
 place_fits : (n i : ℤ) (s : List open_t) → HaveNoKeys s → UnusedAreZero (deed_for s) (place_in n i s)
 place_fits n i [] h = (refl, refl)
-place_fits n i (o ∷ s) h = placed n i o s (flag o.is_mapping) (is_id o.key) refl refl h.0
+place_fits n i (o ∷ s) h = placed n i o s (is_set o.is_mapping) (is_id o.key) refl refl h.0
 
 handing_sound : (n i : ℤ) (c : Composer) → HaveNoKeys c.stack → IsSound (handing n i c)
 handing_sound n i c h = (place_fits n i c.stack h, handed_keys i c.stack h)
@@ -71,20 +71,20 @@ full_stack true p c t h g = (tt, h)
 full_stack false p c t h g = g
 
 if_sound : (f : ℤ) (p : place_t) (c : Composer) (t : Told) → HaveNoKeys c.stack → IsSound t → IsSound (if_placed f p c t)
-if_sound f p c t h g = full_list _ p c _ h (repeated (is_id f) p c _ h (full_list (list_full c.most c.stack) p c t h g))
+if_sound f p c t h g = full_list _ p c _ h (repeated (is_id f) p c _ h (full_list (is_list_full c.most c.stack) p c t h g))
 
 alias_sound : (b : Bool) (i : ℤ) (p : place_t) (c : Composer) → HaveNoKeys c.stack → IsSound (at_carrier b i p c)
 alias_sound false i p c h = (tt, h)
-alias_sound true i p c h = full_list (list_full c.most c.stack) p c _ h (handing_sound (pos 0) i c h)
+alias_sound true i p c h = full_list (is_list_full c.most c.stack) p c _ h (handing_sound (pos 0) i c h)
 
 adding_sound : (c : Composer) → HaveNoKeys c.stack → IsSound (adding c)
 adding_sound c h = handing_sound (new_id c) (new_id c) (record c { nodes = suc c.nodes }) h
 
 start_sound : (m : ℕ) (f : ℤ) (p : place_t) (c : Composer) → HaveNoKeys c.stack → IsSound (at_start m f p c)
-start_sound m f p c h = if_sound f p c _ h (full_stack _ p c (opened m (new_id c) (adding c)) h
+start_sound m f p c h = if_sound f p c _ h (full_stack _ p c (with_open_node m (new_id c) (adding c)) h
     (let s = adding_sound c h in (s.0, ((λ e. refl), s.1))))
 
-ended_sound : (s : List open_t) (p : place_t) (c : Composer) → HaveNoKeys c.stack → HaveNoKeys s → IsSound (ended s p c)
+ended_sound : (s : List open_t) (p : place_t) (c : Composer) → HaveNoKeys c.stack → HaveNoKeys s → IsSound (collection_ended s p c)
 ended_sound [] p c h g = (tt, h)
 ended_sound (o ∷ s) p c h g = ((refl, (refl, refl)), g.1)
 
@@ -109,15 +109,15 @@ step_sound true k f p c h = within_sound k f p c h
 step_sound false k f p c h = between_sound k p c h
 
 keys : {most : ℕ} (d : composer_t) (ss : List open_t) (h : Held) (es : List Event) (ds : List Document)
-    → Run most d ss h es ds → HaveNoKeys (composer_of d ss).stack
+    → ComposerRun most d ss h es ds → HaveNoKeys (composer_of d ss).stack
 keys d ss _ _ _ (begins _ _ is) = subst (λ (c : Composer). HaveNoKeys c.stack) (sym is) tt
 keys d' ss' h es ds (moves d _ ss _ _ _ _ run is) =
     subst (λ (c : Composer). HaveNoKeys c.stack) (sym is) (keys d ss h es ds run)
 keys _ _ _ _ _ (takes d d' ss ss' h es ds a e p p' run calls taken) =
     subst (λ (t : Told). HaveNoKeys t.composer.stack) (sym calls)
-    (step_sound _ (event_type e.content) (fact_of h e) p (composer_of d ss) (keys d ss h es ds run)).1
+    (step_sound _ (event_type e.content) (event_fact h e) p (composer_of d ss) (keys d ss h es ds run)).1
 
 pub places : RunPlaces
 places most d d' ss ss' h es ds a e p p' run calls =
     subst (λ (t : Told). UnusedAreZero t.deed t.place) (sym calls)
-    (step_sound _ (event_type e.content) (fact_of h e) p (composer_of d ss) (keys d ss h es ds run)).0
+    (step_sound _ (event_type e.content) (event_fact h e) p (composer_of d ss) (keys d ss h es ds run)).0

@@ -18,10 +18,10 @@ use Rattle.libyaml_composer.specs.declared.deed.Deed.{Deed}
 use Rattle.libyaml_composer.specs.declared.deed.Deed.TheVariants as deed
 use Rattle.libyaml_composer.specs.declared.records.open_t.{open_t}
 use Rattle.libyaml_composer.specs.declared.records.place_t.{place_t}
-use Rattle.libyaml_composer.specs.Composing.{Composer, Told, between_step, composer_of, step, step_in, told, within_step}
-use Rattle.libyaml_composer.specs.Held.{Held, applied, applied_part, fact_of, fault_by, given, loader_of, nothing_held, state_in, state_of, IsRefused}
+use Rattle.libyaml_composer.specs.Composing.{Composer, Told, between_step, composer_of, composer_step, step_in, told, within_step}
+use Rattle.libyaml_composer.specs.Held.{Held, applied, applied_part, event_fact, deed_fault, given, loader_by, nothing_held, state_in, loader_state, IsRefused}
 use Rattle.libyaml_graphs.specs.loads.Leads.{Leads, as_loads, loads_from}
-use Rattle.document_steps.specs.Runs.{ComposeCalls, IsTaken, Run, begins, moves, takes}
+use Rattle.document_steps.specs.Runs.{ComposeCalls, IsTaken, ComposerRun, begins, moves, takes}
 use Rattle.libyaml_composer.specs.Standing.{IsCarried, IsPart, Standing}
 use Rattle.libyaml_composer.proofs.lent.Follows.{Follows, fails, follows, full, goes}
 use Rattle.libyaml_graphs.proofs.lent.Leading.{closes_there, from_none, goes_there, leads_both, leads_none, opens_there, passes_by, refused_there}
@@ -29,13 +29,13 @@ use Rattle.libyaml_graphs.proofs.lent.Leading.{closes_there, from_none, goes_the
 -- where a caller stands after these events
 pub record Stood (most : ℕ) (c : Composer) (h : Held) (es : List Event) (ds : List Document) : Type 0 where
   pub bound : c.most ≡ most
-  pub leads : Leads most between es ds (state_of c h)
+  pub leads : Leads most between es ds (loader_state c h)
   pub standing : c.is_within ≡ true → (o : Opening) × Standing c h o
 
 -- one event
 pub record Steps (c : Composer) (h : Held) (e : Event) (t : Told) : Type 0 where
   pub bound : t.composer.most ≡ c.most
-  pub leads : Leads c.most (state_of c h) (e ∷ []) (given t.deed e h) (state_of t.composer (applied t.deed t.place e h))
+  pub leads : Leads c.most (loader_state c h) (e ∷ []) (given t.deed e h) (loader_state t.composer (applied t.deed t.place e h))
   pub standing : t.composer.is_within ≡ true → (o : Opening) × Standing t.composer (applied t.deed t.place e h) o
 
 -- the deeds of parts
@@ -78,8 +78,8 @@ no_part _ r k = r
 
 -- between documents
 module _ (c : Composer) (h : Held) (e : Event) (p : place_t) (out : c.is_within ≡ false) where
-  state_out : between ≡ state_of c h
-  state_out = ap (λ (b : Bool). state_in b h.opening (loader_of c h)) (sym out)
+  state_out : between ≡ loader_state c h
+  state_out = ap (λ (b : Bool). state_in b h.opening (loader_by c h)) (sym out)
 
   passes : opening_of e ≡ None → Steps c h e (told deed.Passes p c)
   passes none = record {
@@ -95,10 +95,10 @@ module _ (c : Composer) (h : Held) (e : Event) (p : place_t) (out : c.is_within 
       → Steps c h e (told deed.Begins p (record c { is_within = true; nodes = 0; stack = [] }))
   opens o is = record {
     bound = refl;
-    leads = subst (λ (s : State). Leads c.most s (e ∷ []) [] (state_of (record c { is_within = true; nodes = 0; stack = [] })
+    leads = subst (λ (s : State). Leads c.most s (e ∷ []) [] (loader_state (record c { is_within = true; nodes = 0; stack = [] })
         (record { opening = opening_of e; nodes = []; anchors = no_anchors }))) state_out
         (subst (λ (x : Option Opening). Leads c.most between (e ∷ []) []
-        (state_of (record c { is_within = true; nodes = 0; stack = [] }) (record { opening = x; nodes = []; anchors = no_anchors })))
+        (loader_state (record c { is_within = true; nodes = 0; stack = [] }) (record { opening = x; nodes = []; anchors = no_anchors })))
         (sym is) (opens_there c.most e o is));
     standing = λ w. (o, record { is_within = refl; opening = is; nodes = refl; opens = tt; carried = none_carried });
   }
@@ -114,28 +114,28 @@ module _ (c : Composer) (h : Held) (e : Event) (p : place_t) (out : c.is_within 
 -- within one
 module _ (c : Composer) (h : Held) (e : Event) (p : place_t) (inside : c.is_within ≡ true) (o : Opening)
     (stands : Standing c h o) where
-  state_inside : within o (loader_of c h) ≡ state_of c h
-  state_inside = ap (λ (x : Option Opening). state_in true x (loader_of c h)) (sym stands.opening)
-      ∙ ap (λ (b : Bool). state_in b h.opening (loader_of c h)) (sym inside)
+  state_inside : within o (loader_by c h) ≡ loader_state c h
+  state_inside = ap (λ (x : Option Opening). state_in true x (loader_by c h)) (sym stands.opening)
+      ∙ ap (λ (b : Bool). state_in b h.opening (loader_by c h)) (sym inside)
 
   closes : (k : Closing) → closing_of e ≡ Some k → Steps c h e (told deed.Ends p (record c { is_within = false }))
   closes k is = record {
     bound = refl;
     leads = subst (λ (s : State). Leads c.most s (e ∷ []) (given deed.Ends e h) between) state_inside
-        (subst (λ (l : List Document). Leads c.most (within o (loader_of c h)) (e ∷ []) l between) gives
-        (closes_there c.most o (loader_of c h) e k is));
+        (subst (λ (l : List Document). Leads c.most (within o (loader_by c h)) (e ∷ []) l between) gives
+        (closes_there c.most o (loader_by c h) e k is));
     standing = λ w. absurd (true≢false (sym w));
   }
     where
       gives : document o h.nodes k ∷ [] ≡ given deed.Ends e h
       gives = rw (stands.opening, is) refl
 
-  parts : closing_of e ≡ None → IsTaken (within_step (event_type e.content) (fact_of h e) p c).deed
-      → Steps c h e (within_step (event_type e.content) (fact_of h e) p c)
-  parts without taken = go (within_step (event_type e.content) (fact_of h e) p c) taken (follows c h o p stands e without)
+  parts : closing_of e ≡ None → IsTaken (within_step (event_type e.content) (event_fact h e) p c).deed
+      → Steps c h e (within_step (event_type e.content) (event_fact h e) p c)
+  parts without taken = go (within_step (event_type e.content) (event_fact h e) p c) taken (follows c h o p stands e without)
     where
       go : (t : Told) → IsTaken t.deed
-          → Follows c.most o h c.stack (part_of e) e.start_mark e.end_mark (bounded_option c.most (loader_of c h) (part_of e)) t
+          → Follows c.most o h c.stack (part_of e) e.start_mark e.end_mark (bounded_option c.most (loader_by c h) (part_of e)) t
           → Steps c h e t
       go t taken (goes part going there bound puts) =
           let same = part_applied t.deed part t.place e h in
@@ -143,101 +143,101 @@ module _ (c : Composer) (h : Held) (e : Event) (p : place_t) (inside : c.is_with
           = subst (λ (g : Held). Standing t.composer g o) same there in
           record {
             bound = bound;
-            leads = subst (λ (l : List Document). Leads c.most (state_of c h) (e ∷ []) l
-                (state_of t.composer (applied t.deed t.place e h))) (part_gives t.deed part e h)
-                (subst (λ (s : State). Leads c.most s (e ∷ []) [] (state_of t.composer (applied t.deed t.place e h))) state_inside
-                (subst (λ (s : State). Leads c.most (within o (loader_of c h)) (e ∷ []) [] s)
-                (ap (λ (x : Option Opening). state_in true x (loader_of t.composer (applied t.deed t.place e h))) (sym there.opening)
+            leads = subst (λ (l : List Document). Leads c.most (loader_state c h) (e ∷ []) l
+                (loader_state t.composer (applied t.deed t.place e h))) (part_gives t.deed part e h)
+                (subst (λ (s : State). Leads c.most s (e ∷ []) [] (loader_state t.composer (applied t.deed t.place e h))) state_inside
+                (subst (λ (s : State). Leads c.most (within o (loader_by c h)) (e ∷ []) [] s)
+                (ap (λ (x : Option Opening). state_in true x (loader_by t.composer (applied t.deed t.place e h))) (sym there.opening)
                 ∙ ap (λ (b : Bool). state_in b (applied t.deed t.place e h).opening
-                (loader_of t.composer (applied t.deed t.place e h))) (sym there.is_within))
-                (goes_there c.most o (loader_of c h) (loader_of t.composer (applied t.deed t.place e h)) e without
-                (subst (λ (g : Held). bounded_option c.most (loader_of c h) (part_of e) ≡ machine.going (loader_of t.composer g))
+                (loader_by t.composer (applied t.deed t.place e h))) (sym there.is_within))
+                (goes_there c.most o (loader_by c h) (loader_by t.composer (applied t.deed t.place e h)) e without
+                (subst (λ (g : Held). bounded_option c.most (loader_by c h) (part_of e) ≡ machine.going (loader_by t.composer g))
                 same going))));
             standing = λ w. (o, there);
           }
       go t taken (fails refused failed) = absurd (not_both t.deed taken refused)
       go t taken (full is) = absurd (not_full t.deed taken is)
 
-  steps_within : IsTaken (within_step (event_type e.content) (fact_of h e) p c).deed
-      → Steps c h e (within_step (event_type e.content) (fact_of h e) p c)
+  steps_within : IsTaken (within_step (event_type e.content) (event_fact h e) p c).deed
+      → Steps c h e (within_step (event_type e.content) (event_fact h e) p c)
   steps_within taken = by (closing_of e) refl
     where
       ends : (k : unnamed_yaml_event_t_data) (x : Closing) → closing_in k e.end_mark ≡ Some x
-          → told deed.Ends p (record c { is_within = false }) ≡ within_step (event_type k) (fact_of h e) p c
+          → told deed.Ends p (record c { is_within = false }) ≡ within_step (event_type k) (event_fact h e) p c
       ends (ev.DocumentEnd d) x is = refl
       ends _ x is = absurd cc
 
-      by : (x : Option Closing) → closing_of e ≡ x → Steps c h e (within_step (event_type e.content) (fact_of h e) p c)
+      by : (x : Option Closing) → closing_of e ≡ x → Steps c h e (within_step (event_type e.content) (event_fact h e) p c)
       by None is = parts is taken
       by (Some k) is = subst (Steps c h e) (ends e.content k is) (closes k is)
 
-  refused : IsRefused (within_step (event_type e.content) (fact_of h e) p c).deed
-      → (rest : List Event) (x : Ending) → loads_from c.most (state_of c h) (e ∷ rest) x
-      ≡ Err (fault_by (within_step (event_type e.content) (fact_of h e) p c).deed h e) ∷ []
+  refused : IsRefused (within_step (event_type e.content) (event_fact h e) p c).deed
+      → (rest : List Event) (x : Ending) → loads_from c.most (loader_state c h) (e ∷ rest) x
+      ≡ Err (deed_fault (within_step (event_type e.content) (event_fact h e) p c).deed h e) ∷ []
   refused is rest x = by (closing_of e) refl
     where
       not_end : (k : unnamed_yaml_event_t_data) (y : Closing) → closing_in k e.end_mark ≡ Some y
-          → IsRefused (within_step (event_type k) (fact_of h e) p c).deed → ⊥
+          → IsRefused (within_step (event_type k) (event_fact h e) p c).deed → ⊥
       not_end (ev.DocumentEnd d) y is r = r
       not_end _ y is r = absurd cc
 
       go : closing_of e ≡ None → (t : Told) → IsRefused t.deed
-          → Follows c.most o h c.stack (part_of e) e.start_mark e.end_mark (bounded_option c.most (loader_of c h) (part_of e)) t
-          → loads_from c.most (state_of c h) (e ∷ rest) x ≡ Err (fault_by t.deed h e) ∷ []
+          → Follows c.most o h c.stack (part_of e) e.start_mark e.end_mark (bounded_option c.most (loader_by c h) (part_of e)) t
+          → loads_from c.most (loader_state c h) (e ∷ rest) x ≡ Err (deed_fault t.deed h e) ∷ []
       go without t r (goes part going there bound puts) = absurd (no_part t.deed r part)
-      go without t r (fails refused failed) = subst (λ (s : State). loads_from c.most s (e ∷ rest) x ≡ Err (fault_by t.deed h e) ∷ [])
-          state_inside (refused_there c.most o (loader_of c h) e (fault_by t.deed h e) without failed rest x)
+      go without t r (fails refused failed) = subst (λ (s : State). loads_from c.most s (e ∷ rest) x ≡ Err (deed_fault t.deed h e) ∷ [])
+          state_inside (refused_there c.most o (loader_by c h) e (deed_fault t.deed h e) without failed rest x)
       go without t r (full y) = absurd (refused_full t.deed r y)
 
-      by : (y : Option Closing) → closing_of e ≡ y → loads_from c.most (state_of c h) (e ∷ rest) x
-          ≡ Err (fault_by (within_step (event_type e.content) (fact_of h e) p c).deed h e) ∷ []
-      by None y = go y (within_step (event_type e.content) (fact_of h e) p c) is (follows c h o p stands e y)
+      by : (y : Option Closing) → closing_of e ≡ y → loads_from c.most (loader_state c h) (e ∷ rest) x
+          ≡ Err (deed_fault (within_step (event_type e.content) (event_fact h e) p c).deed h e) ∷ []
+      by None y = go y (within_step (event_type e.content) (event_fact h e) p c) is (follows c h o p stands e y)
       by (Some k) y = absurd (not_end e.content k y is)
 
 -- a call
 module _ (most : ℕ) (c : Composer) (h : Held) (es : List Event) (ds : List Document) (stood : Stood most c h es ds)
     (e : Event) (p : place_t) where
-  steps : IsTaken (step (event_type e.content) (fact_of h e) p c).deed
-      → Steps c h e (step (event_type e.content) (fact_of h e) p c)
+  steps : IsTaken (composer_step (event_type e.content) (event_fact h e) p c).deed
+      → Steps c h e (composer_step (event_type e.content) (event_fact h e) p c)
   steps taken = by c.is_within refl taken
     where
-      by : (b : Bool) → c.is_within ≡ b → IsTaken (step_in b (event_type e.content) (fact_of h e) p c).deed
-          → Steps c h e (step_in b (event_type e.content) (fact_of h e) p c)
+      by : (b : Bool) → c.is_within ≡ b → IsTaken (step_in b (event_type e.content) (event_fact h e) p c).deed
+          → Steps c h e (step_in b (event_type e.content) (event_fact h e) p c)
       by false out taken = steps_between c h e p out
       by true inside taken = let (o, stands) = stood.standing inside in steps_within c h e p inside o stands taken
 
-  stands_on : (t : Told) → t ≡ step (event_type e.content) (fact_of h e) p c → IsTaken t.deed
+  stands_on : (t : Told) → t ≡ composer_step (event_type e.content) (event_fact h e) p c → IsTaken t.deed
       → Stood most t.composer (applied t.deed t.place e h) (es ++ e ∷ []) (ds ++ given t.deed e h)
   stands_on t is taken =
       let s : Steps c h e t = subst (Steps c h e) (sym is) (steps (subst (λ (u : Told). IsTaken u.deed) is taken)) in
       record {
         bound = s.bound ∙ stood.bound;
-        leads = leads_both most between (state_of c h) _ es (e ∷ []) ds (given t.deed e h) stood.leads
-            (subst (λ (n : ℕ). Leads n (state_of c h) (e ∷ []) (given t.deed e h)
-            (state_of t.composer (applied t.deed t.place e h))) stood.bound s.leads);
+        leads = leads_both most between (loader_state c h) _ es (e ∷ []) ds (given t.deed e h) stood.leads
+            (subst (λ (n : ℕ). Leads n (loader_state c h) (e ∷ []) (given t.deed e h)
+            (loader_state t.composer (applied t.deed t.place e h))) stood.bound s.leads);
         standing = s.standing;
       }
 
-  refuses : (t : Told) → t ≡ step (event_type e.content) (fact_of h e) p c → IsRefused t.deed
+  refuses : (t : Told) → t ≡ composer_step (event_type e.content) (event_fact h e) p c → IsRefused t.deed
       → (rest : List Event) (x : Ending)
-      → bounded_loads most (es ++ e ∷ rest) x ≡ as_loads ds ++ Err (fault_by t.deed h e) ∷ []
+      → bounded_loads most (es ++ e ∷ rest) x ≡ as_loads ds ++ Err (deed_fault t.deed h e) ∷ []
   refuses t is r rest x = stood.leads.loads (e ∷ rest) x ∙ ap (λ (l : List Load). as_loads ds ++ l)
-      (subst (λ (n : ℕ). loads_from n (state_of c h) (e ∷ rest) x ≡ Err (fault_by t.deed h e) ∷ []) stood.bound
-      (subst (λ (u : Told). loads_from c.most (state_of c h) (e ∷ rest) x ≡ Err (fault_by u.deed h e) ∷ []) (sym is)
+      (subst (λ (n : ℕ). loads_from n (loader_state c h) (e ∷ rest) x ≡ Err (deed_fault t.deed h e) ∷ []) stood.bound
+      (subst (λ (u : Told). loads_from c.most (loader_state c h) (e ∷ rest) x ≡ Err (deed_fault u.deed h e) ∷ []) (sym is)
       (by c.is_within refl (subst (λ (u : Told). IsRefused u.deed) is r))))
     where
       none : (k : unnamed_yaml_event_t_data) → IsRefused (between_step (event_type k) p c).deed → ⊥
       none (ev.DocumentStart d) r = r
       none _ r = r
 
-      by : (b : Bool) → c.is_within ≡ b → IsRefused (step_in b (event_type e.content) (fact_of h e) p c).deed
-          → loads_from c.most (state_of c h) (e ∷ rest) x
-          ≡ Err (fault_by (step_in b (event_type e.content) (fact_of h e) p c).deed h e) ∷ []
+      by : (b : Bool) → c.is_within ≡ b → IsRefused (step_in b (event_type e.content) (event_fact h e) p c).deed
+          → loads_from c.most (loader_state c h) (e ∷ rest) x
+          ≡ Err (deed_fault (step_in b (event_type e.content) (event_fact h e) p c).deed h e) ∷ []
       by false out r = absurd (none e.content r)
       by true inside r = let (o, stands) = stood.standing inside in refused c h e p inside o stands r rest x
 
 pub stood : {most : ℕ} (d : composer_t) (ss : List open_t) (h : Held) (es : List Event) (ds : List Document)
-    → Run most d ss h es ds → Stood most (composer_of d ss) h es ds
+    → ComposerRun most d ss h es ds → Stood most (composer_of d ss) h es ds
 stood {most} d ss _ _ _ (begins _ _ is) = subst (λ (c : Composer). Stood most c nothing_held [] []) (sym is) (record {
   bound = refl;
   leads = leads_none most between;
@@ -264,14 +264,14 @@ stood {most} _ _ _ _ _ (takes d d' ss ss' h es ds a e p p' run calls taken) =
     stands_on most (composer_of d ss) h es ds (stood d ss h es ds run) e p (told a p' (composer_of d' ss')) calls taken
 
 pub all_loads : {most : ℕ} (d : composer_t) (ss : List open_t) (h : Held) (es : List Event) (ds : List Document)
-    → Run most d ss h es ds → (x : Ending) → bounded_loads most es x ≡ as_loads ds ++ last_load x ∷ []
+    → ComposerRun most d ss h es ds → (x : Ending) → bounded_loads most es x ≡ as_loads ds ++ last_load x ∷ []
 all_loads {most} d ss h es ds run x =
     let s = stood d ss h es ds run in
     ap (λ (l : List Event). bounded_loads most l x) (sym (append-nil es))
-    ∙ (s.leads.loads [] x ∙ ap (λ (l : List Load). as_loads ds ++ l) (from_none most (state_of (composer_of d ss) h) x))
+    ∙ (s.leads.loads [] x ∙ ap (λ (l : List Load). as_loads ds ++ l) (from_none most (loader_state (composer_of d ss) h) x))
 
 pub fault : {most : ℕ} (d d' : composer_t) (ss ss' : List open_t) (h : Held) (es : List Event) (ds : List Document) (a : Deed)
-    (e : Event) (p p' : place_t) → Run most d ss h es ds → ComposeCalls a d ss h e d' ss' p p' → IsRefused a
-    → (rest : List Event) (x : Ending) → bounded_loads most (es ++ e ∷ rest) x ≡ as_loads ds ++ Err (fault_by a h e) ∷ []
+    (e : Event) (p p' : place_t) → ComposerRun most d ss h es ds → ComposeCalls a d ss h e d' ss' p p' → IsRefused a
+    → (rest : List Event) (x : Ending) → bounded_loads most (es ++ e ∷ rest) x ≡ as_loads ds ++ Err (deed_fault a h e) ∷ []
 fault {most} d d' ss ss' h es ds a e p p' run calls r =
     refuses most (composer_of d ss) h es ds (stood d ss h es ds run) e p (told a p' (composer_of d' ss')) calls r

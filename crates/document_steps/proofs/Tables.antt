@@ -9,10 +9,10 @@ use Rattle.libyaml_grammar.proofs.lent.TextMaps.{inserted}
 use Rattle.libyaml_graphs.specs.graphs.Graphs.{Carrier, id_or}
 use Rattle.libyaml_graphs.specs.machine.Loader.{Anchors, no_anchors}
 use Rattle.document_steps.specs.declared.anchors.anchor_t.{anchor_t}
-use Rattle.document_steps.specs.Anchors.{AllWithin, Tabled, bytes_of, entry_in, id_of, node_in}
+use Rattle.document_steps.specs.Anchors.{AreAnchorsWithin, Tabled, bytes_of, entry_in, carrier_id, node_in}
 
 pub none : (texts : List ℕ) → Tabled texts [] no_anchors
-none texts a = ap id_of (sym (get-from_entries nat_list_cmp_total [] a))
+none texts a = ap carrier_id (sym (get-from_entries nat_list_cmp_total [] a))
 
 abbrev node_or_none : Option ℤ → ℤ
 node_or_none None = pos 0
@@ -31,7 +31,7 @@ pub found : (texts : List ℕ) (table : List anchor_t) (xs : Anchors) (a : List 
     → node_in texts table a ≡ pos (id_or (get xs a))
 found texts table xs a t = by_entry texts table a ∙ (ap node_or_none (t a) ∙ go (get xs a))
   where
-    go : (x : Option Carrier) → node_or_none (id_of x) ≡ pos (id_or x)
+    go : (x : Option Carrier) → node_or_none (carrier_id x) ≡ pos (id_or x)
     go None = refl
     go (Some c) = refl
 
@@ -48,7 +48,7 @@ abbrev or_else : Option ℤ → Option ℤ → Option ℤ
 or_else None y = y
 or_else (Some x) y = Some x
 
-more_in : (texts more : List ℕ) (table : List anchor_t) (e : anchor_t) (q : List ℕ) → AllWithin texts table
+more_in : (texts more : List ℕ) (table : List anchor_t) (e : anchor_t) (q : List ℕ) → AreAnchorsWithin texts table
     → entry_in (texts ++ more) (table ++ e ∷ []) q
     ≡ or_else (entry_in texts table q) (cond (bytes_eq (bytes_of (texts ++ more) e) q) (Some e.node) None)
 more_in texts more [] e q w = refl
@@ -64,19 +64,19 @@ more_in texts more (y ∷ ys) e q w =
     go false h = h
 
 pub adds : (texts more : List ℕ) (table : List anchor_t) (e : anchor_t) (xs : Anchors) (a : List ℕ) (c : Carrier)
-    → Tabled texts table xs → AllWithin texts table → get xs a ≡ None → bytes_of (texts ++ more) e ≡ a → e.node ≡ pos c.id
+    → Tabled texts table xs → AreAnchorsWithin texts table → get xs a ≡ None → bytes_of (texts ++ more) e ≡ a → e.node ≡ pos c.id
     → Tabled (texts ++ more) (table ++ e ∷ []) (insert xs a c)
 adds texts more table e xs a c t w new is node q =
     more_in texts more table e q w
     ∙ (ap (λ (x : Option ℤ). or_else x (cond (bytes_eq (bytes_of (texts ++ more) e) q) (Some e.node) None)) (t q)
-    ∙ (rw (is, node) (go (bytes_eq a q) refl) ∙ ap id_of (sym (inserted xs a c q))))
+    ∙ (rw (is, node) (go (bytes_eq a q) refl) ∙ ap carrier_id (sym (inserted xs a c q))))
   where
     go : (b : Bool) → bytes_eq a q ≡ b
-        → or_else (id_of (get xs q)) (cond b (Some (pos c.id)) None) ≡ id_of (cond b (Some c) (get xs q))
-    go true h = ap (λ (x : Option Carrier). or_else (id_of x) (Some (pos c.id)))
+        → or_else (carrier_id (get xs q)) (cond b (Some (pos c.id)) None) ≡ carrier_id (cond b (Some c) (get xs q))
+    go true h = ap (λ (x : Option Carrier). or_else (carrier_id x) (Some (pos c.id)))
         (ap (get xs) (sym ((bytes_eq-Decides a q).0 h)) ∙ new)
     go false h = by (get xs q)
       where
-        by : (x : Option Carrier) → or_else (id_of x) None ≡ id_of x
+        by : (x : Option Carrier) → or_else (carrier_id x) None ≡ carrier_id x
         by None = refl
         by (Some k) = refl

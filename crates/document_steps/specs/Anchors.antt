@@ -18,14 +18,14 @@ abbrev pub entry_in : List ℕ → List anchor_t → List ℕ → Option ℤ
 entry_in texts [] a = None
 entry_in texts (e ∷ es) a = cond (bytes_eq (bytes_of texts e) a) (Some e.node) (entry_in texts es a)
 
-abbrev pub id_of : Option Carrier → Option ℤ
-id_of None = None
-id_of (Some c) = Some (pos c.id)
+abbrev pub carrier_id : Option Carrier → Option ℤ
+carrier_id None = None
+carrier_id (Some c) = Some (pos c.id)
 
 -- the table has these anchored nodes
 abbrev pub Tabled : List ℕ → List anchor_t → Anchors → Type 0
-Tabled texts table xs = (a : List ℕ) → entry_in texts table a ≡ id_of (get xs a)
+Tabled texts table xs = (a : List ℕ) → entry_in texts table a ≡ carrier_id (get xs a)
 
-abbrev pub AllWithin : List ℕ → List anchor_t → Type 0
-AllWithin texts [] = Unit {0}
-AllWithin texts (e ∷ es) = (e.place + e.length ≤ length texts) × AllWithin texts es
+abbrev pub AreAnchorsWithin : List ℕ → List anchor_t → Type 0
+AreAnchorsWithin texts [] = Unit {0}
+AreAnchorsWithin texts (e ∷ es) = (e.place + e.length ≤ length texts) × AreAnchorsWithin texts es

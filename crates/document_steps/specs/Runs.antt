@@ -8,19 +8,19 @@ use Rattle.libyaml_composer.specs.declared.deed.Deed.{Deed}
 use Rattle.libyaml_composer.specs.declared.deed.Deed.TheVariants as deed
 use Rattle.libyaml_composer.specs.declared.records.open_t.{open_t}
 use Rattle.libyaml_composer.specs.declared.records.place_t.{place_t}
-use Rattle.libyaml_composer.specs.Composing.{Composer, composer_of, step, told}
-use Rattle.libyaml_composer.specs.Held.{Held, applied, fact_of, given, nothing_held}
+use Rattle.libyaml_composer.specs.Composing.{Composer, composer_of, composer_step, told}
+use Rattle.libyaml_composer.specs.Held.{Held, applied, event_fact, given, nothing_held}
 
 -- before a stream's first event
-abbrev pub made : (most room : ℕ) → Composer
-made most room = record { is_within = false; nodes = 0; most = most; room = room; stack = [] }
+abbrev pub new_composer : (most room : ℕ) → Composer
+new_composer most room = record { is_within = false; nodes = 0; most = most; room = room; stack = [] }
 
 -- A call with this record and this stack at the event e, with its fact by the anchors that are held, returned this deed,
 -- and left that record, that stack and that place.
 abbrev pub ComposeCalls : Deed → (old : composer_t) → (stack : List open_t) → Held → (e : Event) → (new : composer_t)
     → (stack' : List open_t) → (old_place new_place : place_t) → Type 0
 ComposeCalls a d ss h e d' ss' p p' = told a p' (composer_of d' ss')
-    ≡ step (event_type e.content) (fact_of h e) p (composer_of d ss)
+    ≡ composer_step (event_type e.content) (event_fact h e) p (composer_of d ss)
 
 -- the event was taken
 abbrev pub IsTaken : Deed → Type 0
@@ -33,12 +33,12 @@ IsTaken _ = Unit {0}
 
 -- With this record and this stack the caller handed in these events, one by one; it did with what it holds what each call
 -- said, and these documents ended. Each list of a document may have `most` entries.
-pub data Run (most : ℕ) : composer_t → (stack : List open_t) → Held → List Event → List Document → Type 0 where
-  begins : (d : composer_t) (ss : List open_t) → composer_of d ss ≡ made most (length ss) → Run most d ss nothing_held [] []
+pub data ComposerRun (most : ℕ) : composer_t → (stack : List open_t) → Held → List Event → List Document → Type 0 where
+  begins : (d : composer_t) (ss : List open_t) → composer_of d ss ≡ new_composer most (length ss) → ComposerRun most d ss nothing_held [] []
   -- another stack with the same in it
   moves : (d d' : composer_t) (ss ss' : List open_t) (h : Held) (es : List Event) (ds : List Document)
-      → Run most d ss h es ds → composer_of d' ss' ≡ record (composer_of d ss) { room = length ss' }
-      → Run most d' ss' h es ds
+      → ComposerRun most d ss h es ds → composer_of d' ss' ≡ record (composer_of d ss) { room = length ss' }
+      → ComposerRun most d' ss' h es ds
   takes : (d d' : composer_t) (ss ss' : List open_t) (h : Held) (es : List Event) (ds : List Document) (a : Deed) (e : Event)
-      (p p' : place_t) → Run most d ss h es ds → ComposeCalls a d ss h e d' ss' p p' → IsTaken a
-      → Run most d' ss' (applied a p' e h) (es ++ e ∷ []) (ds ++ given a e h)
+      (p p' : place_t) → ComposerRun most d ss h es ds → ComposeCalls a d ss h e d' ss' p p' → IsTaken a
+      → ComposerRun most d' ss' (applied a p' e h) (es ++ e ∷ []) (ds ++ given a e h)

@@ -4,10 +4,10 @@ ghost use Rattle.std.specs.FinMap.{get, insert};
 ghost use Rattle.libyaml_graphs.specs.graphs.Graphs.{Carrier, id_or};
 ghost use Rattle.libyaml_graphs.specs.machine.Loader.{Anchors, no_anchors};
 ghost use Rattle.document_steps.specs.declared.anchors.anchor_t.{anchor_t};
-ghost use Rattle.document_steps.specs.Anchors.{AllWithin, Tabled, bytes_of, node_in};
+ghost use Rattle.document_steps.specs.Anchors.{AreAnchorsWithin, Tabled, bytes_of, node_in};
 ghost use Rattle.document_steps.specs.RunLaws.{FullWhereOpen, RunFails, RunIsLoads, RunIsMachine};
 ghost use Rattle.document_steps.specs.RunLaws.{RunPlaces, StackFits};
-ghost use Rattle.document_steps.specs.TokenLaws.{AreThen, BetweenBoth, FailedTokens, RefusedEvents};
+ghost use Rattle.document_steps.specs.TokenLaws.{TokensLoadAs, BetweenBoth, FailedTokens, RefusedEvents};
 ghost use Rattle.libyaml_types.specs.Fault.{Fault};
 ghost use Rattle.libyaml_grammar.specs.runs.Runs.{Ends};
 ghost use Rattle.libyaml_grammar.specs.sentences.Sentences.{has_end};
@@ -51,7 +51,7 @@ pub fn tables_follow()
         → Tabled texts table anchors → node_in texts table anchor ≡ pos (id_or (get anchors anchor)) }
     ensures begins { (texts : List ℕ) → Tabled texts [] no_anchors }
     ensures adds { (texts more : List ℕ) (table : List anchor_t) (entry : anchor_t) (anchors : Anchors)
-        (anchor : List ℕ) (carrier : Carrier) → Tabled texts table anchors → AllWithin texts table
+        (anchor : List ℕ) (carrier : Carrier) → Tabled texts table anchors → AreAnchorsWithin texts table
         → get anchors anchor ≡ None → bytes_of (texts ++ more) entry ≡ anchor → entry.node ≡ pos carrier.id
         → Tabled (texts ++ more) (table ++ entry ∷ []) (insert anchors anchor carrier) }
 {}
@@ -61,14 +61,14 @@ pub fn tables_follow()
 /// so. An error of the parser ends the loads, whatever comes after it.
 pub fn documents_of_tokens()
     ensures so_far { BetweenBoth (λ most tokens documents. has_end tokens ≡ false → (source : Fault)
-        → AreThen most tokens source documents (Err source)) }
+        → TokensLoadAs most tokens source documents (Err source)) }
     ensures whole { BetweenBoth (λ most tokens documents. has_end tokens ≡ true
-        → (more : List Token) (source : Fault) → AreThen most (tokens ++ more) source documents
+        → (more : List Token) (source : Fault) → TokensLoadAs most (tokens ++ more) source documents
         (last_load Ends)) }
     ensures parser_fails { FailedTokens (λ most tokens documents fault. (more : List Token) (source : Fault)
-        → AreThen most (tokens ++ more) source documents (Err fault)) }
+        → TokensLoadAs most (tokens ++ more) source documents (Err fault)) }
     ensures composer_fails { RefusedEvents (λ most tokens documents fault. has_end tokens ≡ false
-        → (source : Fault) → AreThen most tokens source documents (Err fault)) }
+        → (source : Fault) → TokensLoadAs most tokens source documents (Err fault)) }
     ensures composer_fails_at_end { RefusedEvents (λ most tokens documents fault. has_end tokens ≡ true
-        → (more : List Token) (source : Fault) → AreThen most (tokens ++ more) source documents (Err fault)) }
+        → (more : List Token) (source : Fault) → TokensLoadAs most (tokens ++ more) source documents (Err fault)) }
 {}

@@ -5,8 +5,8 @@
 ghost use Rattle.std.specs.Prelude.{◌≡◌, ◌≤◌, ◌↔◌, List, [], length, true, false};
 ghost use Rattle.libyaml_composer.specs.declared.deed.Deed.{Deed};
 ghost use Rattle.libyaml_composer.specs.declared.records.open_t.{open_t};
-ghost use Rattle.libyaml_composer.specs.Composing.{composer_of, most_of, step, told};
-ghost use Rattle.libyaml_composer.specs.Numbers.{is_undone_number, kind_of, number};
+ghost use Rattle.libyaml_composer.specs.Composing.{composer_of, most_of, composer_step, told};
+ghost use Rattle.libyaml_composer.specs.Numbers.{is_undone_number, event_kind, deed_number};
 ghost use Rattle.document_steps.specs.Anchors.{node_in};
 
 use document_steps::{anchor_t, carrier};
@@ -41,9 +41,9 @@ pub extern "C" fn pokhvizi_compose(
     fact: i32,
     place: &mut place_t,
 ) -> u32
-    ensures tells { composer.old.depth ≤ length stack.old → (deed : Deed) × (result ≡ number deed)
+    ensures tells { composer.old.depth ≤ length stack.old → (deed : Deed) × (result ≡ deed_number deed)
         × (told deed place.new (composer_of composer.new stack.new)
-        ≡ step (kind_of kind) fact place.old (composer_of composer.old stack.old)) }
+        ≡ composer_step (event_kind kind) fact place.old (composer_of composer.old stack.old)) }
     ensures numbers { result ≤ 12 }
     ensures within { composer.old.depth ≤ length stack.old → composer.new.depth ≤ length stack.new }
     ensures bad { (result ≡ 12) ↔ (composer.old.depth ≤ length stack.old → ⊥) }

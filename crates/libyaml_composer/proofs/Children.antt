@@ -13,10 +13,10 @@ use Rattle.libyaml_graphs.proofs.lent.Machine.{hands_item, hands_key, hands_valu
 use Rattle.libyaml_composer.specs.declared.deed.Deed.{Deed}
 use Rattle.libyaml_composer.specs.declared.records.open_t.{open_t}
 use Rattle.libyaml_composer.specs.declared.records.place_t.{place_t}
-use Rattle.libyaml_composer.specs.Composing.{deed_for, deed_in, full_in, handed, holding_in, list_full, place_in}
-use Rattle.libyaml_composer.specs.Numbers.{flag, is_id}
+use Rattle.libyaml_composer.specs.Composing.{deed_for, deed_in, full_in, holding_top, holding_in, is_list_full, place_in}
+use Rattle.libyaml_composer.specs.Numbers.{is_set, is_id}
 use Rattle.libyaml_composer.specs.Held.{key_of, open_of, placed}
-use Rattle.libyaml_composer.specs.Standing.{Fits, IsAlike, IsKeyIn, IsOpen, IsOpenBy, Opens, Takes}
+use Rattle.libyaml_composer.specs.Standing.{FitsParent, IsAlike, IsKeyIn, IsOpenNode, IsOpenBy, Opens, TakesOneMore}
 use Rattle.libyaml_composer.proofs.Opens.{get_behind, get_there, length_changed, opens_other}
 
 -- The nodes and the stack after a child, whether its parent's list was full, and what stays: each collection that is open
@@ -27,8 +27,8 @@ pub record Handing (most : ℕ) (i : ℤ) (nodes : List yaml_node_t) (total m : 
   pub stack_is : map open_of t ≡ machine.handed i (map open_of s) nodes
   pub full_is : parent_full most (map open_of s) nodes ≡ full
   pub opens : Opens total (placed d p nodes) m t
-  pub fits : Fits d p total nodes
-  pub takes : Takes d (map open_of s) nodes
+  pub fits : FitsParent d p total nodes
+  pub takes : TakesOneMore d (map open_of s) nodes
   pub count : length (placed d p nodes) ≡ length nodes
   pub later : (j : ℕ) → m ≤ j → slice_get (placed d p nodes) j ≡ slice_get nodes j
 
@@ -106,13 +106,13 @@ module _ (z : ℤ) (k : ℕ) (is : z ≡ pos (suc k)) (f : yaml_node_t → yaml_
   change_later m lt j le = ap (λ (l : List yaml_node_t). slice_get l j) changes ∙ get_behind f nodes k j (omega arith)
 
   change_opens : (total m : ℕ) → k < m → (o : open_t) (s : List open_t) → o.node ≡ pos (suc k)
-      → IsOpen (option_map f (slice_get nodes k)) o → IsKeyIn total o.key → Opens total nodes k s
+      → IsOpenNode (option_map f (slice_get nodes k)) o → IsKeyIn total o.key → Opens total nodes k s
       → Opens total (with_changed z f nodes) m (o ∷ s)
   change_opens total m lt o s at here key rest = subst (λ (l : List yaml_node_t). Opens total l m (o ∷ s)) (sym changes) (
     k,
     at,
     lt,
-    subst (λ (x : Option yaml_node_t). IsOpen x o) (sym (get_there f nodes k)) here,
+    subst (λ (x : Option yaml_node_t). IsOpenNode x o) (sym (get_there f nodes k)) here,
     key,
     opens_other f total nodes k k s (omega arith) rest,
   )
@@ -137,7 +137,7 @@ module _ (most : ℕ) (i : ℤ) (id : is_id i ≡ true) (nodes : List yaml_node_
   By b w = Handing most i nodes total m (o ∷ s) (deed_in b w) (place_in j i (o ∷ s)) (holding_in i o b w ∷ s)
       (full_in most o.children b w)
 
-  by : (b w : Bool) → flag o.is_mapping ≡ b → is_id o.key ≡ w → IsOpenBy (slice_get nodes k) b w o.children → By b w
+  by : (b w : Bool) → is_set o.is_mapping ≡ b → is_id o.key ≡ w → IsOpenBy (slice_get nodes k) b w o.children → By b w
   by false w e g here =
       let there = sequence_there (slice_get nodes k) w o.children here in
       let hands = hands_item most i (open_of o) (map open_of s) nodes (sym at_node ∙ there.0) in
@@ -192,7 +192,7 @@ module _ (most : ℕ) (i : ℤ) (id : is_id i ≡ true) (nodes : List yaml_node_
 
 pub hands_child : (most : ℕ) (i : ℤ) → is_id i ≡ true → (nodes : List yaml_node_t) (total m : ℕ) → m ≤ total → IsIdUpTo total i
     → (j : ℤ) (s : List open_t) → Opens total nodes m s
-    → Handing most i nodes total m s (deed_for s) (place_in j i s) (handed i s) (list_full most s)
+    → Handing most i nodes total m s (deed_for s) (place_in j i s) (holding_top i s) (is_list_full most s)
 hands_child most i id nodes total m up child j [] h = record {
   nodes_are = refl;
   stack_is = refl;
@@ -204,4 +204,4 @@ hands_child most i id nodes total m up child j [] h = record {
   later = λ j le. refl;
 }
 hands_child most i id nodes total m up child j (o ∷ s) (k, is, lt, here, key, rest) =
-    by most i id nodes total m up child j o s k is lt key rest (flag o.is_mapping) (is_id o.key) refl refl here
+    by most i id nodes total m up child j o s k is lt key rest (is_set o.is_mapping) (is_id o.key) refl refl here

@@ -5,30 +5,30 @@ use Rattle.libyaml_composer.specs.declared.deed.Deed.{Deed}
 use Rattle.libyaml_composer.specs.declared.deed.Deed.TheVariants as deed
 use Rattle.libyaml_composer.specs.declared.records.open_t.{open_t}
 use Rattle.libyaml_composer.specs.declared.records.place_t.{place_t}
-use Rattle.libyaml_composer.specs.Composing.{Composer, Told, deed_for, deed_in, is_undone, list_full, unless}
-use Rattle.libyaml_composer.specs.Numbers.{flag, is_id}
+use Rattle.libyaml_composer.specs.Composing.{Composer, Told, deed_for, deed_in, does_nothing, is_list_full, unless}
+use Rattle.libyaml_composer.specs.Numbers.{is_set, is_id}
 
-done_in : (is_mapping waits : Bool) → is_undone (deed_in is_mapping waits) ≡ false
+done_in : (is_mapping waits : Bool) → does_nothing (deed_in is_mapping waits) ≡ false
 done_in false waits = refl
 done_in true false = refl
 done_in true true = refl
 
-done_for : (s : List open_t) → is_undone (deed_for s) ≡ false
+done_for : (s : List open_t) → does_nothing (deed_for s) ≡ false
 done_for [] = refl
-done_for (o ∷ s) = done_in (flag o.is_mapping) (is_id o.key)
+done_for (o ∷ s) = done_in (is_set o.is_mapping) (is_id o.key)
 
-pub is_done : (d : Deed) (s : List open_t) → d ≡ deed_for s → is_undone d ≡ true → ⊥
-is_done d s e u = absurd (true≢false (sym (ap is_undone (sym e) ∙ u) ∙ done_for s))
+pub is_done : (d : Deed) (s : List open_t) → d ≡ deed_for s → does_nothing d ≡ true → ⊥
+is_done d s e u = absurd (true≢false (sym (ap does_nothing (sym e) ∙ u) ∙ done_for s))
 
 pub is_good : (d : Deed) (s : List open_t) → d ≡ deed_for s → d ≡ deed.Bad → ⊥
-is_good d s e b = is_done d s e (ap is_undone b)
+is_good d s e b = is_done d s e (ap does_nothing b)
 
 -- so it is told as if no list were looked at
-pub placed : (k : Composer) (q : place_t) (s t : Told) → list_full k.most k.stack ≡ false → s ≡ t
-    → s ≡ unless (list_full k.most k.stack) deed.FullList q k t
+pub placed : (k : Composer) (q : place_t) (s t : Told) → is_list_full k.most k.stack ≡ false → s ≡ t
+    → s ≡ unless (is_list_full k.most k.stack) deed.FullList q k t
 placed k q s t f e = rw f e
 
 -- nor the room of the stack, where it has some
-pub opened_so : (k : Composer) (is_over : Bool) (q : place_t) (s t : Told) → list_full k.most k.stack ≡ false
-    → is_over ≡ false → s ≡ t → s ≡ unless (list_full k.most k.stack) deed.FullList q k (unless is_over deed.FullStack q k t)
+pub opened_so : (k : Composer) (is_over : Bool) (q : place_t) (s t : Told) → is_list_full k.most k.stack ≡ false
+    → is_over ≡ false → s ≡ t → s ≡ unless (is_list_full k.most k.stack) deed.FullList q k (unless is_over deed.FullStack q k t)
 opened_so k b q s t f g e = rw f (rw g e)

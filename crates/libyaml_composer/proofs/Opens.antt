@@ -4,7 +4,7 @@ use Rattle.std.proofs.lemmas.Int.{ints}
 use Rattle.libyaml_documents.specs.Nodes.{IsIdUpTo, changed_at}
 use Rattle.libyaml_documents.specs.declared.node.yaml_node_t.{yaml_node_t}
 use Rattle.libyaml_composer.specs.declared.records.open_t.{open_t}
-use Rattle.libyaml_composer.specs.Standing.{IsOpen, Opens}
+use Rattle.libyaml_composer.specs.Standing.{IsOpenNode, Opens}
 
 -- a node among others
 pub get_before : (f : yaml_node_t → yaml_node_t) (nodes : List yaml_node_t) (j k : ℕ) → k < j
@@ -50,7 +50,7 @@ opens_other f most nodes j n (o ∷ s) le (k, is, lt, here, key, rest) = (
   k,
   is,
   lt,
-  subst (λ (x : Option yaml_node_t). IsOpen x o) (sym (get_before f nodes j k (omega arith))) here,
+  subst (λ (x : Option yaml_node_t). IsOpenNode x o) (sym (get_before f nodes j k (omega arith))) here,
   key,
   opens_other f most nodes j k s (omega arith) rest,
 )
@@ -62,7 +62,7 @@ opens_more most nodes l n (o ∷ s) le (k, is, lt, here, key, rest) = (
   k,
   is,
   lt,
-  subst (λ (x : Option yaml_node_t). IsOpen x o) (sym (get_among nodes l k (omega arith))) here,
+  subst (λ (x : Option yaml_node_t). IsOpenNode x o) (sym (get_among nodes l k (omega arith))) here,
   key,
   opens_more most nodes l k s (omega arith) rest,
 )

@@ -37,24 +37,24 @@ anchor_in (Some (leaf_part a x)) = a
 anchor_in (Some (start_part a x)) = a
 anchor_in (Some (end_part n)) = None
 
-abbrev pub carrier_of : Anchors → Option (List ℕ) → Option Carrier
-carrier_of xs None = None
-carrier_of xs (Some a) = get xs a
+abbrev pub carrier_named : Anchors → Option (List ℕ) → Option Carrier
+carrier_named xs None = None
+carrier_named xs (Some a) = get xs a
 
 -- the fact that a call takes with an event: the id of the node that carries its anchor, and else 0
 abbrev pub fact_by : Anchors → Option Part → ℤ
-fact_by xs p = pos (id_or (carrier_of xs (anchor_in p)))
+fact_by xs p = pos (id_or (carrier_named xs (anchor_in p)))
 
-abbrev pub fact_of : Held → Event → ℤ
-fact_of h e = fact_by h.anchors (part_of e)
+abbrev pub event_fact : Held → Event → ℤ
+event_fact h e = fact_by h.anchors (part_of e)
 
 -- the node that a part makes, and its anchor
-abbrev pub node_of : Option Part → List yaml_node_t
-node_of None = []
-node_of (Some (alias_part a m)) = []
-node_of (Some (leaf_part a x)) = x ∷ []
-node_of (Some (start_part a x)) = x ∷ []
-node_of (Some (end_part n)) = []
+abbrev pub nodes_made : Option Part → List yaml_node_t
+nodes_made None = []
+nodes_made (Some (alias_part a m)) = []
+nodes_made (Some (leaf_part a x)) = x ∷ []
+nodes_made (Some (start_part a x)) = x ∷ []
+nodes_made (Some (end_part n)) = []
 
 abbrev pub anchored : Option (List ℕ) → ℕ → Mark → Anchors → Anchors
 anchored None i m xs = xs
@@ -67,14 +67,14 @@ anchored_by i (Some (leaf_part a x)) xs = anchored a i x.start_mark xs
 anchored_by i (Some (start_part a x)) xs = anchored a i x.start_mark xs
 anchored_by i (Some (end_part n)) xs = xs
 
-abbrev pub number_of : ℤ → ℕ
-number_of (pos n) = n
-number_of (negsuc n) = 0
+abbrev pub natural : ℤ → ℕ
+natural (pos n) = n
+natural (negsuc n) = 0
 
 -- a node comes after the others, if its id says that one does
-abbrev pub with_node : (is_node : Bool) → ℤ → Option Part → Held → Held
-with_node false i p h = h
-with_node true i p h = record h { nodes = h.nodes ++ node_of p; anchors = anchored_by (number_of i) p h.anchors }
+abbrev pub with_made_node : (is_node : Bool) → ℤ → Option Part → Held → Held
+with_made_node false i p h = h
+with_made_node true i p h = record h { nodes = h.nodes ++ nodes_made p; anchors = anchored_by (natural i) p h.anchors }
 
 -- a child is put at its place
 abbrev pub placed : Deed → place_t → List yaml_node_t → List yaml_node_t
@@ -82,19 +82,19 @@ placed deed.Item p nodes = with_changed p.parent (with_item p.child) nodes
 placed deed.Value p nodes = with_changed p.parent (with_pair p.key p.child) nodes
 placed _ p nodes = nodes
 
-abbrev pub with_nodes : List yaml_node_t → Held → Held
-with_nodes nodes h = record h { nodes = nodes }
+abbrev pub held_with_nodes : List yaml_node_t → Held → Held
+held_with_nodes nodes h = record h { nodes = nodes }
 
-abbrev pub with_child : Deed → place_t → Option Part → Held → Held
-with_child d p q h = with_nodes (placed d p (with_node (is_id p.node) p.node q h).nodes) (with_node (is_id p.node) p.node q h)
+abbrev pub with_child_placed : Deed → place_t → Option Part → Held → Held
+with_child_placed d p q h = held_with_nodes (placed d p (with_made_node (is_id p.node) p.node q h).nodes) (with_made_node (is_id p.node) p.node q h)
 
 -- what a caller does where a call returns this deed and place, of an event with this part and this end
 abbrev pub applied_part : Deed → place_t → Option Part → (end : Mark) → Held → Held
-applied_part deed.Root p q m h = with_child deed.Root p q h
-applied_part deed.Item p q m h = with_child deed.Item p q h
-applied_part deed.Key p q m h = with_child deed.Key p q h
-applied_part deed.Value p q m h = with_child deed.Value p q h
-applied_part deed.Closes p q m h = with_nodes (with_changed p.parent (with_end m) h.nodes) h
+applied_part deed.Root p q m h = with_child_placed deed.Root p q h
+applied_part deed.Item p q m h = with_child_placed deed.Item p q h
+applied_part deed.Key p q m h = with_child_placed deed.Key p q h
+applied_part deed.Value p q m h = with_child_placed deed.Value p q h
+applied_part deed.Closes p q m h = held_with_nodes (with_changed p.parent (with_end m) h.nodes) h
 applied_part _ p q m h = h
 
 -- and a document begins
@@ -103,13 +103,13 @@ applied deed.Begins p e h = record { opening = opening_of e; nodes = []; anchors
 applied d p e h = applied_part d p (part_of e) e.end_mark h
 
 -- the document that ends
-abbrev pub whole : Option Opening → List yaml_node_t → Option Closing → List Document
-whole None nodes c = []
-whole (Some o) nodes None = []
-whole (Some o) nodes (Some c) = document o nodes c ∷ []
+abbrev pub ended_documents : Option Opening → List yaml_node_t → Option Closing → List Document
+ended_documents None nodes c = []
+ended_documents (Some o) nodes None = []
+ended_documents (Some o) nodes (Some c) = document o nodes c ∷ []
 
 abbrev pub given : Deed → Event → Held → List Document
-given deed.Ends e h = whole h.opening h.nodes (closing_of e)
+given deed.Ends e h = ended_documents h.opening h.nodes (closing_of e)
 given _ e h = []
 
 -- the error of a deed that refuses an event
@@ -119,11 +119,11 @@ first_mark (Some c) m = c.mark
 
 abbrev pub fault_part : Deed → Held → Option Part → Mark → Fault
 fault_part deed.UndefinedAlias h q m = undefined_alias m
-fault_part deed.RepeatedAnchor h q m = repeated_anchor (first_mark (carrier_of h.anchors (anchor_in q)) m) m
+fault_part deed.RepeatedAnchor h q m = repeated_anchor (first_mark (carrier_named h.anchors (anchor_in q)) m) m
 fault_part _ h q m = memory_fault
 
-abbrev pub fault_by : Deed → Held → Event → Fault
-fault_by d h e = fault_part d h (part_of e) e.start_mark
+abbrev pub deed_fault : Deed → Held → Event → Fault
+deed_fault d h e = fault_part d h (part_of e) e.start_mark
 
 -- the loader's machine, by what the call keeps and what its caller keeps
 abbrev pub key_of : ℤ → Option ℤ
@@ -132,16 +132,16 @@ key_of i = if is_id i then Some i else None
 abbrev pub open_of : open_t → OpenNode
 open_of o = record { node = o.node; key = key_of o.key }
 
-abbrev pub loader_of : Composer → Held → Loader
-loader_of c h = record { nodes = h.nodes; stack = map open_of c.stack; anchors = h.anchors }
+abbrev pub loader_by : Composer → Held → Loader
+loader_by c h = record { nodes = h.nodes; stack = map open_of c.stack; anchors = h.anchors }
 
 abbrev pub state_in : (is_within : Bool) → Option Opening → Loader → State
 state_in false o l = between
 state_in true None l = between
 state_in true (Some o) l = within o l
 
-abbrev pub state_of : Composer → Held → State
-state_of c h = state_in c.is_within h.opening (loader_of c h)
+abbrev pub loader_state : Composer → Held → State
+loader_state c h = state_in c.is_within h.opening (loader_by c h)
 
 -- the event is refused for good
 abbrev pub IsRefused : Deed → Type 0

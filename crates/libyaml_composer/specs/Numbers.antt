@@ -5,24 +5,24 @@ use Rattle.libyaml_types.specs.declared.enums.yaml_event_type_t.TheVariants as e
 use Rattle.libyaml_composer.specs.declared.deed.Deed.{Deed}
 use Rattle.libyaml_composer.specs.declared.deed.Deed.TheVariants as deed
 
-abbrev pub number : Deed → ℕ
-number deed.Passes = 0
-number deed.Begins = 1
-number deed.Ends = 2
-number deed.Root = 3
-number deed.Item = 4
-number deed.Key = 5
-number deed.Value = 6
-number deed.Closes = 7
-number deed.FullStack = 8
-number deed.UndefinedAlias = 9
-number deed.RepeatedAnchor = 10
-number deed.FullList = 11
-number deed.Bad = 12
+abbrev pub deed_number : Deed → ℕ
+deed_number deed.Passes = 0
+deed_number deed.Begins = 1
+deed_number deed.Ends = 2
+deed_number deed.Root = 3
+deed_number deed.Item = 4
+deed_number deed.Key = 5
+deed_number deed.Value = 6
+deed_number deed.Closes = 7
+deed_number deed.FullStack = 8
+deed_number deed.UndefinedAlias = 9
+deed_number deed.RepeatedAnchor = 10
+deed_number deed.FullList = 11
+deed_number deed.Bad = 12
 
 -- a flag is set unless it is 0
-abbrev pub flag : ℕ → Bool
-flag n = not (n == 0)
+abbrev pub is_set : ℕ → Bool
+is_set n = not (n == 0)
 
 -- an id is any number but 0, which stands for none
 abbrev pub is_id : ℤ → Bool
@@ -31,8 +31,8 @@ is_id (pos (suc n)) = true
 is_id (negsuc n) = true
 
 -- libyaml's numbers of events; of other bytes none
-abbrev pub kind_of : ℕ → yaml_event_type_t
-kind_of byte =
+abbrev pub event_kind : ℕ → yaml_event_type_t
+event_kind byte =
     if byte == 1 then ev.YAML_STREAM_START_EVENT else
     if byte == 2 then ev.YAML_STREAM_END_EVENT else
     if byte == 3 then ev.YAML_DOCUMENT_START_EVENT else

@@ -15,7 +15,7 @@ use Rattle.libyaml_composer.specs.declared.records.open_t.{open_t}
 use Rattle.libyaml_composer.specs.declared.records.place_t.{place_t}
 use Rattle.libyaml_composer.specs.Composing.{Composer}
 use Rattle.libyaml_composer.specs.Held.{Held}
-use Rattle.libyaml_composer.specs.Numbers.{flag, is_id}
+use Rattle.libyaml_composer.specs.Numbers.{is_set, is_id}
 
 -- An open collection is a node of its kind with so many children; a mapping in which a key waits has begun one pair more
 -- than it has.
@@ -31,8 +31,8 @@ abbrev pub IsOpenBy : Option yaml_node_t → (is_mapping waits : Bool) → ℕ �
 IsOpenBy None m w n = ⊥
 IsOpenBy (Some x) m w n = IsAlike x.content m w n
 
-abbrev pub IsOpen : Option yaml_node_t → open_t → Type 0
-IsOpen x o = IsOpenBy x (flag o.is_mapping) (is_id o.key) o.children
+abbrev pub IsOpenNode : Option yaml_node_t → open_t → Type 0
+IsOpenNode x o = IsOpenBy x (is_set o.is_mapping) (is_id o.key) o.children
 
 -- a key that waits is one of so many nodes
 abbrev pub IsKeyIn : ℕ → ℤ → Type 0
@@ -41,7 +41,7 @@ IsKeyIn most i = is_id i ≡ true → IsIdUpTo most i
 -- Each is one of the first n nodes, an inner one later than those around it; keys are among so many nodes.
 abbrev pub Opens : (most : ℕ) → List yaml_node_t → ℕ → List open_t → Type 0
 Opens most nodes n [] = Unit {0}
-Opens most nodes n (o ∷ s) = (k : ℕ) × (o.node ≡ pos (suc k)) × (k < n) × IsOpen (slice_get nodes k) o × IsKeyIn most o.key
+Opens most nodes n (o ∷ s) = (k : ℕ) × (o.node ≡ pos (suc k)) × (k < n) × IsOpenNode (slice_get nodes k) o × IsKeyIn most o.key
     × Opens most nodes k s
 
 -- an anchored node is one of so many nodes
@@ -68,12 +68,12 @@ IsPart deed.Closes = Unit {0}
 IsPart _ = ⊥
 
 -- a node or an alias is put
-abbrev pub IsPut : Deed → Type 0
-IsPut deed.Root = Unit {0}
-IsPut deed.Item = Unit {0}
-IsPut deed.Key = Unit {0}
-IsPut deed.Value = Unit {0}
-IsPut _ = ⊥
+abbrev pub PutsNode : Deed → Type 0
+PutsNode deed.Root = Unit {0}
+PutsNode deed.Item = Unit {0}
+PutsNode deed.Key = Unit {0}
+PutsNode deed.Value = Unit {0}
+PutsNode _ = ⊥
 
 -- a collection ends
 abbrev pub IsClosed : Deed → Type 0
@@ -96,16 +96,16 @@ IsNode (Some (start_part a x)) = Unit {0}
 IsNode (Some (end_part n)) = ⊥
 
 -- the place of a child, among so many nodes: its parent is of the kind that the deed says
-abbrev pub Fits : Deed → place_t → ℕ → List yaml_node_t → Type 0
-Fits deed.Item p most nodes = (type_at nodes p.parent ≡ YAML_SEQUENCE_NODE) × (IsIdUpTo most p.parent × IsIdUpTo most p.child)
-Fits deed.Value p most nodes = (type_at nodes p.parent ≡ YAML_MAPPING_NODE)
+abbrev pub FitsParent : Deed → place_t → ℕ → List yaml_node_t → Type 0
+FitsParent deed.Item p most nodes = (type_at nodes p.parent ≡ YAML_SEQUENCE_NODE) × (IsIdUpTo most p.parent × IsIdUpTo most p.child)
+FitsParent deed.Value p most nodes = (type_at nodes p.parent ≡ YAML_MAPPING_NODE)
     × (IsIdUpTo most p.parent × (IsIdUpTo most p.child × IsIdUpTo most p.key))
-Fits _ p most nodes = Unit {0}
+FitsParent _ p most nodes = Unit {0}
 
 -- the innermost open collection, where its list takes one more
-abbrev pub Takes : Deed → List OpenNode → List yaml_node_t → Type 0
-Takes deed.Item [] nodes = ⊥
-Takes deed.Item (o ∷ s) nodes = type_at nodes o.node ≡ YAML_SEQUENCE_NODE
-Takes deed.Value [] nodes = ⊥
-Takes deed.Value (o ∷ s) nodes = (type_at nodes o.node ≡ YAML_MAPPING_NODE) × ((k : ℤ) × (o.key ≡ Some k))
-Takes _ s nodes = Unit {0}
+abbrev pub TakesOneMore : Deed → List OpenNode → List yaml_node_t → Type 0
+TakesOneMore deed.Item [] nodes = ⊥
+TakesOneMore deed.Item (o ∷ s) nodes = type_at nodes o.node ≡ YAML_SEQUENCE_NODE
+TakesOneMore deed.Value [] nodes = ⊥
+TakesOneMore deed.Value (o ∷ s) nodes = (type_at nodes o.node ≡ YAML_MAPPING_NODE) × ((k : ℤ) × (o.key ≡ Some k))
+TakesOneMore _ s nodes = Unit {0}

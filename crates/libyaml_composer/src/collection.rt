@@ -1,7 +1,7 @@
 //! A collection that is open.
 ghost use Rattle.std.specs.Prelude.{◌≡◌, ◌↔◌, true};
 ghost use Rattle.libyaml_composer.specs.Composing.{deed_in, full_in, holding};
-ghost use Rattle.libyaml_composer.specs.Numbers.{flag, is_id};
+ghost use Rattle.libyaml_composer.specs.Numbers.{is_set, is_id};
 
 use crate::deed::Deed;
 use crate::records::open_t;
@@ -18,7 +18,7 @@ impl open_t {
     /// Returns whether its list, which may have `most` entries, has no room for what a child needs.
     #[inline(always)]
     pub(crate) fn is_full(&self, most: u32) -> bool
-        ensures { result ≡ full_in most self.now.children (flag self.now.is_mapping) (is_id self.now.key) }
+        ensures { result ≡ full_in most self.now.children (is_set self.now.is_mapping) (is_id self.now.key) }
     {
         let is_waiting = self.is_mapping != 0 && is_id(self.key);
         !is_waiting && self.children >= most
@@ -28,10 +28,10 @@ impl open_t {
     #[inline(always)]
     pub(crate) fn hold(&mut self, child: i32, most: u32) -> Deed
         ensures full { (result ≡ Deed.FullList)
-            ↔ (full_in most self.old.children (flag self.old.is_mapping) (is_id self.old.key) ≡ true) }
+            ↔ (full_in most self.old.children (is_set self.old.is_mapping) (is_id self.old.key) ≡ true) }
         ensures undone { result ≡ Deed.FullList → self.new ≡ self.old }
         ensures held { (result ≡ Deed.FullList → ⊥) → (self.new ≡ holding child self.old)
-            × (result ≡ deed_in (flag self.old.is_mapping) (is_id self.old.key)) }
+            × (result ≡ deed_in (is_set self.old.is_mapping) (is_id self.old.key)) }
     {
         if self.is_mapping == 0 {
             if self.children >= most {

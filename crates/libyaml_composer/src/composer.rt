@@ -3,9 +3,9 @@ ghost use Rattle.std.specs.Prelude.{◌≡◌, ◌≤◌, ◌<◌, ◌-◌, ◌�
 ghost use Rattle.libyaml_composer.specs.declared.records.open_t.{open_t};
 ghost use Rattle.libyaml_composer.specs.declared.records.place_t.{place_t};
 ghost use Rattle.libyaml_composer.specs.Composing.{Told, at_start, between_step, composer_of, deed_for};
-ghost use Rattle.libyaml_composer.specs.Composing.{ended, handed, if_free, if_placed, is_undone, list_full};
-ghost use Rattle.libyaml_composer.specs.Composing.{adding, at_carrier, most_of, place_in, stack_of, step, told};
-ghost use Rattle.libyaml_composer.specs.Numbers.{is_id, kind_of};
+ghost use Rattle.libyaml_composer.specs.Composing.{collection_ended, holding_top, if_free, if_placed, does_nothing, is_list_full};
+ghost use Rattle.libyaml_composer.specs.Composing.{adding, at_carrier, most_of, place_in, stack_of, composer_step, told};
+ghost use Rattle.libyaml_composer.specs.Numbers.{is_id, event_kind};
 
 use crate::collection::is_id;
 use crate::deed::Deed;
@@ -31,7 +31,7 @@ pub struct composer_t {
 /// Returns the kind of event with libyaml's number, and `YAML_NO_EVENT` for any other number.
 #[inline(always)]
 pub fn event_kind(number: u8) -> yaml_event_type_t
-    ensures { result ≡ kind_of number }
+    ensures { result ≡ event_kind number }
 {
     match number {
         1 => yaml_event_type_t::YAML_STREAM_START_EVENT,
@@ -100,10 +100,10 @@ impl composer_t {
     ) -> Deed
         ensures tells { self.old.depth ≤ length stack.old
             → told result place.new (composer_of self.new stack.new)
-            ≡ step kind fact place.old (composer_of self.old stack.old) }
+            ≡ composer_step kind fact place.old (composer_of self.old stack.old) }
         ensures within { self.old.depth ≤ length stack.old → self.new.depth ≤ length stack.new }
         ensures bad { (result ≡ Deed.Bad) ↔ (self.old.depth ≤ length stack.old → ⊥) }
-        ensures undone { is_undone result ≡ true → (self.new ≡ self.old) × ((stack.new ≡ stack.old)
+        ensures undone { does_nothing result ≡ true → (self.new ≡ self.old) × ((stack.new ≡ stack.old)
             × (place.new ≡ place.old)) }
         ensures bound { self.new.max_entries ≡ self.old.max_entries }
     {
@@ -137,7 +137,7 @@ impl composer_t {
         ensures within { (entries : List open_t) → self.old.depth ≤ length entries
             → self.new.depth ≤ length entries }
         ensures good { result ≡ Deed.Bad → ⊥ }
-        ensures undone { is_undone result ≡ true → self.new ≡ self.old }
+        ensures undone { does_nothing result ≡ true → self.new ≡ self.old }
         ensures bound { self.new.max_entries ≡ self.old.max_entries }
     {
         match kind {
@@ -179,7 +179,7 @@ impl composer_t {
     #[tactic(auto, using(crate::proofs::Tops::none_open))]
     fn is_list_full(&self, stack: &[open_t]) -> bool
         requires { self.now.depth ≤ length stack.now }
-        ensures { result ≡ list_full (most_of self.now.max_entries) (stack_of self.now.depth stack.now) }
+        ensures { result ≡ is_list_full (most_of self.now.max_entries) (stack_of self.now.depth stack.now) }
     {
         if self.depth == 0 {
             return false;
@@ -193,11 +193,11 @@ impl composer_t {
     fn hand(&self, stack: &mut [open_t], node: i32, child: i32, place: &mut place_t) -> Deed
         requires within { self.now.depth ≤ length stack.old }
         ensures full { (result ≡ Deed.FullList)
-            ↔ (list_full (most_of self.now.max_entries) (stack_of self.now.depth stack.old) ≡ true) }
+            ↔ (is_list_full (most_of self.now.max_entries) (stack_of self.now.depth stack.old) ≡ true) }
         ensures undone { result ≡ Deed.FullList → (stack.new ≡ stack.old) × (place.new ≡ place.old) }
         ensures handed { (result ≡ Deed.FullList → ⊥) → (result ≡ deed_for (stack_of self.now.depth stack.old))
             × ((place.new ≡ place_in node child (stack_of self.now.depth stack.old))
-            × (stack_of self.now.depth stack.new ≡ handed child (stack_of self.now.depth stack.old))) }
+            × (stack_of self.now.depth stack.new ≡ holding_top child (stack_of self.now.depth stack.old))) }
     {
         if self.depth == 0 {
             put(place, node, child, 0, 0);
@@ -245,7 +245,7 @@ impl composer_t {
         ensures tells { told result place.new (composer_of self.new stack.new)
             ≡ at_carrier (is_id carrier) carrier place.old (composer_of self.old stack.old) }
         ensures kept { self.new ≡ self.old }
-        ensures undone { is_undone result ≡ true → (stack.new ≡ stack.old) × (place.new ≡ place.old) }
+        ensures undone { does_nothing result ≡ true → (stack.new ≡ stack.old) × (place.new ≡ place.old) }
         ensures good { result ≡ Deed.Bad → ⊥ }
     {
         if !is_id(carrier) {
@@ -258,7 +258,7 @@ impl composer_t {
     #[inline(always)]
     fn refusal(&self, stack: &[open_t], carrier: i32) -> Option<Deed>
         requires { self.now.depth ≤ length stack.now }
-        ensures some { IfSome result (λ d. (is_undone d ≡ true) × ((d ≡ Deed.Bad → ⊥)
+        ensures some { IfSome result (λ d. (does_nothing d ≡ true) × ((d ≡ Deed.Bad → ⊥)
             × ((p : place_t) (t : Told) → if_free carrier p (composer_of self.now stack.now) t
             ≡ told d p (composer_of self.now stack.now)))) }
         ensures none { result ≡ None → (p : place_t) (t : Told)
@@ -282,7 +282,7 @@ impl composer_t {
             ≡ if_placed carrier place.old (composer_of self.old stack.old)
             (adding (composer_of self.old stack.old)) }
         ensures within { self.new.depth ≤ length stack.new }
-        ensures undone { is_undone result ≡ true → (self.new ≡ self.old) × ((stack.new ≡ stack.old)
+        ensures undone { does_nothing result ≡ true → (self.new ≡ self.old) × ((stack.new ≡ stack.old)
             × (place.new ≡ place.old)) }
         ensures good { result ≡ Deed.Bad → ⊥ }
         ensures bound { self.new.max_entries ≡ self.old.max_entries }
@@ -312,7 +312,7 @@ impl composer_t {
         ensures tells { told result place.new (composer_of self.new stack.new)
             ≡ at_start is_mapping carrier place.old (composer_of self.old stack.old) }
         ensures within { self.new.depth ≤ length stack.new }
-        ensures undone { is_undone result ≡ true → (self.new ≡ self.old) × ((stack.new ≡ stack.old)
+        ensures undone { does_nothing result ≡ true → (self.new ≡ self.old) × ((stack.new ≡ stack.old)
             × (place.new ≡ place.old)) }
         ensures good { result ≡ Deed.Bad → ⊥ }
         ensures bound { self.new.max_entries ≡ self.old.max_entries }
@@ -351,9 +351,9 @@ impl composer_t {
     pub fn end(&mut self, stack: &[open_t], place: &mut place_t) -> Deed
         requires { self.old.depth ≤ length stack.now }
         ensures tells { told result place.new (composer_of self.new stack.now)
-            ≡ ended (stack_of self.old.depth stack.now) place.old (composer_of self.old stack.now) }
+            ≡ collection_ended (stack_of self.old.depth stack.now) place.old (composer_of self.old stack.now) }
         ensures within { self.new.depth ≤ length stack.now }
-        ensures undone { is_undone result ≡ true → (self.new ≡ self.old) × (place.new ≡ place.old) }
+        ensures undone { does_nothing result ≡ true → (self.new ≡ self.old) × (place.new ≡ place.old) }
         ensures good { result ≡ Deed.Bad → ⊥ }
         ensures bound { self.new.max_entries ≡ self.old.max_entries }
     {

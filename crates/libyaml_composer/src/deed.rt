@@ -1,6 +1,6 @@
 //! What a call returns.
 ghost use Rattle.std.specs.Prelude.{◌≡◌};
-ghost use Rattle.libyaml_composer.specs.Numbers.{number};
+ghost use Rattle.libyaml_composer.specs.Numbers.{deed_number};
 
 /// What is to be done to the document, or why nothing was done.
 #[derive(Copy, Clone)]
@@ -37,7 +37,7 @@ impl Deed {
     /// Returns the number that C sees.
     #[inline(always)]
     pub fn number(self) -> u32
-        ensures { result ≡ number self }
+        ensures { result ≡ deed_number self }
     {
         match self {
             Deed::Passes => 0,

@@ -1,6 +1,6 @@
 pub mod Stacks
 pub mod Contents
-pub mod Leads
+pub mod StepWithTexts
 pub mod Directives
 pub mod Putting
 pub mod Agreeing

@@ -1,15 +1,15 @@
 //! The parser without texts, with its stacks.
 ghost use Rattle.std.specs.Prelude.{◌≡◌, ◌++◌, All, List, ℕ, [], true};
 ghost use Rattle.libyaml_types.specs.declared.mark.yaml_mark_t.{yaml_mark_t};
-ghost use Rattle.libyaml_automaton.specs.Config.{start};
+ghost use Rattle.libyaml_automaton.specs.Config.{first_stacks};
 ghost use Rattle.libyaml_automaton.specs.Numbers.{next_of, place_of, flag, IsBackByte};
-ghost use Rattle.libyaml_automaton.specs.Wanted.{wanted, properties, token, IsAt};
-ghost use Rattle.libyaml_automaton.specs.Fits.{FitsStep, FitsContent, FitsDocument, FitsDirective};
-ghost use Rattle.libyaml_automaton.specs.Fits.{SameReading, IsFull, IsUndone, Documents, opens_at};
+ghost use Rattle.libyaml_automaton.specs.Wanted.{purpose_of, properties, kind_and_marks, IsAt};
+ghost use Rattle.libyaml_automaton.specs.Fits.{FitsStep, FitsContent, FitsDocument, AnswersDirective};
+ghost use Rattle.libyaml_automaton.specs.Fits.{SameReading, IsFull, IsNothingDone, Documents, opens_at};
 ghost use Rattle.libyaml_automaton.specs.Growth.{opens, pushes, stack_part_of, pushes_in_documents};
-ghost use Rattle.libyaml_automaton.specs.Automaton.{AtState, Token};
+ghost use Rattle.libyaml_automaton.specs.Automaton.{AtState, KindAndMarks};
 ghost use Rattle.libyaml_automaton.specs.Automaton as automaton;
-ghost use Rattle.libyaml_automaton.specs.Answers.{Says, outcome};
+ghost use Rattle.libyaml_automaton.specs.Answers.{IsOutcome, outcome};
 
 use libyaml_automaton::{Answer, Machine, Reading, state_of_number};
 use libyaml_types::{ZERO_MARK, yaml_mark_t, yaml_parser_state_t, yaml_token_type_t};
@@ -26,12 +26,12 @@ pub(crate) struct Automaton {
 
 impl Model for Automaton {
     ghost use Rattle.std.specs.Prelude.{All};
-    ghost use Rattle.libyaml_automaton.specs.Config.{Config, config_of, Within};
+    ghost use Rattle.libyaml_automaton.specs.Config.{Stacks, stacks_of, Within};
     ghost use Rattle.libyaml_automaton.specs.Numbers.{IsBackByte};
 
-    ghost Value = { Config };
+    ghost Value = { Stacks };
 
-    ghost view = { λ a. config_of a.record a.states.items a.marks.items };
+    ghost view = { λ a. stacks_of a.record a.states.items a.marks.items };
 
     // each byte on the stack is the number of a state to which the parser goes back after a node
     ghost invariant = { λ a. Within a.record a.states.items a.marks.items × All IsBackByte a.states.items };
@@ -67,7 +67,7 @@ impl Automaton {
     /// Returns an automaton at a stream's start, without an allocation.
     #[inline(always)]
     pub(crate) fn new(alloc: Global) -> Self
-        ensures { result ≡ start }
+        ensures { result ≡ first_stacks }
     {
         Automaton {
             record: Machine::new(),
@@ -86,14 +86,14 @@ impl Automaton {
         end: &yaml_mark_t,
     ) -> Answer
         requires at { IsAt (next_of read.old.next) self.old.state }
-        ensures steps { Says (automaton.step (wanted read.old) self.old (token kind start.now end.now) kind)
-            (outcome result (automaton.no_properties (token kind start.now end.now))
-            (token kind start.now end.now) read.new self.new) }
+        ensures steps { IsOutcome (automaton.step (purpose_of read.old) self.old (kind_and_marks kind start.now end.now) kind)
+            (outcome result (automaton.no_properties (kind_and_marks kind start.now end.now))
+            (kind_and_marks kind start.now end.now) read.new self.new) }
         ensures fits { FitsStep result kind read.new self.new.state }
         ensures full_states { result ≡ Answer.FullStates → pushes (next_of read.old.next) kind ≡ true }
         ensures full_marks { result ≡ Answer.FullMarks → opens (next_of read.old.next) kind ≡ true }
         ensures documents { result ≡ Answer.Document → stack_part_of (next_of read.old.next) ≡ Documents }
-        ensures undone { IsUndone result → (self.new ≡ self.old) × SameReading read.old read.new }
+        ensures undone { IsNothingDone result → (self.new ≡ self.old) × SameReading read.old read.new }
         ensures asked { result ≡ Answer.AsksContent → read.new ≡ read.old }
     {
         self.record.step(
@@ -117,9 +117,9 @@ impl Automaton {
     ) -> Answer
         requires at { IsAt (next_of read.old.next) self.old.state }
         requires documents { stack_part_of (next_of read.old.next) ≡ Documents }
-        ensures steps { (end : yaml_mark_t) → Says (automaton.step (wanted read.old) self.old
-            (token kind start.now end) kind) (outcome result (automaton.no_properties
-            (token kind start.now end)) (token kind start.now end) read.new self.new) }
+        ensures steps { (end : yaml_mark_t) → IsOutcome (automaton.step (purpose_of read.old) self.old
+            (kind_and_marks kind start.now end) kind) (outcome result (automaton.no_properties
+            (kind_and_marks kind start.now end)) (kind_and_marks kind start.now end) read.new self.new) }
         ensures fits { FitsDocument result kind read.new self.new.state }
         ensures full { result ≡ Answer.FullStates
             → pushes_in_documents (next_of read.old.next) self.old.behind_document_end kind ≡ true }
@@ -132,9 +132,9 @@ impl Automaton {
     /// Goes on where `document_step` returned `AsksVersion`.
     #[inline(always)]
     pub(crate) fn version_directive(&mut self, read: &mut Reading, is_accepted: bool) -> Answer
-        ensures steps { (t : Token) → Says (automaton.first_version is_accepted read.old.start_mark self.old
+        ensures steps { (t : KindAndMarks) → IsOutcome (automaton.first_version is_accepted read.old.start_mark self.old
             t) (outcome result (automaton.no_properties t) t read.new self.new) }
-        ensures fits { FitsDirective result read.new }
+        ensures fits { AnswersDirective result read.new }
         ensures kept { self.new ≡ self.old }
     {
         self.record.version_directive(read, is_accepted)
@@ -143,10 +143,10 @@ impl Automaton {
     /// Goes on where `document_step` returned `AsksHandle`.
     #[inline(always)]
     pub(crate) fn tag_directive(&mut self, read: &mut Reading, was_declared: bool) -> Answer
-        ensures steps { (t : Token) → Says (automaton.tag_directive was_declared read.old.start_mark
+        ensures steps { (t : KindAndMarks) → IsOutcome (automaton.tag_directive was_declared read.old.start_mark
             (flag read.old.has_version) self.old t) (outcome result (automaton.no_properties t) t read.new
             self.new) }
-        ensures fits { FitsDirective result read.new }
+        ensures fits { AnswersDirective result read.new }
         ensures kept { self.new ≡ self.old }
     {
         self.record.tag_directive(read, was_declared)
@@ -162,9 +162,9 @@ impl Automaton {
         start: &yaml_mark_t,
         end: &yaml_mark_t,
     ) -> Answer
-        ensures steps { Says (automaton.node_content (place_of read.old.place) (properties read.old) self.old
-            (token kind start.now end.now) kind) (outcome result (properties read.old)
-            (token kind start.now end.now) read.new self.new) }
+        ensures steps { IsOutcome (automaton.node_content (place_of read.old.place) (properties read.old) self.old
+            (kind_and_marks kind start.now end.now) kind) (outcome result (properties read.old)
+            (kind_and_marks kind start.now end.now) read.new self.new) }
         ensures fits { FitsContent result kind read.new }
         ensures full { result ≡ Answer.FullMarks → opens_at (place_of read.old.place) kind ≡ true }
         ensures undone { result ≡ Answer.FullMarks → (self.new ≡ self.old) × (read.new ≡ read.old) }
@@ -190,7 +190,7 @@ impl Automaton {
     /// Has the function of the state take the next token.
     #[inline(always)]
     pub(crate) fn begin(&self, read: &mut Reading)
-        ensures wanted { wanted read.new ≡ AtState }
+        ensures wanted { purpose_of read.new ≡ AtState }
         ensures at { IsAt (next_of read.new.next) self.now.state }
         ensures kept { read.new ≡ record read.old { next = read.new.next } }
     {

@@ -6,7 +6,7 @@ ghost use Rattle.libyaml_events.specs.machine.Answers.{wanted};
 ghost use Rattle.libyaml_events.specs.machine.Config.{ended_or_failed, is_fault};
 ghost use Rattle.libyaml_events.specs.machine.StepsOnto.{StepsOnto};
 ghost use Rattle.libyaml_events.specs.automaton.View.{InStep, Ready};
-ghost use Rattle.libyaml_events.specs.sources.Pushed.{made, standing, ForPushed, Pushed, fault_in};
+ghost use Rattle.libyaml_events.specs.sources.Pushed.{new_push_parser, standing, ForPushed, Pushed, fault_in};
 ghost use Rattle.libyaml_events.specs.sources.Pushed.{RemembersPushes};
 ghost use Rattle.libyaml_events.specs.sources.Pushes.{Pushes, Takes};
 
@@ -49,7 +49,7 @@ impl Model for yaml_push_parser_t {
 impl yaml_push_parser_t {
     /// Returns a parser at a stream's start, without an allocation.
     pub fn new(alloc: Global) -> Self
-        ensures value { result ≡ made }
+        ensures value { result ≡ new_push_parser }
         ensures begins { Pushed result [] [] }
     {
         yaml_push_parser_t {

@@ -10,7 +10,7 @@ ghost use Rattle.std.specs.Prelude.{◌≡◌, None, true};
 ghost use Rattle.libyaml_types.specs.Types.{token_type};
 ghost use Rattle.libyaml_grammar.specs.sentences.Events.{event};
 ghost use Rattle.libyaml_automaton.specs.Numbers.{next_of};
-ghost use Rattle.libyaml_automaton.specs.Fits.{FitsStep, IsFull, IsUndone, Documents};
+ghost use Rattle.libyaml_automaton.specs.Fits.{FitsStep, IsFull, IsNothingDone, Documents};
 ghost use Rattle.libyaml_automaton.specs.Growth.{stack_part_of};
 ghost use Rattle.libyaml_events.specs.machine.Config.{with_fault};
 ghost use Rattle.libyaml_events.specs.machine.Machine.{fault_with, step};
@@ -121,7 +121,7 @@ impl Machine {
         ensures fits { FitsStep result (token_type token.now.content) pending.new.reading self.new.state }
         ensures none { self.new.lookahead ≡ None }
         ensures texts { pending.new ≡ record pending.old { reading = pending.new.reading } }
-        ensures undone { IsUndone result → Ready pending.new self.new
+        ensures undone { IsNothingDone result → Ready pending.new self.new
             × (wanted pending.new ≡ wanted pending.old) × (self.new ≡ self.old) }
         ensures documents { result ≡ Answer.Document
             → stack_part_of (next_of pending.new.reading.next) ≡ Documents }

@@ -15,7 +15,7 @@ ghost use Rattle.libyaml_grammar.specs.cuts.CutTrees.{Cut};
 ghost use Rattle.libyaml_grammar.specs.sentences.Events.{Event, events};
 ghost use Rattle.libyaml_types.specs.Fault.{Fault, memory_fault};
 ghost use Rattle.libyaml_grammar.specs.cuts.Fits.{Fits};
-ghost use Rattle.libyaml_grammar.specs.sentences.Nesting.{HasPairs, IsNested, NestsSoFar, Texts};
+ghost use Rattle.libyaml_grammar.specs.sentences.Nesting.{HasPairs, IsNested, NestsSoFar, DocumentTexts};
 ghost use Rattle.libyaml_grammar.specs.sentences.Nesting.{TextsHavePairs, Value, scalar_value, value_events};
 ghost use Rattle.libyaml_grammar.specs.sentences.Order.{in_order};
 ghost use Rattle.libyaml_grammar.specs.runs.Runs.{Ending, Ends, Fails, is_behind_properties};
@@ -139,14 +139,14 @@ pub fn every_id()
 /// children in their order: no pair lacks its value.
 pub fn no_value_lacks()
     ensures of_value { (v : Value) (es : List Start) → HasPairs v → HoldsItsChildren v es }
-    ensures of_documents { (ts : Texts) → TextsHavePairs ts → EachHoldsItsChildren ts }
+    ensures of_documents { (ts : DocumentTexts) → TextsHavePairs ts → EachHoldsItsChildren ts }
 {}
 
 /// A child that is no alias has a greater id than its parent, and an alias's id is that of an earlier or
 /// enclosing node.
 pub fn children_later()
     ensures of_value { (v : Value) (es : List Start) → ChildrenAreLater v es }
-    ensures of_documents { (ts : Texts) → EachIsLater ts }
+    ensures of_documents { (ts : DocumentTexts) → EachIsLater ts }
 {}
 
 /// Events nest in one way: those of a value are of no other, whatever comes after them, and events that nest

@@ -13,10 +13,10 @@ ghost use Rattle.libyaml_graphs.specs.graphs.GraphParts.{part_of, start_part};
 ghost use Rattle.libyaml_grammar.specs.sentences.Events.{Event};
 ghost use Rattle.libyaml_composer.specs.Composing.{most_of};
 ghost use Rattle.libyaml_composer.specs.Held.{IsRefused, placed};
-ghost use Rattle.libyaml_composer.specs.Standing.{Fits, IsNode};
+ghost use Rattle.libyaml_composer.specs.Standing.{FitsParent, IsNode};
 ghost use Rattle.libyaml_loader.specs.document.Context.{Composed, Decided, IsEvent, IsListed, Named, Refuses};
-ghost use Rattle.libyaml_loader.specs.document.Context.{Stands, refusal_of, with_nodes};
-ghost use Rattle.libyaml_loader.specs.document.Stack.{begun, made};
+ghost use Rattle.libyaml_loader.specs.document.Context.{ComposerMatches, refusal_of, with_nodes};
+ghost use Rattle.libyaml_loader.specs.document.Stack.{with_document_begun, first_composer};
 
 use crate::anchors::{Anchors, id_or_none};
 use crate::ids::Carrier;
@@ -54,7 +54,7 @@ pub(crate) struct loader_ctx {
 impl loader_ctx {
     /// Returns a context without a document. Takes no memory.
     pub(crate) fn new(alloc: Global, max_entries: u32) -> Self
-        ensures collections { result.collections ≡ made (most_of max_entries) }
+        ensures collections { result.collections ≡ first_composer (most_of max_entries) }
         ensures anchors { result.anchors ≡ no_anchors }
     {
         loader_ctx {
@@ -76,7 +76,7 @@ impl loader_ctx {
         ensures { self.new ≡ record self.old {
           document = begun_document start start_mark;
           collections =
-              begun self.old.collections;
+              with_document_begun self.old.collections;
         } }
     {
         self.document = begin_document(self.alloc, start, start_mark);
@@ -104,10 +104,10 @@ impl loader_ctx {
     /// of this one.
     #[inline(never)]
     pub(crate) fn compose(&mut self, event: &mut yaml_event_t) -> Result<(), Refusal>
-        requires stands { Stands self.old }
+        requires stands { ComposerMatches self.old }
         requires not_end { closing_of event.old ≡ None }
         ensures ok { OnOk result (Composed self.old self.new (part_of event.old)) }
-        ensures stands { OnOk result (Stands self.new) }
+        ensures stands { OnOk result (ComposerMatches self.new) }
         ensures err { IfErr result (λ r. Refuses self.old self.new (part_of event.old)
             event.old.start_mark r) }
     {
@@ -140,10 +140,10 @@ impl loader_ctx {
         alias: &mut unnamed_yaml_event_t_data_alias,
         start_mark: &yaml_mark_t,
     ) -> Result<(), Refusal>
-        requires { Stands self.old }
+        requires { ComposerMatches self.old }
         ensures ok { OnOk result (Composed self.old self.new
             (Some (alias_part alias.old.anchor start_mark.now))) }
-        ensures stands { OnOk result (Stands self.new) }
+        ensures stands { OnOk result (ComposerMatches self.new) }
         ensures err { IfErr result (λ r. Refuses self.old self.new
             (Some (alias_part alias.old.anchor start_mark.now)) start_mark.now r) }
     {
@@ -161,10 +161,10 @@ impl loader_ctx {
         start_mark: &yaml_mark_t,
         end_mark: &yaml_mark_t,
     ) -> Result<(), Refusal>
-        requires { Stands self.old }
+        requires { ComposerMatches self.old }
         ensures ok { OnOk result (Composed self.old self.new
             (Some (leaf_part scalar.old.anchor (scalar_loaded scalar.old start_mark.now end_mark.now)))) }
-        ensures stands { OnOk result (Stands self.new) }
+        ensures stands { OnOk result (ComposerMatches self.new) }
         ensures err { IfErr result (λ r. Refuses self.old self.new
             (Some (leaf_part scalar.old.anchor (scalar_loaded scalar.old start_mark.now end_mark.now)))
             start_mark.now r) }
@@ -189,10 +189,10 @@ impl loader_ctx {
         start_mark: &yaml_mark_t,
         end_mark: &yaml_mark_t,
     ) -> Result<(), Refusal>
-        requires { Stands self.old }
+        requires { ComposerMatches self.old }
         ensures ok { OnOk result (Composed self.old self.new (Some (start_part start.old.anchor
             (sequence_loaded start.old.tag start.old.style [] start_mark.now end_mark.now)))) }
-        ensures stands { OnOk result (Stands self.new) }
+        ensures stands { OnOk result (ComposerMatches self.new) }
         ensures err { IfErr result (λ r. Refuses self.old self.new (Some (start_part start.old.anchor
             (sequence_loaded start.old.tag start.old.style [] start_mark.now end_mark.now)))
             start_mark.now r) }
@@ -217,10 +217,10 @@ impl loader_ctx {
         start_mark: &yaml_mark_t,
         end_mark: &yaml_mark_t,
     ) -> Result<(), Refusal>
-        requires { Stands self.old }
+        requires { ComposerMatches self.old }
         ensures ok { OnOk result (Composed self.old self.new (Some (start_part start.old.anchor
             (mapping_loaded start.old.tag start.old.style [] start_mark.now end_mark.now)))) }
-        ensures stands { OnOk result (Stands self.new) }
+        ensures stands { OnOk result (ComposerMatches self.new) }
         ensures err { IfErr result (λ r. Refuses self.old self.new (Some (start_part start.old.anchor
             (mapping_loaded start.old.tag start.old.style [] start_mark.now end_mark.now)))
             start_mark.now r) }
@@ -240,9 +240,9 @@ impl loader_ctx {
     ///
     /// libyaml: `yaml_parser_load_sequence_end` and `yaml_parser_load_mapping_end`.
     fn load_end(&mut self, end_mark: &yaml_mark_t)
-        requires { Stands self.old }
+        requires { ComposerMatches self.old }
         ensures ok { Composed self.old self.new (Some (end_part end_mark.now)) }
-        ensures stands { Stands self.new }
+        ensures stands { ComposerMatches self.new }
     {
         let mut place = NO_PLACE;
         let deed = self
@@ -312,7 +312,7 @@ impl loader_ctx {
         mark: &yaml_mark_t,
         place: &mut place_t,
     ) -> Result<Deed, Refusal>
-        requires { Stands self.old }
+        requires { ComposerMatches self.old }
         ensures ok { IfOk result (λ d. (e : Event) → IsEvent kind (option_map string_bytes anchor.old) mark.now e
             → IsNode (part_of e) → Decided self.old self.new (part_of e) e.end_mark d place.new) }
         ensures err { IfErr result (λ r. (e : Event) → IsEvent kind (option_map string_bytes anchor.old) mark.now e
@@ -335,7 +335,7 @@ impl loader_ctx {
         mark: &yaml_mark_t,
         place: &mut place_t,
     ) -> Result<Deed, Refusal>
-        requires { Stands self.old }
+        requires { ComposerMatches self.old }
         ensures ok { IfOk result (λ d. Decided self.old self.new (Some (alias_part anchor.now mark.now)) mark.now d
             place.new) }
         ensures err { IfErr result (λ r. Refuses self.old self.new (Some (alias_part anchor.now mark.now))
@@ -354,7 +354,7 @@ impl loader_ctx {
     /// An allocation failed.
     #[inline(always)]
     fn hand(&mut self, deed: Deed, place: &place_t) -> Result<(), Refusal>
-        requires { Fits deed place.now (length self.old.document.nodes) self.old.document.nodes }
+        requires { FitsParent deed place.now (length self.old.document.nodes) self.old.document.nodes }
         ensures handed { OnOk result (self.new ≡ record self.old {
           document = with_nodes (placed deed place.now self.old.document.nodes) self.old.document;
         }) }

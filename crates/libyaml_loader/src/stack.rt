@@ -1,8 +1,8 @@
 //! The open collections of a document on the way: the composer, with a stack of its own.
 
 ghost use Rattle.std.specs.Prelude.{◌≡◌, ℕ, suc, length, nat_le, true, false, IfOk, OnErr, OnOk};
-ghost use Rattle.libyaml_composer.specs.Composing.{is_start, most_of, step, told};
-ghost use Rattle.libyaml_loader.specs.document.Stack.{begun, made, roomy};
+ghost use Rattle.libyaml_composer.specs.Composing.{is_start, most_of, composer_step, told};
+ghost use Rattle.libyaml_loader.specs.document.Stack.{with_document_begun, first_composer, roomy};
 
 use libyaml_composer::{Deed, composer_t, open_t, place_t};
 use libyaml_types::yaml_event_type_t;
@@ -59,7 +59,7 @@ fn is_start(kind: yaml_event_type_t) -> bool
 impl OpenCollections {
     /// Returns what is kept before a stream's first document, without an allocation.
     pub(crate) fn new(alloc: Global, max_entries: u32) -> Self
-        ensures { result ≡ made (most_of max_entries) }
+        ensures { result ≡ first_composer (most_of max_entries) }
     {
         OpenCollections {
             composer: composer_t::new(max_entries),
@@ -70,7 +70,7 @@ impl OpenCollections {
     /// Begins a document.
     pub(crate) fn begin(&mut self)
         requires { self.old.is_within ≡ false }
-        ensures { self.new ≡ begun self.old }
+        ensures { self.new ≡ with_document_begun self.old }
     {
         let mut place = NO_PLACE;
         let _ = self.composer.compose(
@@ -96,7 +96,7 @@ impl OpenCollections {
     ) -> Result<Deed, AllocError>
         requires { self.old.is_within ≡ true }
         ensures ok { IfOk result (λ d. (room : ℕ) × (told d place.new self.new
-            ≡ step kind fact place.old (roomy room self.old))) }
+            ≡ composer_step kind fact place.old (roomy room self.old))) }
         ensures roomy { IfOk result (λ d. d ≡ Deed.FullStack → ⊥) }
         ensures err { OnErr result (is_start kind ≡ true) }
     {
@@ -134,7 +134,7 @@ impl OpenCollections {
     #[inline(always)]
     pub(crate) fn step(&mut self, kind: yaml_event_type_t, fact: i32, place: &mut place_t) -> Deed
         requires { self.old.is_within ≡ true }
-        ensures tells { told result place.new self.new ≡ step kind fact place.old self.old }
+        ensures tells { told result place.new self.new ≡ composer_step kind fact place.old self.old }
     {
         let stack = self.entries.as_mut_slice();
         match kind {

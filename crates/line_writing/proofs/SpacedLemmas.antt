@@ -3,7 +3,7 @@ use Rattle.std.proofs.Common.{◌≡◌, ◌++◌, ◌+◌, ◌<◌, ℕ, List, 
 use Rattle.std.specs.List.{join_with_byte}
 use Rattle.std.proofs.lemmas.List.{append-nil, take_more}
 use Rattle.libyaml_types.specs.declared.directive.yaml_tag_directive_t.{yaml_tag_directive_t}
-use Rattle.line_writing.specs.FieldTexts.{line_text, line_rest, behind_spaces, directive_texts, string_text}
+use Rattle.line_writing.specs.FieldTexts.{line_text, line_rest, behind_spaces, directive_fields, string_text}
 
 pub join-spaced : (x : List ℕ) (xs : List (List ℕ)) → join_with_byte 0x20 (x ∷ xs) ≡ x ++ behind_spaces xs
 join-spaced x [] = sym (append-nil x)
@@ -18,20 +18,20 @@ behind_spaces-append (x ∷ xs) ys =
     ap (λ l. 0x20 ∷ (x ++ l)) (behind_spaces-append xs ys)
     ∙ ap (λ l. 0x20 ∷ l) (sym (append_assoc x (behind_spaces xs) (behind_spaces ys)))
 
-pub directive_texts-append : (xs ys : List yaml_tag_directive_t) → directive_texts (xs ++ ys) ≡ directive_texts xs
-    ++ directive_texts ys
-directive_texts-append [] ys = refl
-directive_texts-append (x ∷ xs) ys = ap (λ l. string_text x.handle ∷ string_text x.prefix ∷ l)
-    (directive_texts-append xs ys)
+pub directive_fields-append : (xs ys : List yaml_tag_directive_t) → directive_fields (xs ++ ys) ≡ directive_fields xs
+    ++ directive_fields ys
+directive_fields-append [] ys = refl
+directive_fields-append (x ∷ xs) ys = ap (λ l. string_text x.handle ∷ string_text x.prefix ∷ l)
+    (directive_fields-append xs ys)
 
 -- one more directive
-pub directive_texts-more : (ds : List yaml_tag_directive_t) (i : ℕ) (d : yaml_tag_directive_t) → i < length ds
-    → behind_spaces (directive_texts (take (i + 1) ds)) ≡ behind_spaces (directive_texts (take i ds))
+pub directive_fields-more : (ds : List yaml_tag_directive_t) (i : ℕ) (d : yaml_tag_directive_t) → i < length ds
+    → behind_spaces (directive_fields (take (i + 1) ds)) ≡ behind_spaces (directive_fields (take i ds))
     ++ behind_spaces (string_text (get_or ds i d).handle ∷ string_text (get_or ds i d).prefix ∷ [])
-directive_texts-more ds i d within =
-    ap (λ l. behind_spaces (directive_texts l)) (take_more ds i d within)
-    ∙ ap behind_spaces (directive_texts-append (take i ds) (get_or ds i d ∷ []))
-    ∙ behind_spaces-append (directive_texts (take i ds))
+directive_fields-more ds i d within =
+    ap (λ l. behind_spaces (directive_fields l)) (take_more ds i d within)
+    ∙ ap behind_spaces (directive_fields-append (take i ds) (get_or ds i d ∷ []))
+    ∙ behind_spaces-append (directive_fields (take i ds))
     (string_text (get_or ds i d).handle ∷ string_text (get_or ds i d).prefix ∷ [])
 
 regroup : (old first start middle rest end : List ℕ)

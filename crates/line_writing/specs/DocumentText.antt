@@ -8,14 +8,14 @@ use Rattle.libyaml_documents.specs.declared.node.unnamed_yaml_node_t_data.{unnam
 use Rattle.libyaml_documents.specs.declared.node.unnamed_yaml_node_t_data.TheVariants.{Scalar, Sequence, Mapping}
 use Rattle.libyaml_documents.specs.declared.pairs.yaml_node_pair_t.{yaml_node_pair_t}
 use Rattle.libyaml_documents.specs.Documents.{Document}
-use Rattle.line_writing.specs.FieldTexts.{line_text, mark_text, flag_text, optional_version_text, string_text, directive_texts, scalar_style_text, sequence_style_text, mapping_style_text}
+use Rattle.line_writing.specs.FieldTexts.{line_text, mark_text, flag_text, optional_version_text, string_text, directive_fields, scalar_style_text, sequence_style_text, mapping_style_text}
 
 -- the fields of a document that follow its marks
 abbrev pub document_fields : Document → List (List ℕ)
 document_fields d =
     flag_text d.start_implicit ∷ flag_text d.end_implicit ∷ optional_version_text d.version_directive ∷ decimal
     (length d.tag_directives)
-    ∷ directive_texts d.tag_directives
+    ∷ directive_fields d.tag_directives
 
 abbrev pub document_line : Document → List ℕ
 document_line d = line_text (codes "DOCUMENT" ∷ mark_text d.start_mark ∷ mark_text d.end_mark ∷ document_fields d)

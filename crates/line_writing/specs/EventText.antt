@@ -4,7 +4,7 @@ use Rattle.std.specs.Fmt.{decimal}
 use Rattle.libyaml_types.specs.declared.event.yaml_event_t.{yaml_event_t}
 use Rattle.libyaml_types.specs.declared.event.unnamed_yaml_event_t_data.{unnamed_yaml_event_t_data}
 use Rattle.libyaml_types.specs.declared.event.unnamed_yaml_event_t_data.TheVariants as ev
-use Rattle.line_writing.specs.FieldTexts.{line_text, mark_text, optional_version_text, flag_text, string_text, optional_string_text, directive_texts, encoding_text, scalar_style_text, sequence_style_text, mapping_style_text}
+use Rattle.line_writing.specs.FieldTexts.{line_text, mark_text, optional_version_text, flag_text, string_text, optional_string_text, directive_fields, encoding_text, scalar_style_text, sequence_style_text, mapping_style_text}
 
 abbrev pub event_name : unnamed_yaml_event_t_data → List ℕ
 event_name ev.NoEvent = codes "NO-EVENT"
@@ -26,7 +26,7 @@ event_fields (ev.StreamStart e) = encoding_text e.encoding ∷ []
 event_fields ev.StreamEnd = []
 event_fields (ev.DocumentStart e) =
     flag_text e.implicit ∷ optional_version_text e.version_directive ∷ decimal
-    (length e.tag_directives) ∷ directive_texts e.tag_directives
+    (length e.tag_directives) ∷ directive_fields e.tag_directives
 event_fields (ev.DocumentEnd e) = flag_text e.implicit ∷ []
 event_fields (ev.Alias e) = string_text e.anchor ∷ []
 event_fields (ev.Scalar e) =

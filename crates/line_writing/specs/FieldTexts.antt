@@ -57,9 +57,9 @@ optional_string_text None = absent
 optional_string_text (Some s) = string_text s
 
 -- the handle and the prefix of each directive
-abbrev pub directive_texts : List yaml_tag_directive_t → List (List ℕ)
-directive_texts [] = []
-directive_texts (d ∷ ds) = string_text d.handle ∷ string_text d.prefix ∷ directive_texts ds
+abbrev pub directive_fields : List yaml_tag_directive_t → List (List ℕ)
+directive_fields [] = []
+directive_fields (d ∷ ds) = string_text d.handle ∷ string_text d.prefix ∷ directive_fields ds
 
 abbrev pub encoding_text : yaml_encoding_t → List ℕ
 encoding_text YAML_ANY_ENCODING = codes "any"

@@ -1,7 +1,7 @@
 //! The fields of a line as they are written, each after a space.
 ghost use Rattle.std.specs.Prelude.{◌≡◌, ◌++◌, [], ◌∷◌, OnOk, string_bytes, decimal, option_map};
 ghost use Rattle.line_writing.specs.FieldTexts.{behind_spaces, optional_version_text, flag_text};
-ghost use Rattle.line_writing.specs.FieldTexts.{string_text, optional_string_text, directive_texts};
+ghost use Rattle.line_writing.specs.FieldTexts.{string_text, optional_string_text, directive_fields};
 ghost use Rattle.line_writing.specs.FieldTexts.{encoding_text, scalar_style_text};
 ghost use Rattle.line_writing.specs.FieldTexts.{sequence_style_text, mapping_style_text, line_rest};
 
@@ -139,7 +139,7 @@ pub(crate) fn append_directives(
     directives: &[yaml_tag_directive_t],
 ) -> Result<(), AllocError>
     ensures { OnOk result (string_bytes line.new ≡ string_bytes line.old
-        ++ behind_spaces (directive_texts directives.now)) }
+        ++ behind_spaces (directive_fields directives.now)) }
 {
     for directive in directives {
         append_string(line, &directive.handle)?;

@@ -13,8 +13,8 @@ ghost use Rattle.libyaml_events.specs.machine.Config.{is_fault};
 ghost use Rattle.rust_original.specs.loader.Loader.{loads_there};
 ghost use Rattle.rust_original.specs.loader.LoadsThere.{LoadsCompare, LoadsThere};
 ghost use Rattle.rust_original.specs.parser.Differences.{Compares, Differs, call_here, call_there};
-ghost use Rattle.rust_original.specs.parser.Parser.{Mends, OK, Parser, yaml_parser_parse};
-ghost use Rattle.rust_original.specs.parser.Runs.{Runs, RunsThere, as_here, call, new_parser};
+ghost use Rattle.rust_original.specs.parser.Parser.{Mends, OK, OriginalParser, yaml_parser_parse};
+ghost use Rattle.rust_original.specs.parser.Runs.{Runs, RunsThere, as_here, call, new_original_parser};
 ghost use Rattle.rust_original.specs.parser.Runs.{run_within};
 ghost use Rattle.rust_original.specs.parser.Texts.{NoneHoldsZero, as_held};
 
@@ -28,14 +28,14 @@ pub fn runs_there()
         → NestsSoFar e }
     ensures whole { (l : List Token) (f : Fault) (e : List Event) (x : Ending) → RunsThere l f e x
         → IsNested e → x ≡ Ends }
-    ensures computed { (m : Mends) (n : ℕ) (p : Parser) (e : List Event) (x : Ending)
+    ensures computed { (m : Mends) (n : ℕ) (p : OriginalParser) (e : List Event) (x : Ending)
         → run_within m n p ≡ (e, Some x) → Runs m p e x }
 {}
 
 /// With its three mends, the run is that of the grammar, whose events too nest to the end only where it ends.
 pub fn runs_here()
     ensures run { (l : List Token) (f : Fault) (e : List Event) (x : Ending) → IsRun l f e x
-        → Runs as_here (new_parser l f) e x }
+        → Runs as_here (new_original_parser l f) e x }
     ensures whole { (l : List Token) (f : Fault) (e : List Event) (x : Ending) → IsRun l f e x
         → IsNested e → x ≡ Ends }
 {}
@@ -43,10 +43,10 @@ pub fn runs_here()
 /// A call of any parser does the same with the mends and without, but at three places; what it does there.
 /// After the stream's end, and after an error, it returns the empty event and changes nothing.
 pub fn calls()
-    ensures places { (p : Parser) → (call_there p ≡ call_here p) ⊎ Differs p (call_there p) (call_here p) }
-    ensures after_the_end { (m : Mends) (kept : Fault) (p : Parser) → p.stream_end_produced ≡ true
+    ensures places { (p : OriginalParser) → (call_there p ≡ call_here p) ⊎ Differs p (call_there p) (call_here p) }
+    ensures after_the_end { (m : Mends) (kept : Fault) (p : OriginalParser) → p.stream_end_produced ≡ true
         → yaml_parser_parse m kept p ≡ OK empty_event p }
-    ensures after_a_fault { (m : Mends) (kept : Fault) (p : Parser) → is_fault kept.error ≡ true
+    ensures after_a_fault { (m : Mends) (kept : Fault) (p : OriginalParser) → is_fault kept.error ≡ true
         → yaml_parser_parse m kept p ≡ OK empty_event p }
 {}
 
@@ -54,7 +54,7 @@ pub fn calls()
 /// places. In both, texts that end at a zero byte end there; where none holds one, that changes nothing.
 pub fn compared()
     ensures runs { (l : List Token) (f : Fault) (e d : List Event) (x y : Ending) → RunsThere l f e x
-        → IsRun (map as_held l) f d y → Compares (new_parser (map as_held l) f) e x d y }
+        → IsRun (map as_held l) f d y → Compares (new_original_parser (map as_held l) f) e x d y }
     ensures texts { (l : List Token) → NoneHoldsZero l → map as_held l ≡ l }
 {}
 
@@ -75,5 +75,5 @@ pub fn loads_alike()
 /// held as in `compared`.
 pub fn documents_compared()
     ensures { (n : ℕ) (l : List Token) (f : Fault) (a b : List Load) → LoadsThere n l f a
-        → IsBoundedLoads n (map as_held l) f b → LoadsCompare n (new_parser (map as_held l) f) a b }
+        → IsBoundedLoads n (map as_held l) f b → LoadsCompare n (new_original_parser (map as_held l) f) a b }
 {}

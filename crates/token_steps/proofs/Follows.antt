@@ -12,9 +12,9 @@ use Rattle.libyaml_automaton.specs.declared.node_place.NodePlace.TheVariants.{Bl
 use Rattle.libyaml_automaton.specs.declared.slot.Slot.{Slot}
 use Rattle.libyaml_automaton.specs.declared.slot.Slot.TheVariants as slot
 use Rattle.libyaml_automaton.specs.Automaton as a
-use Rattle.libyaml_automaton.specs.Automaton.{Properties, Shape, Step, Token, Want}
-use Rattle.libyaml_automaton.specs.Config.{Config, pushed}
-use Rattle.libyaml_automaton.specs.Slots.{is_nothing_before, state_behind, left_out, entered, place}
+use Rattle.libyaml_automaton.specs.Automaton.{PropertiesRead, Shape, Step, KindAndMarks, Purpose}
+use Rattle.libyaml_automaton.specs.Config.{Stacks, with_state}
+use Rattle.libyaml_automaton.specs.Slots.{is_nothing_before, state_behind, left_out, entered, slot_place}
 use Rattle.token_steps.specs.Numbers.{IsFaultNumber}
 
 pub no : {A : Type 0} → false ≡ true → A
@@ -35,7 +35,7 @@ pub data Keeping : Type 0 where
   nothing directives : Keeping
   properties : (anchor tag : Bool) → Keeping
 
-abbrev pub keeping : Want → Keeping
+abbrev pub keeping : Purpose → Keeping
 keeping (a.BehindDirective m v) = directives
 keeping (a.BehindProperties p r) = properties r.anchor r.tag
 keeping _ = nothing
@@ -83,7 +83,7 @@ either v k false p q m n = n
 
 -- documents
 
-stream_start : (v : Keeping) (c : Config) (t : Token) (k : yaml_token_type_t) → Follows v k (a.parse_stream_start c t k)
+stream_start : (v : Keeping) (c : Stacks) (t : KindAndMarks) (k : yaml_token_type_t) → Follows v k (a.parse_stream_start c t k)
 stream_start v c t tok.YAML_STREAM_START_TOKEN = tt
 stream_start v c t _ = (omega arith, omega arith)
 
@@ -97,35 +97,35 @@ adds nothing k b e = e
 adds directives k b e = e
 adds (properties x y) k b e = absurd b
 
-version_directive : (v : Keeping) (b : Bool) (m : yaml_mark_t) (c : Config) (t : Token) → Before v
+version_directive : (v : Keeping) (b : Bool) (m : yaml_mark_t) (c : Stacks) (t : KindAndMarks) → Before v
     → Follows v tok.YAML_VERSION_DIRECTIVE_TOKEN (a.version_directive b m c t)
 version_directive v true m c t x = (omega arith, omega arith)
 version_directive v false m c t x = (refl, adds v tok.YAML_VERSION_DIRECTIVE_TOKEN x refl)
 
-explicit_document : (v : Keeping) (m : yaml_mark_t) (h : Bool) (c : Config) (t : Token) (k : yaml_token_type_t) → Before v
+explicit_document : (v : Keeping) (m : yaml_mark_t) (h : Bool) (c : Stacks) (t : KindAndMarks) (k : yaml_token_type_t) → Before v
     → Follows v k (a.explicit_document m h c t k)
 explicit_document v m h c t tok.YAML_VERSION_DIRECTIVE_TOKEN x = version_directive v h m c t x
 explicit_document v m h c t tok.YAML_TAG_DIRECTIVE_TOKEN x = (refl, adds v tok.YAML_TAG_DIRECTIVE_TOKEN x refl)
 explicit_document v m h c t tok.YAML_DOCUMENT_START_TOKEN x = tt
 explicit_document v m h c t _ x = (omega arith, omega arith)
 
-further_end : (b : Bool) (c : Config) (t : Token)
+further_end : (b : Bool) (c : Stacks) (t : KindAndMarks)
     → Follows nothing tok.YAML_DOCUMENT_END_TOKEN (a.further_document_end b c t)
 further_end true c t = (refl, refl)
 further_end false c t = tt
 
-implicit_document_start : (c : Config) (t : Token) (k : yaml_token_type_t)
+implicit_document_start : (c : Stacks) (t : KindAndMarks) (k : yaml_token_type_t)
     → Follows nothing k (a.parse_implicit_document_start c t k)
 implicit_document_start c t tok.YAML_VERSION_DIRECTIVE_TOKEN = version_directive nothing false t.start_mark c t tt
 implicit_document_start c t tok.YAML_TAG_DIRECTIVE_TOKEN = (refl, refl)
 implicit_document_start c t tok.YAML_DOCUMENT_END_TOKEN = further_end c.behind_document_end c t
 implicit_document_start c t _ = tt
 
-document_start : (c : Config) (t : Token) (k : yaml_token_type_t) → Follows nothing k (a.parse_document_start c t k)
+document_start : (c : Stacks) (t : KindAndMarks) (k : yaml_token_type_t) → Follows nothing k (a.parse_document_start c t k)
 document_start c t tok.YAML_STREAM_END_TOKEN = tt
 document_start c t k = explicit_document nothing t.start_mark false c t k tt
 
-document_end : (c : Config) (t : Token) (k : yaml_token_type_t) → Follows nothing k (a.parse_document_end c t k)
+document_end : (c : Stacks) (t : KindAndMarks) (k : yaml_token_type_t) → Follows nothing k (a.parse_document_end c t k)
 document_end c t tok.YAML_DOCUMENT_END_TOKEN = tt
 document_end c t _ = tt
 
@@ -135,18 +135,18 @@ content_problem : (p : NodePlace) → IsFaultNumber (a.content_problem p)
 content_problem Flow = (omega arith, omega arith)
 content_problem _ = (omega arith, omega arith)
 
-no_content : (k : yaml_token_type_t) (p : NodePlace) (b h : Bool) (r : Properties) (c : Config) (t : Token)
+no_content : (k : yaml_token_type_t) (p : NodePlace) (b h : Bool) (r : PropertiesRead) (c : Stacks) (t : KindAndMarks)
     → Content r.anchor r.tag k (a.no_content p b h r c t)
 no_content k p false false r c t = content_problem p
 no_content k p false true r c t = (refl, (refl, refl))
 no_content k p true h r c t = (refl, (refl, refl))
 
-if_allowed : (k : yaml_token_type_t) (b : Bool) (s : Step) (p : NodePlace) (r : Properties) (c : Config) (t : Token)
+if_allowed : (k : yaml_token_type_t) (b : Bool) (s : Step) (p : NodePlace) (r : PropertiesRead) (c : Stacks) (t : KindAndMarks)
     → Content r.anchor r.tag k s → Content r.anchor r.tag k (a.if_allowed b s p r c t)
 if_allowed k true s p r c t x = x
 if_allowed k false s p r c t x = no_content k p r.anchor r.tag r c t
 
-pub node_content : (p : NodePlace) (r : Properties) (c : Config) (t : Token) (k : yaml_token_type_t)
+pub node_content : (p : NodePlace) (r : PropertiesRead) (c : Stacks) (t : KindAndMarks) (k : yaml_token_type_t)
     → Content r.anchor r.tag k (a.node_content p r c t k)
 node_content p r c t tok.YAML_SCALAR_TOKEN = (refl, (refl, (refl, refl)))
 node_content p r c t tok.YAML_FLOW_SEQUENCE_START_TOKEN = (refl, refl)
@@ -167,91 +167,91 @@ bare v k (a.AsksVersion m c) x = absurd x
 bare v k (a.AsksHandle m h c) x = absurd x
 bare v k (a.AsksContent p r c) x = absurd x
 
-anchor_behind : (b : Bool) (p : NodePlace) (r : Properties) (c : Config) (t : Token)
+anchor_behind : (b : Bool) (p : NodePlace) (r : PropertiesRead) (c : Stacks) (t : KindAndMarks)
     → Follows (properties r.anchor r.tag) tok.YAML_ANCHOR_TOKEN (a.anchor_behind b p r c t)
 anchor_behind false p r c t = (refl, refl)
 anchor_behind true p r c t = refl
 
-tag_behind : (b : Bool) (p : NodePlace) (r : Properties) (c : Config) (t : Token)
+tag_behind : (b : Bool) (p : NodePlace) (r : PropertiesRead) (c : Stacks) (t : KindAndMarks)
     → Follows (properties r.anchor r.tag) tok.YAML_TAG_TOKEN (a.tag_behind b p r c t)
 tag_behind false p r c t = (refl, refl)
 tag_behind true p r c t = refl
 
-behind_properties : (p : NodePlace) (r : Properties) (c : Config) (t : Token) (k : yaml_token_type_t)
+behind_properties : (p : NodePlace) (r : PropertiesRead) (c : Stacks) (t : KindAndMarks) (k : yaml_token_type_t)
     → Follows (properties r.anchor r.tag) k (a.behind_properties p r c t k)
 behind_properties p r c t tok.YAML_ANCHOR_TOKEN = anchor_behind r.anchor p r c t
 behind_properties p r c t tok.YAML_TAG_TOKEN = tag_behind r.tag p r c t
 behind_properties p r c t _ = refl
 
-parse_node : (p : NodePlace) (c : Config) (t : Token) (k : yaml_token_type_t) → Follows nothing k (a.parse_node p c t k)
+parse_node : (p : NodePlace) (c : Stacks) (t : KindAndMarks) (k : yaml_token_type_t) → Follows nothing k (a.parse_node p c t k)
 parse_node p c t tok.YAML_ALIAS_TOKEN = tt
 parse_node p c t tok.YAML_ANCHOR_TOKEN = (refl, refl)
 parse_node p c t tok.YAML_TAG_TOKEN = (refl, refl)
 parse_node p c t k = bare nothing k (a.node_content p (a.no_properties t) c t k) (node_content p (a.no_properties t) c t k)
 
-at_slot : (s : Slot) (m : yaml_mark_t) (c : Config) (t : Token) (k : yaml_token_type_t) → Follows nothing k (a.at_slot s m c t k)
+at_slot : (s : Slot) (m : yaml_mark_t) (c : Stacks) (t : KindAndMarks) (k : yaml_token_type_t) → Follows nothing k (a.at_slot s m c t k)
 at_slot s m c t k = either nothing k (is_nothing_before s k) (a.process_empty_scalar m (left_out (state_behind s) c))
-    (a.parse_node (place s) (entered (state_behind s) c) t k) (refl, (refl, refl))
-    (parse_node (place s) (entered (state_behind s) c) t k)
+    (a.parse_node (slot_place s) (entered (state_behind s) c) t k) (refl, (refl, refl))
+    (parse_node (slot_place s) (entered (state_behind s) c) t k)
 
 -- collections
 
-block_sequence_entry : (c : Config) (t : Token) (k : yaml_token_type_t)
+block_sequence_entry : (c : Stacks) (t : KindAndMarks) (k : yaml_token_type_t)
     → Follows nothing k (a.parse_block_sequence_entry c t k)
 block_sequence_entry c t tok.YAML_BLOCK_ENTRY_TOKEN = (refl, refl)
 block_sequence_entry c t tok.YAML_BLOCK_END_TOKEN = tt
 block_sequence_entry c t _ = (omega arith, omega arith)
 
-indentless_entry : (c : Config) (t : Token) (k : yaml_token_type_t)
+indentless_entry : (c : Stacks) (t : KindAndMarks) (k : yaml_token_type_t)
     → Follows nothing k (a.parse_indentless_sequence_entry c t k)
 indentless_entry c t tok.YAML_BLOCK_ENTRY_TOKEN = (refl, refl)
 indentless_entry c t _ = tt
 
-block_mapping_key : (c : Config) (t : Token) (k : yaml_token_type_t) → Follows nothing k (a.parse_block_mapping_key c t k)
+block_mapping_key : (c : Stacks) (t : KindAndMarks) (k : yaml_token_type_t) → Follows nothing k (a.parse_block_mapping_key c t k)
 block_mapping_key c t tok.YAML_KEY_TOKEN = (refl, refl)
 block_mapping_key c t tok.YAML_VALUE_TOKEN = (refl, (refl, refl))
 block_mapping_key c t tok.YAML_BLOCK_END_TOKEN = tt
 block_mapping_key c t _ = (omega arith, omega arith)
 
-block_mapping_value : (c : Config) (t : Token) (k : yaml_token_type_t)
+block_mapping_value : (c : Stacks) (t : KindAndMarks) (k : yaml_token_type_t)
     → Follows nothing k (a.parse_block_mapping_value c t k)
 block_mapping_value c t tok.YAML_VALUE_TOKEN = (refl, refl)
 block_mapping_value c t _ = (refl, (refl, refl))
 
-flow_sequence_entry : (c : Config) (t : Token) (k : yaml_token_type_t)
+flow_sequence_entry : (c : Stacks) (t : KindAndMarks) (k : yaml_token_type_t)
     → Follows nothing k (a.parse_flow_sequence_entry c t k)
 flow_sequence_entry c t tok.YAML_FLOW_ENTRY_TOKEN = (refl, refl)
 flow_sequence_entry c t tok.YAML_FLOW_SEQUENCE_END_TOKEN = tt
 flow_sequence_entry c t _ = (omega arith, omega arith)
 
-flow_sequence_first_entry : (c : Config) (t : Token) (k : yaml_token_type_t)
+flow_sequence_first_entry : (c : Stacks) (t : KindAndMarks) (k : yaml_token_type_t)
     → Follows nothing k (a.parse_flow_sequence_first_entry c t k)
 flow_sequence_first_entry c t tok.YAML_FLOW_SEQUENCE_END_TOKEN = tt
 flow_sequence_first_entry c t tok.YAML_KEY_TOKEN = (refl, refl)
-flow_sequence_first_entry c t k = parse_node Flow (pushed st.YAML_PARSE_FLOW_SEQUENCE_ENTRY_STATE c) t k
+flow_sequence_first_entry c t k = parse_node Flow (with_state st.YAML_PARSE_FLOW_SEQUENCE_ENTRY_STATE c) t k
 
-pair_value : (c : Config) (t : Token) (k : yaml_token_type_t)
+pair_value : (c : Stacks) (t : KindAndMarks) (k : yaml_token_type_t)
     → Follows nothing k (a.parse_flow_sequence_entry_mapping_value c t k)
 pair_value c t tok.YAML_VALUE_TOKEN = (refl, refl)
 pair_value c t _ = (refl, (refl, refl))
 
-flow_mapping_key : (c : Config) (t : Token) (k : yaml_token_type_t) → Follows nothing k (a.parse_flow_mapping_key c t k)
+flow_mapping_key : (c : Stacks) (t : KindAndMarks) (k : yaml_token_type_t) → Follows nothing k (a.parse_flow_mapping_key c t k)
 flow_mapping_key c t tok.YAML_FLOW_ENTRY_TOKEN = (refl, refl)
 flow_mapping_key c t tok.YAML_FLOW_MAPPING_END_TOKEN = tt
 flow_mapping_key c t _ = (omega arith, omega arith)
 
-flow_mapping_first_key : (c : Config) (t : Token) (k : yaml_token_type_t)
+flow_mapping_first_key : (c : Stacks) (t : KindAndMarks) (k : yaml_token_type_t)
     → Follows nothing k (a.parse_flow_mapping_first_key c t k)
 flow_mapping_first_key c t tok.YAML_FLOW_MAPPING_END_TOKEN = tt
 flow_mapping_first_key c t tok.YAML_KEY_TOKEN = (refl, refl)
-flow_mapping_first_key c t k = parse_node Flow (pushed st.YAML_PARSE_FLOW_MAPPING_EMPTY_VALUE_STATE c) t k
+flow_mapping_first_key c t k = parse_node Flow (with_state st.YAML_PARSE_FLOW_MAPPING_EMPTY_VALUE_STATE c) t k
 
-flow_mapping_value : (c : Config) (t : Token) (k : yaml_token_type_t)
+flow_mapping_value : (c : Stacks) (t : KindAndMarks) (k : yaml_token_type_t)
     → Follows nothing k (a.parse_flow_mapping_value c t k)
 flow_mapping_value c t tok.YAML_VALUE_TOKEN = (refl, refl)
 flow_mapping_value c t _ = (refl, (refl, refl))
 
-at_state : (s : yaml_parser_state_t) (c : Config) (t : Token) (k : yaml_token_type_t) → Follows nothing k (a.at_state s c t k)
+at_state : (s : yaml_parser_state_t) (c : Stacks) (t : KindAndMarks) (k : yaml_token_type_t) → Follows nothing k (a.at_state s c t k)
 at_state st.YAML_PARSE_STREAM_START_STATE c t k = stream_start nothing c t k
 at_state st.YAML_PARSE_IMPLICIT_DOCUMENT_START_STATE c t k = implicit_document_start c t k
 at_state st.YAML_PARSE_DOCUMENT_START_STATE c t k = document_start c t k
@@ -275,7 +275,7 @@ at_state st.YAML_PARSE_FLOW_MAPPING_VALUE_STATE c t k = flow_mapping_value c t k
 at_state st.YAML_PARSE_FLOW_MAPPING_EMPTY_VALUE_STATE c t k = (refl, (refl, refl))
 at_state _ c t k = (omega arith, omega arith)
 
-pub follows : (v : Want) (c : Config) (t : Token) (k : yaml_token_type_t) → Follows (keeping v) k (a.step v c t k)
+pub follows : (v : Purpose) (c : Stacks) (t : KindAndMarks) (k : yaml_token_type_t) → Follows (keeping v) k (a.step v c t k)
 follows a.AtState c t k = at_state c.state c t k
 follows (a.BehindDirective m h) c t k = explicit_document directives m h c t k tt
 follows (a.BehindProperties p r) c t k = behind_properties p r c t k

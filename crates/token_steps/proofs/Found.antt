@@ -6,7 +6,7 @@ use Rattle.std.specs.Cmp.Lexicographic.{slice_cmp, nat_list_cmp_total}
 use Rattle.std.specs.FinMap.{find, get, insert, from_entries, from_entries_push, get-from_entries, slice_cmp-IsAntisymmetric, nat_cmp-IsAntisymmetric}
 use Rattle.token_steps.specs.declared.tags.handles.text_t.{text_t}
 use Rattle.token_steps.specs.declared.tags.handles.handle_t.{handle_t}
-use Rattle.token_steps.specs.Handles.{bytes_at, entries_at, handles_at, prefix_in, AllWithin}
+use Rattle.token_steps.specs.Handles.{bytes_at, entries_at, handles_at, prefix_in, AreHandlesWithin}
 use Rattle.libyaml_grammar.proofs.lent.TextMaps.{same_keys}
 
 find_handle : (texts : List ℕ) (es : List handle_t) (q : List ℕ)
@@ -45,12 +45,12 @@ range_stays texts more t h =
     ap (take t.length) (drop-append-le t.place texts more a)
     ∙ take-append-le t.length (drop t.place texts) more b
 
-entries_stay : (texts more : List ℕ) (es : List handle_t) → AllWithin texts es
+entries_stay : (texts more : List ℕ) (es : List handle_t) → AreHandlesWithin texts es
     → entries_at (texts ++ more) es ≡ entries_at texts es
 entries_stay texts more [] h = refl
 entries_stay texts more (e ∷ es) h
     = rw (range_stays texts more e.handle h.0, range_stays texts more e.prefix h.1.0, entries_stay texts more es h.1.1) refl
 
-pub stay : (texts more : List ℕ) (es : List handle_t) → AllWithin texts es
+pub stay : (texts more : List ℕ) (es : List handle_t) → AreHandlesWithin texts es
     → handles_at (texts ++ more) es ≡ handles_at texts es
 stay texts more es h = ap from_entries (entries_stay texts more es h)

@@ -8,12 +8,12 @@ use Rattle.libyaml_types.specs.declared.enums.yaml_token_type_t.{yaml_token_type
 use Rattle.libyaml_types.specs.declared.enums.yaml_token_type_t.TheVariants as kinds
 use Rattle.libyaml_automaton.specs.declared.node_place.NodePlace.{NodePlace}
 use Rattle.libyaml_automaton.specs.Automaton as a
-use Rattle.libyaml_automaton.specs.Automaton.{Want}
+use Rattle.libyaml_automaton.specs.Automaton.{Purpose}
 use Rattle.libyaml_events.specs.machine.Config.{Handles}
 use Rattle.libyaml_events.specs.machine.Machine.{declared_by, handles_behind}
 use Rattle.libyaml_events.specs.machine.Want.{Texts, no_texts, texts_behind, with_property}
-use Rattle.token_steps.specs.Facts.{TagRead, NoTag, tag_behind, tag_for, tag_if}
-use Rattle.token_steps.specs.Texts.{fact_of, kept_behind, tag_of}
+use Rattle.token_steps.specs.Facts.{TagRead, NoTag, fact_behind, tag_for, tag_if}
+use Rattle.token_steps.specs.Texts.{fact_of, kept_behind, tag_read_of}
 use Rattle.token_steps.proofs.Follows.{no, Keeping, nothing, directives, properties, keeping, Adds, is_directive, is_property}
 
 -- nothing, the texts of directives alone, or those of properties alone, which are these
@@ -80,7 +80,7 @@ at_other nothing h k f d = let same = untouched h k d.0 d.1 ∙ f in (sym same, 
 at_other directives h k f d = absurd d
 at_other (properties b g) h k f d = absurd d
 
-pub keeps : (x : Keeping) (u : Want) (h : Texts) (k : unnamed_yaml_token_t_data) → Holds x h
+pub keeps : (x : Keeping) (u : Purpose) (h : Texts) (k : unnamed_yaml_token_t_data) → Holds x h
     → Adds x (token_type k) (keeping u)
     → (texts_behind h k u ≡ kept_behind h k) × Holds (keeping u) (kept_behind h k)
 keeps x (a.BehindDirective m b) h k f d = at_directive h k m b (without_properties x h (token_type k) f d)
@@ -108,7 +108,7 @@ plain nothing k d = d.0
 plain directives k d = absurd d
 plain (properties b g) k d = absurd d
 
-pub declares : (x : Keeping) (u : Want) (hs : Handles) (k : unnamed_yaml_token_t_data) → Adds x (token_type k) (keeping u)
+pub declares : (x : Keeping) (u : Purpose) (hs : Handles) (k : unnamed_yaml_token_t_data) → Adds x (token_type k) (keeping u)
     → handles_behind hs k u ≡ declared_by hs k
 declares x (a.BehindDirective m b) hs k d = refl
 declares x (a.BehindProperties p r) hs k d = sym (undeclared hs k (property_added x (token_type k) r.anchor r.tag d))
@@ -120,14 +120,14 @@ abbrev pub tag_by : Keeping → ℕ → TagRead
 tag_by (properties b g) tag = tag_if g tag
 tag_by _ tag = NoTag
 
-pub tag_for_by : (u : Want) (tag : ℕ) → tag_for u tag ≡ tag_by (keeping u) tag
+pub tag_for_by : (u : Purpose) (tag : ℕ) → tag_for u tag ≡ tag_by (keeping u) tag
 tag_for_by (a.BehindProperties p r) tag = refl
 tag_for_by _ tag = refl
 
-tag_at_property : (x : Keeping) (p : NodePlace) (r : a.Properties) (hs : Handles) (h : Texts) (k : unnamed_yaml_token_t_data)
-    (tag : ℕ) → Holds x h → tag_by x tag ≡ tag_of hs h.tag → Adds x (token_type k) (properties r.anchor r.tag)
-    → tag_for (a.BehindProperties p r) (tag_behind (a.BehindProperties p r) tag (token_type k) (fact_of hs k))
-    ≡ tag_of (declared_by hs k) (kept_behind h k).tag
+tag_at_property : (x : Keeping) (p : NodePlace) (r : a.PropertiesRead) (hs : Handles) (h : Texts) (k : unnamed_yaml_token_t_data)
+    (tag : ℕ) → Holds x h → tag_by x tag ≡ tag_read_of hs h.tag → Adds x (token_type k) (properties r.anchor r.tag)
+    → tag_for (a.BehindProperties p r) (fact_behind (a.BehindProperties p r) tag (token_type k) (fact_of hs k))
+    ≡ tag_read_of (declared_by hs k) (kept_behind h k).tag
 tag_at_property nothing p r hs h (tok.Anchor y) tag f e d = rw (d.1, f) refl
 tag_at_property nothing p r hs h (tok.Tag y) tag f e d = rw d.1 refl
 tag_at_property (properties u v) p r hs h (tok.Anchor y) tag f e d = rw d.1 e
@@ -136,10 +136,10 @@ tag_at_property directives p r hs h k tag f e d = absurd d
 tag_at_property nothing p r hs h _ tag f e d = absurd d
 tag_at_property (properties u v) p r hs h _ tag f e d = absurd d
 
-pub tags : (x : Keeping) (u : Want) (hs : Handles) (h : Texts) (k : unnamed_yaml_token_t_data) (tag : ℕ) → Holds x h
-    → tag_by x tag ≡ tag_of hs h.tag → Adds x (token_type k) (keeping u)
-    → tag_for u (tag_behind u tag (token_type k) (fact_of hs k)) ≡ tag_of (declared_by hs k) (kept_behind h k).tag
+pub tags : (x : Keeping) (u : Purpose) (hs : Handles) (h : Texts) (k : unnamed_yaml_token_t_data) (tag : ℕ) → Holds x h
+    → tag_by x tag ≡ tag_read_of hs h.tag → Adds x (token_type k) (keeping u)
+    → tag_for u (fact_behind u tag (token_type k) (fact_of hs k)) ≡ tag_read_of (declared_by hs k) (kept_behind h k).tag
 tags x (a.BehindDirective m b) hs h k tag f e d
-    = sym (ap (tag_of (declared_by hs k)) (keeps x (a.BehindDirective m b) h k f d).1.1)
+    = sym (ap (tag_read_of (declared_by hs k)) (keeps x (a.BehindDirective m b) h k f d).1.1)
 tags x (a.BehindProperties p r) hs h k tag f e d = tag_at_property x p r hs h k tag f e d
-tags x _ hs h k tag f e d = sym (ap (λ (y : Texts). tag_of (declared_by hs k) y.tag) (at_other x h k f d).1)
+tags x _ hs h k tag f e d = sym (ap (λ (y : Texts). tag_read_of (declared_by hs k) y.tag) (at_other x h k f d).1)

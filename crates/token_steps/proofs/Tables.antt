@@ -9,7 +9,7 @@ use Rattle.libyaml_events.specs.machine.Config.{Handles}
 use Rattle.libyaml_events.specs.machine.Machine.{declared_by}
 use Rattle.token_steps.specs.Texts.{bit, fact_of}
 use Rattle.token_steps.specs.declared.tags.handles.handle_t.{handle_t}
-use Rattle.token_steps.specs.Handles.{AllWithin, bytes_at, handles_at}
+use Rattle.token_steps.specs.Handles.{AreHandlesWithin, bytes_at, handles_at}
 use Rattle.token_steps.proofs.Found.{adds, stay}
 
 -- a fact 0 says that there is none
@@ -19,7 +19,7 @@ none (Some x) e = absurd (true≢false (ap (λ (n : ℕ). n == 1) e))
 
 pub declares : (texts more : List ℕ) (table : List handle_t) (entry : handle_t) (hs : Handles)
     (g : TagDirectiveToken)
-    → hs ≡ handles_at texts table → AllWithin texts table → fact_of hs (token.TagDirective g) ≡ 0
+    → hs ≡ handles_at texts table → AreHandlesWithin texts table → fact_of hs (token.TagDirective g) ≡ 0
     → bytes_at (texts ++ more) entry.handle ≡ g.handle → bytes_at (texts ++ more) entry.prefix ≡ g.prefix
     → declared_by hs (token.TagDirective g) ≡ handles_at (texts ++ more) (table ++ entry ∷ [])
 declares texts more table entry hs g same within new handle prefix =

@@ -12,16 +12,16 @@ use Rattle.libyaml_automaton.specs.declared.next.Next.TheVariants as next
 use Rattle.libyaml_automaton.specs.declared.machine.Machine.{Machine}
 use Rattle.libyaml_automaton.specs.declared.node_place.NodePlace.{NodePlace}
 use Rattle.libyaml_automaton.specs.declared.reading.Reading.{Reading}
-use Rattle.libyaml_automaton.specs.Answers.{Says, outcome}
+use Rattle.libyaml_automaton.specs.Answers.{IsOutcome, outcome}
 use Rattle.libyaml_automaton.specs.Automaton as automaton
-use Rattle.libyaml_automaton.specs.Automaton.{AsksContent, Properties, Step}
-use Rattle.libyaml_automaton.specs.Config.{Config, config_of}
-use Rattle.libyaml_automaton.specs.Fits.{FitsStep, FitsDocument, FitsContent, Part, Nodes, Documents, is_simple, opens_at}
+use Rattle.libyaml_automaton.specs.Automaton.{AsksContent, PropertiesRead, Step}
+use Rattle.libyaml_automaton.specs.Config.{Stacks, stacks_of}
+use Rattle.libyaml_automaton.specs.Fits.{FitsStep, FitsDocument, FitsContent, HandledBy, Nodes, Documents, is_simple, opens_at}
 use Rattle.libyaml_automaton.specs.Growth.{HasNoRoom, opens, stack_part_of, pushes, pushes_in_documents}
 use Rattle.libyaml_automaton.specs.Numbers.{flag, next_of}
 use Rattle.libyaml_automaton.specs.Problems as problem
-use Rattle.libyaml_automaton.specs.Wanted.{wanted, wanted_by}
-use Rattle.token_steps.specs.Facts.{Progressed, TagRead, NoTag, EmptyTag, Bang, OtherTag, Undefined, Token, content_behind, put, seen, step, with_facts}
+use Rattle.libyaml_automaton.specs.Wanted.{purpose_of, wanted_by}
+use Rattle.token_steps.specs.Facts.{StepResult, TagRead, NoTag, EmptyTag, Bang, OtherTag, Undefined, StepToken, content_by_fact, put_by_fact, without_fact, step_by_fact, with_facts}
 use Rattle.token_steps.specs.Growth.{content_opens, pushes_by, pushes_mark, pushes_state}
 use Rattle.token_steps.specs.Records.{is_undefined}
 use Rattle.token_steps.proofs.Follows.{no}
@@ -96,13 +96,13 @@ fits_in_document _ k r s f = tt
 
 -- a handle
 
-pub defined : (g : TagRead) (tag : ℕ) (p : NodePlace) (r : Properties) (c : Config) (t : Token) → is_undefined g ≡ false
-    → content_behind g tag p r c t ≡ put g tag t (automaton.node_content p r c (seen t) t.kind)
+pub defined : (g : TagRead) (tag : ℕ) (p : NodePlace) (r : PropertiesRead) (c : Stacks) (t : StepToken) → is_undefined g ≡ false
+    → content_by_fact g tag p r c t ≡ put_by_fact g tag t (automaton.node_content p r c (without_fact t) t.kind)
 defined Undefined tag p r c t e = absurd (true≢false e)
 defined _ tag p r c t e = refl
 
-pub undefined : (g : TagRead) (tag : ℕ) (p : NodePlace) (r : Properties) (c : Config) (t : Token) → is_undefined g ≡ true
-    → content_behind g tag p r c t
+pub undefined : (g : TagRead) (tag : ℕ) (p : NodePlace) (r : PropertiesRead) (c : Stacks) (t : StepToken) → is_undefined g ≡ true
+    → content_by_fact g tag p r c t
     ≡ Err (record { problem = problem.undefined_handle; context_mark = r.start_mark; mark = r.tag_mark })
 undefined Undefined tag p r c t e = refl
 undefined _ tag p r c t e = no e
@@ -114,15 +114,15 @@ opens_defined _ p k e = refl
 
 -- stacks
 
-abbrev is_nodes : Part → Bool
+abbrev is_nodes : HandledBy → Bool
 is_nodes Nodes = true
 is_nodes Documents = false
 
-pub by_nodes : (d : Part) (p q : Bool) → (d ≡ Documents → ⊥) → pushes_by d p q ≡ p
+pub by_nodes : (d : HandledBy) (p q : Bool) → (d ≡ Documents → ⊥) → pushes_by d p q ≡ p
 by_nodes Nodes p q n = refl
 by_nodes Documents p q n = absurd (n refl)
 
-pub by_documents : (d : Part) (p q : Bool) → d ≡ Documents → pushes_by d p q ≡ q
+pub by_documents : (d : HandledBy) (p q : Bool) → d ≡ Documents → pushes_by d p q ≡ q
 by_documents Nodes p q e = no (sym (ap is_nodes e))
 by_documents Documents p q e = refl
 
@@ -220,10 +220,10 @@ room_for_states n n' b g q k ss ms i j e d f h =
       ),
     )
 
-pub same_step : (w w' : automaton.Want) (tag : ℕ) (m m' : Machine) (ss ss' : List ℕ) (ms ms' : List yaml_mark_t) (t : Token)
+pub same_step : (w w' : automaton.Purpose) (tag : ℕ) (m m' : Machine) (ss ss' : List ℕ) (ms ms' : List yaml_mark_t) (t : StepToken)
     → w' ≡ w → m' ≡ m → ss' ≡ ss → ms' ≡ ms
-    → step (record { next = w'; tag = tag }) (config_of m' ss' ms') t
-    ≡ step (record { next = w; tag = tag }) (config_of m ss ms) t
+    → step_by_fact (record { next = w'; tag = tag }) (stacks_of m' ss' ms') t
+    ≡ step_by_fact (record { next = w; tag = tag }) (stacks_of m ss ms) t
 same_step w w' tag m m' ss ss' ms ms' t a b d e = rw (a, b, d, e) refl
 
 -- results
@@ -259,8 +259,8 @@ never_marks did.FullMarks h e = h (λ s. subst IsNotStates s tt)
 never_marks _ h e = subst IsNotMarks e tt
 
 -- after an event no text is kept
-pub told_want : (a : Did) (p : Progressed) (d : steps_t) (e : step_event_t) (f : step_fault_t) (c : Config)
-    → Tells a p d e f c → IsGiven a → wanted d.read ≡ automaton.AtState
+pub told_want : (a : Did) (p : StepResult) (d : steps_t) (e : step_event_t) (f : step_fault_t) (c : Stacks)
+    → Tells a p d e f c → IsGiven a → purpose_of d.read ≡ automaton.AtState
 told_want did.Gave p d e f c h g = h.1
 told_want did.Stays p d e f c h g = h.1
 told_want _ p d e f c h g = absurd g
@@ -273,13 +273,13 @@ is_asking (automaton.Wants w c) = false
 is_asking (automaton.Fails f) = false
 is_asking _ = true
 
-opening_asks : (q p : NodePlace) (r : Properties) (c : Config) (t : automaton.Token) (k : yaml_token_type_t)
+opening_asks : (q p : NodePlace) (r : PropertiesRead) (c : Stacks) (t : automaton.KindAndMarks) (k : yaml_token_type_t)
     → opens_at q k ≡ true → is_asking (automaton.behind_properties p r c t k) ≡ true
 opening_asks q p r c t tok.YAML_ANCHOR_TOKEN e = no e
 opening_asks q p r c t tok.YAML_TAG_TOKEN e = no e
 opening_asks q p r c t _ e = refl
 
-content_asks : (g : TagRead) (q p : NodePlace) (r : Properties) (c : Config) (t : automaton.Token) (k : yaml_token_type_t)
+content_asks : (g : TagRead) (q p : NodePlace) (r : PropertiesRead) (c : Stacks) (t : automaton.KindAndMarks) (k : yaml_token_type_t)
     → content_opens g q k ≡ true → is_asking (automaton.behind_properties p r c t k) ≡ true
 content_asks Undefined q p r c t k e = no e
 content_asks NoTag q p r c t k e = opening_asks q p r c t k e
@@ -287,8 +287,8 @@ content_asks EmptyTag q p r c t k e = opening_asks q p r c t k e
 content_asks Bang q p r c t k e = opening_asks q p r c t k e
 content_asks OtherTag q p r c t k e = opening_asks q p r c t k e
 
-asks_nothing : (s : Step) (a : Answer) (h : Properties) (t : automaton.Token) (r : Reading) (c : Config)
-    → Says s (outcome a h t r c) → IsTold a → is_asking s ≡ false
+asks_nothing : (s : Step) (a : Answer) (h : PropertiesRead) (t : automaton.KindAndMarks) (r : Reading) (c : Stacks)
+    → IsOutcome s (outcome a h t r c) → IsTold a → is_asking s ≡ false
 asks_nothing s answer.Document h t r c e x = absurd x
 asks_nothing s answer.AsksVersion h t r c e x = absurd x
 asks_nothing s answer.AsksHandle h t r c e x = absurd x
@@ -299,7 +299,7 @@ asks_nothing s answer.Enter h t r c e x = absurd x
 asks_nothing s answer.Node h t r c e x = absurd x
 asks_nothing s _ h t r c e x = ap is_asking e
 
-plainly : (tag : ℕ) (t : Token) (s : Step) → is_asking s ≡ false → with_facts tag t s ≡ put NoTag tag t s
+plainly : (tag : ℕ) (t : StepToken) (s : Step) → is_asking s ≡ false → with_facts tag t s ≡ put_by_fact NoTag tag t s
 plainly tag t (automaton.Gives e c) n = refl
 plainly tag t (automaton.Wants w c) n = refl
 plainly tag t (automaton.Fails f) n = refl
@@ -308,24 +308,24 @@ plainly tag t (automaton.AsksHandle m h c) n = no (sym n)
 plainly tag t (AsksContent p r c) n = no (sym n)
 
 -- such a result is what the automaton does
-pub put_plainly : (tag : ℕ) (t : Token) (s : Step) (a : Answer) (h : Properties) (u : automaton.Token) (r : Reading)
-    (c : Config) → Says s (outcome a h u r c) → IsTold a → with_facts tag t s ≡ put NoTag tag t s
+pub put_plainly : (tag : ℕ) (t : StepToken) (s : Step) (a : Answer) (h : PropertiesRead) (u : automaton.KindAndMarks) (r : Reading)
+    (c : Stacks) → IsOutcome s (outcome a h u r c) → IsTold a → with_facts tag t s ≡ put_by_fact NoTag tag t s
 put_plainly tag t s a h u r c e x = plainly tag t s (asks_nothing s a h u r c e x)
 
-pub told_step : (w w' : automaton.Want) (tag : ℕ) (c : Config) (t : Token) (a : Answer) (h : Properties)
-    (u : automaton.Token) (r : Reading) (d : Config) → w' ≡ w
-    → Says (automaton.step w' c (seen t) t.kind) (outcome a h u r d) → IsTold a
-    → step (record { next = w; tag = tag }) c t ≡ put NoTag tag t (automaton.step w' c (seen t) t.kind)
-told_step w w' tag c t a h u r d e s x = ap (λ (y : automaton.Want). with_facts tag t (automaton.step y c (seen t) t.kind)) (sym e)
-    ∙ put_plainly tag t (automaton.step w' c (seen t) t.kind) a h u r d s x
+pub told_step : (w w' : automaton.Purpose) (tag : ℕ) (c : Stacks) (t : StepToken) (a : Answer) (h : PropertiesRead)
+    (u : automaton.KindAndMarks) (r : Reading) (d : Stacks) → w' ≡ w
+    → IsOutcome (automaton.step w' c (without_fact t) t.kind) (outcome a h u r d) → IsTold a
+    → step_by_fact (record { next = w; tag = tag }) c t ≡ put_by_fact NoTag tag t (automaton.step w' c (without_fact t) t.kind)
+told_step w w' tag c t a h u r d e s x = ap (λ (y : automaton.Purpose). with_facts tag t (automaton.step y c (without_fact t) t.kind)) (sym e)
+    ∙ put_plainly tag t (automaton.step w' c (without_fact t) t.kind) a h u r d s x
 
 -- and leaves no mark unput after properties
-pub told_opens_none : (n : Next) (g : TagRead) (q : NodePlace) (m : Reading) (c : Config) (t : automaton.Token)
-    (k : yaml_token_type_t) (a : Answer) (h : Properties) (r : Reading) (d : Config)
-    → Says (automaton.step (wanted_by n m) c t k) (outcome a h t r d) → IsTold a → n ≡ next.BehindProperties
+pub told_opens_none : (n : Next) (g : TagRead) (q : NodePlace) (m : Reading) (c : Stacks) (t : automaton.KindAndMarks)
+    (k : yaml_token_type_t) (a : Answer) (h : PropertiesRead) (r : Reading) (d : Stacks)
+    → IsOutcome (automaton.step (wanted_by n m) c t k) (outcome a h t r d) → IsTold a → n ≡ next.BehindProperties
     → pushes_mark n g q k ≡ true → ⊥
 told_opens_none n g q m c t k a h r d e x b o =
-    let says = subst (λ (y : Next). Says (automaton.step (wanted_by y m) c t k) (outcome a h t r d)) b e in
+    let says = subst (λ (y : Next). IsOutcome (automaton.step (wanted_by y m) c t k) (outcome a h t r d)) b e in
     let asks : is_asking (automaton.step (wanted_by next.BehindProperties m) c t k) ≡ true
     = content_asks g q _ _ c t k (sym (mark_behind n g q k b) ∙ o) in
     true≢false (sym asks ∙ asks_nothing _ a h t r d says x)
@@ -338,9 +338,9 @@ by_next : (n : Next) → (n ≡ next.BehindProperties) ⊎ (n ≡ next.BehindPro
 by_next next.BehindProperties = inl refl
 by_next _ = inr (λ e. true≢false (sym (ap is_behind e)))
 
-pub room_for_marks : (n n' : Next) (g : TagRead) (q : NodePlace) (m : Reading) (c : Config) (t : automaton.Token)
-    (k : yaml_token_type_t) (a : Answer) (h : Properties) (r : Reading) (d : Config) (ms : List yaml_mark_t) (j : ℕ)
-    → n' ≡ n → n' ≡ next_of m.next → Says (automaton.step (wanted m) c t k) (outcome a h t r d) → IsTold a
+pub room_for_marks : (n n' : Next) (g : TagRead) (q : NodePlace) (m : Reading) (c : Stacks) (t : automaton.KindAndMarks)
+    (k : yaml_token_type_t) (a : Answer) (h : PropertiesRead) (r : Reading) (d : Stacks) (ms : List yaml_mark_t) (j : ℕ)
+    → n' ≡ n → n' ≡ next_of m.next → IsOutcome (automaton.step (purpose_of m) c t k) (outcome a h t r d) → IsTold a
     → (HasNoRoom (opens n' k) ms j → ⊥) → HasNoRoom (pushes_mark n g q k) ms j → ⊥
 room_for_marks n n' g q m c t k a h r d ms j e v s x f y = by_place (by_next n) where
   by_place : (n ≡ next.BehindProperties) ⊎ (n ≡ next.BehindProperties → ⊥) → ⊥

@@ -4,7 +4,7 @@ use Rattle.libyaml_types.specs.declared.enums.yaml_token_type_t.{yaml_token_type
 use Rattle.libyaml_automaton.specs.declared.next.Next.{Next}
 use Rattle.libyaml_automaton.specs.declared.next.Next.TheVariants as next
 use Rattle.libyaml_automaton.specs.declared.node_place.NodePlace.{NodePlace}
-use Rattle.libyaml_automaton.specs.Fits.{Part, Nodes, Documents, opens_at}
+use Rattle.libyaml_automaton.specs.Fits.{HandledBy, Nodes, Documents, opens_at}
 use Rattle.libyaml_automaton.specs.Growth.{stack_part_of, pushes, pushes_in_documents, opens}
 use Rattle.libyaml_automaton.specs.Numbers.{next_of, state_of, place_of, flag}
 use Rattle.libyaml_automaton.specs.Wanted.{settled}
@@ -15,7 +15,7 @@ use Rattle.token_steps.specs.Facts.{TagRead, Undefined, tag_if}
 abbrev pub next_in : steps_t → Next
 next_in d = settled (next_of d.read.next) (state_of d.machine.state)
 
-abbrev pub pushes_by : Part → (pushes in_documents : Bool) → Bool
+abbrev pub pushes_by : HandledBy → (pushes in_documents : Bool) → Bool
 pushes_by Nodes pushes in_documents = pushes
 pushes_by Documents pushes in_documents = in_documents
 

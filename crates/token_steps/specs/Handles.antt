@@ -23,7 +23,7 @@ prefix_in texts [] h = None
 prefix_in texts (e ∷ es) h = cond (bytes_eq (bytes_at texts e.handle) h) (Some (bytes_at texts e.prefix))
     (prefix_in texts es h)
 
-abbrev pub AllWithin : List ℕ → List handle_t → Type 0
-AllWithin texts [] = Unit {0}
-AllWithin texts (e ∷ es) = (e.handle.place + e.handle.length ≤ length texts)
-    × ((e.prefix.place + e.prefix.length ≤ length texts) × AllWithin texts es)
+abbrev pub AreHandlesWithin : List ℕ → List handle_t → Type 0
+AreHandlesWithin texts [] = Unit {0}
+AreHandlesWithin texts (e ∷ es) = (e.handle.place + e.handle.length ≤ length texts)
+    × ((e.prefix.place + e.prefix.length ≤ length texts) × AreHandlesWithin texts es)

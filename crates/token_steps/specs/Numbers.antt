@@ -17,8 +17,8 @@ abbrev pub is_given : ℕ → Bool
 is_given n = (n == 1) || (n == 2)
 
 -- nothing was done: there is no room, or the record counts too much
-abbrev pub is_undone : ℕ → Bool
-is_undone n = (n == 3) || ((n == 4) || (n == 6))
+abbrev pub is_nothing_done : ℕ → Bool
+is_nothing_done n = (n == 3) || ((n == 4) || (n == 6))
 
 -- libyaml's number of an event
 abbrev pub IsEventNumber : ℕ → Type 0

@@ -4,8 +4,8 @@ use Rattle.libyaml_types.specs.declared.mark.yaml_mark_t.{yaml_mark_t}
 use Rattle.libyaml_types.specs.declared.enums.yaml_token_type_t.{yaml_token_type_t}
 use Rattle.libyaml_types.specs.declared.enums.yaml_token_type_t.TheVariants as tok
 use Rattle.libyaml_automaton.specs.Numbers.{flag}
-use Rattle.libyaml_automaton.specs.Automaton.{Fault, Properties}
-use Rattle.token_steps.specs.Facts.{Event, Shape, TagRead, Token, Undefined, tag_if}
+use Rattle.libyaml_automaton.specs.Automaton.{NumberedFault, PropertiesRead}
+use Rattle.token_steps.specs.Facts.{StepEvent, StepShape, TagRead, StepToken, Undefined, tag_if}
 use Rattle.token_steps.specs.Facts as ev
 use Rattle.token_steps.specs.declared.records.step_span_t.{step_span_t}
 use Rattle.token_steps.specs.declared.records.step_event_t.{step_event_t}
@@ -38,7 +38,7 @@ kind_of byte =
     if byte == 21 then tok.YAML_SCALAR_TOKEN else
     tok.YAML_NO_TOKEN
 
-abbrev pub span_token : yaml_token_type_t → ℕ → step_span_t → Token
+abbrev pub span_token : yaml_token_type_t → ℕ → step_span_t → StepToken
 span_token kind fact at = record {
   kind = kind;
   fact = fact;
@@ -47,7 +47,7 @@ span_token kind fact at = record {
 }
 
 -- libyaml's numbers of events; of other bytes a mapping's end
-abbrev pub shape_of : step_event_t → Shape
+abbrev pub shape_of : step_event_t → StepShape
 shape_of e =
     if e.kind == 1 then ev.StreamStart else
     if e.kind == 2 then ev.StreamEnd else
@@ -89,7 +89,7 @@ AreUnused e = ZeroUnless (is_node e.kind) e.has_anchor
     × (ZeroUnless (has_implicit e.kind) e.implicit
     × (ZeroUnless (e.kind == 6) e.quoted_implicit × ZeroUnless (opens_collection e.kind) e.is_flow)))
 
-abbrev pub event_of : step_event_t → (stays : Bool) → Event
+abbrev pub event_of : step_event_t → (stays : Bool) → StepEvent
 event_of e stays = record {
   shape = shape_of e;
   stays = stays;
@@ -97,13 +97,13 @@ event_of e stays = record {
   end_mark = e.end_mark;
 }
 
-abbrev pub step_fault : step_fault_t → Fault
+abbrev pub step_fault : step_fault_t → NumberedFault
 step_fault f = record { problem = f.problem; context_mark = f.context_mark; mark = f.problem_mark }
 
 abbrev pub head_tag : Head → TagRead
 head_tag h = tag_if (flag h.has_tag) h.tag
 
-abbrev pub head_of : Head → (start end tag_mark : yaml_mark_t) → Properties
+abbrev pub head_of : Head → (start end tag_mark : yaml_mark_t) → PropertiesRead
 head_of h start end tag_mark = record {
   anchor = flag h.has_anchor;
   tag = flag h.has_tag;

@@ -4,8 +4,8 @@ use Rattle.libyaml_types.specs.declared.mark.yaml_mark_t.{yaml_mark_t}
 use Rattle.libyaml_types.specs.Fault.{Fault, no_fault}
 use Rattle.libyaml_grammar.specs.sentences.Tokens.{Token}
 use Rattle.libyaml_grammar.specs.sentences.Events.{Event}
-use Rattle.libyaml_automaton.specs.Config.{Config, Within, config_of}
-use Rattle.libyaml_automaton.specs.Wanted.{wanted}
+use Rattle.libyaml_automaton.specs.Config.{Stacks, Within, stacks_of}
+use Rattle.libyaml_automaton.specs.Wanted.{purpose_of}
 use Rattle.libyaml_events.specs.machine.Config.{Handles, config_with}
 use Rattle.libyaml_events.specs.machine.Machine as parser
 use Rattle.libyaml_events.specs.machine.Machine.{fault_with}
@@ -17,20 +17,20 @@ use Rattle.token_steps.specs.declared.records.step_fault_t.{step_fault_t}
 use Rattle.token_steps.specs.Records.{step_fault}
 use Rattle.token_steps.specs.Runs.{Run, StepCalls}
 use Rattle.token_steps.specs.Tells.{tag_in}
-use Rattle.token_steps.specs.Texts.{tag_of}
+use Rattle.token_steps.specs.Texts.{tag_read_of}
 
 -- what a parser wants that keeps these texts
 abbrev pub want_with : steps_t → Texts → Want
-want_with d kept = record { next = wanted d.read; texts = kept }
+want_with d kept = record { next = purpose_of d.read; texts = kept }
 
 -- a parser that was handed the same tokens gave the same events, and stands so, with the same handles and texts
-abbrev pub StandsAs : steps_t → Config → Handles → Texts → Option Token → List Token → List Event → Type 0
-StandsAs d c hs kept o l g = Fed (want_with d kept) (config_with c hs no_fault None) o l g × (tag_in d ≡ tag_of hs kept.tag)
+abbrev pub StandsAs : steps_t → Stacks → Handles → Texts → Option Token → List Token → List Event → Type 0
+StandsAs d c hs kept o l g = Fed (want_with d kept) (config_with c hs no_fault None) o l g × (tag_in d ≡ tag_read_of hs kept.tag)
 
 abbrev pub RunIsFed : Type 0
 RunIsFed = (d : steps_t) (ss : List ℕ) (ms : List yaml_mark_t) (hs : Handles) (kept : Texts)
     (o : Option Token) (l : List Token) (g : List Event) → Run d ss ms hs kept o l g
-    → StandsAs d (config_of d.machine ss ms) hs kept o l g
+    → StandsAs d (stacks_of d.machine ss ms) hs kept o l g
 
 -- P holds of the tokens and events of each run, whether a token is in hand or none
 abbrev pub ForRuns : (List Token → List Event → Type 0) → Type 0
@@ -57,6 +57,6 @@ ForFailed P = (d d' : steps_t) (ss ss' : List ℕ) (ms ms' : List yaml_mark_t) (
 
 -- a parser that was handed these tokens, and gave these events, has this error with the token in hand
 abbrev pub FailsInHand : List Token → List Event → Fault → Type 0
-FailsInHand l g f = (w : Want) × (c : Config) × (hs : Handles) × (t : Token)
+FailsInHand l g f = (w : Want) × (c : Stacks) × (hs : Handles) × (t : Token)
     × Fed w (config_with c hs no_fault None) (Some t) l g
     × (parser.step w (config_with c hs no_fault None) t ≡ Err f)

@@ -7,32 +7,32 @@ use Rattle.libyaml_automaton.specs.declared.answer.Answer.TheVariants as answer
 use Rattle.libyaml_automaton.specs.declared.next.Next.TheVariants as next
 use Rattle.libyaml_automaton.specs.declared.reading.Reading.{Reading}
 use Rattle.libyaml_automaton.specs.Automaton.{AtState}
-use Rattle.libyaml_automaton.specs.Config.{Config}
+use Rattle.libyaml_automaton.specs.Config.{Stacks}
 use Rattle.libyaml_automaton.specs.Numbers.{next_of}
-use Rattle.libyaml_automaton.specs.Wanted.{wanted}
+use Rattle.libyaml_automaton.specs.Wanted.{purpose_of}
 use Rattle.token_steps.specs.declared.did.Did.{Did}
 use Rattle.token_steps.specs.declared.did.Did.TheVariants as did
 use Rattle.token_steps.specs.declared.steps.steps_t.{steps_t}
 use Rattle.token_steps.specs.declared.records.step_event_t.{step_event_t}
 use Rattle.token_steps.specs.declared.records.step_fault_t.{step_fault_t}
-use Rattle.token_steps.specs.Facts.{Given, NoTag, Progressed, TagRead, Want, Wants, tag_for}
+use Rattle.token_steps.specs.Facts.{Given, NoTag, StepResult, TagRead, StepWant, Wants, tag_for}
 use Rattle.token_steps.specs.Numbers.{number}
 use Rattle.token_steps.specs.Records.{event_of, step_fault}
 
 -- what the next token is wanted for
-abbrev pub want_in : steps_t → Want
-want_in d = record { next = wanted d.read; tag = d.tag }
+abbrev pub want_in : steps_t → StepWant
+want_in d = record { next = purpose_of d.read; tag = d.tag }
 
 -- and the tag of the node whose properties are read
 abbrev pub tag_in : steps_t → TagRead
-tag_in d = tag_for (wanted d.read) d.tag
+tag_in d = tag_for (purpose_of d.read) d.tag
 
 -- p is what the automaton does with the token's fact; d, e, f and c are the record, the event, the error and the
 -- configuration after it. After an event no text is kept.
-abbrev pub Tells : Did → (p : Progressed) → (d : steps_t) → (e : step_event_t) → (f : step_fault_t) → (c : Config) → Type 0
+abbrev pub Tells : Did → (p : StepResult) → (d : steps_t) → (e : step_event_t) → (f : step_fault_t) → (c : Stacks) → Type 0
 Tells did.Wants p d e f c = p ≡ Ok (Wants (want_in d), c)
-Tells did.Gave p d e f c = (p ≡ Ok (Given (event_of e false), c)) × (wanted d.read ≡ AtState)
-Tells did.Stays p d e f c = (p ≡ Ok (Given (event_of e true), c)) × (wanted d.read ≡ AtState)
+Tells did.Gave p d e f c = (p ≡ Ok (Given (event_of e false), c)) × (purpose_of d.read ≡ AtState)
+Tells did.Stays p d e f c = (p ≡ Ok (Given (event_of e true), c)) × (purpose_of d.read ≡ AtState)
 Tells did.FullStates p d e f c = Unit {0}
 Tells did.FullMarks p d e f c = Unit {0}
 Tells did.Failed p d e f c = p ≡ Err (step_fault f)
@@ -81,5 +81,5 @@ FitsTold answer.Pair k r g = g ≡ NoTag
 FitsTold _ k r g = Unit {0}
 
 -- the same by the number that C sees
-abbrev pub TellsNumber : ℕ → (p : Progressed) → (d : steps_t) → (e : step_event_t) → (f : step_fault_t) → (c : Config) → Type 0
+abbrev pub TellsNumber : ℕ → (p : StepResult) → (d : steps_t) → (e : step_event_t) → (f : step_fault_t) → (c : Stacks) → Type 0
 TellsNumber n p d e f c = (a : Did) × (n ≡ number a) × Tells a p d e f c

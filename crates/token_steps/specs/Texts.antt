@@ -13,10 +13,11 @@ use Rattle.libyaml_types.specs.declared.event.unnamed_yaml_event_t_data.TheVaria
 use Rattle.libyaml_grammar.specs.sentences.Events as grammar
 use Rattle.libyaml_grammar.specs.sentences.Events.{event, is_plain}
 use Rattle.libyaml_grammar.specs.sentences.Order.{is_accepted}
+use Rattle.libyaml_events.specs.machine.Answers.{only_if}
 use Rattle.libyaml_events.specs.machine.Config.{Handles, no_handles}
-use Rattle.libyaml_events.specs.machine.Machine.{resolve, text_in, style_in, encoding_in, sequence_style, mapping_style, document_with, document_end}
+use Rattle.libyaml_events.specs.machine.Machine.{resolve, text_in, style_in, encoding_in, sequence_style_by, mapping_style_by, document_with, document_end}
 use Rattle.libyaml_events.specs.machine.Want.{Texts}
-use Rattle.token_steps.specs.Facts.{Token, TagRead, NoTag, tag_read, Shape, Event}
+use Rattle.token_steps.specs.Facts.{StepToken, TagRead, NoTag, tag_read, StepShape, StepEvent}
 use Rattle.token_steps.specs.Facts as told
 
 -- facts
@@ -40,16 +41,16 @@ fact_of hs (tok.Scalar s) = bit (is_plain s.style)
 fact_of hs _ = 0
 
 -- a token of this content with the marks of t
-abbrev pub token_with : Handles → yaml_token_t → unnamed_yaml_token_t_data → Token
+abbrev pub token_with : Handles → yaml_token_t → unnamed_yaml_token_t_data → StepToken
 token_with hs t k = record { kind = token_type k; fact = fact_of hs k; start_mark = t.start_mark; end_mark = t.end_mark }
 
-abbrev pub token_of : Handles → yaml_token_t → Token
+abbrev pub token_of : Handles → yaml_token_t → StepToken
 token_of hs t = token_with hs t t.content
 
 -- the tag that is kept
-abbrev pub tag_of : Handles → Option unnamed_yaml_token_t_data_tag → TagRead
-tag_of hs None = NoTag
-tag_of hs (Some g) = tag_read (tag_fact (resolve hs g.handle g.suffix))
+abbrev pub tag_read_of : Handles → Option unnamed_yaml_token_t_data_tag → TagRead
+tag_read_of hs None = NoTag
+tag_read_of hs (Some g) = tag_read (tag_fact (resolve hs g.handle g.suffix))
 
 -- what is kept once a token was taken: a property or a directive is added
 abbrev pub kept_behind : Texts → unnamed_yaml_token_t_data → Texts
@@ -62,9 +63,9 @@ kept_behind h _ = h
 
 -- events
 
-abbrev pub tag_in : Handles → Option unnamed_yaml_token_t_data_tag → Option (List ℕ)
-tag_in hs None = None
-tag_in hs (Some g) = resolve hs g.handle g.suffix
+abbrev pub resolved_tag : Handles → Option unnamed_yaml_token_t_data_tag → Option (List ℕ)
+resolved_tag hs None = None
+resolved_tag hs (Some g) = resolve hs g.handle g.suffix
 
 -- a scalar's text and style are its token's, unless the token stays
 abbrev pub scalar_text : (stays : Bool) → unnamed_yaml_token_t_data → List ℕ
@@ -75,45 +76,40 @@ abbrev pub scalar_style : (stays : Bool) → unnamed_yaml_token_t_data → yaml_
 scalar_style true k = YAML_PLAIN_SCALAR_STYLE
 scalar_style false k = style_in k
 
--- a text that the event's shape says is there
-abbrev pub only_if : {A : Type 0} → Bool → Option A → Option A
-only_if true o = o
-only_if false o = None
-
 -- the content of an event of this shape at the token content k, with the texts that are kept and the token's
-abbrev pub content_with : Handles → Texts → unnamed_yaml_token_t_data → (stays : Bool) → Shape → unnamed_yaml_event_t_data
-content_with hs h k y told.StreamStart = ev.StreamStart (record { encoding = encoding_in k })
-content_with hs h k y told.StreamEnd = ev.StreamEnd
-content_with hs h k y (told.DocumentStart implicit) = document_with implicit h
-content_with hs h k y (told.DocumentEnd implicit) = document_end implicit
-content_with hs h k y told.Alias = ev.Alias (record { anchor = text_in k })
-content_with hs h k y (told.Scalar anchor tag plain quoted) = ev.Scalar (record {
+abbrev pub content_of_shape : Handles → Texts → unnamed_yaml_token_t_data → (stays : Bool) → StepShape → unnamed_yaml_event_t_data
+content_of_shape hs h k y told.StreamStart = ev.StreamStart (record { encoding = encoding_in k })
+content_of_shape hs h k y told.StreamEnd = ev.StreamEnd
+content_of_shape hs h k y (told.DocumentStart implicit) = document_with implicit h
+content_of_shape hs h k y (told.DocumentEnd implicit) = document_end implicit
+content_of_shape hs h k y told.Alias = ev.Alias (record { anchor = text_in k })
+content_of_shape hs h k y (told.Scalar anchor tag plain quoted) = ev.Scalar (record {
   anchor = only_if anchor h.anchor;
-  tag = only_if tag (tag_in hs h.tag);
+  tag = only_if tag (resolved_tag hs h.tag);
   value = scalar_text y k;
   plain_implicit = plain;
   quoted_implicit = quoted;
   style = scalar_style y k;
 })
-content_with hs h k y (told.SequenceStart anchor tag implicit is_flow) = ev.SequenceStart (record {
+content_of_shape hs h k y (told.SequenceStart anchor tag implicit is_flow) = ev.SequenceStart (record {
   anchor = only_if anchor h.anchor;
-  tag = only_if tag (tag_in hs h.tag);
+  tag = only_if tag (resolved_tag hs h.tag);
   implicit = implicit;
-  style = sequence_style is_flow;
+  style = sequence_style_by is_flow;
 })
-content_with hs h k y told.SequenceEnd = ev.SequenceEnd
-content_with hs h k y (told.MappingStart anchor tag implicit is_flow) = ev.MappingStart (record {
+content_of_shape hs h k y told.SequenceEnd = ev.SequenceEnd
+content_of_shape hs h k y (told.MappingStart anchor tag implicit is_flow) = ev.MappingStart (record {
   anchor = only_if anchor h.anchor;
-  tag = only_if tag (tag_in hs h.tag);
+  tag = only_if tag (resolved_tag hs h.tag);
   implicit = implicit;
-  style = mapping_style is_flow;
+  style = mapping_style_by is_flow;
 })
-content_with hs h k y told.MappingEnd = ev.MappingEnd
+content_of_shape hs h k y told.MappingEnd = ev.MappingEnd
 
-abbrev pub event_with : Handles → Texts → unnamed_yaml_token_t_data → Event → grammar.Event
-event_with hs h k e = event (content_with hs h k e.stays e.shape) e.start_mark e.end_mark
+abbrev pub event_with : Handles → Texts → unnamed_yaml_token_t_data → StepEvent → grammar.Event
+event_with hs h k e = event (content_of_shape hs h k e.stays e.shape) e.start_mark e.end_mark
 
 -- a document's handles end with it
-abbrev pub handles_after : Handles → Shape → Handles
-handles_after hs (told.DocumentEnd implicit) = no_handles
-handles_after hs _ = hs
+abbrev pub handles_past : Handles → StepShape → Handles
+handles_past hs (told.DocumentEnd implicit) = no_handles
+handles_past hs _ = hs

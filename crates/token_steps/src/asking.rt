@@ -1,7 +1,7 @@
 //! The tokens of documents, and those after a node's properties: where a step asks for a text's fact.
 ghost use Rattle.std.specs.Prelude.{◌≡◌, ◌≤◌, ◌↔◌, ℕ, List, length, true};
 ghost use Rattle.libyaml_types.specs.declared.mark.yaml_mark_t.{yaml_mark_t};
-ghost use Rattle.libyaml_automaton.specs.Config.{config_of, Within};
+ghost use Rattle.libyaml_automaton.specs.Config.{stacks_of, Within};
 ghost use Rattle.libyaml_automaton.specs.Fits.{Documents};
 ghost use Rattle.libyaml_automaton.specs.Growth.{HasNoRoom, stack_part_of, pushes_in_documents};
 ghost use Rattle.libyaml_automaton.specs.Numbers.{flag, next_of, state_of, place_of};
@@ -35,9 +35,9 @@ impl steps_t {
         requires within { self.old.machine.states_count ≤ length states.old }
         requires at { IsAt (next_of self.old.read.next) (state_of self.old.machine.state) }
         requires documents { stack_part_of (next_of self.old.read.next) ≡ Documents }
-        ensures tells { (marks : List yaml_mark_t) → Tells result (facts.step (want_in self.old)
-            (config_of self.old.machine states.old marks) (span_token kind fact at.now))
-            self.new event.new fault.new (config_of self.new.machine states.new marks) }
+        ensures tells { (marks : List yaml_mark_t) → Tells result (facts.step_by_fact (want_in self.old)
+            (stacks_of self.old.machine states.old marks) (span_token kind fact at.now))
+            self.new event.new fault.new (stacks_of self.new.machine states.new marks) }
         ensures within { self.new.machine.states_count ≤ length states.new }
         ensures marks { self.new.machine.marks_count ≡ self.old.machine.marks_count }
         ensures full { (result ≡ Did.FullStates) ↔ HasNoRoom (pushes_in_documents (next_of self.old.read.next)
@@ -111,10 +111,10 @@ impl steps_t {
         fault: &mut step_fault_t,
     ) -> Did
         requires within { Within self.old.machine states.now marks.old }
-        ensures tells { Tells result (facts.content_behind (tag_if (flag self.old.read.has_tag) self.old.tag)
+        ensures tells { Tells result (facts.content_by_fact (tag_if (flag self.old.read.has_tag) self.old.tag)
             self.old.tag (place_of self.old.read.place) (properties self.old.read)
-            (config_of self.old.machine states.now marks.old) (span_token kind fact at.now))
-            self.new event.new fault.new (config_of self.new.machine states.now marks.new) }
+            (stacks_of self.old.machine states.now marks.old) (span_token kind fact at.now))
+            self.new event.new fault.new (stacks_of self.new.machine states.now marks.new) }
         ensures within { Within self.new.machine states.now marks.new }
         ensures full { (result ≡ Did.FullMarks) ↔ HasNoRoom (content_opens
             (tag_if (flag self.old.read.has_tag) self.old.tag) (place_of self.old.read.place) kind) marks.old

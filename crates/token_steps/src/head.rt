@@ -22,7 +22,7 @@ impl Head {
     /// Returns whether there is no tag, or an empty one.
     #[inline(always)]
     pub(crate) fn is_missing(&self) -> bool
-        ensures { result ≡ facts.is_missing (head_tag self.now) }
+        ensures { result ≡ facts.is_no_tag (head_tag self.now) }
     {
         self.has_tag == 0 || self.tag == 1
     }
@@ -30,7 +30,7 @@ impl Head {
     /// Returns whether the tag may be left out where a scalar is written plain.
     #[inline(always)]
     pub(crate) fn plain_flag(&self, is_plain: bool) -> bool
-        ensures { result ≡ facts.plain_flag (head_tag self.now) is_plain }
+        ensures { result ≡ facts.plain_flag_for (head_tag self.now) is_plain }
     {
         if self.has_tag == 0 {
             is_plain
@@ -42,7 +42,7 @@ impl Head {
     /// Returns whether it may be left out where a scalar isn't.
     #[inline(always)]
     pub(crate) fn quoted_flag(&self, is_plain: bool) -> bool
-        ensures { result ≡ facts.quoted_flag (head_tag self.now) is_plain }
+        ensures { result ≡ facts.quoted_flag_for (head_tag self.now) is_plain }
     {
         self.has_tag == 0 && !is_plain
     }

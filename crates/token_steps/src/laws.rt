@@ -17,7 +17,7 @@ ghost use Rattle.libyaml_events.specs.parsers.Stages.{open_collections, stage_of
 ghost use Rattle.libyaml_events.specs.sources.Parsing.{IsWhole, StopsShort};
 ghost use Rattle.token_steps.specs.Texts.{bit, fact_of, tag_fact};
 ghost use Rattle.token_steps.specs.declared.tags.handles.handle_t.{handle_t};
-ghost use Rattle.token_steps.specs.Handles.{AllWithin, bytes_at, handles_at};
+ghost use Rattle.token_steps.specs.Handles.{AreHandlesWithin, bytes_at, handles_at};
 ghost use Rattle.token_steps.specs.RunLaws.{BetweenTokens, FailsInHand, ForFailed, ForRuns, ForStacks, RunIsFed};
 
 /// Whatever a caller handed in and was given, with the texts that it kept by the kinds of tokens alone, a
@@ -71,7 +71,7 @@ pub fn tables_follow()
         ≡ fact_of handles (token.VersionDirective directive) }
     ensures begins { (texts : List ℕ) → handles_at texts [] ≡ no_handles }
     ensures declares { (texts more : List ℕ) (table : List handle_t) (entry : handle_t) (handles : Handles)
-        (directive : TagDirectiveToken) → handles ≡ handles_at texts table → AllWithin texts table
+        (directive : TagDirectiveToken) → handles ≡ handles_at texts table → AreHandlesWithin texts table
         → fact_of handles (token.TagDirective directive) ≡ 0
         → bytes_at (texts ++ more) entry.handle ≡ directive.handle
         → bytes_at (texts ++ more) entry.prefix ≡ directive.prefix

@@ -2,9 +2,9 @@
 ghost use Rattle.std.specs.Prelude.{◌≡◌, ◌≤◌, ◌↔◌, ℕ, List, length, true};
 ghost use Rattle.libyaml_types.specs.declared.mark.yaml_mark_t.{yaml_mark_t};
 ghost use Rattle.libyaml_automaton.specs.Automaton.{AtState};
-ghost use Rattle.libyaml_automaton.specs.Config.{config_of, start, Within};
+ghost use Rattle.libyaml_automaton.specs.Config.{stacks_of, first_stacks, Within};
 ghost use Rattle.libyaml_automaton.specs.Growth.{HasNoRoom};
-ghost use Rattle.libyaml_automaton.specs.Wanted.{wanted};
+ghost use Rattle.libyaml_automaton.specs.Wanted.{purpose_of};
 ghost use Rattle.token_steps.specs.Facts as facts;
 ghost use Rattle.token_steps.specs.Growth.{grows_states, grows_marks};
 ghost use Rattle.token_steps.specs.Records.{AreFlags, AreUnused, kind_of, span_token};
@@ -66,8 +66,8 @@ impl steps_t {
     /// Returns what is kept before a stream's first token.
     pub fn new() -> Self
         ensures config { (states : List ℕ) (marks : List yaml_mark_t)
-            → config_of result.machine states marks ≡ start }
-        ensures wanted { wanted result.read ≡ AtState }
+            → stacks_of result.machine states marks ≡ first_stacks }
+        ensures wanted { purpose_of result.read ≡ AtState }
         ensures within { (states : List ℕ) (marks : List yaml_mark_t) → Within result.machine states marks }
     {
         steps_t {
@@ -97,9 +97,9 @@ impl steps_t {
         event: &mut step_event_t,
         fault: &mut step_fault_t,
     ) -> Did
-        ensures tells { Tells result (facts.step (want_in self.old)
-            (config_of self.old.machine states.old marks.old) (span_token kind fact at.now))
-            self.new event.new fault.new (config_of self.new.machine states.new marks.new) }
+        ensures tells { Tells result (facts.step_by_fact (want_in self.old)
+            (stacks_of self.old.machine states.old marks.old) (span_token kind fact at.now))
+            self.new event.new fault.new (stacks_of self.new.machine states.new marks.new) }
         ensures within { Within self.old.machine states.old marks.old
             → Within self.new.machine states.new marks.new }
         ensures bad { (result ≡ Did.Bad) ↔ (Within self.old.machine states.old marks.old → ⊥) }
@@ -110,7 +110,7 @@ impl steps_t {
             ↔ HasNoRoom (grows_marks self.old kind) marks.old self.old.machine.marks_count }
         ensures undone { IsUntold result → (self.new.machine ≡ self.old.machine) × ((states.new ≡ states.old)
             × ((marks.new ≡ marks.old) × (want_in self.new ≡ want_in self.old))) }
-        ensures holds_nothing { IsGiven result → wanted self.new.read ≡ AtState }
+        ensures holds_nothing { IsGiven result → purpose_of self.new.read ≡ AtState }
         ensures event_number { IsGiven result → IsEventNumber event.new.kind }
         ensures event_flags { IsGiven result → AreFlags event.new }
         ensures event_unused { IsGiven result → AreUnused event.new }

@@ -1,11 +1,11 @@
 //! How what a step led to is told to the caller.
 ghost use Rattle.std.specs.Prelude.{◌≡◌, ◌≤◌, ℕ, List, Bool, true, false};
 ghost use Rattle.libyaml_types.specs.declared.mark.yaml_mark_t.{yaml_mark_t};
-ghost use Rattle.libyaml_automaton.specs.Answers.{Says, outcome};
+ghost use Rattle.libyaml_automaton.specs.Answers.{IsOutcome, outcome};
 ghost use Rattle.libyaml_automaton.specs.Automaton.{AtState, Step};
-ghost use Rattle.libyaml_automaton.specs.Config.{config_of};
+ghost use Rattle.libyaml_automaton.specs.Config.{stacks_of};
 ghost use Rattle.libyaml_automaton.specs.Numbers.{flag};
-ghost use Rattle.libyaml_automaton.specs.Wanted.{token, wanted};
+ghost use Rattle.libyaml_automaton.specs.Wanted.{kind_and_marks, purpose_of};
 ghost use Rattle.token_steps.specs.Facts as facts;
 ghost use Rattle.token_steps.specs.Records.{AreFlags, AreUnused, head_of, head_tag, span_token};
 ghost use Rattle.token_steps.specs.Numbers.{IsEventNumber};
@@ -117,7 +117,7 @@ impl steps_t {
     #[inline(always)]
     fn rest(&mut self, did: Did) -> Did
         ensures did { result ≡ did }
-        ensures wanted { wanted self.new.read ≡ AtState }
+        ensures wanted { purpose_of self.new.read ≡ AtState }
         ensures kept { self.new ≡ record self.old { read = record self.old.read { next = 0 } } }
     {
         self.read.next = 0;
@@ -165,10 +165,10 @@ impl steps_t {
     ) -> Did
         requires fits { FitsTold answer kind self.old.read (head_tag head.now) }
         ensures tells { (p : Step) (g : yaml_mark_t) (states : List ℕ) (marks : List yaml_mark_t)
-            → Says p (outcome answer (head_of head.now start.now end.now g)
-            (token kind at.now.start_mark at.now.end_mark) self.old.read (config_of self.old.machine states marks))
-            → Tells result (facts.put (head_tag head.now) self.old.tag (span_token kind fact at.now) p)
-            self.new event.new fault.new (config_of self.new.machine states marks) }
+            → IsOutcome p (outcome answer (head_of head.now start.now end.now g)
+            (kind_and_marks kind at.now.start_mark at.now.end_mark) self.old.read (stacks_of self.old.machine states marks))
+            → Tells result (facts.put_by_fact (head_tag head.now) self.old.tag (span_token kind fact at.now) p)
+            self.new event.new fault.new (stacks_of self.new.machine states marks) }
         ensures machine { self.new.machine ≡ self.old.machine }
         ensures done { IsTold answer → IsDone result }
         ensures event_number { IsGiven result → IsEventNumber event.new.kind }

@@ -3,10 +3,10 @@ use mathlib.Core.Bool.{true≢false}
 use Rattle.std.proofs.Common.{◌≡◌, ◌∙◌, ◌==◌, ℕ, true, false, refl, sym, ap, subst, if◌then◌else◌}
 use Rattle.token_steps.specs.declared.did.Did.{Did}
 use Rattle.token_steps.specs.declared.did.Did.TheVariants as did
-use Rattle.token_steps.specs.Numbers.{number, is_undone, is_given}
+use Rattle.token_steps.specs.Numbers.{number, is_nothing_done, is_given}
 use Rattle.token_steps.specs.Tells.{IsUntold, IsGiven}
 
-pub number_undone : (d : Did) → is_undone (number d) ≡ true → IsUntold d
+pub number_undone : (d : Did) → is_nothing_done (number d) ≡ true → IsUntold d
 number_undone did.FullStates e = tt
 number_undone did.FullMarks e = tt
 number_undone did.Bad e = tt

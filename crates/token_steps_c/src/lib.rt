@@ -7,13 +7,13 @@ mod tags;
 ghost use Rattle.std.specs.Prelude.{◌≡◌, ◌≤◌, ◌↔◌, ℕ, List, true, false};
 ghost use Rattle.libyaml_types.specs.declared.mark.yaml_mark_t.{yaml_mark_t};
 ghost use Rattle.libyaml_automaton.specs.Automaton.{AtState};
-ghost use Rattle.libyaml_automaton.specs.Config.{config_of, start, Within};
+ghost use Rattle.libyaml_automaton.specs.Config.{stacks_of, first_stacks, Within};
 ghost use Rattle.libyaml_automaton.specs.Growth.{HasNoRoom};
-ghost use Rattle.libyaml_automaton.specs.Wanted.{wanted};
+ghost use Rattle.libyaml_automaton.specs.Wanted.{purpose_of};
 ghost use Rattle.token_steps.specs.Facts as facts;
 ghost use Rattle.token_steps.specs.Growth.{grows_states, grows_marks};
 ghost use Rattle.token_steps.specs.Records.{AreFlags, AreUnused, kind_of, span_token};
-ghost use Rattle.token_steps.specs.Numbers.{is_given, is_undone, IsEventNumber, IsFaultNumber};
+ghost use Rattle.token_steps.specs.Numbers.{is_given, is_nothing_done, IsEventNumber, IsFaultNumber};
 ghost use Rattle.token_steps.specs.Tells.{TellsNumber, want_in};
 
 use libyaml_types::yaml_mark_t;
@@ -24,8 +24,8 @@ use token_steps::{step_event_t, step_fault_t, step_span_t, steps_t, token_kind};
 #[unsafe(no_mangle)]
 pub extern "C" fn pokhvizi_steps_new(steps: &mut steps_t)
     ensures config { (states : List ℕ) (marks : List yaml_mark_t)
-        → config_of steps.new.machine states marks ≡ start }
-    ensures wanted { wanted steps.new.read ≡ AtState }
+        → stacks_of steps.new.machine states marks ≡ first_stacks }
+    ensures wanted { purpose_of steps.new.read ≡ AtState }
     ensures within { (states : List ℕ) (marks : List yaml_mark_t) → Within steps.new.machine states marks }
 {
     *steps = steps_t::new();
@@ -46,9 +46,9 @@ pub extern "C" fn pokhvizi_step(
     event: &mut step_event_t,
     fault: &mut step_fault_t,
 ) -> u32
-    ensures tells { TellsNumber result (facts.step (want_in steps.old)
-        (config_of steps.old.machine states.old marks.old) (span_token (kind_of kind) fact at.now))
-        steps.new event.new fault.new (config_of steps.new.machine states.new marks.new) }
+    ensures tells { TellsNumber result (facts.step_by_fact (want_in steps.old)
+        (stacks_of steps.old.machine states.old marks.old) (span_token (kind_of kind) fact at.now))
+        steps.new event.new fault.new (stacks_of steps.new.machine states.new marks.new) }
     ensures numbers { result ≤ 6 }
     ensures within { Within steps.old.machine states.old marks.old
         → Within steps.new.machine states.new marks.new }
@@ -58,9 +58,9 @@ pub extern "C" fn pokhvizi_step(
         × (HasNoRoom (grows_marks steps.old (kind_of kind)) marks.old steps.old.machine.marks_count → ⊥)) }
     ensures full_marks { Within steps.old.machine states.old marks.old → (result ≡ 4)
         ↔ HasNoRoom (grows_marks steps.old (kind_of kind)) marks.old steps.old.machine.marks_count }
-    ensures undone { is_undone result ≡ true → (steps.new.machine ≡ steps.old.machine)
+    ensures undone { is_nothing_done result ≡ true → (steps.new.machine ≡ steps.old.machine)
         × ((states.new ≡ states.old) × ((marks.new ≡ marks.old) × (want_in steps.new ≡ want_in steps.old))) }
-    ensures holds_nothing { is_given result ≡ true → wanted steps.new.read ≡ AtState }
+    ensures holds_nothing { is_given result ≡ true → purpose_of steps.new.read ≡ AtState }
     ensures event_number { is_given result ≡ true → IsEventNumber event.new.kind }
     ensures event_flags { is_given result ≡ true → AreFlags event.new }
     ensures event_unused { is_given result ≡ true → AreUnused event.new }

@@ -1,6 +1,6 @@
 use Rattle.std.proofs.Common.{◌∙◌, sym, ap, w32}
 use Rattle.std.proofs.lemmas.Int.{to_z-of_z}
-use Rattle.libyaml_composer.specs.Numbers.{is_undone_number, number}
+use Rattle.libyaml_composer.specs.Numbers.{is_undone_number, deed_number}
 use Rattle.document_steps_c.proofs.Said.{number_twelve, number_undone}
 use Rattle.document_steps_c.proofs.pokhvizi_compose.Goals as goal
 
@@ -14,7 +14,7 @@ returns-clause-tells c = rw (sym c.event_kind.ensures) (λ w. (
 pub returns-clause-bad : goal.returns-clause-bad
 returns-clause-bad c = (
   λ e. c.compose.ensures.bad.0 (number_twelve _ (sym c.number.ensures ∙ e)),
-  λ n. c.number.ensures ∙ ap number (c.compose.ensures.bad.1 n),
+  λ n. c.number.ensures ∙ ap deed_number (c.compose.ensures.bad.1 n),
 )
 
 pub returns-clause-undone : goal.returns-clause-undone

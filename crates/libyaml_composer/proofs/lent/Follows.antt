@@ -21,28 +21,28 @@ use Rattle.libyaml_composer.specs.declared.deed.Deed.{Deed}
 use Rattle.libyaml_composer.specs.declared.deed.Deed.TheVariants as deed
 use Rattle.libyaml_composer.specs.declared.records.open_t.{open_t}
 use Rattle.libyaml_composer.specs.declared.records.place_t.{place_t}
-use Rattle.libyaml_composer.specs.Composing.{Composer, Told, adding, at_carrier, at_start, deed_for, deed_in, ended, handed, if_placed, list_full, opened, place_in, told, unless, within_step}
-use Rattle.libyaml_composer.specs.Numbers.{flag, is_id}
-use Rattle.libyaml_composer.specs.Held.{Held, anchor_in, anchored, applied_part, carrier_of, fact_by, fact_of, fault_part, IsRefused, first_mark, loader_of, node_of, with_node, open_of, placed, with_child, with_nodes}
+use Rattle.libyaml_composer.specs.Composing.{Composer, Told, adding, at_carrier, at_start, deed_for, deed_in, collection_ended, holding_top, if_placed, is_list_full, with_open_node, place_in, told, unless, within_step}
+use Rattle.libyaml_composer.specs.Numbers.{is_set, is_id}
+use Rattle.libyaml_composer.specs.Held.{Held, anchor_in, anchored, applied_part, carrier_named, fact_by, event_fact, fault_part, IsRefused, first_mark, loader_by, nodes_made, with_made_node, open_of, placed, with_child_placed, held_with_nodes}
 use Rattle.libyaml_composer.proofs.Children.{Handing, hands_child}
 use Rattle.libyaml_composer.proofs.Opens.{get_last, length_changed, opens_more, opens_other, opens_wider}
-use Rattle.libyaml_composer.specs.Standing.{Fits, IsAlike, IsCarried, IsChild, IsClosed, IsNode, IsOpen, IsPart, IsPut, Opens, Standing, Takes}
+use Rattle.libyaml_composer.specs.Standing.{FitsParent, IsAlike, IsCarried, IsChild, IsClosed, IsNode, IsOpenNode, IsPart, PutsNode, Opens, Standing, TakesOneMore}
 
 -- what a caller may rely on where it does this: the node comes first
 pub record Puts (d : Deed) (p : place_t) (q : Option Part) (h : Held) (s : List open_t) : Type 0 where
-  pub fits : Fits d p (length (with_node (is_id p.node) p.node q h).nodes) (with_node (is_id p.node) p.node q h).nodes
-  pub takes : Takes d (map open_of s) (with_node (is_id p.node) p.node q h).nodes
-  pub node : IsPut d → is_id p.node ≡ true → p.node ≡ pos (suc (length h.nodes))
-  pub child : IsPut d → IsChild q
-  pub made : IsPut d → is_id p.node ≡ true → IsNode q
+  pub fits : FitsParent d p (length (with_made_node (is_id p.node) p.node q h).nodes) (with_made_node (is_id p.node) p.node q h).nodes
+  pub takes : TakesOneMore d (map open_of s) (with_made_node (is_id p.node) p.node q h).nodes
+  pub node : PutsNode d → is_id p.node ≡ true → p.node ≡ pos (suc (length h.nodes))
+  pub child : PutsNode d → IsChild q
+  pub made : PutsNode d → is_id p.node ≡ true → IsNode q
   pub closed : IsClosed d → IsIdUpTo (length h.nodes) p.parent
-  pub put : IsChild q → IsPut d
+  pub put : IsChild q → PutsNode d
   pub numbered : IsNode q → p.node ≡ pos (suc (length h.nodes))
 
 -- r is what the machine makes of a part, and t what the call does with it
 pub data Follows (most : ℕ) (o : Opening) (h : Held) (s : List open_t) (q : Option Part) (start end : Mark) (r : Loading) (t : Told)
     : Type 0 where
-  goes : IsPart t.deed → r ≡ going (loader_of t.composer (applied_part t.deed t.place q end h))
+  goes : IsPart t.deed → r ≡ going (loader_by t.composer (applied_part t.deed t.place q end h))
       → Standing t.composer (applied_part t.deed t.place q end h) o → t.composer.most ≡ most
       → Puts t.deed t.place q h s → Follows most o h s q start end r t
   fails : IsRefused t.deed → r ≡ failed (fault_part t.deed h q start) → Follows most o h s q start end r t
@@ -51,25 +51,25 @@ pub data Follows (most : ℕ) (o : Opening) (h : Held) (s : List open_t) (q : Op
 -- the deed of a child
 part_deed : (s : List open_t) → IsPart (deed_for s)
 part_deed [] = tt
-part_deed (o ∷ s) = go (flag o.is_mapping) (is_id o.key)
+part_deed (o ∷ s) = go (is_set o.is_mapping) (is_id o.key)
   where
     go : (b w : Bool) → IsPart (deed_in b w)
     go false w = tt
     go true false = tt
     go true true = tt
 
-child_put : (s : List open_t) → IsPut (deed_for s)
+child_put : (s : List open_t) → PutsNode (deed_for s)
 child_put [] = tt
-child_put (o ∷ s) = go (flag o.is_mapping) (is_id o.key)
+child_put (o ∷ s) = go (is_set o.is_mapping) (is_id o.key)
   where
-    go : (b w : Bool) → IsPut (deed_in b w)
+    go : (b w : Bool) → PutsNode (deed_in b w)
     go false w = tt
     go true false = tt
     go true true = tt
 
 child_open : (s : List open_t) → IsClosed (deed_for s) → ⊥
 child_open [] k = k
-child_open (o ∷ s) k = go (flag o.is_mapping) (is_id o.key) k
+child_open (o ∷ s) k = go (is_set o.is_mapping) (is_id o.key) k
   where
     go : (b w : Bool) → IsClosed (deed_in b w) → ⊥
     go false w k = k
@@ -77,11 +77,11 @@ child_open (o ∷ s) k = go (flag o.is_mapping) (is_id o.key) k
     go true true k = k
 
 child_applied : (s : List open_t) (p : place_t) (q : Option Part) (m : Mark) (h : Held)
-    → applied_part (deed_for s) p q m h ≡ with_child (deed_for s) p q h
+    → applied_part (deed_for s) p q m h ≡ with_child_placed (deed_for s) p q h
 child_applied [] p q m h = refl
-child_applied (o ∷ s) p q m h = go (flag o.is_mapping) (is_id o.key)
+child_applied (o ∷ s) p q m h = go (is_set o.is_mapping) (is_id o.key)
   where
-    go : (b w : Bool) → applied_part (deed_in b w) p q m h ≡ with_child (deed_in b w) p q h
+    go : (b w : Bool) → applied_part (deed_in b w) p q m h ≡ with_child_placed (deed_in b w) p q h
     go false w = refl
     go true false = refl
     go true true = refl
@@ -95,13 +95,13 @@ not_carried n (Some c) h e = absurd (go c.id h.0 e)
     go zero h e = absurd (omega arith)
     go (suc n) h e = absurd (true≢false e)
 
-registers : (xs : Anchors) (a : Option (List ℕ)) (i : ℕ) (m : Mark) → carrier_of xs a ≡ None
+registers : (xs : Anchors) (a : Option (List ℕ)) (i : ℕ) (m : Mark) → carrier_named xs a ≡ None
     → register a i m xs ≡ registered (anchored a i m xs)
 registers xs None i m e = refl
 registers xs (Some a) i m e = ap (λ (x : Option Carrier). elim x
     [ Some c ↦ known c.mark | None ↦ registered (insert xs a (record { id = i; mark = m })) ]) e
 
-knows : (xs : Anchors) (a : Option (List ℕ)) (i : ℕ) (m : Mark) (c : Carrier) → carrier_of xs a ≡ Some c
+knows : (xs : Anchors) (a : Option (List ℕ)) (i : ℕ) (m : Mark) (c : Carrier) → carrier_named xs a ≡ Some c
     → register a i m xs ≡ known c.mark
 knows xs None i m c e = absurd cc
 knows xs (Some a) i m c e = ap (λ (x : Option Carrier). elim x
@@ -157,14 +157,14 @@ module _ (most room : ℕ) (o : Opening) (s : List open_t) (h : Held) (opening :
   abbrev id : ℤ
   id = pos (suc (length h.nodes))
 
-  room_is : parent_full most (map open_of s) h.nodes ≡ list_full most s
+  room_is : parent_full most (map open_of s) h.nodes ≡ is_list_full most s
   room_is = (hands_child most (pos 1) refl h.nodes (suc (length h.nodes)) (length h.nodes) (omega arith)
       (omega (arith, ints), omega (arith, ints)) (pos 0) s
       (opens_wider (length h.nodes) (suc (length h.nodes)) h.nodes (length h.nodes) (length h.nodes) s (omega arith) (omega arith)
       opens)).full_is
 
   more : (x : yaml_node_t) → Handing most id (h.nodes ++ x ∷ []) (suc (length h.nodes)) (length h.nodes) s (deed_for s)
-      (place_in id id s) (handed id s) (list_full most s)
+      (place_in id id s) (holding_top id s) (is_list_full most s)
   more x = hands_child most id refl (h.nodes ++ x ∷ []) (suc (length h.nodes)) (length h.nodes) (omega arith)
       (omega (arith, ints), omega (arith, ints)) id s
       (opens_wider (length h.nodes) (suc (length h.nodes)) _ (length h.nodes) (length h.nodes) s (omega arith) (omega arith)
@@ -184,47 +184,47 @@ module _ (most room : ℕ) (o : Opening) (s : List open_t) (h : Held) (opening :
   count x = let e = (more x).count in omega (arith, e, length-append h.nodes (x ∷ []))
 
   -- the machine after it
-  goes_on : (a : Option (List ℕ)) (x : yaml_node_t) (opens : List OpenNode) → carrier_of h.anchors a ≡ None
-      → on_node (register a (suc (length h.nodes)) x.start_mark h.anchors) x opens (loader_of here h)
+  goes_on : (a : Option (List ℕ)) (x : yaml_node_t) (opens : List OpenNode) → carrier_named h.anchors a ≡ None
+      → on_node (register a (suc (length h.nodes)) x.start_mark h.anchors) x opens (loader_by here h)
       ≡ going (record {
         nodes = (after a x).nodes;
-        stack = opens ++ map open_of (handed id s);
+        stack = opens ++ map open_of (holding_top id s);
         anchors = (after a x).anchors;
       })
   goes_on a x opens none =
-      ap (λ (r : Registered). on_node r x opens (loader_of here h)) (registers h.anchors a (suc (length h.nodes)) x.start_mark none)
+      ap (λ (r : Registered). on_node r x opens (loader_by here h)) (registers h.anchors a (suc (length h.nodes)) x.start_mark none)
       ∙ same_loading _ _ _ _ (after a x).anchors (sym (more x).nodes_are)
       (ap (λ (t : List OpenNode). opens ++ t) (sym (more x).stack_is))
 
   module _ (a : Option (List ℕ)) (x : yaml_node_t) (end : Mark) where
-    none_carries : is_id (pos (id_or (carrier_of h.anchors a))) ≡ false → carrier_of h.anchors a ≡ None
+    none_carries : is_id (pos (id_or (carrier_named h.anchors a))) ≡ false → carrier_named h.anchors a ≡ None
     none_carries e = go a e
       where
-        go : (b : Option (List ℕ)) → is_id (pos (id_or (carrier_of h.anchors b))) ≡ false
-            → carrier_of h.anchors b ≡ None
+        go : (b : Option (List ℕ)) → is_id (pos (id_or (carrier_named h.anchors b))) ≡ false
+            → carrier_named h.anchors b ≡ None
         go None e = refl
         go (Some b) e = not_carried (length h.nodes) (get h.anchors b) (carried b) e
 
-    some_carries : is_id (pos (id_or (carrier_of h.anchors a))) ≡ true
-        → (c : Carrier) × (carrier_of h.anchors a ≡ Some c)
-    some_carries e = go (carrier_of h.anchors a) e
+    some_carries : is_id (pos (id_or (carrier_named h.anchors a))) ≡ true
+        → (c : Carrier) × (carrier_named h.anchors a ≡ Some c)
+    some_carries e = go (carrier_named h.anchors a) e
       where
         go : (k : Option Carrier) → is_id (pos (id_or k)) ≡ true → (c : Carrier) × (k ≡ Some c)
         go None e = absurd (true≢false (sym e))
         go (Some c) e = (c, refl)
 
-    repeats : (opens : List OpenNode) (q : Option Part) → carrier_of h.anchors (anchor_in q) ≡ carrier_of h.anchors a
-        → is_id (pos (id_or (carrier_of h.anchors a))) ≡ true
-        → on_node (register a (suc (length h.nodes)) x.start_mark h.anchors) x opens (loader_of here h)
+    repeats : (opens : List OpenNode) (q : Option Part) → carrier_named h.anchors (anchor_in q) ≡ carrier_named h.anchors a
+        → is_id (pos (id_or (carrier_named h.anchors a))) ≡ true
+        → on_node (register a (suc (length h.nodes)) x.start_mark h.anchors) x opens (loader_by here h)
         ≡ failed (fault_part deed.RepeatedAnchor h q x.start_mark)
     repeats opens q same e =
         let (c, is) = some_carries e in
-        ap (λ (r : Registered). on_node r x opens (loader_of here h))
+        ap (λ (r : Registered). on_node r x opens (loader_by here h))
         (knows h.anchors a (suc (length h.nodes)) x.start_mark c is)
         ∙ ap (λ (k : Option Carrier). failed (repeated_anchor (first_mark k x.start_mark) x.start_mark)) (sym (same ∙ is))
 
     stands : (c : Composer) → c.is_within ≡ true → c.nodes ≡ suc (length h.nodes)
-        → carrier_of h.anchors a ≡ None
+        → carrier_named h.anchors a ≡ None
         → Opens (suc (length h.nodes)) (after a x).nodes (suc (length h.nodes)) c.stack → Standing c (after a x) o
     stands c within nodes none there = record {
       is_within = within;
@@ -236,7 +236,7 @@ module _ (most room : ℕ) (o : Opening) (s : List open_t) (h : Held) (opening :
     }
 
     abbrev node_made : List OpenNode → Loading
-    node_made opens = on_node (register a (suc (length h.nodes)) x.start_mark h.anchors) x opens (loader_of here h)
+    node_made opens = on_node (register a (suc (length h.nodes)) x.start_mark h.anchors) x opens (loader_by here h)
 
     abbrev as_leaf : Option Part
     as_leaf = Some (leaf_part a x)
@@ -247,12 +247,12 @@ module _ (most room : ℕ) (o : Opening) (s : List open_t) (h : Held) (opening :
     abbrev opened_node : OpenNode
     opened_node = record { node = id; key = None }
 
-    puts : (q : Option Part) → h.nodes ++ x ∷ [] ≡ h.nodes ++ node_of q → IsChild q → IsNode q
+    puts : (q : Option Part) → h.nodes ++ x ∷ [] ≡ h.nodes ++ nodes_made q → IsChild q → IsNode q
         → Puts (deed_for s) (place_in id id s) q h s
     puts q same child made = record {
-      fits = subst (λ (l : List yaml_node_t). Fits (deed_for s) (place_in id id s) (length l) l) same
-          (subst (λ (n : ℕ). Fits (deed_for s) (place_in id id s) n (h.nodes ++ x ∷ [])) (grown x) (more x).fits);
-      takes = subst (Takes (deed_for s) (map open_of s)) same (more x).takes;
+      fits = subst (λ (l : List yaml_node_t). FitsParent (deed_for s) (place_in id id s) (length l) l) same
+          (subst (λ (n : ℕ). FitsParent (deed_for s) (place_in id id s) n (h.nodes ++ x ∷ [])) (grown x) (more x).fits);
+      takes = subst (TakesOneMore (deed_for s) (map open_of s)) same (more x).takes;
       node = λ put e. refl;
       child = λ put. child;
       made = λ put e. made;
@@ -263,38 +263,38 @@ module _ (most room : ℕ) (o : Opening) (s : List open_t) (h : Held) (opening :
 
     -- a scalar
     leaf : Follows most o h s (Some (leaf_part a x)) x.start_mark end
-        (bounded_option most (loader_of here h) (Some (leaf_part a x)))
+        (bounded_option most (loader_by here h) (Some (leaf_part a x)))
         (if_placed (fact_by h.anchors (Some (leaf_part a x))) p here (adding here))
     leaf = subst (λ (b : Bool). Follows most o h s as_leaf x.start_mark end (unless_full (nat_lt most (suc (length h.nodes)))
         (if_child_fits b (node_made []))) (if_placed (fact_by h.anchors as_leaf) p here (adding here))) (sym room_is)
         (follows_node most o h s as_leaf x.start_mark end p here _ _ _ (node_made []) (adding here) (repeats [] as_leaf refl)
         (λ e. (_, goes_on a x [] (none_carries e)))
         (λ e. goes (part_deed s)
-        (subst (λ (k : Held). (node_made []) ≡ going (loader_of (adding here).composer k))
+        (subst (λ (k : Held). (node_made []) ≡ going (loader_by (adding here).composer k))
         (sym (child_applied s (place_in id id s) as_leaf end h)) (goes_on a x [] (none_carries e)))
         (subst (λ (k : Held). Standing (adding here).composer k o) (sym (child_applied s (place_in id id s) as_leaf end h))
         (stands (adding here).composer refl refl (none_carries e)
-        (opens_wider _ _ _ (length h.nodes) _ (handed id s) (omega arith) (omega arith) (more x).opens)))
+        (opens_wider _ _ _ (length h.nodes) _ (holding_top id s) (omega arith) (omega arith) (more x).opens)))
         refl (puts as_leaf refl tt tt)))
 
     -- the start of a collection without children
-    module _ (m : ℕ) (empty : IsAlike x.content (flag m) false 0) where
+    module _ (m : ℕ) (empty : IsAlike x.content (is_set m) false 0) where
       abbrev inner : open_t
       inner = record { node = id; key = pos 0; children = 0; is_mapping = m }
 
-      there : Opens (suc (length h.nodes)) (after a x).nodes (suc (length h.nodes)) (inner ∷ handed id s)
+      there : Opens (suc (length h.nodes)) (after a x).nodes (suc (length h.nodes)) (inner ∷ holding_top id s)
       there = (
         length h.nodes,
         refl,
         omega arith,
-        subst (λ (y : Option yaml_node_t). IsOpen y inner)
+        subst (λ (y : Option yaml_node_t). IsOpenNode y inner)
             (sym ((more x).later (length h.nodes) (omega arith) ∙ get_last h.nodes x)) empty,
         λ w. absurd (true≢false (sym w)),
         (more x).opens,
       )
 
       start : Follows most o h s (Some (start_part a x)) x.start_mark end
-          (bounded_option most (loader_of here h) (Some (start_part a x)))
+          (bounded_option most (loader_by here h) (Some (start_part a x)))
           (at_start m (fact_by h.anchors (Some (start_part a x))) p here)
       start = subst (λ (b : Bool). Follows most o h s as_start x.start_mark end (unless_full (nat_lt most (suc (length h.nodes)))
           (if_child_fits b (node_made (opened_node ∷ [])))) (at_start m (fact_by h.anchors as_start) p here)) (sym room_is)
@@ -302,15 +302,15 @@ module _ (most room : ℕ) (o : Opening) (s : List open_t) (h : Held) (opening :
           (λ e. (_, goes_on a x (opened_node ∷ []) (none_carries e)))
           (λ e. by (nat_le room (length s)) e))
         where
-          by : (b : Bool) → is_id (pos (id_or (carrier_of h.anchors a))) ≡ false
-              → Follows most o h s as_start x.start_mark end (node_made (opened_node ∷ [])) (unless b deed.FullStack p here (opened m id (adding here)))
+          by : (b : Bool) → is_id (pos (id_or (carrier_named h.anchors a))) ≡ false
+              → Follows most o h s as_start x.start_mark end (node_made (opened_node ∷ [])) (unless b deed.FullStack p here (with_open_node m id (adding here)))
           by true e = full refl
           by false e = goes (part_deed s)
-              (subst (λ (k : Held). (node_made (opened_node ∷ [])) ≡ going (loader_of (opened m id (adding here)).composer k))
+              (subst (λ (k : Held). (node_made (opened_node ∷ [])) ≡ going (loader_by (with_open_node m id (adding here)).composer k))
               (sym (child_applied s (place_in id id s) as_start end h)) (goes_on a x (opened_node ∷ []) (none_carries e)))
-              (subst (λ (k : Held). Standing (opened m id (adding here)).composer k o)
+              (subst (λ (k : Held). Standing (with_open_node m id (adding here)).composer k o)
               (sym (child_applied s (place_in id id s) as_start end h))
-              (stands (opened m id (adding here)).composer refl refl (none_carries e) there))
+              (stands (with_open_node m id (adding here)).composer refl refl (none_carries e) there))
               refl (puts as_start refl tt tt)
 
   -- an alias
@@ -320,19 +320,19 @@ module _ (most room : ℕ) (o : Opening) (s : List open_t) (h : Held) (opening :
 
     module _ (k : Carrier) (lt : (0 < k.id) × (k.id ≤ length h.nodes)) where
       abbrev aliased : Told
-      aliased = told (deed_for s) (place_in (pos 0) (pos k.id) s) (record here { stack = handed (pos k.id) s })
+      aliased = told (deed_for s) (place_in (pos 0) (pos k.id) s) (record here { stack = holding_top (pos k.id) s })
 
       child : Handing most (pos k.id) h.nodes (length h.nodes) (length h.nodes) s (deed_for s) (place_in (pos 0) (pos k.id) s)
-          (handed (pos k.id) s) (list_full most s)
+          (holding_top (pos k.id) s) (is_list_full most s)
       child = hands_child most (pos k.id) (id_of k.id lt.0) h.nodes (length h.nodes) (length h.nodes) (omega arith)
           (omega (arith, ints, lt.0), omega (arith, ints, lt.1)) (pos 0) s opens
 
       alias_by : (b : Bool) → Follows most o h s as_alias m end
-          (unless_full false (if_child_fits b (on_alias (Some k) m (loader_of here h))))
+          (unless_full false (if_child_fits b (on_alias (Some k) m (loader_by here h))))
           (unless b deed.FullList p here aliased)
       alias_by true = fails tt refl
       alias_by false = goes (part_deed s)
-          (subst (λ (g : Held). on_alias (Some k) m (loader_of here h) ≡ going (loader_of aliased.composer g))
+          (subst (λ (g : Held). on_alias (Some k) m (loader_by here h) ≡ going (loader_by aliased.composer g))
           (sym (child_applied s (place_in (pos 0) (pos k.id) s) as_alias end h))
           (same_loading _ _ _ _ h.anchors (sym child.nodes_are) (sym child.stack_is)))
           (subst (λ (g : Held). Standing aliased.composer g o)
@@ -340,7 +340,7 @@ module _ (most room : ℕ) (o : Opening) (s : List open_t) (h : Held) (opening :
             is_within = refl;
             opening = opening;
             nodes = sym child.count;
-            opens = subst (λ (n : ℕ). Opens n (placed (deed_for s) (place_in (pos 0) (pos k.id) s) h.nodes) n (handed (pos k.id) s))
+            opens = subst (λ (n : ℕ). Opens n (placed (deed_for s) (place_in (pos 0) (pos k.id) s) h.nodes) n (holding_top (pos k.id) s))
                 (sym child.count) child.opens;
             carried = subst (λ (n : ℕ). (q : List ℕ) → IsCarried n (get h.anchors q)) (sym child.count) carried;
           }))
@@ -356,17 +356,17 @@ module _ (most room : ℕ) (o : Opening) (s : List open_t) (h : Held) (opening :
           })
 
     alias_of : (k : Option Carrier) → IsCarried (length h.nodes) k → Follows most o h s as_alias m end
-        (unless_full false (if_child_fits (parent_full most (map open_of s) h.nodes) (on_alias k m (loader_of here h))))
+        (unless_full false (if_child_fits (parent_full most (map open_of s) h.nodes) (on_alias k m (loader_by here h))))
         (at_carrier (is_id (pos (id_or k))) (pos (id_or k)) p here)
     alias_of None lt = fails tt refl
     alias_of (Some k) lt = subst (λ (b : Bool). Follows most o h s as_alias m end
-        (unless_full false (if_child_fits b (on_alias (Some k) m (loader_of here h))))
+        (unless_full false (if_child_fits b (on_alias (Some k) m (loader_by here h))))
         (at_carrier (is_id (pos k.id)) (pos k.id) p here)) (sym room_is)
         (subst (λ (b : Bool). Follows most o h s as_alias m end
-        (unless_full false (if_child_fits (list_full most s) (on_alias (Some k) m (loader_of here h))))
-        (at_carrier b (pos k.id) p here)) (sym (id_of k.id lt.0)) (alias_by k lt (list_full most s)))
+        (unless_full false (if_child_fits (is_list_full most s) (on_alias (Some k) m (loader_by here h))))
+        (at_carrier b (pos k.id) p here)) (sym (id_of k.id lt.0)) (alias_by k lt (is_list_full most s)))
 
-    alias : Follows most o h s as_alias m end (bounded_option most (loader_of here h) as_alias)
+    alias : Follows most o h s as_alias m end (bounded_option most (loader_by here h) as_alias)
         (at_carrier (is_id (fact_by h.anchors as_alias)) (fact_by h.anchors as_alias) p here)
     alias = alias_of (get h.anchors a) (carried a)
 
@@ -387,13 +387,13 @@ module _ (most room : ℕ) (o : Opening) (s : List open_t) (h : Held) (opening :
 
   -- the end of a collection
   ends : (start end : Mark) → Follows most o h s (Some (end_part end)) start end
-      (bounded_option most (loader_of here h) (Some (end_part end))) (ended s p here)
+      (bounded_option most (loader_by here h) (Some (end_part end))) (collection_ended s p here)
   ends start end = go s opens
     where
       go : (s : List open_t) → Opens (length h.nodes) h.nodes (length h.nodes) s
           → Follows most o h s (Some (end_part end)) start end
-          (bounded_option most (loader_of (record here { stack = s }) h) (Some (end_part end)))
-          (ended s p (record here { stack = s }))
+          (bounded_option most (loader_by (record here { stack = s }) h) (Some (end_part end)))
+          (collection_ended s p (record here { stack = s }))
       go [] g = goes tt refl (record {
         is_within = refl;
         opening = opening;
@@ -423,16 +423,16 @@ module _ (most room : ℕ) (o : Opening) (s : List open_t) (h : Held) (opening :
 
   -- any event but the document's end
   follows_at : (e : Event) → closing_of e ≡ None → Follows most o h s (part_of e) e.start_mark e.end_mark
-      (bounded_option most (loader_of here h) (part_of e)) (within_step (event_type e.content) (fact_of h e) p here)
+      (bounded_option most (loader_by here h) (part_of e)) (within_step (event_type e.content) (event_fact h e) p here)
   follows_at e without = go e.content without
     where
-      nothing : Follows most o h s None e.start_mark e.end_mark (going (loader_of here h)) (told deed.Passes p here)
+      nothing : Follows most o h s None e.start_mark e.end_mark (going (loader_by here h)) (told deed.Passes p here)
       nothing = goes tt refl
           (record { is_within = refl; opening = opening; nodes = refl; opens = opens; carried = carried }) refl (nothing_put (λ c. c) (λ c. c))
 
       go : (k : unnamed_yaml_event_t_data) → closing_in k e.end_mark ≡ None
           → Follows most o h s (part_in k e.start_mark e.end_mark) e.start_mark e.end_mark
-          (bounded_option most (loader_of here h) (part_in k e.start_mark e.end_mark))
+          (bounded_option most (loader_by here h) (part_in k e.start_mark e.end_mark))
           (within_step (event_type k) (fact_by h.anchors (part_in k e.start_mark e.end_mark)) p here)
       go (ev.DocumentEnd d) g = absurd cc
       go (ev.Alias k) g = alias k.anchor e.start_mark e.end_mark
@@ -445,9 +445,9 @@ module _ (most room : ℕ) (o : Opening) (s : List open_t) (h : Held) (opening :
 
 pub follows : (c : Composer) (h : Held) (o : Opening) (p : place_t) → Standing c h o → (e : Event) → closing_of e ≡ None
     → Follows c.most o h c.stack (part_of e) e.start_mark e.end_mark
-    (bounded_option c.most (loader_of c h) (part_of e)) (within_step (event_type e.content) (fact_of h e) p c)
+    (bounded_option c.most (loader_by c h) (part_of e)) (within_step (event_type e.content) (event_fact h e) p c)
 follows c h o p stands e without = subst (λ (k : Composer). Follows c.most o h c.stack (part_of e) e.start_mark e.end_mark
-    (bounded_option c.most (loader_of c h) (part_of e)) (within_step (event_type e.content) (fact_of h e) p k))
+    (bounded_option c.most (loader_by c h) (part_of e)) (within_step (event_type e.content) (event_fact h e) p k))
     (ap (λ (n : ℕ). record { is_within = true; nodes = n; most = c.most; room = c.room; stack = c.stack }) (sym stands.nodes)
     ∙ ap (λ (b : Bool). record { is_within = b; nodes = c.nodes; most = c.most; room = c.room; stack = c.stack })
     (sym stands.is_within))

@@ -6,12 +6,12 @@ use Rattle.libyaml_composer.specs.declared.deed.Deed.{Deed}
 use Rattle.libyaml_composer.specs.declared.deed.Deed.TheVariants as deed
 use Rattle.libyaml_composer.specs.declared.records.open_t.{open_t}
 use Rattle.libyaml_composer.specs.declared.records.place_t.{place_t}
-use Rattle.libyaml_composer.specs.Composing.{Composer, Told, adding, at_carrier, at_start, between_step, deed_for, deed_in, ended, if_placed, is_start, opened, step, step_in, told, unless, within_step}
-use Rattle.libyaml_composer.specs.Numbers.{flag, is_id}
+use Rattle.libyaml_composer.specs.Composing.{Composer, Told, adding, at_carrier, at_start, between_step, deed_for, deed_in, collection_ended, if_placed, is_start, with_open_node, composer_step, step_in, told, unless, within_step}
+use Rattle.libyaml_composer.specs.Numbers.{is_set, is_id}
 
 child_not_full : (s : List open_t) → deed_for s ≡ deed.FullStack → ⊥
 child_not_full [] h = cc
-child_not_full (o ∷ s) h = go (flag o.is_mapping) (is_id o.key) h
+child_not_full (o ∷ s) h = go (is_set o.is_mapping) (is_id o.key) h
   where
     go : (b w : Bool) → deed_in b w ≡ deed.FullStack → ⊥
     go false w h = cc
@@ -32,7 +32,7 @@ start_full : (m : ℕ) (f : ℤ) (p : place_t) (c : Composer) → (at_start m f 
     → nat_le c.room (length c.stack) ≡ true
 start_full m f p c h = go (nat_le c.room (length c.stack)) (placed_full f p c _ h)
   where
-    go : (b : Bool) → (unless b deed.FullStack p c (opened m (pos (suc c.nodes)) (adding c))).deed ≡ deed.FullStack → b ≡ true
+    go : (b : Bool) → (unless b deed.FullStack p c (with_open_node m (pos (suc c.nodes)) (adding c))).deed ≡ deed.FullStack → b ≡ true
     go true h = refl
     go false h = absurd (child_not_full c.stack h)
 
@@ -40,11 +40,11 @@ alias_full : (b : Bool) (i : ℤ) (p : place_t) (c : Composer) → (at_carrier b
 alias_full false i p c h = cc
 alias_full true i p c h = child_not_full c.stack (by_test _ deed.FullList p c _ (λ e. cc) h)
 
-end_full : (s : List open_t) (p : place_t) (c : Composer) → (ended s p c).deed ≡ deed.FullStack → ⊥
+end_full : (s : List open_t) (p : place_t) (c : Composer) → (collection_ended s p c).deed ≡ deed.FullStack → ⊥
 end_full [] p c h = cc
 end_full (o ∷ s) p c h = cc
 
-pub full_starts : (k : yaml_event_type_t) (f : ℤ) (p : place_t) (c : Composer) → (step k f p c).deed ≡ deed.FullStack
+pub full_starts : (k : yaml_event_type_t) (f : ℤ) (p : place_t) (c : Composer) → (composer_step k f p c).deed ≡ deed.FullStack
     → (is_start k ≡ true) × (nat_le c.room (length c.stack) ≡ true)
 full_starts k f p c h = go c.is_within k h
   where

@@ -13,7 +13,7 @@ use Rattle.libyaml_events.proofs.calls.Staged.{depth}
 use Rattle.libyaml_events.proofs.calls.Staging.{DueOn, GoodIn, InPair, Inside, IsStack, NodeDue, StackOn, around, deeper}
 use Rattle.libyaml_events.proofs.machine.StepKinds as kinds
 use Rattle.libyaml_events.proofs.machine.StepKinds.{Kind, kind, kind_of}
-use Rattle.libyaml_events.proofs.pushes.Feeding.{fed_to, ran_staged}
+use Rattle.libyaml_events.proofs.pushes.HistoryInvariant.{fed_to, ran_staged}
 
 -- a mark more than those of the states below
 one_more : (b : Bool) (n : ℕ) (Fits : List Mark → Type 0) (ms : List Mark) → OneMore b Fits ms

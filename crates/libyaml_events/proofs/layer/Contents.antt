@@ -25,10 +25,10 @@ use Rattle.libyaml_events.specs.declared.step.Step.{Step}
 use Rattle.libyaml_events.specs.declared.step.Step.TheVariants as led
 use Rattle.libyaml_events.specs.machine.Answers.{answer, only_if}
 use Rattle.libyaml_events.specs.machine.Config.{Config, config_of}
-use Rattle.libyaml_events.specs.machine.Machine.{Progressed, content_behind, mapping_start, put, seen, sequence_start}
+use Rattle.libyaml_events.specs.machine.Machine.{Progressed, content_behind, mapping_start_with, put, seen, sequence_start_with}
 use Rattle.libyaml_events.specs.machine.Steps.{Steps}
 use Rattle.libyaml_events.specs.machine.Want.{Given, Texts}
-use Rattle.libyaml_events.specs.automaton.Led.{IsContent, IsOpening, Led, PutsContent, ReadsTag, SaysContent, start_of}
+use Rattle.libyaml_events.specs.automaton.Led.{IsContent, IsOpening, Led, PutsContent, ReadsTag, SaysContent, collection_start}
 
 -- what a step leads to that wants no token hangs on the parser that it leaves alone
 pub steps_from : (out : Progressed) (old old' : Config) (s : Step) (q : Pending) (e : yaml_event_t) (new : Config)
@@ -39,29 +39,29 @@ steps_from out old old' led.Failed q e new n h = h
 
 -- the start of the collection that a token of this kind opens
 block_sequence : (k : unnamed_yaml_token_t_data) (a g : Option (List ℕ))
-    → token_type k ≡ kinds.YAML_BLOCK_SEQUENCE_START_TOKEN → sequence_start a g YAML_BLOCK_SEQUENCE_STYLE ≡ start_of a g k
+    → token_type k ≡ kinds.YAML_BLOCK_SEQUENCE_START_TOKEN → sequence_start_with a g YAML_BLOCK_SEQUENCE_STYLE ≡ collection_start a g k
 block_sequence tok.BlockSequenceStart a g e = refl
 block_sequence _ a g e = absurd cc
 
 block_mapping : (k : unnamed_yaml_token_t_data) (a g : Option (List ℕ))
-    → token_type k ≡ kinds.YAML_BLOCK_MAPPING_START_TOKEN → mapping_start a g YAML_BLOCK_MAPPING_STYLE ≡ start_of a g k
+    → token_type k ≡ kinds.YAML_BLOCK_MAPPING_START_TOKEN → mapping_start_with a g YAML_BLOCK_MAPPING_STYLE ≡ collection_start a g k
 block_mapping tok.BlockMappingStart a g e = refl
 block_mapping _ a g e = absurd cc
 
 flow_sequence : (k : unnamed_yaml_token_t_data) (a g : Option (List ℕ))
-    → token_type k ≡ kinds.YAML_FLOW_SEQUENCE_START_TOKEN → sequence_start a g YAML_FLOW_SEQUENCE_STYLE ≡ start_of a g k
+    → token_type k ≡ kinds.YAML_FLOW_SEQUENCE_START_TOKEN → sequence_start_with a g YAML_FLOW_SEQUENCE_STYLE ≡ collection_start a g k
 flow_sequence tok.FlowSequenceStart a g e = refl
 flow_sequence _ a g e = absurd cc
 
 flow_mapping : (k : unnamed_yaml_token_t_data) (a g : Option (List ℕ))
-    → token_type k ≡ kinds.YAML_FLOW_MAPPING_START_TOKEN → mapping_start a g YAML_FLOW_MAPPING_STYLE ≡ start_of a g k
+    → token_type k ≡ kinds.YAML_FLOW_MAPPING_START_TOKEN → mapping_start_with a g YAML_FLOW_MAPPING_STYLE ≡ collection_start a g k
 flow_mapping tok.FlowMappingStart a g e = refl
 flow_mapping _ a g e = absurd cc
 
 -- so such a result gives that start
 pub opening_put : (out : Progressed) (h : Texts) (a g : Option (List ℕ)) (t : yaml_token_t) (x : Answer) (r r' : Reading)
     (d : Config) (start : yaml_mark_t) → IsOpening x → FitsContent x (token_type t.content) r' → r.start_mark ≡ start
-    → SaysContent out h a g t x r r' d → out ≡ Ok (Given (event (start_of a g t.content) start t.end_mark), d)
+    → SaysContent out h a g t x r r' d → out ≡ Ok (Given (event (collection_start a g t.content) start t.end_mark), d)
 opening_put out h a g t did.BlockSequence r r' d start o f e s
     = rw (sym (block_sequence t.content a g f), sym e) s
 opening_put out h a g t did.BlockMapping r r' d start o f e s
@@ -74,7 +74,7 @@ opening_put out h a g t _ r r' d start o f e s = absurd o
 
 -- the tag in full, where it is read
 pub tag_read : (o : Option unnamed_yaml_token_t_data_tag) (g : Option (List ℕ)) (p : NodePlace)
-    (r : automaton.Properties) (x : automaton_config.Config) (h : Texts) (c : Config) (t : yaml_token_t)
+    (r : automaton.PropertiesRead) (x : automaton_config.Stacks) (h : Texts) (c : Config) (t : yaml_token_t)
     (k : unnamed_yaml_token_t_data) → ReadsTag o c g
     → content_behind o p r x h c t k ≡ put h h.anchor g c t k (automaton.node_content p r x (seen t k) (token_type k))
 tag_read None g p r x h c t k e = rw e refl

@@ -13,13 +13,13 @@ use Rattle.libyaml_automaton.specs.declared.answer.Answer.TheVariants as did
 use Rattle.libyaml_automaton.specs.declared.next.Next.{Next}
 use Rattle.libyaml_automaton.specs.declared.next.Next.TheVariants as next
 use Rattle.libyaml_automaton.specs.declared.reading.Reading.{Reading}
-use Rattle.libyaml_automaton.specs.Answers.{Says, outcome}
+use Rattle.libyaml_automaton.specs.Answers.{IsOutcome, outcome}
 use Rattle.libyaml_automaton.specs.Automaton as automaton
 use Rattle.libyaml_automaton.specs.Config as automaton_config
 use Rattle.libyaml_automaton.specs.Fits.{FitsDocument, Documents}
 use Rattle.libyaml_automaton.specs.Growth.{pushes_at_directive, pushes_at_document, pushes_in_documents, stack_part_of}
 use Rattle.libyaml_automaton.specs.Numbers.{next_of}
-use Rattle.libyaml_automaton.specs.Wanted.{IsAt, token, wanted_by}
+use Rattle.libyaml_automaton.specs.Wanted.{IsAt, kind_and_marks, wanted_by}
 use Rattle.libyaml_automaton.specs.Wanted as automaton_want
 use Rattle.libyaml_events.specs.declared.pending.Pending.{Pending}
 use Rattle.libyaml_events.specs.machine.Answers.{directive_texts, wanted}
@@ -29,13 +29,13 @@ use Rattle.libyaml_events.specs.machine.Machine.{step}
 use Rattle.libyaml_events.specs.machine.Want.{Texts}
 use Rattle.libyaml_events.specs.automaton.Led.{LedDocument}
 use Rattle.libyaml_events.specs.automaton.View.{Ready}
-use Rattle.libyaml_events.proofs.layer.Leads.{says_texts}
+use Rattle.libyaml_events.proofs.layer.StepWithTexts.{says_texts}
 
-pub document_leads : (hs : Handles) (f : Fault) (o : Option yaml_token_t) (a b : automaton_config.Config) (c : Config)
+pub document_leads : (hs : Handles) (f : Fault) (o : Option yaml_token_t) (a b : automaton_config.Stacks) (c : Config)
     (t : yaml_token_t) (q : Pending) (r' : Reading) (x : Answer) (k : yaml_token_type_t) → config_with a hs f o ≡ c
     → k ≡ token_type t.content → (wanted q).texts ≡ directive_texts q.directives
-    → Says (automaton.step (automaton_want.wanted q.reading) a (token k t.start_mark t.end_mark) k)
-    (outcome x (automaton.no_properties (token k t.start_mark t.end_mark)) (token k t.start_mark t.end_mark) r' b)
+    → IsOutcome (automaton.step (automaton_want.purpose_of q.reading) a (kind_and_marks k t.start_mark t.end_mark) k)
+    (outcome x (automaton.no_properties (kind_and_marks k t.start_mark t.end_mark)) (kind_and_marks k t.start_mark t.end_mark) r' b)
     → LedDocument (step (wanted q) c t) (wanted q).texts t x (record q { reading = r' }) (config_with b hs f o)
 document_leads hs f o a b c t q r' x k ec ek declared s =
     subst (λ (y : Config). LedDocument (step (wanted q) y t) (wanted q).texts t x (record q { reading = r' })
@@ -78,8 +78,8 @@ handle_at_document : (b : Bool) (k : unnamed_yaml_token_t_data) → token_type k
 handle_at_document b (tok.TagDirective g) e = refl
 handle_at_document b _ e = absurd cc
 
-handle_there : (n : Next) (r : Reading) (h : Texts) (c : Config) (t : automaton.Token) (k : unnamed_yaml_token_t_data)
-    (start : yaml_mark_t) (v : Bool) (x : automaton_config.Config) → stack_part_of n ≡ Documents → IsAt n c.state
+handle_there : (n : Next) (r : Reading) (h : Texts) (c : Config) (t : automaton.KindAndMarks) (k : unnamed_yaml_token_t_data)
+    (start : yaml_mark_t) (v : Bool) (x : automaton_config.Stacks) → stack_part_of n ≡ Documents → IsAt n c.state
     → token_type k ≡ kinds.YAML_TAG_DIRECTIVE_TOKEN
     → automaton.step (wanted_by n r) (config_of c) t (token_type k) ≡ automaton.AsksHandle start v x
     → grows_for (wanted_by n r) h c k ≡ true
@@ -94,15 +94,15 @@ handle_there next.AtBlockMappingFirstKey r h c t k start v x d i e s = let f = r
 handle_there next.AtEnd r h c t k start v x d i e s = let f = rw i at s in absurd cc
 handle_there _ r h c t k start v x d i e s = absurd cc
 
-pub handle_grows : (hs : Handles) (f : Fault) (o : Option yaml_token_t) (a b : automaton_config.Config) (c : Config)
+pub handle_grows : (hs : Handles) (f : Fault) (o : Option yaml_token_t) (a b : automaton_config.Stacks) (c : Config)
     (t : yaml_token_t) (q : Pending) (r' : Reading) (x : Answer) (k : yaml_token_type_t) → config_with a hs f o ≡ c
     → Ready q c → k ≡ token_type t.content → FitsDocument x k r' b.state
     → stack_part_of (next_of q.reading.next) ≡ Documents
-    → Says (automaton.step (automaton_want.wanted q.reading) a (token k t.start_mark t.end_mark) k)
-    (outcome x (automaton.no_properties (token k t.start_mark t.end_mark)) (token k t.start_mark t.end_mark) r' b)
+    → IsOutcome (automaton.step (automaton_want.purpose_of q.reading) a (kind_and_marks k t.start_mark t.end_mark) k)
+    (outcome x (automaton.no_properties (kind_and_marks k t.start_mark t.end_mark)) (kind_and_marks k t.start_mark t.end_mark) r' b)
     → x ≡ did.AsksHandle → may_grow (wanted q) c t.content ≡ true
 handle_grows hs f o a b c t q r' x k ec y ek fits d s i =
     subst (λ (z : Config). IsAt (next_of q.reading.next) z.state → may_grow (wanted q) z t.content ≡ true) ec
     (λ at. handle_there (next_of q.reading.next) q.reading (wanted q).texts (config_with a hs f o)
-    (token (token_type t.content) t.start_mark t.end_mark) t.content _ _ b d at (sym ek ∙ (rw i at fits))
+    (kind_and_marks (token_type t.content) t.start_mark t.end_mark) t.content _ _ b d at (sym ek ∙ (rw i at fits))
     (rw (i, ek) at s)) y.agrees

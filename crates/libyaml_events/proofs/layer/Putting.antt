@@ -16,10 +16,10 @@ use Rattle.libyaml_automaton.specs.declared.answer.Answer.TheVariants as did
 use Rattle.libyaml_automaton.specs.declared.next.Next.{Next}
 use Rattle.libyaml_automaton.specs.declared.next.Next.TheVariants as next
 use Rattle.libyaml_automaton.specs.declared.reading.Reading.{Reading}
-use Rattle.libyaml_automaton.specs.Answers.{Says, outcome}
+use Rattle.libyaml_automaton.specs.Answers.{IsOutcome, outcome}
 use Rattle.libyaml_automaton.specs.Automaton as automaton
 use Rattle.libyaml_automaton.specs.Config as automaton_config
-use Rattle.libyaml_automaton.specs.Fits.{FitsDirective}
+use Rattle.libyaml_automaton.specs.Fits.{AnswersDirective}
 use Rattle.libyaml_automaton.specs.Numbers.{next_of}
 use Rattle.libyaml_automaton.specs.Wanted.{wanted_by}
 use Rattle.libyaml_automaton.specs.Wanted as automaton_want
@@ -49,9 +49,9 @@ fails_as out new f e k o = subst (λ (x : yaml_error_type_t). FailsAs new out x)
 
 -- a directive that is refused
 pub refused : (x : Answer) (d : Config) (t : yaml_token_t) (r' : Reading) (out : Progressed) (h : Texts)
-    (y : automaton.Step) (a' : automaton_config.Config) → FitsDirective x r' → (x ≡ did.Wants → ⊥)
+    (y : automaton.Step) (a' : automaton_config.Stacks) → AnswersDirective x r' → (x ≡ did.Wants → ⊥)
     → out ≡ put h None None d t t.content y
-    → Says y (outcome x (automaton.no_properties (seen t t.content)) (seen t t.content) r' a')
+    → IsOutcome y (outcome x (automaton.no_properties (seen t t.content)) (seen t t.content) r' a')
     → out ≡ Err (fault_with (record { problem = r'.problem; context_mark = zero_mark; mark = t.start_mark }))
 refused did.Wants d t r' out h y a' f n o s = absurd (n refl)
 refused did.FailedDocument d t r' out h y a' f n o s
@@ -60,7 +60,7 @@ refused _ d t r' out h y a' f n o s = absurd f
 
 -- or after which a token is wanted
 goes_on : (n : Next) (r : Reading) (h : Texts) (k : unnamed_yaml_token_t_data) (p : PropertyTexts) (ds : DirectiveTexts)
-    (a : automaton_config.Config) (hs : Handles) (f : Fault) (o : Option yaml_token_t) (new : Config)
+    (a : automaton_config.Stacks) (hs : Handles) (f : Fault) (o : Option yaml_token_t) (new : Config)
     → n ≡ next.BehindDirective → with_directive h k ≡ directive_texts ds → config_with a (declared_by hs k) f o ≡ new
     → ◌≡◌ {A = Progressed} (Ok (
       Wants (record { next = wanted_by n r; texts = texts_behind h k (wanted_by n r) }),
@@ -74,10 +74,10 @@ at_directive next.BehindDirective r c e = tt
 at_directive _ r c e = absurd cc
 
 pub directive_wants : (out : Progressed) (d : Config) (t : yaml_token_t) (q : Pending) (h : Texts)
-    (a : automaton_config.Config) (new : Config) → next_of q.reading.next ≡ next.BehindDirective
+    (a : automaton_config.Stacks) (new : Config) → next_of q.reading.next ≡ next.BehindDirective
     → with_directive h t.content ≡ directive_texts q.directives
     → config_with a (declared_by d.handles t.content) d.fault d.lookahead ≡ new → d.lookahead ≡ None
-    → out ≡ put h None None d t t.content (automaton.Wants (automaton_want.wanted q.reading) a)
+    → out ≡ put h None None d t t.content (automaton.Wants (automaton_want.purpose_of q.reading) a)
     → Steps out d (Ok (Wants (wanted q))) new × Ready q new
 directive_wants out d t q h a new n i j l o =
     let same : new.lookahead ≡ d.lookahead = sym (ap (λ (x : Config). x.lookahead) j) in (

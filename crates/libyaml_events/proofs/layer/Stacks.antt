@@ -9,7 +9,7 @@ use Rattle.libyaml_automaton.specs.declared.answer.Answer.{Answer}
 use Rattle.libyaml_automaton.specs.declared.answer.Answer.TheVariants as did
 use Rattle.libyaml_automaton.specs.declared.reading.Reading.{Reading}
 use Rattle.libyaml_automaton.specs.Fits.{SameReading, Stays}
-use Rattle.libyaml_automaton.specs.Wanted.{wanted}
+use Rattle.libyaml_automaton.specs.Wanted.{purpose_of}
 
 -- a longer buffer stands for the same stack
 pub grown_states : (n : ℕ) (ss ys : List ℕ) → n ≤ length ss → states_of n (ss ++ ys) ≡ states_of n ss
@@ -26,7 +26,7 @@ pub ruleset cleared = (states_none, marks_none)
 
 -- what a step that was undone leaves is read as before
 pub same_reading : (a : Answer) (r r' : Reading) → Stays a r r' → SameReading r r'
-same_reading did.AsksContent r r' e = (ap (λ (x : Reading). x.next) e, ap wanted e)
+same_reading did.AsksContent r r' e = (ap (λ (x : Reading). x.next) e, ap purpose_of e)
 same_reading _ r r' e = e
 
 pub stays : (a : Answer) (r r' : Reading) → a ≡ did.AsksContent → Stays a r r' → r' ≡ r

@@ -17,7 +17,7 @@ use Rattle.libyaml_events.proofs.calls.OneTokenAhead.{ran_holds}
 use Rattle.libyaml_events.proofs.calls.KnownRuns.{linked_begins, run_given}
 use Rattle.libyaml_events.proofs.calls.Parsed.{ran_needed}
 use Rattle.libyaml_events.proofs.calls.Staged.{staged_depth, staged_over, staged_whole}
-use Rattle.libyaml_events.proofs.pushes.Feeding.{ran_links, ran_staged}
+use Rattle.libyaml_events.proofs.pushes.HistoryInvariant.{ran_links, ran_staged}
 
 module _ {S : Type 0} (p : Parser S) where
   pub faultless : ForHistory p (λ _ _. has_failed p ≡ false)

@@ -126,17 +126,17 @@ unpushed_place (flow_entry c) = around c
 unpushed_place (flow_key c k) = around c
 unpushed_place (flow_value c k x v) = around c
 
-abbrev pub want_part : PartPlace → automaton.Want
+abbrev pub want_part : PartPlace → automaton.Purpose
 want_part (part_place c o m ps key v) = BehindKey v.end
 want_part (part_place c o m ps value v) = BehindValue v.end
 
-abbrev pub want_block : BlockPlace → automaton.Want
+abbrev pub want_block : BlockPlace → automaton.Purpose
 want_block (root t) = automaton.AtState
 want_block (entry c o m is e) = BehindBlockEntry e.end
 want_block (slot c) = want_part c
 want_block (indentless_entry c o is e) = BehindIndentlessEntry e.end
 
-abbrev pub want_place : Place → automaton.Want
+abbrev pub want_place : Place → automaton.Purpose
 want_place (block c) = want_block c
 want_place (flow_entry c) = automaton.AtState
 want_place (flow_key (open_collection p o sequence s is) k) = automaton.AtState
@@ -171,7 +171,7 @@ tag_mark_of (tag h m) = m.start
 tag_mark_of (anchor_tag a m h n) = n.start
 tag_mark_of (tag_anchor h m a n) = m.start
 
-abbrev pub properties_of : Properties → automaton.Properties
+abbrev pub properties_of : Properties → automaton.PropertiesRead
 properties_of ps = record {
   anchor = has_anchor ps;
   tag = has_tag ps;
@@ -253,7 +253,7 @@ abbrev pub behind_directives : Mark → Directives → Want
 behind_directives start ds
     = record { next = BehindDirective start (is_some (version_of ds)); texts = directive_texts ds }
 
-abbrev pub wants : automaton.Want → Want
+abbrev pub wants : automaton.Purpose → Want
 wants n = record { next = n; texts = no_texts }
 
 abbrev pub want_of : Position → Want

@@ -16,7 +16,7 @@ use Rattle.libyaml_grammar.specs.sentences.Tokens.{Alias, Anchor, AnchorName, Bl
 use Rattle.libyaml_grammar.specs.sentences.Tokens.{Tag, TagDirective, TagName, Token, Value, VersionDirective}
 use Rattle.libyaml_automaton.specs.declared.node_place.NodePlace.{NodePlace}
 use Rattle.libyaml_events.specs.parsers.EventsLeft.{rank}
-use Rattle.libyaml_events.specs.parsers.Pops.{raised}
+use Rattle.libyaml_events.specs.parsers.Pops.{with_below}
 use Rattle.std.specs.FinMap.{get}
 use Rattle.libyaml_types.specs.declared.token.unnamed_yaml_token_t_data_tag_directive.{unnamed_yaml_token_t_data_tag_directive}
 use Rattle.libyaml_types.specs.Types.{token_type}
@@ -26,9 +26,10 @@ use Rattle.libyaml_automaton.specs.declared.node_place.NodePlace.TheVariants.{Bl
 use Rattle.libyaml_automaton.specs.declared.slot.Slot.TheVariants as slot
 use Rattle.libyaml_automaton.specs.Slots.{is_nothing_before}
 use Rattle.libyaml_automaton.specs.Config as automaton_config
+use Rattle.libyaml_automaton.specs.Config.{top_mark}
 use Rattle.libyaml_automaton.specs.Automaton as automaton
 use Rattle.libyaml_automaton.specs.Automaton.{BehindBlockEntry, BehindDirective, BehindFlowMappingKey, BehindFlowMappingValue, BehindFlowSequenceValue, BehindIndentlessEntry, BehindKey, BehindProperties, BehindValue}
-use Rattle.libyaml_events.specs.machine.Config.{Config, at, config_of, config_with, keep, no_handles, popped, popped_mark, pushed, pushed_mark, top_mark, with_handle}
+use Rattle.libyaml_events.specs.machine.Config.{Config, state_set, config_of, config_with, keep, no_handles, popped, popped_mark, pushed, pushed_mark, with_handle}
 use Rattle.libyaml_events.specs.machine.Machine.{Progressed, content_behind, content_resolved, empty_scalar, machine, put, is_accepted_in, resolve, seen, with_texts}
 use Rattle.libyaml_events.specs.machine.Want.{Want, Given, Texts, Wants}
 
@@ -55,7 +56,7 @@ kind st.YAML_PARSE_END_STATE = stream_end
 kind _ = inner
 
 -- that of what the next token is wanted for
-abbrev pub kind_for : automaton.Want → yaml_parser_state_t → Kind
+abbrev pub kind_for : automaton.Purpose → yaml_parser_state_t → Kind
 kind_for automaton.AtState s = kind s
 kind_for (BehindDirective start has_version) s = between
 kind_for (BehindProperties p r) s = node_due
@@ -67,11 +68,11 @@ abbrev pub kind_of : Want → Config → Kind
 kind_of w c = kind_for w.next c.state
 
 -- where a collection goes on
-pub data Goes : Kind → Kind → Type 0 where
-  in_indentless : Goes indentless indentless
-  in_inner : Goes inner inner
-  from_key : Goes pair_key pair
-  in_pair : Goes pair pair
+pub data GoesOnWithin : Kind → Kind → Type 0 where
+  in_indentless : GoesOnWithin indentless indentless
+  in_inner : GoesOnWithin inner inner
+  from_key : GoesOnWithin pair_key pair
+  in_pair : GoesOnWithin pair pair
 
 -- the events of nodes
 pub data IsLeaf : unnamed_yaml_event_t_data → Type 0 where
@@ -125,7 +126,7 @@ back_rank true = 4
 back_rank false = 0
 
 -- how much a token may do where it is taken
-abbrev pub room_for : automaton.Want → yaml_parser_state_t → Content → ℕ
+abbrev pub room_for : automaton.Purpose → yaml_parser_state_t → Content → ℕ
 room_for automaton.AtState s k = rank s k
 room_for _ s k = 6
 
@@ -140,7 +141,7 @@ rank_small st.YAML_PARSE_BLOCK_MAPPING_VALUE_STATE Value = omega arith
 rank_small _ k = omega arith
 
 -- the same parser, with the automaton's part changed
-abbrev with_automaton : Config → automaton_config.Config → Config
+abbrev with_automaton : Config → automaton_config.Stacks → Config
 with_automaton c x = config_with x c.handles c.fault c.lookahead
 
 -- it asks nothing
@@ -150,18 +151,18 @@ IsAnswered (automaton.AsksHandle start has_version x) = ⊥
 IsAnswered (automaton.AsksContent p r x) = ⊥
 IsAnswered _ = Unit {0}
 
-no_content_answered : (p : NodePlace) (a b : Bool) (r : automaton.Properties) (x : automaton_config.Config)
-    (t : automaton.Token) → IsAnswered (automaton.no_content p a b r x t)
+no_content_answered : (p : NodePlace) (a b : Bool) (r : automaton.PropertiesRead) (x : automaton_config.Stacks)
+    (t : automaton.KindAndMarks) → IsAnswered (automaton.no_content p a b r x t)
 no_content_answered p false false r x t = tt
 no_content_answered p true b r x t = tt
 no_content_answered p false true r x t = tt
 
-allowed_answered : (allowed : Bool) (s : automaton.Step) (p : NodePlace) (r : automaton.Properties)
-    (x : automaton_config.Config) (t : automaton.Token) → IsAnswered s → IsAnswered (automaton.if_allowed allowed s p r x t)
+allowed_answered : (allowed : Bool) (s : automaton.Step) (p : NodePlace) (r : automaton.PropertiesRead)
+    (x : automaton_config.Stacks) (t : automaton.KindAndMarks) → IsAnswered s → IsAnswered (automaton.if_allowed allowed s p r x t)
 allowed_answered true s p r x t h = h
 allowed_answered false s p r x t h = no_content_answered p r.anchor r.tag r x t
 
-content_answered : (p : NodePlace) (r : automaton.Properties) (x : automaton_config.Config) (t : automaton.Token)
+content_answered : (p : NodePlace) (r : automaton.PropertiesRead) (x : automaton_config.Stacks) (t : automaton.KindAndMarks)
     (k : Content) → IsAnswered (automaton.node_content p r x t (token_type k))
 content_answered p r x t (Scalar s) = tt
 content_answered p r x t FlowSequenceStart = tt
@@ -179,107 +180,107 @@ answered_put h c u k (automaton.AsksContent p r x) i = absurd i
 answered_put h c u k _ i = refl
 
 module _ (ss : List yaml_parser_state_t) (ms : List Mark) (u : Token) where
-  abbrev lower : automaton_config.Config → automaton_config.Config
+  abbrev lower : automaton_config.Stacks → automaton_config.Stacks
   lower x = record x { states = x.states ++ ss; marks = x.marks ++ ms }
 
   -- where a node is due: it fails, wants the token after a property, gives a whole node, or opens a collection
   pub data NodeStep (d : Config) (n : ℕ) (t : Content) : Progressed → Progressed → Type 0 where
     no_node : {f : Fault} → NodeStep d n t (Err f) (Err f)
     property : (w : Want) → kind_of w d ≡ node_due → 0 < n
-        → NodeStep d n t (want w d) (want w (raised ss ms d))
+        → NodeStep d n t (want w d) (want w (with_below ss ms d))
     whole : {e : unnamed_yaml_event_t_data} {a b : Mark} (kept : Bool) → IsLeaf e → back_rank kept < n
-        → NodeStep d n t (give e a b (hold kept u (popped d))) (give e a b (hold kept u (popped (raised ss ms d))))
+        → NodeStep d n t (give e a b (hold kept u (popped d))) (give e a b (hold kept u (popped (with_below ss ms d))))
     opens : {e : unnamed_yaml_event_t_data} {a b m : Mark} (s : yaml_parser_state_t) → IsStart e → kind s ≡ inner → 0 < n
-        → NodeStep d n t (give e a b (at s (pushed_mark m d))) (give e a b (at s (pushed_mark m (raised ss ms d))))
+        → NodeStep d n t (give e a b (state_set s (pushed_mark m d))) (give e a b (state_set s (pushed_mark m (with_below ss ms d))))
     opens_indentless : {e : unnamed_yaml_event_t_data} {a b : Mark} → IsStart e
         → rank st.YAML_PARSE_INDENTLESS_SEQUENCE_ENTRY_STATE t < n
-        → NodeStep d n t (give e a b (keep u (at st.YAML_PARSE_INDENTLESS_SEQUENCE_ENTRY_STATE d)))
-        (give e a b (keep u (at st.YAML_PARSE_INDENTLESS_SEQUENCE_ENTRY_STATE (raised ss ms d))))
+        → NodeStep d n t (give e a b (keep u (state_set st.YAML_PARSE_INDENTLESS_SEQUENCE_ENTRY_STATE d)))
+        (give e a b (keep u (state_set st.YAML_PARSE_INDENTLESS_SEQUENCE_ENTRY_STATE (with_below ss ms d))))
 
   pub data StepKind (c : Config) (n : ℕ) (t : Content) : Kind → Progressed → Progressed → Type 0 where
     fails : {k : Kind} {f : Fault} → StepKind c n t k (Err f) (Err f)
     fails_in : (f : Mark → Fault) → StepKind c n t inner (Err (f (top_mark c.marks))) (Err (f (top_mark (c.marks ++ ms))))
-    wants : {k : Kind} (w : Want) → kind_of w c ≡ k → 0 < n → StepKind c n t k (want w c) (want w (raised ss ms c))
-    wants_entry : (w : Want) (s : yaml_parser_state_t) → kind s ≡ inner → kind_of w (at s c) ≡ inner → 0 < n
-        → StepKind c n t inner (want w (at s c)) (want w (at s (raised ss ms c)))
+    wants : {k : Kind} (w : Want) → kind_of w c ≡ k → 0 < n → StepKind c n t k (want w c) (want w (with_below ss ms c))
+    wants_entry : (w : Want) (s : yaml_parser_state_t) → kind s ≡ inner → kind_of w (state_set s c) ≡ inner → 0 < n
+        → StepKind c n t inner (want w (state_set s c)) (want w (state_set s (with_below ss ms c)))
     declares : (w : Want) (h p : List ℕ) → kind_of w c ≡ between → 0 < n
-        → StepKind c n t between (want w (with_handle h p c)) (want w (with_handle h p (raised ss ms c)))
+        → StepKind c n t between (want w (with_handle h p c)) (want w (with_handle h p (with_below ss ms c)))
     begins_stream : {a b : Mark} (s : unnamed_yaml_event_t_data_stream_start) → 0 < n
-        → StepKind c n t stream_start (give (ev.StreamStart s) a b (at st.YAML_PARSE_IMPLICIT_DOCUMENT_START_STATE c))
-        (give (ev.StreamStart s) a b (at st.YAML_PARSE_IMPLICIT_DOCUMENT_START_STATE (raised ss ms c)))
-    ends_stream : {a b : Mark} → 0 < n → StepKind c n t between (give ev.StreamEnd a b (at st.YAML_PARSE_END_STATE c))
-        (give ev.StreamEnd a b (at st.YAML_PARSE_END_STATE (raised ss ms c)))
+        → StepKind c n t stream_start (give (ev.StreamStart s) a b (state_set st.YAML_PARSE_IMPLICIT_DOCUMENT_START_STATE c))
+        (give (ev.StreamStart s) a b (state_set st.YAML_PARSE_IMPLICIT_DOCUMENT_START_STATE (with_below ss ms c)))
+    ends_stream : {a b : Mark} → 0 < n → StepKind c n t between (give ev.StreamEnd a b (state_set st.YAML_PARSE_END_STATE c))
+        (give ev.StreamEnd a b (state_set st.YAML_PARSE_END_STATE (with_below ss ms c)))
     begins_document : {a b : Mark} (d : unnamed_yaml_event_t_data_document_start) (s : yaml_parser_state_t)
         (kept : Bool) → kind s ≡ node_due
         → suc (kept_rank kept s t) < n
         → StepKind c n t between (give (ev.DocumentStart d) a b (hold kept u (begin_document s c)))
-        (give (ev.DocumentStart d) a b (hold kept u (begin_document s (raised ss ms c))))
+        (give (ev.DocumentStart d) a b (hold kept u (begin_document s (with_below ss ms c))))
     ends_document : {a b : Mark} (d : unnamed_yaml_event_t_data_document_end) (s : yaml_parser_state_t)
         (e kept : Bool) → kind s ≡ between
         → kept_rank kept s t < n → StepKind c n t root_end (give (ev.DocumentEnd d) a b
         (hold kept u (end_document s e c)))
-        (give (ev.DocumentEnd d) a b (hold kept u (end_document s e (raised ss ms c))))
+        (give (ev.DocumentEnd d) a b (hold kept u (end_document s e (with_below ss ms c))))
     node : {o o' : Progressed} → NodeStep c n t o o' → StepKind c n t node_due o o'
-    entry : {k : Kind} {o o' : Progressed} (s : yaml_parser_state_t) (m : ℕ) → n ≡ suc m → Goes k (kind s)
+    entry : {k : Kind} {o o' : Progressed} (s : yaml_parser_state_t) (m : ℕ) → n ≡ suc m → GoesOnWithin k (kind s)
         → NodeStep (pushed s c) m t o o'
         → StepKind c n t k o o'
-    empty : {k : Kind} {m : Mark} (s : yaml_parser_state_t) → Goes k (kind s) → rank s t < n
-        → StepKind c n t k (give empty_scalar m m (keep u (at s c))) (give empty_scalar m m (keep u (at s (raised ss ms c))))
+    empty : {k : Kind} {m : Mark} (s : yaml_parser_state_t) → GoesOnWithin k (kind s) → rank s t < n
+        → StepKind c n t k (give empty_scalar m m (keep u (state_set s c))) (give empty_scalar m m (keep u (state_set s (with_below ss ms c))))
     begins_pair : {a b : Mark} (s : unnamed_yaml_event_t_data_mapping_start) → 0 < n
-        → StepKind c n t inner (give (ev.MappingStart s) a b (at st.YAML_PARSE_FLOW_SEQUENCE_ENTRY_MAPPING_KEY_STATE c))
-        (give (ev.MappingStart s) a b (at st.YAML_PARSE_FLOW_SEQUENCE_ENTRY_MAPPING_KEY_STATE (raised ss ms c)))
+        → StepKind c n t inner (give (ev.MappingStart s) a b (state_set st.YAML_PARSE_FLOW_SEQUENCE_ENTRY_MAPPING_KEY_STATE c))
+        (give (ev.MappingStart s) a b (state_set st.YAML_PARSE_FLOW_SEQUENCE_ENTRY_MAPPING_KEY_STATE (with_below ss ms c)))
     ends_pair : {a b : Mark} → 1 < n
-        → StepKind c n t pair (give ev.MappingEnd a b (keep u (at st.YAML_PARSE_FLOW_SEQUENCE_ENTRY_STATE c)))
-        (give ev.MappingEnd a b (keep u (at st.YAML_PARSE_FLOW_SEQUENCE_ENTRY_STATE (raised ss ms c))))
+        → StepKind c n t pair (give ev.MappingEnd a b (keep u (state_set st.YAML_PARSE_FLOW_SEQUENCE_ENTRY_STATE c)))
+        (give ev.MappingEnd a b (keep u (state_set st.YAML_PARSE_FLOW_SEQUENCE_ENTRY_STATE (with_below ss ms c))))
     closes : {e : unnamed_yaml_event_t_data} → IsEnd e → 0 < n
-        → StepKind c n t inner (close_collection e u c) (close_collection e u (raised ss ms c))
+        → StepKind c n t inner (close_collection e u c) (close_collection e u (with_below ss ms c))
     ends_indentless : {a b : Mark} → 4 < n → StepKind c n t indentless (give ev.SequenceEnd a b (keep u (popped c)))
-        (give ev.SequenceEnd a b (keep u (popped (raised ss ms c))))
+        (give ev.SequenceEnd a b (keep u (popped (with_below ss ms c))))
 
   module _ (h : Texts) (c : Config) where
     -- nodes
     module _ (a g : Option (List ℕ)) where
-      none : (p : NodePlace) (b d : Bool) (r : automaton.Properties) (x : automaton_config.Config) (n : ℕ) (k : Content)
+      none : (p : NodePlace) (b d : Bool) (r : automaton.PropertiesRead) (x : automaton_config.Stacks) (n : ℕ) (k : Content)
           → ((b ≡ false) × (d ≡ false)) ⊎ (4 < n)
           → NodeStep (with_automaton c x) n k (put h a g c u k (automaton.no_content p b d r x (seen u k)))
-          (put h a g (raised ss ms c) u k (automaton.no_content p b d r (lower x) (seen u k)))
+          (put h a g (with_below ss ms c) u k (automaton.no_content p b d r (lower x) (seen u k)))
       none p false false r x n k l = no_node
       none p false true r x n k (inl l) = absurd cc
       none p false true r x n k (inr l) = whole true (a_scalar _) l
       none p true d r x n k (inl l) = absurd cc
       none p true d r x n k (inr l) = whole true (a_scalar _) l
 
-      sequence_opened : (allowed : Bool) (p : NodePlace) (r : automaton.Properties) (x : automaton_config.Config) (n : ℕ)
+      sequence_opened : (allowed : Bool) (p : NodePlace) (r : automaton.PropertiesRead) (x : automaton_config.Stacks) (n : ℕ)
           (k : Content) → 0 < n → ((r.anchor ≡ false) × (r.tag ≡ false)) ⊎ (4 < n)
           → NodeStep (with_automaton c x) n k
           (put h a g c u k (automaton.if_allowed allowed (automaton.open_collection (automaton.sequence_start r false) st.YAML_PARSE_BLOCK_SEQUENCE_ENTRY_STATE r x (seen u k)) p r x (seen u k)))
-          (put h a g (raised ss ms c) u k (automaton.if_allowed allowed (automaton.open_collection (automaton.sequence_start r false) st.YAML_PARSE_BLOCK_SEQUENCE_ENTRY_STATE r (lower x) (seen u k)) p r (lower x)
+          (put h a g (with_below ss ms c) u k (automaton.if_allowed allowed (automaton.open_collection (automaton.sequence_start r false) st.YAML_PARSE_BLOCK_SEQUENCE_ENTRY_STATE r (lower x) (seen u k)) p r (lower x)
           (seen u k)))
       sequence_opened true p r x n k l m = opens _ (a_sequence _) refl l
       sequence_opened false p r x n k l m = none p r.anchor r.tag r x n k m
 
-      mapping_opened : (allowed : Bool) (p : NodePlace) (r : automaton.Properties) (x : automaton_config.Config) (n : ℕ)
+      mapping_opened : (allowed : Bool) (p : NodePlace) (r : automaton.PropertiesRead) (x : automaton_config.Stacks) (n : ℕ)
           (k : Content) → 0 < n → ((r.anchor ≡ false) × (r.tag ≡ false)) ⊎ (4 < n)
           → NodeStep (with_automaton c x) n k
           (put h a g c u k (automaton.if_allowed allowed (automaton.open_collection (automaton.mapping_start r false) st.YAML_PARSE_BLOCK_MAPPING_KEY_STATE r x (seen u k)) p r x (seen u k)))
-          (put h a g (raised ss ms c) u k (automaton.if_allowed allowed (automaton.open_collection (automaton.mapping_start r false) st.YAML_PARSE_BLOCK_MAPPING_KEY_STATE r (lower x) (seen u k)) p r (lower x)
+          (put h a g (with_below ss ms c) u k (automaton.if_allowed allowed (automaton.open_collection (automaton.mapping_start r false) st.YAML_PARSE_BLOCK_MAPPING_KEY_STATE r (lower x) (seen u k)) p r (lower x)
           (seen u k)))
       mapping_opened true p r x n k l m = opens _ (a_mapping _) refl l
       mapping_opened false p r x n k l m = none p r.anchor r.tag r x n k m
 
-      indentless_opened : (allowed : Bool) (p : NodePlace) (r : automaton.Properties) (x : automaton_config.Config) (n : ℕ)
+      indentless_opened : (allowed : Bool) (p : NodePlace) (r : automaton.PropertiesRead) (x : automaton_config.Stacks) (n : ℕ)
           (k : Content) → rank st.YAML_PARSE_INDENTLESS_SEQUENCE_ENTRY_STATE k < n → ((r.anchor ≡ false) × (r.tag ≡ false)) ⊎ (4 < n)
           → NodeStep (with_automaton c x) n k
           (put h a g c u k (automaton.if_allowed allowed (automaton.open_indentless r x (seen u k)) p r x (seen u k)))
-          (put h a g (raised ss ms c) u k (automaton.if_allowed allowed (automaton.open_indentless r (lower x) (seen u k)) p r (lower x)
+          (put h a g (with_below ss ms c) u k (automaton.if_allowed allowed (automaton.open_indentless r (lower x) (seen u k)) p r (lower x)
           (seen u k)))
       indentless_opened true p r x n k l m = opens_indentless (a_sequence _) l
       indentless_opened false p r x n k l m = none p r.anchor r.tag r x n k m
 
-      content : (p : NodePlace) (r : automaton.Properties) (x : automaton_config.Config) (n : ℕ) (k : Content) → 1 < n
+      content : (p : NodePlace) (r : automaton.PropertiesRead) (x : automaton_config.Stacks) (n : ℕ) (k : Content) → 1 < n
           → ((r.anchor ≡ false) × (r.tag ≡ false)) ⊎ (4 < n)
           → NodeStep (with_automaton c x) n k (put h a g c u k (automaton.node_content p r x (seen u k) (token_type k)))
-          (put h a g (raised ss ms c) u k (automaton.node_content p r (lower x) (seen u k) (token_type k)))
+          (put h a g (with_below ss ms c) u k (automaton.node_content p r (lower x) (seen u k) (token_type k)))
       content p r x n (Scalar s) l m = whole false (a_scalar _) (omega arith)
       content p r x n FlowSequenceStart l m = opens _ (a_sequence _) refl (omega arith)
       content p r x n FlowMappingStart l m = opens _ (a_mapping _) refl (omega arith)
@@ -288,63 +289,63 @@ module _ (ss : List yaml_parser_state_t) (ms : List Mark) (u : Token) where
       content p r x n BlockEntry l m = indentless_opened (automaton.may_be_indentless p) p r x n _ l m
       content p r x n k l m = none p r.anchor r.tag r x n k m
 
-    bare : (p : NodePlace) (x : automaton_config.Config) (n : ℕ) (k : Content) → 1 < n
+    bare : (p : NodePlace) (x : automaton_config.Stacks) (n : ℕ) (k : Content) → 1 < n
         → NodeStep (with_automaton c x) n k
         (with_texts h c u k (automaton.node_content p (automaton.no_properties (seen u k)) x (seen u k) (token_type k)))
-        (with_texts h (raised ss ms c) u k
+        (with_texts h (with_below ss ms c) u k
         (automaton.node_content p (automaton.no_properties (seen u k)) (lower x) (seen u k) (token_type k)))
     bare p x n k l =
         let r = automaton.no_properties (seen u k) in
-        subst (λ (o : Progressed). NodeStep (with_automaton c x) n k o (with_texts h (raised ss ms c) u k
+        subst (λ (o : Progressed). NodeStep (with_automaton c x) n k o (with_texts h (with_below ss ms c) u k
         (automaton.node_content p r (lower x) (seen u k) (token_type k))))
         (answered_put h c u k _ (content_answered p r x (seen u k) k))
         (subst (λ (o : Progressed). NodeStep (with_automaton c x) n k
         (put h None None c u k (automaton.node_content p r x (seen u k) (token_type k))) o)
-        (answered_put h (raised ss ms c) u k _ (content_answered p r (lower x) (seen u k) k))
+        (answered_put h (with_below ss ms c) u k _ (content_answered p r (lower x) (seen u k) k))
         (content None None p r x n k l (inl (refl, refl))))
 
-    parsed : (p : NodePlace) (x : automaton_config.Config) (n : ℕ) (k : Content) → 1 < n
+    parsed : (p : NodePlace) (x : automaton_config.Stacks) (n : ℕ) (k : Content) → 1 < n
         → NodeStep (with_automaton c x) n k (with_texts h c u k (automaton.parse_node p x (seen u k) (token_type k)))
-        (with_texts h (raised ss ms c) u k (automaton.parse_node p (lower x) (seen u k) (token_type k)))
+        (with_texts h (with_below ss ms c) u k (automaton.parse_node p (lower x) (seen u k) (token_type k)))
     parsed p x n (Alias a) l = whole false (an_alias _) (omega arith)
     parsed p x n (Anchor a) l = property _ refl (omega arith)
     parsed p x n (Tag g) l = property _ refl (omega arith)
     parsed p x n k l = bare p x n k l
 
-    resolves : (p : NodePlace) (r : automaton.Properties) (x : automaton_config.Config) (o : Option (List ℕ)) (n : ℕ)
+    resolves : (p : NodePlace) (r : automaton.PropertiesRead) (x : automaton_config.Stacks) (o : Option (List ℕ)) (n : ℕ)
         (k : Content) → 4 < n
         → NodeStep (with_automaton c x) n k (content_resolved o p r x h c u k)
-        (content_resolved o p r (lower x) h (raised ss ms c) u k)
+        (content_resolved o p r (lower x) h (with_below ss ms c) u k)
     resolves p r x None n k l = no_node
     resolves p r x (Some g) n k l = content h.anchor (Some g) p r x n k (omega arith) (inr l)
 
-    behind : (p : NodePlace) (r : automaton.Properties) (x : automaton_config.Config)
+    behind : (p : NodePlace) (r : automaton.PropertiesRead) (x : automaton_config.Stacks)
         (o : Option TagName) (n : ℕ) (k : Content) → 4 < n
         → NodeStep (with_automaton c x) n k (content_behind o p r x h c u k)
-        (content_behind o p r (lower x) h (raised ss ms c) u k)
+        (content_behind o p r (lower x) h (with_below ss ms c) u k)
     behind p r x None n k l = content h.anchor None p r x n k (omega arith) (inr l)
     behind p r x (Some g) n k l = resolves p r x (resolve c.handles g.handle g.suffix) n k l
 
-    anchored : (b : Bool) (p : NodePlace) (r : automaton.Properties) (x : automaton_config.Config) (n : ℕ)
+    anchored : (b : Bool) (p : NodePlace) (r : automaton.PropertiesRead) (x : automaton_config.Stacks) (n : ℕ)
         (s : AnchorName) → 4 < n
         → NodeStep (with_automaton c x) n (Anchor s)
         (with_texts h c u (Anchor s) (automaton.anchor_behind b p r x (seen u (Anchor s))))
-        (with_texts h (raised ss ms c) u (Anchor s) (automaton.anchor_behind b p r (lower x) (seen u (Anchor s))))
+        (with_texts h (with_below ss ms c) u (Anchor s) (automaton.anchor_behind b p r (lower x) (seen u (Anchor s))))
     anchored false p r x n s l = property _ refl (omega arith)
     anchored true p r x n s l = behind p r x h.tag n (Anchor s) l
 
-    with_tag : (b : Bool) (p : NodePlace) (r : automaton.Properties) (x : automaton_config.Config) (n : ℕ)
+    with_tag : (b : Bool) (p : NodePlace) (r : automaton.PropertiesRead) (x : automaton_config.Stacks) (n : ℕ)
         (s : TagName) → 4 < n
         → NodeStep (with_automaton c x) n (Tag s)
         (with_texts h c u (Tag s) (automaton.tag_behind b p r x (seen u (Tag s))))
-        (with_texts h (raised ss ms c) u (Tag s) (automaton.tag_behind b p r (lower x) (seen u (Tag s))))
+        (with_texts h (with_below ss ms c) u (Tag s) (automaton.tag_behind b p r (lower x) (seen u (Tag s))))
     with_tag false p r x n s l = property _ refl (omega arith)
     with_tag true p r x n s l = behind p r x h.tag n (Tag s) l
 
-    properties : (p : NodePlace) (r : automaton.Properties) (x : automaton_config.Config) (n : ℕ) (k : Content) → 4 < n
+    properties : (p : NodePlace) (r : automaton.PropertiesRead) (x : automaton_config.Stacks) (n : ℕ) (k : Content) → 4 < n
         → NodeStep (with_automaton c x) n k
         (with_texts h c u k (automaton.behind_properties p r x (seen u k) (token_type k)))
-        (with_texts h (raised ss ms c) u k (automaton.behind_properties p r (lower x) (seen u k) (token_type k)))
+        (with_texts h (with_below ss ms c) u k (automaton.behind_properties p r (lower x) (seen u k) (token_type k)))
     properties p r x n (Anchor a) l = anchored r.anchor p r x n a l
     properties p r x n (Tag g) l = with_tag r.tag p r x n g l
     properties p r x n k l = behind p r x h.tag n k l
@@ -352,7 +353,7 @@ module _ (ss : List yaml_parser_state_t) (ms : List Mark) (u : Token) where
     -- documents
     versioned : (b : Bool) (start : Mark) (n : ℕ) (k : Content) → 0 < n
         → StepKind c n k between (put h None None c u k (automaton.first_version b start (config_of c) (seen u k)))
-        (put h None None (raised ss ms c) u k (automaton.first_version b start (config_of (raised ss ms c)) (seen u k)))
+        (put h None None (with_below ss ms c) u k (automaton.first_version b start (config_of (with_below ss ms c)) (seen u k)))
     versioned true start n (VersionDirective v) l = wants _ refl l
     versioned true start n (TagDirective v) l = declares _ v.handle v.prefix refl l
     versioned true start n k l = wants _ refl l
@@ -360,7 +361,7 @@ module _ (ss : List yaml_parser_state_t) (ms : List Mark) (u : Token) where
 
     version_read : (b : Bool) (start : Mark) (n : ℕ) (k : Content) → 0 < n
         → StepKind c n k between (with_texts h c u k (automaton.version_directive b start (config_of c) (seen u k)))
-        (with_texts h (raised ss ms c) u k (automaton.version_directive b start (config_of (raised ss ms c)) (seen u k)))
+        (with_texts h (with_below ss ms c) u k (automaton.version_directive b start (config_of (with_below ss ms c)) (seen u k)))
     version_read true start n k l = fails
     version_read false start n k l = versioned (is_accepted_in k) start n k l
 
@@ -368,16 +369,16 @@ module _ (ss : List yaml_parser_state_t) (ms : List Mark) (u : Token) where
         → StepKind c n (TagDirective d) between
         (put h None None c u (TagDirective d)
         (automaton.tag_directive b start has_version (config_of c) (seen u (TagDirective d))))
-        (put h None None (raised ss ms c) u (TagDirective d)
-        (automaton.tag_directive b start has_version (config_of (raised ss ms c)) (seen u (TagDirective d))))
+        (put h None None (with_below ss ms c) u (TagDirective d)
+        (automaton.tag_directive b start has_version (config_of (with_below ss ms c)) (seen u (TagDirective d))))
     tag_read true start has_version n d l = fails
     tag_read false start has_version n d l = declares _ d.handle d.prefix refl l
 
     explicit : (start : Mark) (has_version : Bool) (n : ℕ) (k : Content) → 1 < n
         → StepKind c n k between
         (with_texts h c u k (automaton.explicit_document start has_version (config_of c) (seen u k) (token_type k)))
-        (with_texts h (raised ss ms c) u k
-        (automaton.explicit_document start has_version (config_of (raised ss ms c)) (seen u k) (token_type k)))
+        (with_texts h (with_below ss ms c) u k
+        (automaton.explicit_document start has_version (config_of (with_below ss ms c)) (seen u k) (token_type k)))
     explicit start b n (VersionDirective v) l = version_read b start n (VersionDirective v) (omega arith)
     explicit start b n (TagDirective g) l = tag_read (is_some (get c.handles g.handle)) start b n g (omega arith)
     explicit start b n DocumentStart l = begins_document _ st.YAML_PARSE_DOCUMENT_CONTENT_STATE false refl l
@@ -385,21 +386,21 @@ module _ (ss : List yaml_parser_state_t) (ms : List Mark) (u : Token) where
 
     implicit : (n : ℕ) (k : Content) → 3 < n
         → StepKind c n k between (with_texts h c u k (automaton.implicit_document (config_of c) (seen u k)))
-        (with_texts h (raised ss ms c) u k (automaton.implicit_document (config_of (raised ss ms c)) (seen u k)))
+        (with_texts h (with_below ss ms c) u k (automaton.implicit_document (config_of (with_below ss ms c)) (seen u k)))
     implicit n k l = begins_document _ st.YAML_PARSE_BLOCK_NODE_STATE true refl l
 
     further : (b : Bool) (n : ℕ) (k : Content) → kind c.state ≡ between → 3 < n
         → StepKind c n k between (with_texts h c u k (automaton.further_document_end b (config_of c) (seen u k)))
-        (with_texts h (raised ss ms c) u k
-        (automaton.further_document_end b (config_of (raised ss ms c)) (seen u k)))
+        (with_texts h (with_below ss ms c) u k
+        (automaton.further_document_end b (config_of (with_below ss ms c)) (seen u k)))
     further true n k e l = wants _ e (omega arith)
     further false n k e l = implicit n k l
 
     implicit_start : (n : ℕ) (k : Content) → kind c.state ≡ between → 3 < n
         → StepKind c n k between
         (with_texts h c u k (automaton.parse_implicit_document_start (config_of c) (seen u k) (token_type k)))
-        (with_texts h (raised ss ms c) u k
-        (automaton.parse_implicit_document_start (config_of (raised ss ms c)) (seen u k) (token_type k)))
+        (with_texts h (with_below ss ms c) u k
+        (automaton.parse_implicit_document_start (config_of (with_below ss ms c)) (seen u k) (token_type k)))
     implicit_start n StreamEnd e l = ends_stream (omega arith)
     implicit_start n (VersionDirective v) e l = explicit u.start_mark false n (VersionDirective v) (omega arith)
     implicit_start n (TagDirective g) e l = explicit u.start_mark false n (TagDirective g) (omega arith)
@@ -410,31 +411,31 @@ module _ (ss : List yaml_parser_state_t) (ms : List Mark) (u : Token) where
     explicit_start : (n : ℕ) (k : Content) → 1 < n
         → StepKind c n k between
         (with_texts h c u k (automaton.parse_document_start (config_of c) (seen u k) (token_type k)))
-        (with_texts h (raised ss ms c) u k
-        (automaton.parse_document_start (config_of (raised ss ms c)) (seen u k) (token_type k)))
+        (with_texts h (with_below ss ms c) u k
+        (automaton.parse_document_start (config_of (with_below ss ms c)) (seen u k) (token_type k)))
     explicit_start n StreamEnd l = ends_stream (omega arith)
     explicit_start n k l = explicit u.start_mark false n k l
 
     -- where a node may be nothing: in a collection, and as a document's content
     slotted : (nothing : Bool) (s : yaml_parser_state_t) (p : NodePlace) (m : Mark) (n : ℕ) (k : Content) {i : Kind}
-        → Goes i (kind s) → rank s k ≤ n → 1 < n
+        → GoesOnWithin i (kind s) → rank s k ≤ n → 1 < n
         → StepKind c (suc n) k i
-        (with_texts h c u k (if nothing then automaton.process_empty_scalar m (automaton_config.at s (config_of c))
-        else automaton.parse_node p (automaton_config.pushed s (config_of c)) (seen u k) (token_type k)))
-        (with_texts h (raised ss ms c) u k (if nothing
-        then automaton.process_empty_scalar m (automaton_config.at s (config_of (raised ss ms c)))
-        else automaton.parse_node p (automaton_config.pushed s (config_of (raised ss ms c))) (seen u k) (token_type k)))
+        (with_texts h c u k (if nothing then automaton.process_empty_scalar m (automaton_config.in_state s (config_of c))
+        else automaton.parse_node p (automaton_config.with_state s (config_of c)) (seen u k) (token_type k)))
+        (with_texts h (with_below ss ms c) u k (if nothing
+        then automaton.process_empty_scalar m (automaton_config.in_state s (config_of (with_below ss ms c)))
+        else automaton.parse_node p (automaton_config.with_state s (config_of (with_below ss ms c))) (seen u k) (token_type k)))
     slotted true s p m n k g l i = empty s g (omega arith)
-    slotted false s p m n k g l i = entry s n refl g (parsed p (automaton_config.pushed s (config_of c)) n k i)
+    slotted false s p m n k g l i = entry s n refl g (parsed p (automaton_config.with_state s (config_of c)) n k i)
 
     rooted : (nothing : Bool) (k : Content)
         → StepKind c 5 k node_due
         (with_texts h c u k (if nothing
-        then automaton.process_empty_scalar u.start_mark (automaton_config.popped (config_of c))
+        then automaton.process_empty_scalar u.start_mark (automaton_config.without_state (config_of c))
         else automaton.parse_node Block (config_of c) (seen u k) (token_type k)))
-        (with_texts h (raised ss ms c) u k (if nothing
-        then automaton.process_empty_scalar u.start_mark (automaton_config.popped (config_of (raised ss ms c)))
-        else automaton.parse_node Block (config_of (raised ss ms c)) (seen u k) (token_type k)))
+        (with_texts h (with_below ss ms c) u k (if nothing
+        then automaton.process_empty_scalar u.start_mark (automaton_config.without_state (config_of (with_below ss ms c)))
+        else automaton.parse_node Block (config_of (with_below ss ms c)) (seen u k) (token_type k)))
     rooted true k = node (whole true (a_scalar _) (omega arith))
     rooted false k = node (parsed Block (config_of c) _ k (omega arith))
 
@@ -442,7 +443,7 @@ module _ (ss : List yaml_parser_state_t) (ms : List Mark) (u : Token) where
     at_a_state : (s : yaml_parser_state_t) (k : Content) → kind c.state ≡ kind s
         → StepKind c (rank s k) k (kind s)
         (with_texts h c u k (automaton.at_state s (config_of c) (seen u k) (token_type k)))
-        (with_texts h (raised ss ms c) u k (automaton.at_state s (config_of (raised ss ms c)) (seen u k) (token_type k)))
+        (with_texts h (with_below ss ms c) u k (automaton.at_state s (config_of (with_below ss ms c)) (seen u k) (token_type k)))
     at_a_state st.YAML_PARSE_STREAM_START_STATE (StreamStart x) e = begins_stream _ (omega arith)
     at_a_state st.YAML_PARSE_STREAM_START_STATE k e = fails
     at_a_state st.YAML_PARSE_IMPLICIT_DOCUMENT_START_STATE k e = implicit_start _ k e (omega arith)
@@ -469,7 +470,7 @@ module _ (ss : List yaml_parser_state_t) (ms : List Mark) (u : Token) where
     at_a_state st.YAML_PARSE_FLOW_SEQUENCE_FIRST_ENTRY_STATE Key e = begins_pair _ (omega arith)
     at_a_state st.YAML_PARSE_FLOW_SEQUENCE_FIRST_ENTRY_STATE k e
         = entry st.YAML_PARSE_FLOW_SEQUENCE_ENTRY_STATE 2 refl in_inner
-        (parsed Flow (automaton_config.pushed st.YAML_PARSE_FLOW_SEQUENCE_ENTRY_STATE (config_of c)) 2 k (omega arith))
+        (parsed Flow (automaton_config.with_state st.YAML_PARSE_FLOW_SEQUENCE_ENTRY_STATE (config_of c)) 2 k (omega arith))
     at_a_state st.YAML_PARSE_FLOW_SEQUENCE_ENTRY_STATE FlowEntry e
         = wants_entry _ st.YAML_PARSE_FLOW_SEQUENCE_FIRST_ENTRY_STATE refl refl (omega arith)
     at_a_state st.YAML_PARSE_FLOW_SEQUENCE_ENTRY_STATE FlowSequenceEnd e = closes sequence_end (omega arith)
@@ -484,7 +485,7 @@ module _ (ss : List yaml_parser_state_t) (ms : List Mark) (u : Token) where
     at_a_state st.YAML_PARSE_FLOW_MAPPING_FIRST_KEY_STATE Key e = wants _ refl (omega arith)
     at_a_state st.YAML_PARSE_FLOW_MAPPING_FIRST_KEY_STATE k e
         = entry st.YAML_PARSE_FLOW_MAPPING_EMPTY_VALUE_STATE 2 refl in_inner
-        (parsed Flow (automaton_config.pushed st.YAML_PARSE_FLOW_MAPPING_EMPTY_VALUE_STATE (config_of c)) 2 k (omega arith))
+        (parsed Flow (automaton_config.with_state st.YAML_PARSE_FLOW_MAPPING_EMPTY_VALUE_STATE (config_of c)) 2 k (omega arith))
     at_a_state st.YAML_PARSE_FLOW_MAPPING_KEY_STATE FlowEntry e
         = wants_entry _ st.YAML_PARSE_FLOW_MAPPING_FIRST_KEY_STATE refl refl (omega arith)
     at_a_state st.YAML_PARSE_FLOW_MAPPING_KEY_STATE FlowMappingEnd e = closes mapping_end (omega arith)
@@ -494,9 +495,9 @@ module _ (ss : List yaml_parser_state_t) (ms : List Mark) (u : Token) where
     at_a_state st.YAML_PARSE_FLOW_MAPPING_EMPTY_VALUE_STATE k e = empty _ in_inner (omega arith)
     at_a_state _ k e = fails
 
-    at_want : (w : automaton.Want) (k : Content) → StepKind c (room_for w c.state k) k (kind_for w c.state)
+    at_want : (w : automaton.Purpose) (k : Content) → StepKind c (room_for w c.state k) k (kind_for w c.state)
         (with_texts h c u k (automaton.step w (config_of c) (seen u k) (token_type k)))
-        (with_texts h (raised ss ms c) u k (automaton.step w (config_of (raised ss ms c)) (seen u k) (token_type k)))
+        (with_texts h (with_below ss ms c) u k (automaton.step w (config_of (with_below ss ms c)) (seen u k) (token_type k)))
     at_want automaton.AtState k = at_a_state c.state k refl
     at_want (BehindDirective start has_version) k = explicit start has_version _ k (omega arith)
     at_want (BehindProperties p r) k = node (properties p r (config_of c) _ k (omega arith))
@@ -523,5 +524,5 @@ module _ (ss : List yaml_parser_state_t) (ms : List Mark) (u : Token) where
 
   -- a step of the machine
   pub step_kind : (w : Want) (c : Config) (k : Content) → StepKind c (room w c k) k (kind_of w c) (machine w c u k)
-      (machine w (raised ss ms c) u k)
+      (machine w (with_below ss ms c) u k)
   step_kind w c k = at_want w.texts c w.next k

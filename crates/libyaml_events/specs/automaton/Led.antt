@@ -21,14 +21,14 @@ use Rattle.libyaml_automaton.specs.Numbers.{place_of}
 use Rattle.libyaml_automaton.specs.Wanted as automaton_want
 use Rattle.libyaml_automaton.specs.Wanted.{properties}
 use Rattle.libyaml_automaton.specs.Automaton as automaton
-use Rattle.libyaml_automaton.specs.Answers.{Outcome, Undone, Does, outcome}
+use Rattle.libyaml_automaton.specs.Answers.{Outcome, NothingDone, Does, outcome}
 use Rattle.libyaml_automaton.specs.Fits.{opens_at}
 use Rattle.libyaml_events.specs.declared.step.Step.{Step}
 use Rattle.libyaml_events.specs.declared.step.Step.TheVariants as led
 use Rattle.libyaml_events.specs.declared.pending.Pending.{Pending}
 use Rattle.libyaml_events.specs.machine.Config.{Config, config_of, with_fault}
 use Rattle.libyaml_events.specs.machine.Want.{Texts}
-use Rattle.libyaml_events.specs.machine.Machine.{Progressed, put, resolve, seen, sequence_start, mapping_start, with_texts}
+use Rattle.libyaml_events.specs.machine.Machine.{Progressed, put, resolve, seen, sequence_start_with, mapping_start_with, with_texts}
 use Rattle.libyaml_events.specs.machine.Growth.{joins}
 use Rattle.libyaml_events.specs.machine.Answers.{answer, directive_texts, property_texts, texts_for}
 use Rattle.libyaml_events.specs.machine.Steps.{Steps}
@@ -36,11 +36,11 @@ use Rattle.libyaml_events.specs.automaton.View.{Ready}
 
 -- out is the parser's step at the token t, h the texts that were held, and d where the parser stands now, without lookahead
 abbrev pub SaysIn : Progressed → Texts → Config → yaml_token_t → Outcome → Type 0
-SaysIn out h d t Undone = Unit {0}
+SaysIn out h d t NothingDone = Unit {0}
 SaysIn out h d t (Does x) = out ≡ with_texts h d t t.content x
 
-abbrev pub Says : Progressed → Texts → yaml_token_t → Answer → Reading → Config → Type 0
-Says out h t a r d
+abbrev pub IsWithTexts : Progressed → Texts → yaml_token_t → Answer → Reading → Config → Type 0
+IsWithTexts out h t a r d
     = SaysIn out h d t (outcome a (automaton.no_properties (seen t t.content)) (seen t t.content) r (config_of d))
 
 -- the texts of a parser that took a property
@@ -51,26 +51,26 @@ abbrev pub with_tag : unnamed_yaml_token_t_data_tag → Pending → Pending
 with_tag tag q = record q { properties = record q.properties { tag = Some tag } }
 
 -- a token is wanted for what has no texts
-abbrev pub IsPlain : automaton.Want → Type 0
+abbrev pub IsPlain : automaton.Purpose → Type 0
 IsPlain (automaton.BehindDirective start has_version) = ⊥
 IsPlain (automaton.BehindProperties place r) = ⊥
 IsPlain _ = Unit {0}
 
 -- what the texts h that were held have to do with those that are held now
 abbrev pub IsHeld : Answer → Texts → Pending → Type 0
-IsHeld did.Wants h q = IsPlain (automaton_want.wanted q.reading)
+IsHeld did.Wants h q = IsPlain (automaton_want.purpose_of q.reading)
 IsHeld did.WantsAnchor h q = (anchor : List ℕ)
-    → texts_for (automaton_want.wanted q.reading) (record q.properties { anchor = Some anchor }) q.directives
+    → texts_for (automaton_want.purpose_of q.reading) (record q.properties { anchor = Some anchor }) q.directives
     ≡ record h { anchor = Some anchor }
 IsHeld did.WantsTag h q = (tag : unnamed_yaml_token_t_data_tag)
-    → texts_for (automaton_want.wanted q.reading) (record q.properties { tag = Some tag }) q.directives
+    → texts_for (automaton_want.purpose_of q.reading) (record q.properties { tag = Some tag }) q.directives
     ≡ record h { tag = Some tag }
 IsHeld did.AsksContent h q = h ≡ property_texts (properties q.reading) q.properties
 IsHeld _ h q = Unit {0}
 
 -- the result a of a step
 abbrev pub Led : Progressed → Texts → yaml_token_t → Answer → Pending → Config → Type 0
-Led out h t a q d = IsHeld a h q × Says out h t a q.reading d
+Led out h t a q d = IsHeld a h q × IsWithTexts out h t a q.reading d
 
 -- so each step of the parser that the result says is done
 abbrev pub Puts : Answer → yaml_token_t → Pending → Config → Step → Pending → yaml_event_t → Config → Type 0
@@ -86,7 +86,7 @@ IsPut _ = Unit {0}
 
 -- directives: those that were held are those that are kept
 abbrev pub LedDocument : Progressed → Texts → yaml_token_t → Answer → Pending → Config → Type 0
-LedDocument out h t a q d = (h ≡ directive_texts q.directives) × Says out h t a q.reading d
+LedDocument out h t a q d = (h ≡ directive_texts q.directives) × IsWithTexts out h t a q.reading d
 
 abbrev pub PutsDocument : Answer → yaml_token_t → Pending → Config → Step → Pending → yaml_event_t → Config → Type 0
 PutsDocument a t q old s q' e new = (out : Progressed) (h : Texts) → LedDocument out h t a q old
@@ -97,11 +97,11 @@ IsPutDocument did.FullStates = ⊥
 IsPutDocument _ = Unit {0}
 
 -- the start of the collection that this token opens
-abbrev pub start_of : (anchor tag : Option (List ℕ)) → unnamed_yaml_token_t_data → unnamed_yaml_event_t_data
-start_of a g tok.BlockSequenceStart = sequence_start a g YAML_BLOCK_SEQUENCE_STYLE
-start_of a g tok.FlowSequenceStart = sequence_start a g YAML_FLOW_SEQUENCE_STYLE
-start_of a g tok.FlowMappingStart = mapping_start a g YAML_FLOW_MAPPING_STYLE
-start_of a g _ = mapping_start a g YAML_BLOCK_MAPPING_STYLE
+abbrev pub collection_start : (anchor tag : Option (List ℕ)) → unnamed_yaml_token_t_data → unnamed_yaml_event_t_data
+collection_start a g tok.BlockSequenceStart = sequence_start_with a g YAML_BLOCK_SEQUENCE_STYLE
+collection_start a g tok.FlowSequenceStart = sequence_start_with a g YAML_FLOW_SEQUENCE_STYLE
+collection_start a g tok.FlowMappingStart = mapping_start_with a g YAML_FLOW_MAPPING_STYLE
+collection_start a g _ = mapping_start_with a g YAML_BLOCK_MAPPING_STYLE
 
 -- content after properties: out is the parser's step, where the node has this anchor and this tag in full
 abbrev pub IsContent : Progressed → Texts → (anchor tag : Option (List ℕ)) → yaml_token_t → Reading → Config → Type 0
@@ -109,7 +109,7 @@ IsContent out h a g t r c = out ≡ put h a g c t t.content (automaton.node_cont
     (config_of c) (seen t t.content) (token_type t.content))
 
 abbrev pub PutIn : Progressed → Texts → (anchor tag : Option (List ℕ)) → Config → yaml_token_t → Outcome → Type 0
-PutIn out h a g d t Undone = Unit {0}
+PutIn out h a g d t NothingDone = Unit {0}
 PutIn out h a g d t (Does x) = out ≡ put h a g d t t.content x
 
 -- what a result of `content_behind` says of it, where the properties are those of the reading r

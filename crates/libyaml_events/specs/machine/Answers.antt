@@ -18,7 +18,7 @@ only_if true o = o
 only_if false o = None
 
 -- of a node's properties; an anchor or a tag is one of this node where the automaton says so
-abbrev pub property_texts : automaton.Properties → PropertyTexts → Texts
+abbrev pub property_texts : automaton.PropertiesRead → PropertyTexts → Texts
 property_texts r p = record no_texts { anchor = only_if r.anchor p.anchor; tag = only_if r.tag p.tag }
 
 -- of a document's directives
@@ -26,7 +26,7 @@ abbrev pub directive_texts : DirectiveTexts → Texts
 directive_texts d = record no_texts { version = d.version; tag_directives = d.tag_directives }
 
 -- the texts that are held
-abbrev pub texts_for : automaton.Want → PropertyTexts → DirectiveTexts → Texts
+abbrev pub texts_for : automaton.Purpose → PropertyTexts → DirectiveTexts → Texts
 texts_for (BehindProperties place r) p d = property_texts r p
 texts_for (BehindDirective start has_version) p d = directive_texts d
 texts_for _ p d = no_texts
@@ -34,8 +34,8 @@ texts_for _ p d = no_texts
 -- what the next token is wanted for
 abbrev pub wanted : Pending → Want
 wanted p = record {
-  next = automaton_want.wanted p.reading;
-  texts = texts_for (automaton_want.wanted p.reading) p.properties p.directives;
+  next = automaton_want.purpose_of p.reading;
+  texts = texts_for (automaton_want.purpose_of p.reading) p.properties p.directives;
 }
 
 -- a step that failed has the kind of the error that is kept

@@ -73,8 +73,8 @@ with_config p c = record p { config = c }
 abbrev pub with_fault : Config → Fault → Config
 with_fault c f = record c { fault = f }
 
-abbrev pub at : yaml_parser_state_t → Config → Config
-at state c = record c { state = state }
+abbrev pub state_set : yaml_parser_state_t → Config → Config
+state_set state c = record c { state = state }
 
 -- the token stays, to be looked at again
 abbrev pub keep : yaml_token_t → Config → Config
@@ -133,29 +133,17 @@ taken c = record c { lookahead = None }
 abbrev pub pushed : yaml_parser_state_t → Config → Config
 pushed state c = record c { states = state ∷ c.states }
 
-abbrev pub top : List yaml_parser_state_t → yaml_parser_state_t
-top [] = st.YAML_PARSE_END_STATE
-top (s ∷ ss) = s
-
-abbrev pub below : {A : Type 0} → List A → List A
-below [] = []
-below (x ∷ xs) = xs
-
 abbrev pub popped : Config → Config
-popped c = record c { state = top c.states; states = below c.states }
+popped c = record c { state = automaton.top c.states; states = automaton.below c.states }
 
 abbrev pub pushed_mark : yaml_mark_t → Config → Config
 pushed_mark mark c = record c { marks = mark ∷ c.marks }
 
-abbrev pub top_mark : List yaml_mark_t → yaml_mark_t
-top_mark [] = zero_mark
-top_mark (m ∷ ms) = m
-
 abbrev pub popped_mark : Config → Config
-popped_mark c = record c { marks = below c.marks }
+popped_mark c = record c { marks = automaton.below c.marks }
 
 -- the parser without its texts
-abbrev pub config_of : Config → automaton.Config
+abbrev pub config_of : Config → automaton.Stacks
 config_of c = record {
   state = c.state;
   states = c.states;
@@ -164,7 +152,7 @@ config_of c = record {
 }
 
 -- and with them
-abbrev pub config_with : automaton.Config → Handles → Fault → Option yaml_token_t → Config
+abbrev pub config_with : automaton.Stacks → Handles → Fault → Option yaml_token_t → Config
 config_with x hs f o = record {
   lookahead = o;
   state = x.state;

@@ -45,7 +45,7 @@ joins_behind_anchor false g hs = false
 joins_behind_anchor true g hs = joins g hs
 
 -- the other property joins nothing yet
-abbrev pub joins_before : automaton.Properties → Texts → Handles → unnamed_yaml_token_t_data → Bool
+abbrev pub joins_before : automaton.PropertiesRead → Texts → Handles → unnamed_yaml_token_t_data → Bool
 joins_before r h hs (tok.Anchor a) = joins_behind_anchor r.anchor h.tag hs
 joins_before r h hs _ = joins h.tag hs
 
@@ -55,7 +55,7 @@ grows_at next.AtImplicitDocumentStart behind_document_end k = grows_at_document 
 grows_at next.AtDocumentStart behind_document_end k = grows_at_directive k
 grows_at n behind_document_end k = pushes n (token_type k) || opens n (token_type k)
 
-abbrev pub grows_for : automaton.Want → Texts → Config → unnamed_yaml_token_t_data → Bool
+abbrev pub grows_for : automaton.Purpose → Texts → Config → unnamed_yaml_token_t_data → Bool
 grows_for (BehindDirective start has_version) h c k = grows_at_directive k
 grows_for (BehindProperties p r) h c k = joins_before r h c.handles k || opens_at p (token_type k)
 grows_for w h c k = grows_at (next_for w c.state) c.behind_document_end k

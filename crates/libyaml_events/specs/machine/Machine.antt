@@ -40,7 +40,7 @@ abbrev pub declared_by : Handles → unnamed_yaml_token_t_data → Handles
 declared_by hs (tok.TagDirective g) = insert hs g.handle g.prefix
 declared_by hs _ = hs
 
-abbrev pub handles_behind : Handles → unnamed_yaml_token_t_data → automaton.Want → Handles
+abbrev pub handles_behind : Handles → unnamed_yaml_token_t_data → automaton.Purpose → Handles
 handles_behind hs k (automaton.BehindDirective start has_version) = declared_by hs k
 handles_behind hs k _ = hs
 
@@ -69,9 +69,9 @@ resolve hs (x ∷ xs) suffix = with_prefix (or_default (get hs (x ∷ xs)) (x �
 
 -- events
 
-abbrev pub scalar : (anchor tag : Option (List ℕ)) (value : List ℕ) (plain_implicit quoted_implicit : Bool)
+abbrev pub scalar_with : (anchor tag : Option (List ℕ)) (value : List ℕ) (plain_implicit quoted_implicit : Bool)
     → yaml_scalar_style_t → unnamed_yaml_event_t_data
-scalar anchor tag value plain_implicit quoted_implicit style
+scalar_with anchor tag value plain_implicit quoted_implicit style
     = ev.Scalar (record {
       anchor = anchor;
       tag = tag;
@@ -81,12 +81,12 @@ scalar anchor tag value plain_implicit quoted_implicit style
       style = style;
     })
 
-abbrev pub sequence_start : (anchor tag : Option (List ℕ)) → yaml_sequence_style_t → unnamed_yaml_event_t_data
-sequence_start anchor tag style =
+abbrev pub sequence_start_with : (anchor tag : Option (List ℕ)) → yaml_sequence_style_t → unnamed_yaml_event_t_data
+sequence_start_with anchor tag style =
     ev.SequenceStart (record { anchor = anchor; tag = tag; implicit = is_missing tag; style = style })
 
-abbrev pub mapping_start : (anchor tag : Option (List ℕ)) → yaml_mapping_style_t → unnamed_yaml_event_t_data
-mapping_start anchor tag style =
+abbrev pub mapping_start_with : (anchor tag : Option (List ℕ)) → yaml_mapping_style_t → unnamed_yaml_event_t_data
+mapping_start_with anchor tag style =
     ev.MappingStart (record { anchor = anchor; tag = tag; implicit = is_missing tag; style = style })
 
 abbrev pub document_start : Option yaml_version_directive_t → List yaml_tag_directive_t → Bool → unnamed_yaml_event_t_data
@@ -98,7 +98,7 @@ document_end implicit = ev.DocumentEnd (record { implicit = implicit })
 
 -- an empty node without properties
 abbrev pub empty_scalar : unnamed_yaml_event_t_data
-empty_scalar = scalar None None [] true false YAML_PLAIN_SCALAR_STYLE
+empty_scalar = scalar_with None None [] true false YAML_PLAIN_SCALAR_STYLE
 
 -- what a token's content has of these, where it has it
 abbrev pub text_in : unnamed_yaml_token_t_data → List ℕ
@@ -114,13 +114,13 @@ abbrev pub encoding_in : unnamed_yaml_token_t_data → yaml_encoding_t
 encoding_in (tok.StreamStart s) = s.encoding
 encoding_in _ = YAML_ANY_ENCODING
 
-abbrev pub sequence_style : (is_flow : Bool) → yaml_sequence_style_t
-sequence_style true = YAML_FLOW_SEQUENCE_STYLE
-sequence_style false = YAML_BLOCK_SEQUENCE_STYLE
+abbrev pub sequence_style_by : (is_flow : Bool) → yaml_sequence_style_t
+sequence_style_by true = YAML_FLOW_SEQUENCE_STYLE
+sequence_style_by false = YAML_BLOCK_SEQUENCE_STYLE
 
-abbrev pub mapping_style : (is_flow : Bool) → yaml_mapping_style_t
-mapping_style true = YAML_FLOW_MAPPING_STYLE
-mapping_style false = YAML_BLOCK_MAPPING_STYLE
+abbrev pub mapping_style_by : (is_flow : Bool) → yaml_mapping_style_t
+mapping_style_by true = YAML_FLOW_MAPPING_STYLE
+mapping_style_by false = YAML_BLOCK_MAPPING_STYLE
 
 -- an implicit document has no directives
 abbrev pub document_with : (implicit : Bool) → Texts → unnamed_yaml_event_t_data
@@ -135,16 +135,16 @@ content_with h a g k automaton.StreamEnd = ev.StreamEnd
 content_with h a g k (automaton.DocumentStart implicit) = document_with implicit h
 content_with h a g k (automaton.DocumentEnd implicit) = document_end implicit
 content_with h a g k automaton.Alias = ev.Alias (record { anchor = text_in k })
-content_with h a g k (automaton.Scalar has_anchor has_tag) = scalar a g (text_in k) (plain_flag g (style_in k))
+content_with h a g k (automaton.Scalar has_anchor has_tag) = scalar_with a g (text_in k) (plain_flag g (style_in k))
     (quoted_flag g (style_in k)) (style_in k)
 content_with h a g k (automaton.EmptyScalar has_anchor has_tag)
-    = scalar a g [] (is_missing g) false YAML_PLAIN_SCALAR_STYLE
-content_with h a g k (automaton.SequenceStart has_anchor has_tag is_flow) = sequence_start a g (sequence_style is_flow)
+    = scalar_with a g [] (is_missing g) false YAML_PLAIN_SCALAR_STYLE
+content_with h a g k (automaton.SequenceStart has_anchor has_tag is_flow) = sequence_start_with a g (sequence_style_by is_flow)
 content_with h a g k automaton.SequenceEnd = ev.SequenceEnd
-content_with h a g k (automaton.MappingStart has_anchor has_tag is_flow) = mapping_start a g (mapping_style is_flow)
+content_with h a g k (automaton.MappingStart has_anchor has_tag is_flow) = mapping_start_with a g (mapping_style_by is_flow)
 content_with h a g k automaton.MappingEnd = ev.MappingEnd
 
-abbrev pub fault_with : automaton.Fault → Fault
+abbrev pub fault_with : automaton.NumberedFault → Fault
 fault_with f =
     if f.problem == problem.no_stream_start then fault.stream_start_fault f.mark else
     if f.problem == problem.no_document_start then fault.document_start_fault f.mark else
@@ -162,7 +162,7 @@ fault_with f =
 -- steps
 
 -- the token without its texts
-abbrev pub seen : yaml_token_t → unnamed_yaml_token_t_data → automaton.Token
+abbrev pub seen : yaml_token_t → unnamed_yaml_token_t_data → automaton.KindAndMarks
 seen t k = record { kind = token_type k; start_mark = t.start_mark; end_mark = t.end_mark }
 
 -- a token that stays is looked at again
@@ -185,14 +185,14 @@ put h a g c t k (automaton.Fails f) = Err (fault_with f)
 put h a g c t k _ = Err no_fault
 
 -- the content after properties: an undefined handle is found now
-abbrev pub content_resolved : Option (List ℕ) → NodePlace → automaton.Properties → automaton_config.Config → Texts → Config
+abbrev pub content_resolved : Option (List ℕ) → NodePlace → automaton.PropertiesRead → automaton_config.Stacks → Texts → Config
     → yaml_token_t → unnamed_yaml_token_t_data → Progressed
 content_resolved None p r x h c t k = Err (fault.tag_fault r.start_mark r.tag_mark)
 content_resolved (Some tag) p r x h c t k
     = put h h.anchor (Some tag) c t k (automaton.node_content p r x (seen t k) (token_type k))
 
-abbrev pub content_behind : Option unnamed_yaml_token_t_data_tag → NodePlace → automaton.Properties
-    → automaton_config.Config → Texts → Config → yaml_token_t → unnamed_yaml_token_t_data → Progressed
+abbrev pub content_behind : Option unnamed_yaml_token_t_data_tag → NodePlace → automaton.PropertiesRead
+    → automaton_config.Stacks → Texts → Config → yaml_token_t → unnamed_yaml_token_t_data → Progressed
 content_behind None p r x h c t k = put h h.anchor None c t k (automaton.node_content p r x (seen t k) (token_type k))
 content_behind (Some g) p r x h c t k = content_resolved (resolve c.handles g.handle g.suffix) p r x h c t k
 

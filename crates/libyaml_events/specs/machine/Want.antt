@@ -20,7 +20,7 @@ no_texts = record { anchor = None; tag = None; version = None; tag_directives = 
 
 -- what the automaton wants the next token for, with the texts that are held
 pub record Want : Type 0 where
-  pub next : automaton.Want
+  pub next : automaton.Purpose
   pub texts : Texts
 
 -- the parser's state says it
@@ -44,7 +44,7 @@ with_directive h (tok.TagDirective g)
     = record h { tag_directives = h.tag_directives ++ record { handle = g.handle; prefix = g.prefix } ∷ [] }
 with_directive h _ = h
 
-abbrev pub texts_behind : Texts → unnamed_yaml_token_t_data → automaton.Want → Texts
+abbrev pub texts_behind : Texts → unnamed_yaml_token_t_data → automaton.Purpose → Texts
 texts_behind h k (automaton.BehindProperties p r) = with_property h k
 texts_behind h k (automaton.BehindDirective start has_version) = with_directive h k
 texts_behind h k _ = no_texts

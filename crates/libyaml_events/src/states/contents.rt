@@ -8,8 +8,8 @@ ghost use Rattle.std.specs.Prelude.{◌≡◌, [], None, false, true, option_map
 ghost use Rattle.libyaml_types.specs.declared.event.unnamed_yaml_event_t_data.TheVariants.{Alias, MappingEnd};
 ghost use Rattle.libyaml_types.specs.declared.event.unnamed_yaml_event_t_data.TheVariants.{SequenceEnd};
 ghost use Rattle.libyaml_grammar.specs.sentences.Events.{plain_flag, quoted_flag};
-ghost use Rattle.libyaml_events.specs.machine.Machine.{empty_scalar, mapping_start, scalar};
-ghost use Rattle.libyaml_events.specs.machine.Machine.{sequence_start};
+ghost use Rattle.libyaml_events.specs.machine.Machine.{empty_scalar, mapping_start_with, scalar_with};
+ghost use Rattle.libyaml_events.specs.machine.Machine.{sequence_start_with};
 
 use crate::states::node_events::{
     is_plain, is_plain_implicit, is_quoted_implicit, mapping_start, plain_scalar, sequence_start,
@@ -156,7 +156,7 @@ pub(super) fn put_bare_scalar(
     token: &mut unnamed_yaml_token_t_data_scalar,
     content: &mut unnamed_yaml_event_t_data,
 )
-    ensures { content.new ≡ scalar None None token.old.value (plain_flag None token.old.style)
+    ensures { content.new ≡ scalar_with None None token.old.value (plain_flag None token.old.style)
         (quoted_flag None token.old.style) token.old.style }
 {
     if let unnamed_yaml_event_t_data::Scalar(event) = content {
@@ -185,7 +185,7 @@ fn replace_by_scalar(
     token: &mut unnamed_yaml_token_t_data_scalar,
     content: &mut unnamed_yaml_event_t_data,
 )
-    ensures { content.new ≡ scalar None None token.old.value (plain_flag None token.old.style)
+    ensures { content.new ≡ scalar_with None None token.old.value (plain_flag None token.old.style)
         (quoted_flag None token.old.style) token.old.style }
 {
     let alloc = *spare.allocator();
@@ -207,7 +207,7 @@ fn put_scalar_over(
     token: &mut unnamed_yaml_token_t_data_scalar,
     content: &mut unnamed_yaml_event_t_data,
 )
-    ensures { content.new ≡ scalar None None token.old.value (plain_flag None token.old.style)
+    ensures { content.new ≡ scalar_with None None token.old.value (plain_flag None token.old.style)
         (quoted_flag None token.old.style) token.old.style }
 {
     put_over(content, plain_scalar(None, None, String::new(alloc), true));
@@ -231,7 +231,7 @@ pub(super) fn put_scalar(
     token: &mut unnamed_yaml_token_t_data_scalar,
     content: &mut unnamed_yaml_event_t_data,
 )
-    ensures { content.new ≡ scalar (option_map string_bytes anchor.old) (option_map string_bytes tag)
+    ensures { content.new ≡ scalar_with (option_map string_bytes anchor.old) (option_map string_bytes tag)
         token.old.value (plain_flag (option_map string_bytes tag) token.old.style)
         (quoted_flag (option_map string_bytes tag) token.old.style) token.old.style }
 {
@@ -292,7 +292,7 @@ pub(super) fn put_anchored_scalar(
     token: &mut unnamed_yaml_token_t_data_scalar,
     content: &mut unnamed_yaml_event_t_data,
 )
-    ensures { content.new ≡ scalar (option_map string_bytes anchor.old) None token.old.value
+    ensures { content.new ≡ scalar_with (option_map string_bytes anchor.old) None token.old.value
         (plain_flag None token.old.style) (quoted_flag None token.old.style) token.old.style }
 {
     put_bare_scalar(spare, token, content);
@@ -336,7 +336,7 @@ pub(super) fn put_sequence_start(
     spare: &mut String,
     content: &mut unnamed_yaml_event_t_data,
 )
-    ensures { content.new ≡ sequence_start None None style }
+    ensures { content.new ≡ sequence_start_with None None style }
 {
     if let unnamed_yaml_event_t_data::SequenceStart(event) = content {
         event.implicit = true;
@@ -360,7 +360,7 @@ fn replace_by_sequence_start(
     spare: &mut String,
     content: &mut unnamed_yaml_event_t_data,
 )
-    ensures { content.new ≡ sequence_start None None style }
+    ensures { content.new ≡ sequence_start_with None None style }
 {
     make_light(spare, content);
     put_over(content, sequence_start(None, None, style));
@@ -373,7 +373,7 @@ pub(super) fn put_mapping_start(
     spare: &mut String,
     content: &mut unnamed_yaml_event_t_data,
 )
-    ensures { content.new ≡ mapping_start None None style }
+    ensures { content.new ≡ mapping_start_with None None style }
 {
     if let unnamed_yaml_event_t_data::MappingStart(event) = content {
         event.implicit = true;
@@ -397,7 +397,7 @@ fn replace_by_mapping_start(
     spare: &mut String,
     content: &mut unnamed_yaml_event_t_data,
 )
-    ensures { content.new ≡ mapping_start None None style }
+    ensures { content.new ≡ mapping_start_with None None style }
 {
     make_light(spare, content);
     put_over(content, mapping_start(None, None, style));

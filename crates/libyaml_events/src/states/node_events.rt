@@ -2,8 +2,8 @@
 ghost use Rattle.std.specs.Prelude.{◌≡◌, false, option_map, string_bytes};
 ghost use Rattle.libyaml_types.specs.declared.enums.yaml_scalar_style_t.TheVariants.{YAML_PLAIN_SCALAR_STYLE};
 ghost use Rattle.libyaml_grammar.specs.sentences.Events.{is_plain, plain_flag, quoted_flag, is_missing};
-ghost use Rattle.libyaml_events.specs.machine.Machine.{scalar, sequence_start, mapping_start};
-ghost use Rattle.libyaml_events.specs.automaton.Led.{start_of};
+ghost use Rattle.libyaml_events.specs.machine.Machine.{scalar_with, sequence_start_with, mapping_start_with};
+ghost use Rattle.libyaml_events.specs.automaton.Led.{collection_start};
 
 use crate::texts::is_text;
 use libyaml_types::{
@@ -62,7 +62,7 @@ pub(super) fn plain_scalar(
     value: String,
     plain_implicit: bool,
 ) -> unnamed_yaml_event_t_data
-    ensures { result ≡ scalar (option_map string_bytes anchor) (option_map string_bytes tag)
+    ensures { result ≡ scalar_with (option_map string_bytes anchor) (option_map string_bytes tag)
         (string_bytes value) plain_implicit false YAML_PLAIN_SCALAR_STYLE }
 {
     unnamed_yaml_event_t_data::Scalar(unnamed_yaml_event_t_data_scalar {
@@ -80,7 +80,7 @@ pub(super) fn sequence_start(
     tag: Option<String>,
     style: yaml_sequence_style_t,
 ) -> unnamed_yaml_event_t_data
-    ensures { result ≡ sequence_start (option_map string_bytes anchor) (option_map string_bytes tag) style }
+    ensures { result ≡ sequence_start_with (option_map string_bytes anchor) (option_map string_bytes tag) style }
 {
     let implicit = is_missing(&tag);
     unnamed_yaml_event_t_data::SequenceStart(unnamed_yaml_event_t_data_sequence_start {
@@ -96,7 +96,7 @@ pub(super) fn mapping_start(
     tag: Option<String>,
     style: yaml_mapping_style_t,
 ) -> unnamed_yaml_event_t_data
-    ensures { result ≡ mapping_start (option_map string_bytes anchor) (option_map string_bytes tag) style }
+    ensures { result ≡ mapping_start_with (option_map string_bytes anchor) (option_map string_bytes tag) style }
 {
     let implicit = is_missing(&tag);
     unnamed_yaml_event_t_data::MappingStart(unnamed_yaml_event_t_data_mapping_start {
@@ -113,7 +113,7 @@ pub(super) fn collection_start(
     tag: Option<String>,
     token: &unnamed_yaml_token_t_data,
 ) -> unnamed_yaml_event_t_data
-    ensures { result ≡ start_of (option_map string_bytes anchor) (option_map string_bytes tag) token.now }
+    ensures { result ≡ collection_start (option_map string_bytes anchor) (option_map string_bytes tag) token.now }
 {
     match token {
         unnamed_yaml_token_t_data::BlockSequenceStart => {

@@ -7,7 +7,7 @@ use Rattle.libyaml_grammar.specs.sentences.Trees.{sequence, single, slot_of, tok
 use Rattle.libyaml_grammar.specs.sentences.Sentences.{IsBeginning, IsSentence}
 use Rattle.libyaml_grammar.specs.cuts.CutTrees.{BlockPlace, Cut, Place, at_directive, block, cut_in_order, cut_tokens, entry, explicit_root, flow_entry, flow_key, flow_value, implicit_root, indentless_entry, open_collection, part_place, root, slot}
 use Rattle.libyaml_grammar.specs.cuts.Rest.{any_encoding, rest, rest_block_place, rest_place}
-use Rattle.libyaml_grammar.proofs.lent.Positions.{Position, between, done, due, flow_behind, flow_due, flow_keyed, headed, in_indentless, in_mapping, in_sequence, position_in_order, position_rest, position_tokens, stand, unopened}
+use Rattle.libyaml_grammar.proofs.lent.Positions.{Position, between, done, due, flow_behind, flow_due, flow_keyed, headed, in_indentless, in_mapping, in_sequence, position_in_order, position_rest, position_tokens, position_of, unopened}
 use Rattle.libyaml_grammar.proofs.lent.Reading.{Step, bad, feeds, fill, fill_flow, goes, over, reads, reads_all, then_all}
 use Rattle.libyaml_grammar.proofs.lent.Keeps.{feeds_keep}
 use Rattle.libyaml_grammar.proofs.lent.Orders.{feeds_order, reads_from, reads_to, tests}
@@ -80,21 +80,21 @@ position_begins m q h =
       order = feeds_order (position_rest m q) q (done e.0) e.1 true ∙ (ap (position_in_order q) e.2 ∙ h);
     }
 
-stand_tokens : (c : Cut) (r : List Token) → position_tokens (stand c) r ≡ cut_tokens c r
+stand_tokens : (c : Cut) (r : List Token) → position_tokens (position_of c) r ≡ cut_tokens c r
 stand_tokens (at_directive b no_directives) r = refl
 stand_tokens _ r = refl
 
-stand_order : (c : Cut) (r : Bool) → position_in_order (stand c) r ≡ cut_in_order c r
+stand_order : (c : Cut) (r : Bool) → position_in_order (position_of c) r ≡ cut_in_order c r
 stand_order (at_directive b no_directives) r = refl
 stand_order _ r = refl
 
-stand_rest : (m : Marks) (c : Cut) → position_rest m (stand c) ≡ rest m c
+stand_rest : (m : Marks) (c : Cut) → position_rest m (position_of c) ≡ rest m c
 stand_rest m (at_directive b no_directives) = refl
 stand_rest m _ = refl
 
 pub cut_begins_proof : (c : Cut) → cut_in_order c true ≡ true → IsSentence (cut_tokens c (rest zero_marks c))
-cut_begins_proof c h = subst IsSentence (ap (position_tokens (stand c)) (stand_rest zero_marks c)
-    ∙ stand_tokens c (rest zero_marks c)) (position_begins zero_marks (stand c) (stand_order c true ∙ h))
+cut_begins_proof c h = subst IsSentence (ap (position_tokens (position_of c)) (stand_rest zero_marks c)
+    ∙ stand_tokens c (rest zero_marks c)) (position_begins zero_marks (position_of c) (stand_order c true ∙ h))
 
 -- what is read is in order, and begins a valid list
 pub read_order : (l : List Token) (q : Position) → reads_all l unopened ≡ goes q → position_in_order q true ≡ true

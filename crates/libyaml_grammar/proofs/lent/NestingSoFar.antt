@@ -6,8 +6,8 @@ use Rattle.libyaml_grammar.specs.cuts.CutTrees.{Cut, at_directive, document_due,
 use Rattle.libyaml_grammar.specs.sentences.Events.{Event, document_end_at, event, events, stream_end_at, stream_start_at}
 use Rattle.libyaml_types.specs.Fault.{Fault}
 use Rattle.libyaml_grammar.proofs.lent.Given.{gives_all}
-use Rattle.libyaml_grammar.specs.sentences.Nesting.{BeginsValue, IsNested, IsOpenDocument, NestsSoFar, Texts, TextsHavePairs, has_begun, no_texts, none_open, not_begun, one_open, text_behind, texts_events, value_events, whole}
-use Rattle.libyaml_grammar.proofs.lent.Positions.{Position, between, done, flow_behind, in_mapping, position_rest, shown, stand}
+use Rattle.libyaml_grammar.specs.sentences.Nesting.{BeginsValue, IsNested, IsOpenDocument, NestsSoFar, DocumentTexts, TextsHavePairs, has_begun, no_texts, none_open, not_begun, one_open, text_behind, texts_events, value_events, whole}
+use Rattle.libyaml_grammar.proofs.lent.Positions.{Position, between, done, flow_behind, in_mapping, position_rest, shown, position_of}
 use Rattle.libyaml_grammar.specs.runs.Runs.{Ending, Ends, IsRun, amid_properties, of_beginning, of_cut_tree, of_sentence}
 use Rattle.libyaml_grammar.specs.sentences.Tokens.{Mark, Marks, Token, marks_of}
 use Rattle.libyaml_grammar.specs.sentences.Trees.{Stream, behind, free, no_directives, sequence}
@@ -25,7 +25,7 @@ cut_splits (at_directive (behind d) no_directives) m
     = both_split (position_splits (between (behind d)) m) (event_splits _)
 cut_splits (part_due c o s ps) m = both_split (position_splits (in_mapping c o s ps) m) (missing_value_splits ps m)
 cut_splits (separator_due c e) m = both_split (position_splits (flow_behind c e) m) (member_end_splits (sort_of c) e m)
-cut_splits c m = position_splits (stand c) m
+cut_splits c m = position_splits (position_of c) m
 
 -- a tree whose events go on from those of a partial tree
 abbrev GoesOn : Cut → Mark → Type 0
@@ -42,7 +42,7 @@ goes_on (at_directive (free f) no_directives) m = let t = completed m (between (
 goes_on (at_directive (behind d) no_directives) m = let t = completed m (between (behind d)) in (t.0, _, t.1)
 goes_on (separator_due (open_collection p o sequence s is) e) m = let t =
     completed m (flow_behind (open_collection p o sequence s is) e) in (t.0, _, t.1)
-goes_on c m = let t = completed m (stand c) in (t.0, _, t.1)
+goes_on c m = let t = completed m (position_of c) in (t.0, _, t.1)
 
 -- the events begin events that nest
 abbrev pub BeginsNested : List Event → Type 0
@@ -81,11 +81,11 @@ two_lists (t ∷ a) b (u ∷ c) d e = go (two_lists a b c d (cc))
     go (inr (x, h, i)) = inr (x, ap (λ (l : List Event). t ∷ l) h ∙ ap (λ (y : Event). y ∷ (c ++ x)) same, i)
 
 -- where a list ends that begins these documents and what follows them
-data EndsIn (l rest : List Event) (ts : Texts) (r : List Event) : Type 0 where
-  among : (us : Texts) (o : List Event) → l ≡ texts_events us o → TextsHavePairs us → IsOpenDocument o → EndsIn l rest ts r
+data EndsIn (l rest : List Event) (ts : DocumentTexts) (r : List Event) : Type 0 where
+  among : (us : DocumentTexts) (o : List Event) → l ≡ texts_events us o → TextsHavePairs us → IsOpenDocument o → EndsIn l rest ts r
   past : (k : List Event) → l ≡ texts_events ts k → k ++ rest ≡ r → EndsIn l rest ts r
 
-ends_in : (ts : Texts) (l rest r : List Event) → TextsHavePairs ts → l ++ rest ≡ texts_events ts r → EndsIn l rest ts r
+ends_in : (ts : DocumentTexts) (l rest r : List Event) → TextsHavePairs ts → l ++ rest ≡ texts_events ts r → EndsIn l rest ts r
 ends_in no_texts l rest r h e = past l refl e
 ends_in (text_behind ts d m n v i p q) l rest r h e =
     go (ends_in ts l rest (event (ev.DocumentStart d) m n ∷ value_events v (document_end_at i p q ∷ r)) h.0 e)
@@ -152,7 +152,7 @@ front_nests (x ∷ l) rest n = go (ends_in n.texts l rest (stream_end_at n.end n
     behind_start : (k : List Event) → l ≡ k → x ∷ l ≡ stream_start_at n.head n.start n.start_end ∷ k
     behind_start k e = ap (λ (z : List Event). x ∷ z) e ∙ ap (λ (y : Event). y ∷ k) heads
 
-    begun : (us : Texts) (o : List Event) → l ≡ texts_events us o → TextsHavePairs us → IsOpenDocument o
+    begun : (us : DocumentTexts) (o : List Event) → l ≡ texts_events us o → TextsHavePairs us → IsOpenDocument o
         → NestsSoFar (x ∷ l)
     begun us o a b c = has_begun (record {
       head = n.head;

@@ -99,15 +99,15 @@ position_rest m (flow_behind c e) = rest_open m c
 position_rest m (done t) = []
 
 -- the position at which a partial tree ends
-abbrev pub stand : Cut → Position
-stand before_stream = unopened
-stand (document_due d) = between (behind d)
-stand (start_due b ds d) = headed b ds d
-stand (at_directive b no_directives) = between b
-stand (at_directive b (directive ds d)) = headed b ds d
-stand (content_due p) = due p None
-stand (at_tag p) = due p None
-stand (at_tag_behind p a m) = due p (Some (anchor a m))
-stand (entry_due c o m is) = in_sequence c o m is
-stand (part_due c o m ps) = in_mapping c o m ps
-stand (separator_due c e) = flow_behind c e
+abbrev pub position_of : Cut → Position
+position_of before_stream = unopened
+position_of (document_due d) = between (behind d)
+position_of (start_due b ds d) = headed b ds d
+position_of (at_directive b no_directives) = between b
+position_of (at_directive b (directive ds d)) = headed b ds d
+position_of (content_due p) = due p None
+position_of (at_tag p) = due p None
+position_of (at_tag_behind p a m) = due p (Some (anchor a m))
+position_of (entry_due c o m is) = in_sequence c o m is
+position_of (part_due c o m ps) = in_mapping c o m ps
+position_of (separator_due c e) = flow_behind c e

@@ -7,7 +7,7 @@ use Rattle.libyaml_grammar.proofs.lent.Positions.{Position, between, done, due, 
 use Rattle.libyaml_grammar.specs.sentences.Tokens.{Mark, Marks}
 use Rattle.libyaml_grammar.specs.sentences.Trees.{Before, BlockItems, BlockSlot, Directives, Documents, FlowMember, FlowSlot, Parts, Role, Sort, behind, directive, flow_node, free, key, mapping, no_parts, no_value, pair, part, sequence, single, value, whole, with_value}
 use Rattle.libyaml_grammar.proofs.lent.Nesting.{AllTexts, Gives, GivesAll, LastText, before_gives, block_slot_gives, documents_give, flow_items_give, flow_slot_gives, free_gives, items_give, parts_give}
-use Rattle.libyaml_grammar.specs.sentences.Nesting.{Texts, Value, Values, alias_value, collection_value, first_value, no_texts, no_values, scalar_value, text_behind, texts_events, value_events, values_events}
+use Rattle.libyaml_grammar.specs.sentences.Nesting.{DocumentTexts, Value, Values, alias_value, collection_value, first_value, no_texts, no_values, scalar_value, text_behind, texts_events, value_events, values_events}
 
 pub record Splits (g : List Event → List Event) : Type 0 where
   pub splits : (r : List Event) → g r ≡ g [] ++ r
@@ -42,7 +42,7 @@ mutual
   values_split no_values = nothing_splits
   values_split (first_value v vs) = both_split (value_splits v) (values_split vs)
 
-texts_split : (ts : Texts) → Splits (texts_events ts)
+texts_split : (ts : DocumentTexts) → Splits (texts_events ts)
 texts_split no_texts = nothing_splits
 texts_split (text_behind ts d m n v i p q)
     = both_split (texts_split ts) (behind_event _ (both_split (value_splits v) (event_splits _)))

@@ -53,17 +53,17 @@ abbrev mutual
   AllHavePairs (first_value v vs) = HasPairs v × AllHavePairs vs
 
 -- whole documents: start, value and end
-pub data Texts : Type 0 where
-  no_texts : Texts
-  text_behind : Texts → unnamed_yaml_event_t_data_document_start → Mark → Mark → Value → (is_implicit : Bool) → Mark
-      → Mark → Texts
+pub data DocumentTexts : Type 0 where
+  no_texts : DocumentTexts
+  text_behind : DocumentTexts → unnamed_yaml_event_t_data_document_start → Mark → Mark → Value → (is_implicit : Bool) → Mark
+      → Mark → DocumentTexts
 
-abbrev pub texts_events : Texts → List Event → List Event
+abbrev pub texts_events : DocumentTexts → List Event → List Event
 texts_events no_texts r = r
 texts_events (text_behind ts d m n v i p q) r =
     texts_events ts (event (ev.DocumentStart d) m n ∷ value_events v (document_end_at i p q ∷ r))
 
-abbrev pub TextsHavePairs : Texts → Type 0
+abbrev pub TextsHavePairs : DocumentTexts → Type 0
 TextsHavePairs no_texts = Unit {0}
 TextsHavePairs (text_behind ts d m n v i p q) = TextsHavePairs ts × HasPairs v
 
@@ -72,7 +72,7 @@ pub record IsNested (l : List Event) : Type 0 where
   pub head : StreamHead
   pub start : Mark
   pub start_end : Mark
-  pub texts : Texts
+  pub texts : DocumentTexts
   pub end : Mark
   pub end_end : Mark
   pub all : l ≡ (stream_start_at head start start_end ∷ texts_events texts (stream_end_at end end_end ∷ []))
@@ -97,7 +97,7 @@ pub record HasBegun (l : List Event) : Type 0 where
   pub head : StreamHead
   pub start : Mark
   pub start_end : Mark
-  pub texts : Texts
+  pub texts : DocumentTexts
   pub open_document : List Event
   pub all : l ≡ stream_start_at head start start_end ∷ texts_events texts open_document
   pub pairs : TextsHavePairs texts

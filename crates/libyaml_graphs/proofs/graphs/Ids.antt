@@ -7,7 +7,7 @@ use Rattle.std.proofs.lemmas.List.Elements.{All-nil, All-cons}
 use Rattle.std.proofs.Math.Bool.{not-not}
 use Rattle.libyaml_grammar.specs.sentences.Events.{Event, Layout, end_at}
 use Rattle.libyaml_types.specs.Fault.{Fault}
-use Rattle.libyaml_grammar.specs.sentences.Nesting.{AllHavePairs, HasPairs, Texts, TextsHavePairs, Value, Values, alias_value, collection_value, first_value, is_even, no_texts, no_values, scalar_value, text_behind, value_events, values_events}
+use Rattle.libyaml_grammar.specs.sentences.Nesting.{AllHavePairs, HasPairs, DocumentTexts, TextsHavePairs, Value, Values, alias_value, collection_value, first_value, is_even, no_texts, no_values, scalar_value, text_behind, value_events, values_events}
 use Rattle.libyaml_grammar.specs.sentences.Tokens.{Mark}
 use Rattle.libyaml_grammar.specs.sentences.Trees.{Sort, mapping, sequence}
 use Rattle.libyaml_documents.specs.Nodes.{EveryIdNamesANode, IsIdUpTo, ids_of, ids_of_pairs}
@@ -223,7 +223,7 @@ mutual
   all_hold_children no_values es h = tt
   all_hold_children (first_value v vs) es h = (holds_children v es h.0, all_hold_children vs (starts_behind v es) h.1)
 
-pub texts_hold : (ts : Texts) → TextsHavePairs ts → EachHoldsItsChildren ts
+pub texts_hold : (ts : DocumentTexts) → TextsHavePairs ts → EachHoldsItsChildren ts
 texts_hold no_texts h = tt
 texts_hold (text_behind ts d m n v i p q) h = (texts_hold ts h.0, holds_children v [] h.1)
 
@@ -245,7 +245,7 @@ mutual
   all_later (first_value v vs) n es h =
       (is_later n v es h, children_later v es, all_later vs n (starts_behind v es) (le_trans h (starts_grow v es)))
 
-pub texts_later : (ts : Texts) → EachIsLater ts
+pub texts_later : (ts : DocumentTexts) → EachIsLater ts
 texts_later no_texts = tt
 texts_later (text_behind ts d m n v i p q) = (texts_later ts, children_later v [])
 

@@ -11,13 +11,13 @@ use Rattle.libyaml_graphs.specs.machine.Loader.{Anchors, Loader, Loading, betwee
 use Rattle.libyaml_graphs.specs.loads.Loads.{Load, load_answer, begun, begun_behind, document, end_of_document, last_load, next_by}
 use Rattle.libyaml_graphs.specs.graphs.GraphParts.{Closing, Opening, Part, alias_part, behind, closing_of, end_part, graph, leaf_part, opening_of, part_of, parts, start_part, with_part}
 use Rattle.libyaml_graphs.proofs.machine.Built.{BeginsEmpty, Built, Held, build, build_finished, finished, finished_none, graph_nodes, held_graph, nodes_in, unbuilt}
-use Rattle.libyaml_graphs.proofs.machine.Following.{Agrees, Follows, Stands, build_stands, loader_of, nodes_length, none_known, part_follows, stands_unbuilt}
+use Rattle.libyaml_graphs.proofs.machine.Following.{Agrees, Follows, BuiltRight, build_stands, loader_of, nodes_length, none_known, part_follows, stands_unbuilt}
 use Rattle.libyaml_graphs.proofs.machine.LoaderLoads.{Answering, IfBeginsEmpty, begins_empty, settled}
 use Rattle.libyaml_graphs.proofs.machine.Sizes.{AllBegin, graph_sizes, list_grows, none_below, sizes}
 
 -- what is built of the parts F, whose starts are es, within the bound
 pub record Within (n : ℕ) (es : List Start) (F : List Part) (b : Built) : Type 0 where
-  pub stands : Stands es b
+  pub stands : BuiltRight es b
   pub few : nat_lt n (length es) ≡ false
   pub short : one_above n (sizes b.held) ≡ false
   pub reached : (P : List Part) → finished [] (F ++ P) unbuilt ≡ finished es P b
@@ -30,7 +30,7 @@ pub all_begin_more : (F : List Part) (p : Part) → AllBegin F → BeginsEmpty p
 all_begin_more [] p h e = (e, tt)
 all_begin_more (q ∷ F) p h e = (h.0, all_begin_more F p h.1 e)
 
-pub reaches : (p : Part) (es : List Start) (F : List Part) (b : Built) → BeginsEmpty p → Stands es b
+pub reaches : (p : Part) (es : List Start) (F : List Part) (b : Built) → BeginsEmpty p → BuiltRight es b
     → ((P : List Part) → finished [] (F ++ P) unbuilt ≡ finished es P b) → (P : List Part)
     → finished [] ((F ++ p ∷ []) ++ P) unbuilt ≡ finished (behind p es) P (build es p b)
 reaches p es F b e s r P = ap (λ (Q : List Part). finished [] Q unbuilt) (append_assoc F (p ∷ []) P)

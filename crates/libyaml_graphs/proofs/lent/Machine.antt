@@ -11,7 +11,7 @@ use Rattle.libyaml_documents.specs.Nodes.{changed_at, item_behind, node_at, node
 use Rattle.libyaml_documents.specs.declared.node.unnamed_yaml_node_t_data.{unnamed_yaml_node_t_data}
 use Rattle.libyaml_documents.specs.declared.node.unnamed_yaml_node_t_data.TheVariants.{Sequence, Mapping}
 use Rattle.libyaml_documents.specs.declared.node.yaml_node_t.{yaml_node_t}
-use Rattle.libyaml_graphs.specs.machine.Loader.{Loader, OpenNode, State, between, bounded_option, content_full, content_with, fresh, hand, handed, if_going, key_after, key_behind, left_from, load_from, node_full, parent_full, with_child, within}
+use Rattle.libyaml_graphs.specs.machine.Loader.{Loader, OpenNode, State, between, bounded_option, content_full, content_and_child, fresh, hand, handed, if_going, key_after, key_behind, left_from, load_from, node_full, parent_full, with_child, within}
 use Rattle.libyaml_graphs.specs.loads.Loads.{Begun, Load, begun, begun_behind, document, last_load, left_by}
 use Rattle.libyaml_graphs.specs.graphs.GraphParts.{Closing, Opening, Part, closing_of, opening_of, part_of}
 
@@ -76,7 +76,7 @@ of_content x c = record x { content = c }
 abbrev Takes : (n : ℕ) → (old new : Option ℤ) → ℤ → (f : unnamed_yaml_node_t_data → unnamed_yaml_node_t_data)
     → (full : ℕ → Bool)
     → unnamed_yaml_node_t_data → Type 0
-Takes n old new i f full c = (f c ≡ content_with old i c) × (new ≡ key_behind old i c)
+Takes n old new i f full c = (f c ≡ content_and_child old i c) × (new ≡ key_behind old i c)
     × (content_full n old c ≡ full (children_of c))
 
 alike : (p : ℕ) (f g : yaml_node_t → yaml_node_t) (nodes : List yaml_node_t)

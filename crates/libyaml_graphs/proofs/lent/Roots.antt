@@ -4,7 +4,7 @@ use Rattle.libyaml_types.specs.declared.event.unnamed_yaml_event_t_data.{unnamed
 use Rattle.libyaml_types.specs.declared.event.unnamed_yaml_event_t_data.TheVariants as ev
 use Rattle.libyaml_grammar.specs.sentences.Events.{Event, document_end_at, end_at, event, stream_end_at}
 use Rattle.libyaml_types.specs.Fault.{Fault}
-use Rattle.libyaml_grammar.specs.sentences.Nesting.{IsOpenDocument, NestsSoFar, Texts, Value, Values, alias_value, collection_value, first_value, has_begun, no_texts, no_values, none_open, not_begun, one_open, scalar_value, text_behind, texts_events, value_events, values_events, whole}
+use Rattle.libyaml_grammar.specs.sentences.Nesting.{IsOpenDocument, NestsSoFar, DocumentTexts, Value, Values, alias_value, collection_value, first_value, has_begun, no_texts, no_values, none_open, not_begun, one_open, scalar_value, text_behind, texts_events, value_events, values_events, whole}
 use Rattle.libyaml_grammar.specs.runs.Runs.{Ending, Ends, Fails}
 use Rattle.libyaml_grammar.specs.sentences.Tokens.{Mark}
 use Rattle.libyaml_grammar.specs.sentences.Trees.{mapping, sequence}
@@ -49,7 +49,7 @@ root_first (scalar_value s m n) r o = tt
 root_first (collection_value sequence a t i s m n vs p q) r o = tt
 root_first (collection_value mapping a t i s m n vs p q) r o = tt
 
-texts_roots : (ts : Texts) (r : List Event) → RootsFollow r → RootsFollow (texts_events ts r)
+texts_roots : (ts : DocumentTexts) (r : List Event) → RootsFollow r → RootsFollow (texts_events ts r)
 texts_roots no_texts r h = h
 texts_roots (text_behind ts d m n v i p q) r h
     = texts_roots ts (event (ev.DocumentStart d) m n ∷ value_events v (document_end_at i p q ∷ r)) (

@@ -7,7 +7,7 @@ use Rattle.libyaml_grammar.specs.cuts.CutTrees.{Cut}
 use Rattle.libyaml_grammar.specs.sentences.Events.{Event, events}
 use Rattle.libyaml_types.specs.Fault.{Fault}
 use Rattle.libyaml_grammar.specs.cuts.Fits.{Fits}
-use Rattle.libyaml_grammar.specs.sentences.Nesting.{IsNested, Texts, Value, no_texts, text_behind, value_events}
+use Rattle.libyaml_grammar.specs.sentences.Nesting.{IsNested, DocumentTexts, Value, no_texts, text_behind, value_events}
 use Rattle.libyaml_grammar.specs.sentences.Order.{in_order}
 use Rattle.libyaml_grammar.specs.runs.Runs.{Ending, Ends, Fails, IsRun, RunsWhole, is_behind_properties, to_its_end, to_its_fault}
 use Rattle.libyaml_grammar.specs.sentences.Sentences.{IsBeginning, has_end}
@@ -95,7 +95,7 @@ text_ids : (v : Value) (f : Option Fault) (c : Closing) (o : Opening) (z : Load)
 text_ids v (Some f) c o z l h k = tt
 text_ids v None c o z l h k = (h refl, k)
 
-texts_ids : (ts : Texts) (l : List Load) → EachIdNames l → EachIdNames (loads_of ts l)
+texts_ids : (ts : DocumentTexts) (l : List Load) → EachIdNames l → EachIdNames (loads_of ts l)
 texts_ids no_texts l k = k
 texts_ids (text_behind ts d m n v i p q) l k
     = texts_ids ts _ (text_ids v (composer_fault [] (parts (value_events v [])))

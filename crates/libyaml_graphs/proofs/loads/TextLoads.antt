@@ -2,16 +2,16 @@
 use Rattle.std.proofs.Common.{◌≡◌, ◌++◌, List, [], ◌∷◌, Option, Some, None, Bool, refl, sym, ap, ◌∙◌}
 use Rattle.libyaml_types.specs.declared.event.unnamed_yaml_event_t_data.TheVariants as ev
 use Rattle.libyaml_graphs.specs.loads.GraphLaws as law
+use Rattle.libyaml_graphs.specs.loads.GraphLaws.{NestedLoads, fault_or, open_load}
 use Rattle.libyaml_types.specs.declared.event.unnamed_yaml_event_t_data_document_start.{unnamed_yaml_event_t_data_document_start}
 use Rattle.libyaml_grammar.specs.sentences.Events.{Event, document_end_at, event, stream_end_at}
 use Rattle.libyaml_types.specs.Fault.{Fault}
-use Rattle.libyaml_grammar.specs.sentences.Nesting.{BeginsValue, HasBegun, IsNested, IsOpenDocument, NestsSoFar, Texts, Value, has_begun, no_texts, none_open, not_begun, one_open, text_behind, texts_events, value_events, whole}
+use Rattle.libyaml_grammar.specs.sentences.Nesting.{BeginsValue, HasBegun, IsNested, IsOpenDocument, NestsSoFar, DocumentTexts, Value, has_begun, no_texts, none_open, not_begun, one_open, text_behind, texts_events, value_events, whole}
 use Rattle.libyaml_grammar.specs.runs.Runs.{Ending, Ends}
 use Rattle.libyaml_grammar.specs.sentences.Tokens.{Mark}
 use Rattle.libyaml_documents.specs.declared.node.yaml_node_t.{yaml_node_t}
 use Rattle.libyaml_graphs.specs.graphs.ComposerFaults.{composer_fault}
 use Rattle.libyaml_graphs.specs.graphs.Graphs.{nodes_of}
-use Rattle.libyaml_graphs.specs.loads.GraphLaws.{NestedLoads, fault_or, open_load}
 use Rattle.libyaml_graphs.specs.graphs.GraphParts.{Closing, Opening, Part, closing_of, graph, part_of, parts, with_part}
 use Rattle.libyaml_graphs.specs.loads.Loads.{Begun, Load, begun, begun_behind, end_of_document, last_load, load_then, loads, loads_by, loads_of}
 use Rattle.libyaml_grammar.proofs.lent.Splits.{value_splits}
@@ -68,7 +68,7 @@ text_loads d m n v i p q r x =
     (last_load Ends) (loads r x))))
 
 -- the loads of whole documents are their graphs by their values, up to the first composer error
-texts_load : (ts : Texts) (r : List Event) (x : Ending) → loads (texts_events ts r) x ≡ loads_of ts (loads r x)
+texts_load : (ts : DocumentTexts) (r : List Event) (x : Ending) → loads (texts_events ts r) x ≡ loads_of ts (loads r x)
 texts_load no_texts r x = refl
 texts_load (text_behind ts d m n v i p q) r x =
     texts_load ts (event (ev.DocumentStart d) m n ∷ value_events v (document_end_at i p q ∷ r)) x

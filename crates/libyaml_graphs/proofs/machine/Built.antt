@@ -11,7 +11,7 @@ use Rattle.libyaml_documents.specs.declared.node.unnamed_yaml_node_t_data_scalar
 use Rattle.libyaml_documents.specs.declared.node.yaml_node_t.{yaml_node_t}
 use Rattle.libyaml_documents.specs.declared.pairs.yaml_node_pair_t.{yaml_node_pair_t}
 use Rattle.libyaml_graphs.specs.graphs.Graphs.{Start, carrier, id_or, items, pairs}
-use Rattle.libyaml_graphs.specs.machine.Loader.{content_with, key_behind, with_child}
+use Rattle.libyaml_graphs.specs.machine.Loader.{content_and_child, key_behind, with_child}
 use Rattle.libyaml_graphs.specs.graphs.GraphParts.{Part, alias_part, behind, children, end_in, end_part, ended, graph, leaf_part, carrier_start, start_part, with_children}
 
 pub record Held : Type 0 where
@@ -195,11 +195,11 @@ applied_hold i (p ∷ s) f g hs e h =
 -- children, one after the other: what a node holds after them, and the key that waits then
 abbrev pub grown : Option ℤ → unnamed_yaml_node_t_data → List ℕ → unnamed_yaml_node_t_data
 grown k c [] = c
-grown k c (i ∷ is) = grown (key_behind k (pos i) c) (content_with k (pos i) c) is
+grown k c (i ∷ is) = grown (key_behind k (pos i) c) (content_and_child k (pos i) c) is
 
 abbrev pub grown_key : Option ℤ → unnamed_yaml_node_t_data → List ℕ → Option ℤ
 grown_key k c [] = k
-grown_key k c (i ∷ is) = grown_key (key_behind k (pos i) c) (content_with k (pos i) c) is
+grown_key k c (i ∷ is) = grown_key (key_behind k (pos i) c) (content_and_child k (pos i) c) is
 
 abbrev listed : yaml_sequence_style_t → List ℤ → unnamed_yaml_node_t_data
 listed s l = Sequence (record { items = l; style = s })

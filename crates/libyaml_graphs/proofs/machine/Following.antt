@@ -150,19 +150,19 @@ outer_built m [] hs = refl
 outer_built m (p ∷ s) hs = sym (stack_ended s p m hs)
 
 -- what is built after the starts es of a document
-pub record Stands (es : List Start) (b : Built) : Type 0 where
+pub record BuiltRight (es : List Start) (b : Built) : Type 0 where
   pub size : length b.held ≡ length es
   pub there : AllHas b.places b.held
   pub falls : Falls b.places
 
-pub stands_unbuilt : Stands [] unbuilt
+pub stands_unbuilt : BuiltRight [] unbuilt
 stands_unbuilt = record { size = refl; there = tt; falls = tt }
 
 below_falls : (s : List ℕ) → Falls s → Falls (below s)
 below_falls [] h = tt
 below_falls (p ∷ s) h = h.1
 
-pub build_stands : (p : Part) (es : List Start) (b : Built) → Stands es b → Stands (behind p es) (build es p b)
+pub build_stands : (p : Part) (es : List Start) (b : Built) → BuiltRight es b → BuiltRight (behind p es) (build es p b)
 build_stands (alias_part a m) es b s
     = record {
       size = length_hold (id_or (carrier a es)) b.places b.held ∙ s.size;
@@ -202,7 +202,7 @@ loader_same nodes ms s t xs e h = ap (λ (l : List yaml_node_t). record { nodes 
 
 -- a node that is put after the others and handed to its parent, with what the stack is then
 put_with : {A : Type 0} (f : ℤ → List OpenNode → List yaml_node_t → A) (x : yaml_node_t) (es : List Start) (b : Built)
-    → Stands es b
+    → BuiltRight es b
     → f (pos (suc (length (nodes_in b.held)))) (stack_of b.places b.held) (nodes_in b.held ++ x ∷ [])
     ≡ f (pos (suc (length es))) (stack_of b.places (b.held ++ bare x ∷ [])) (nodes_in (b.held ++ bare x ∷ []))
 put_with f x es b s =
@@ -212,12 +212,12 @@ put_with f x es b s =
     ∙ ap (f (pos (suc (length es))) (stack_of b.places (b.held ++ bare x ∷ [])))
     (sym (nodes_append b.held (bare x ∷ []))))
 
-put_nodes : (x : yaml_node_t) (es : List Start) (b : Built) → Stands es b
+put_nodes : (x : yaml_node_t) (es : List Start) (b : Built) → BuiltRight es b
     → hand (pos (suc (length (nodes_in b.held)))) (stack_of b.places b.held) (nodes_in b.held ++ x ∷ [])
     ≡ nodes_in (hold_top (suc (length es)) b.places (b.held ++ bare x ∷ []))
 put_nodes x es b s = put_with hand x es b s ∙ hand_built (suc (length es)) b.places (b.held ++ bare x ∷ [])
 
-put_stack : (x : yaml_node_t) (es : List Start) (b : Built) → Stands es b
+put_stack : (x : yaml_node_t) (es : List Start) (b : Built) → BuiltRight es b
     → handed (pos (suc (length (nodes_in b.held)))) (stack_of b.places b.held) (nodes_in b.held ++ x ∷ [])
     ≡ stack_of b.places (hold_top (suc (length es)) b.places (b.held ++ bare x ∷ []))
 put_stack x es b s = put_with handed x es b s ∙ handed_built (suc (length es)) b.places (b.held ++ bare x ∷ []) s.falls
@@ -227,7 +227,7 @@ new_key : (i : ℕ) (s : List ℕ) (hs : List Held) (x : yaml_node_t) → AllHas
 new_key i [] hs x h = key_last hs (bare x)
 new_key i (p ∷ s) hs x h = key_above (length hs) p (hold i) (hs ++ bare x ∷ []) (has_less p hs h.0) ∙ key_last hs (bare x)
 
-opened_stack : (x : yaml_node_t) (es : List Start) (b : Built) → Stands es b
+opened_stack : (x : yaml_node_t) (es : List Start) (b : Built) → BuiltRight es b
     → ◌≡◌ {A = List OpenNode} (record { node = pos (suc (length (nodes_in b.held))); key = None }
     ∷ handed (pos (suc (length (nodes_in b.held)))) (stack_of b.places b.held) (nodes_in b.held ++ x ∷ []))
     (stack_of (length b.held ∷ b.places) (hold_top (suc (length es)) b.places (b.held ++ bare x ∷ [])))
@@ -279,7 +279,7 @@ abbrev pub Follows : Loading → Option Fault → List Start → Built → Type 
 Follows (failed f) w es b = w ≡ Some f
 Follows (going k) w es b = (w ≡ None) × ((ys : Anchors) × (k ≡ loader_of b ys) × Agrees es ys)
 
-alias_follows : (a : List ℕ) (m : Mark) (es : List Start) (b : Built) (xs : Anchors) → Stands es b → Agrees es xs
+alias_follows : (a : List ℕ) (m : Mark) (es : List Start) (b : Built) (xs : Anchors) → BuiltRight es b → Agrees es xs
     → Follows (load_part (loader_of b xs) (alias_part a m)) (alias_fault (carrier a es) m) es (build es (alias_part a m) b)
 alias_follows a m es b xs s h = go (get xs a) (h a)
   where
@@ -299,7 +299,7 @@ alias_follows a m es b xs s h = go (get xs a) (h a)
     )
 
 node_follows : (b : Option (List ℕ)) (x : yaml_node_t) (opens : List OpenNode) (es : List Start) (c d : Built)
-    (xs : Anchors) → Stands es c → Agrees es xs
+    (xs : Anchors) → BuiltRight es c → Agrees es xs
     → hand (pos (suc (length (nodes_in c.held)))) (stack_of c.places c.held) (nodes_in c.held ++ x ∷ []) ≡ nodes_in d.held
     → opens ++ handed (pos (suc (length (nodes_in c.held)))) (stack_of c.places c.held) (nodes_in c.held ++ x ∷ [])
     ≡ stack_of d.places d.held
@@ -323,7 +323,7 @@ node_follows b x opens es c d xs s h nodes stack = go (register b (suc (length (
       ),
     )
 
-pub part_follows : (p : Part) (es : List Start) (b : Built) (xs : Anchors) → Stands es b → Agrees es xs
+pub part_follows : (p : Part) (es : List Start) (b : Built) (xs : Anchors) → BuiltRight es b → Agrees es xs
     → Follows (load_part (loader_of b xs) p) (composer_part_fault es p) (behind p es) (build es p b)
 part_follows (alias_part a m) es b xs s h = alias_follows a m es b xs s h
 part_follows (leaf_part a x) es b xs s h = node_follows a x [] es b (build es (leaf_part a x) b) xs s h

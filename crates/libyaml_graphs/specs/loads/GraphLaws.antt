@@ -6,7 +6,7 @@ use Rattle.libyaml_grammar.specs.cuts.CutTrees.{Cut}
 use Rattle.libyaml_grammar.specs.sentences.Events.{Event, events}
 use Rattle.libyaml_types.specs.Fault.{Fault}
 use Rattle.libyaml_grammar.specs.cuts.Fits.{Fits}
-use Rattle.libyaml_grammar.specs.sentences.Nesting.{HasBegun, IsNested, Texts, Value, Values, alias_value, collection_value, first_value, no_texts, no_values, scalar_value, text_behind}
+use Rattle.libyaml_grammar.specs.sentences.Nesting.{HasBegun, IsNested, DocumentTexts, Value, Values, alias_value, collection_value, first_value, no_texts, no_values, scalar_value, text_behind}
 use Rattle.libyaml_grammar.specs.sentences.Order.{in_order}
 use Rattle.libyaml_grammar.specs.runs.Runs.{Ending, Ends, Fails}
 use Rattle.libyaml_grammar.specs.sentences.Tokens.{Token}
@@ -36,7 +36,7 @@ abbrev mutual
   AllLater n (first_value v vs) es = IsLater n v es × ChildrenAreLater v es × AllLater n vs (starts_behind v es)
 
 -- and so it is in the value of each document
-abbrev pub EachIsLater : Texts → Type 0
+abbrev pub EachIsLater : DocumentTexts → Type 0
 EachIsLater no_texts = Unit {0}
 EachIsLater (text_behind ts d m n v i p q) = EachIsLater ts × ChildrenAreLater v []
 
@@ -55,7 +55,7 @@ abbrev mutual
   AllHoldTheirChildren (first_value v vs) es = HoldsItsChildren v es × AllHoldTheirChildren vs (starts_behind v es)
 
 -- and so it is in the value of each document
-abbrev pub EachHoldsItsChildren : Texts → Type 0
+abbrev pub EachHoldsItsChildren : DocumentTexts → Type 0
 EachHoldsItsChildren no_texts = Unit {0}
 EachHoldsItsChildren (text_behind ts d m n v i p q) = EachHoldsItsChildren ts × HoldsItsChildren v []
 

@@ -2,7 +2,7 @@
 use Rattle.std.specs.Prelude.{◌≡◌, List, [], ◌∷◌, Option, Some, None, false, Result, Ok, Err}
 use Rattle.libyaml_grammar.specs.sentences.Events.{Event}
 use Rattle.libyaml_types.specs.Fault.{Fault}
-use Rattle.libyaml_grammar.specs.sentences.Nesting.{Texts, no_texts, text_behind, value_events}
+use Rattle.libyaml_grammar.specs.sentences.Nesting.{DocumentTexts, no_texts, text_behind, value_events}
 use Rattle.libyaml_grammar.specs.runs.Runs.{Ending, Ends, Fails, IsRun}
 use Rattle.libyaml_grammar.specs.sentences.Tokens.{Token}
 use Rattle.libyaml_documents.specs.Documents.{Document, empty_document}
@@ -99,7 +99,7 @@ abbrev pub next_load : List Event → Ending → Load
 next_load e x = next_by (composer_fault []) x (begun e)
 
 -- The loads of whole documents by the trees of their values, up to the first composer error, and after them l.
-abbrev pub loads_of : Texts → List Load → List Load
+abbrev pub loads_of : DocumentTexts → List Load → List Load
 loads_of no_texts l = l
 loads_of (text_behind ts d m n v i p q) l
     = loads_of ts (load_then (composer_fault [] (parts (value_events v [])))

@@ -46,11 +46,11 @@ pub data Loading : Type 0 where
 
 -- A child after those of a node, where k is the key that waits: a sequence has one item more, a mapping a pair more
 -- or a key that waits.
-abbrev pub content_with : Option ℤ → ℤ → unnamed_yaml_node_t_data → unnamed_yaml_node_t_data
-content_with k i (Scalar s) = Scalar s
-content_with k i (Sequence s) = item_behind i (Sequence s)
-content_with None i (Mapping s) = Mapping s
-content_with (Some k) i (Mapping s) = pair_behind (record { key = k; value = i }) (Mapping s)
+abbrev pub content_and_child : Option ℤ → ℤ → unnamed_yaml_node_t_data → unnamed_yaml_node_t_data
+content_and_child k i (Scalar s) = Scalar s
+content_and_child k i (Sequence s) = item_behind i (Sequence s)
+content_and_child None i (Mapping s) = Mapping s
+content_and_child (Some k) i (Mapping s) = pair_behind (record { key = k; value = i }) (Mapping s)
 
 abbrev pub key_behind : Option ℤ → ℤ → unnamed_yaml_node_t_data → Option ℤ
 key_behind k i (Scalar s) = k
@@ -59,7 +59,7 @@ key_behind None i (Mapping s) = Some i
 key_behind (Some k) i (Mapping s) = None
 
 abbrev pub with_child : Option ℤ → ℤ → yaml_node_t → yaml_node_t
-with_child k i x = record x { content = content_with k i x.content }
+with_child k i x = record x { content = content_and_child k i x.content }
 
 abbrev pub key_after : Option ℤ → ℤ → Option yaml_node_t → Option ℤ
 key_after k i None = k

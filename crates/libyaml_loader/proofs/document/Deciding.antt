@@ -20,15 +20,15 @@ use Rattle.libyaml_composer.specs.declared.records.open_t.{open_t}
 use Rattle.libyaml_composer.specs.declared.records.place_t.{place_t}
 use Rattle.libyaml_types.specs.declared.enums.yaml_event_type_t.{yaml_event_type_t}
 use Rattle.libyaml_types.specs.declared.enums.yaml_event_type_t.TheVariants as kind
-use Rattle.libyaml_composer.specs.Composing.{Composer, Told, adding, at_carrier, between_step, deed_for, deed_in, ended, handing, if_placed, list_full, new_id, opened, step, step_in, told, unless, within_step}
+use Rattle.libyaml_composer.specs.Composing.{Composer, Told, adding, at_carrier, between_step, deed_for, deed_in, collection_ended, handing, if_placed, is_list_full, new_id, with_open_node, composer_step, step_in, told, unless, within_step}
 use Rattle.libyaml_composer.specs.Held as held
-use Rattle.libyaml_composer.specs.Held.{Held, IsRefused, anchor_in, anchored, anchored_by, applied_part, fact_of, fault_part, open_of, with_node}
-use Rattle.libyaml_composer.specs.Numbers.{flag, is_id}
-use Rattle.libyaml_composer.specs.Standing.{IsChild, IsNode, IsPart, IsPut, Standing, Takes}
+use Rattle.libyaml_composer.specs.Held.{Held, IsRefused, anchor_in, anchored, anchored_by, applied_part, event_fact, fault_part, open_of, with_made_node}
+use Rattle.libyaml_composer.specs.Numbers.{is_set, is_id}
+use Rattle.libyaml_composer.specs.Standing.{IsChild, IsNode, IsPart, PutsNode, Standing, TakesOneMore}
 use Rattle.libyaml_composer.proofs.lent.Follows.{Follows, Puts, fails, follows, full, goes}
 use Rattle.libyaml_loader.specs.declared.context.loader_ctx.{loader_ctx}
 use Rattle.libyaml_graphs.specs.graphs.ComposerFaults.{repeated_anchor}
-use Rattle.libyaml_loader.specs.document.Context.{Decided, Grows, IsListed, Refuses, Stands, held_of, loader_of, opening_of_document, IsEvent, Named, refusal_of}
+use Rattle.libyaml_loader.specs.document.Context.{Decided, Grows, IsListed, Refuses, ComposerMatches, held_of, loader_of, opening_of_document, IsEvent, Named, refusal_of}
 use Rattle.libyaml_loader.specs.document.Refusals.{fault_by}
 use Rattle.libyaml_loader.specs.document.Stack.{roomy}
 use Rattle.libyaml_loader.specs.loads.LoadGrowth.{alias_grows, content_grows, load_may_grow, node_grows, parent_grows}
@@ -52,7 +52,7 @@ pair_grows k (Some x) h = go x.content h
     go (Sequence s) h = absurd cc
     go (Mapping s) h = refl
 
-takes_grow : (d : Deed) → IsListed d → (s : List OpenNode) (nodes : List yaml_node_t) → Takes d s nodes
+takes_grow : (d : Deed) → IsListed d → (s : List OpenNode) (nodes : List yaml_node_t) → TakesOneMore d s nodes
     → parent_grows s nodes ≡ true
 takes_grow deed.Item l [] nodes h = absurd h
 takes_grow deed.Item l (o ∷ s) nodes h = sequence_grows o.key (node_at nodes o.node) h
@@ -61,12 +61,12 @@ takes_grow deed.Value l (o ∷ s) nodes h = ap (λ (k : Option ℤ). node_grows 
     ∙ pair_grows h.1.0 (node_at nodes o.node) h.0
 takes_grow _ l s nodes h = absurd l
 
-listed_put : (d : Deed) → IsListed d → IsPut d
+listed_put : (d : Deed) → IsListed d → PutsNode d
 listed_put deed.Item l = tt
 listed_put deed.Value l = tt
 listed_put _ l = absurd l
 
-alias_nodes : (b : Bool) (i : ℤ) (a : List ℕ) (m : Mark) (h : Held) → (with_node b i (Some (alias_part a m)) h).nodes ≡ h.nodes
+alias_nodes : (b : Bool) (i : ℤ) (a : List ℕ) (m : Mark) (h : Held) → (with_made_node b i (Some (alias_part a m)) h).nodes ≡ h.nodes
 alias_nodes false i a m h = refl
 alias_nodes true i a m h = append-nil h.nodes
 
@@ -84,8 +84,8 @@ module _ (n : ℕ) (l : Loader) (h : Held) (same : h.nodes ≡ l.nodes) (s : Lis
           → unless_full false (if_child_fits (parent_full n l.stack l.nodes) (on_alias c m l)) ≡ going k
           → alias_grows c l ≡ true
       by None g = absurd cc
-      by (Some c) g = takes_grow d is l.stack l.nodes (subst (λ (t : List OpenNode). Takes d t l.nodes) (sym stack)
-          (subst (Takes d (map open_of s)) (alias_nodes (is_id p.node) p.node a m h ∙ same) puts.takes))
+      by (Some c) g = takes_grow d is l.stack l.nodes (subst (λ (t : List OpenNode). TakesOneMore d t l.nodes) (sym stack)
+          (subst (TakesOneMore d (map open_of s)) (alias_nodes (is_id p.node) p.node a m h ∙ same) puts.takes))
 
   noded : (q : Option Part) → IsNode q → load_may_grow l q ≡ true
   noded None h = absurd h
@@ -99,15 +99,15 @@ module _ (n : ℕ) (l : Loader) (h : Held) (same : h.nodes ≡ l.nodes) (s : Lis
   grows_there q k g puts (inl made) = noded q (puts.made made.0 made.1)
   grows_there q k g puts (inr is) = listed q k g is puts
 
-module _ (old : loader_ctx) (new : Composer) (e : Event) (stands : Stands old) (without : closing_of e ≡ None) (room : ℕ)
+module _ (old : loader_ctx) (new : Composer) (e : Event) (stands : ComposerMatches old) (without : closing_of e ≡ None) (room : ℕ)
     (before p : place_t) (d : Deed)
-    (tells : told d p new ≡ step (event_type e.content) (fact_of (held_of old) e) before (roomy room old.collections)) where
+    (tells : told d p new ≡ composer_step (event_type e.content) (event_fact (held_of old) e) before (roomy room old.collections)) where
   abbrev AsTold : Told → Type 0
   AsTold t = Follows old.collections.most (opening_of_document old.document) (held_of old) old.collections.stack (part_of e)
       e.start_mark e.end_mark (bounded_option old.collections.most (loader_of old) (part_of e)) t
 
   as_told : AsTold (told d p new)
-  as_told = subst AsTold (sym tells) (subst (λ (b : Bool). AsTold (step_in b (event_type e.content) (fact_of (held_of old) e)
+  as_told = subst AsTold (sym tells) (subst (λ (b : Bool). AsTold (step_in b (event_type e.content) (event_fact (held_of old) e)
       before (roomy room old.collections))) (sym stands.is_within)
       (follows (roomy room old.collections) (held_of old) (opening_of_document old.document) before (record {
         is_within = stands.is_within;
@@ -135,7 +135,7 @@ module _ (old : loader_ctx) (new : Composer) (e : Event) (stands : Stands old) (
       go : AsTold (told d p new) → Decided old ctx (part_of e) e.end_mark d p
       go (goes part leads there bound puts) = record {
         part = part;
-        goes = leads ∙ ap (λ (c : Composer). going (held.loader_of c (applied_part d p (part_of e) e.end_mark (held_of old)))) (sym collections);
+        goes = leads ∙ ap (λ (c : Composer). going (held.loader_by c (applied_part d p (part_of e) e.end_mark (held_of old)))) (sym collections);
         stands = stands_in _ there;
         bound = ap (λ (c : Composer). c.most) collections ∙ bound;
         context = is ∙ ap (λ (c : Composer). record old {
@@ -172,12 +172,12 @@ module _ (old : loader_ctx) (new : Composer) (e : Event) (stands : Stands old) (
 
   -- the error, where the first mark is that of the node that carries the event's anchor
   pub refused_at : (ctx : loader_ctx) → IsRefused d → (d ≡ deed.RepeatedAnchor
-      → ctx.first_mark ≡ held.first_mark (held.carrier_of old.anchors (anchor_in (part_of e))) e.start_mark)
+      → ctx.first_mark ≡ held.first_mark (held.carrier_named old.anchors (anchor_in (part_of e))) e.start_mark)
       → Refuses old ctx (part_of e) e.start_mark (refusal_of d)
   refused_at ctx is first = inr (refused_so is ∙ ap failed (go d is first))
     where
       go : (d : Deed) → IsRefused d → (d ≡ deed.RepeatedAnchor
-          → ctx.first_mark ≡ held.first_mark (held.carrier_of old.anchors (anchor_in (part_of e))) e.start_mark)
+          → ctx.first_mark ≡ held.first_mark (held.carrier_named old.anchors (anchor_in (part_of e))) e.start_mark)
           → fault_part d (held_of old) (part_of e) e.start_mark ≡ fault_by (refusal_of d) ctx.first_mark e.start_mark
       go deed.UndefinedAlias is first = refl
       go deed.RepeatedAnchor is first = ap (λ (m : Mark). repeated_anchor m e.start_mark) (sym (first refl))
@@ -209,7 +209,7 @@ named_at _ m n h i xs = absurd h
 -- a repeated anchor is one that an earlier node carries
 child_first : (s : List open_t) → deed_for s ≡ deed.RepeatedAnchor → ⊥
 child_first [] h = cc
-child_first (o ∷ s) h = go (flag o.is_mapping) (is_id o.key) h
+child_first (o ∷ s) h = go (is_set o.is_mapping) (is_id o.key) h
   where
     go : (b w : Bool) → deed_in b w ≡ deed.RepeatedAnchor → ⊥
     go false w h = cc
@@ -218,7 +218,7 @@ child_first (o ∷ s) h = go (flag o.is_mapping) (is_id o.key) h
 
 placed_first : (f : ℤ) (p : place_t) (c : Composer) (t : Told) → (t.deed ≡ deed.RepeatedAnchor → ⊥)
     → (if_placed f p c t).deed ≡ deed.RepeatedAnchor → is_id f ≡ true
-placed_first f p c t sound h = go (nat_lt c.most (suc c.nodes)) (is_id f) (list_full c.most c.stack) h
+placed_first f p c t sound h = go (nat_lt c.most (suc c.nodes)) (is_id f) (is_list_full c.most c.stack) h
   where
     go : (a b l : Bool) → (unless a deed.FullList p c (unless b deed.RepeatedAnchor p c
         (unless l deed.FullList p c t))).deed ≡ deed.RepeatedAnchor → b ≡ true
@@ -228,23 +228,23 @@ placed_first f p c t sound h = go (nat_lt c.most (suc c.nodes)) (is_id f) (list_
     go false false false h = absurd (sound h)
 
 start_first : (b : Bool) (m : ℕ) (p : place_t) (c : Composer)
-    → (unless b deed.FullStack p c (opened m (new_id c) (adding c))).deed ≡ deed.RepeatedAnchor → ⊥
+    → (unless b deed.FullStack p c (with_open_node m (new_id c) (adding c))).deed ≡ deed.RepeatedAnchor → ⊥
 start_first true m p c h = cc
 start_first false m p c h = child_first c.stack h
 
 alias_first : (b : Bool) (i : ℤ) (p : place_t) (c : Composer) → (at_carrier b i p c).deed ≡ deed.RepeatedAnchor → ⊥
 alias_first false i p c h = cc
-alias_first true i p c h = go (list_full c.most c.stack) h
+alias_first true i p c h = go (is_list_full c.most c.stack) h
   where
     go : (l : Bool) → (unless l deed.FullList p c (handing (pos 0) i c)).deed ≡ deed.RepeatedAnchor → ⊥
     go true h = cc
     go false h = child_first c.stack h
 
-end_first : (s : List open_t) (p : place_t) (c : Composer) → (ended s p c).deed ≡ deed.RepeatedAnchor → ⊥
+end_first : (s : List open_t) (p : place_t) (c : Composer) → (collection_ended s p c).deed ≡ deed.RepeatedAnchor → ⊥
 end_first [] p c h = cc
 end_first (o ∷ s) p c h = cc
 
-pub repeated : (k : yaml_event_type_t) (f : ℤ) (p : place_t) (c : Composer) → (step k f p c).deed ≡ deed.RepeatedAnchor
+pub repeated : (k : yaml_event_type_t) (f : ℤ) (p : place_t) (c : Composer) → (composer_step k f p c).deed ≡ deed.RepeatedAnchor
     → is_id f ≡ true
 repeated k f p c h = go c.is_within k h
   where
@@ -267,17 +267,17 @@ repeated k f p c h = go c.is_within k h
 
 -- what is decided of a node whose anchor is the next node's already
 module _ (old named : loader_ctx) (a : Option (List ℕ)) (m : Mark) (e : Event) (id : ℤ) (at : Named old named a m id)
-    (stands : Stands old) (is : IsEvent (event_type e.content) a m e) (node : IsNode (part_of e)) (room : ℕ) (before p : place_t)
+    (stands : ComposerMatches old) (is : IsEvent (event_type e.content) a m e) (node : IsNode (part_of e)) (room : ℕ) (before p : place_t)
     (d : Deed) (new : Composer)
-    (tells : told d p new ≡ step (event_type e.content) id before (roomy room named.collections)) where
+    (tells : told d p new ≡ composer_step (event_type e.content) id before (roomy room named.collections)) where
   anchor : a ≡ anchor_in (part_of e)
   anchor = sym is.anchor_is ∙ sym (anchor_at e.content e.start_mark e.end_mark)
 
-  tells_so : told d p new ≡ step (event_type e.content) (fact_of (held_of old) e) before (roomy room old.collections)
+  tells_so : told d p new ≡ composer_step (event_type e.content) (event_fact (held_of old) e) before (roomy room old.collections)
   tells_so = tells
-      ∙ (ap (λ (i : ℤ). step (event_type e.content) i before (roomy room named.collections))
-      (at.carrier ∙ ap (λ (x : Option (List ℕ)). pos (id_or (held.carrier_of old.anchors x))) anchor)
-      ∙ ap (λ (c : loader_ctx). step (event_type e.content) (fact_of (held_of old) e) before (roomy room c.collections)) at.context)
+      ∙ (ap (λ (i : ℤ). composer_step (event_type e.content) i before (roomy room named.collections))
+      (at.carrier ∙ ap (λ (x : Option (List ℕ)). pos (id_or (held.carrier_named old.anchors x))) anchor)
+      ∙ ap (λ (c : loader_ctx). composer_step (event_type e.content) (event_fact (held_of old) e) before (roomy room c.collections)) at.context)
 
   anchors : anchored a (suc (length old.document.nodes)) m old.anchors
       ≡ anchored_by (suc (length old.document.nodes)) (part_of e) old.anchors
@@ -298,5 +298,5 @@ module _ (old named : loader_ctx) (a : Option (List ℕ)) (m : Mark) (e : Event)
   node_refused refused = subst (λ (x : Mark). Refuses old (record named { collections = new }) (part_of e) x (refusal_of d)) is.mark_is
       (refused_at old new e stands is.not_end room before p d tells_so (record named { collections = new }) refused
       (λ first. at.first (repeated (event_type e.content) id before (roomy room named.collections) (ap (λ (t : Told). t.deed) (sym tells) ∙ first))
-      ∙ (ap (λ (x : Option (List ℕ)). held.first_mark (held.carrier_of old.anchors x) m) anchor
-      ∙ ap (held.first_mark (held.carrier_of old.anchors (anchor_in (part_of e)))) (sym is.mark_is))))
+      ∙ (ap (λ (x : Option (List ℕ)). held.first_mark (held.carrier_named old.anchors x) m) anchor
+      ∙ ap (held.first_mark (held.carrier_named old.anchors (anchor_in (part_of e)))) (sym is.mark_is))))

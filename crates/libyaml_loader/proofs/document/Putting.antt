@@ -8,11 +8,11 @@ use Rattle.libyaml_composer.specs.declared.deed.Deed.{Deed}
 use Rattle.libyaml_composer.specs.declared.deed.Deed.TheVariants as deed
 use Rattle.libyaml_composer.specs.declared.records.place_t.{place_t}
 use Rattle.libyaml_composer.specs.Held as held
-use Rattle.libyaml_composer.specs.Held.{Held, anchored_by, applied_part, node_of, number_of, placed, with_child, with_node}
+use Rattle.libyaml_composer.specs.Held.{Held, anchored_by, applied_part, nodes_made, natural, placed, with_child_placed, with_made_node}
 use Rattle.libyaml_composer.specs.Numbers.{is_id}
-use Rattle.libyaml_composer.specs.Standing.{Fits, IsChild, IsNode, IsPut, Standing}
+use Rattle.libyaml_composer.specs.Standing.{FitsParent, IsChild, IsNode, PutsNode, Standing}
 use Rattle.libyaml_loader.specs.declared.context.loader_ctx.{loader_ctx}
-use Rattle.libyaml_loader.specs.document.Context.{Composed, Decided, Stands, held_of, loader_of, opening_of_document, with_nodes}
+use Rattle.libyaml_loader.specs.document.Context.{Composed, Decided, ComposerMatches, held_of, loader_of, opening_of_document, with_nodes}
 
 -- the outcome of a call, by that of another
 pub if_ok : {A E : Type 0} (r : Result A E) (P : A → Type 0) (Q : A → Type 0) → ((x : A) → P x → Q x) → IfOk r P → IfOk r Q
@@ -27,8 +27,8 @@ pub if_err : {A E : Type 0} (r : Result A E) (P : E → Type 0) (Q : E → Type 
 if_err (Ok x) P Q f h = tt
 if_err (Err x) P Q f h = f x h
 
-child_applied : (d : Deed) → IsPut d → (p : place_t) (q : Option Part) (m : yaml_mark_t) (h : Held)
-    → with_child d p q h ≡ applied_part d p q m h
+child_applied : (d : Deed) → PutsNode d → (p : place_t) (q : Option Part) (m : yaml_mark_t) (h : Held)
+    → with_child_placed d p q h ≡ applied_part d p q m h
 child_applied deed.Root k p q m h = refl
 child_applied deed.Item k p q m h = refl
 child_applied deed.Key k p q m h = refl
@@ -51,65 +51,65 @@ module _ (old mid : loader_ctx) (q : Option Part) (end : yaml_mark_t) (d : Deed)
         nodes = nodes;
         anchors = anchored_by (suc (length old.document.nodes)) q old.anchors;
       } ≡ applied_part d p q end (held_of old) → (new : loader_ctx)
-      → new ≡ record mid { document = with_nodes nodes mid.document } → Composed old new q × Stands new
-  done nodes same new is = subst (λ (x : loader_ctx). Composed old x q × Stands x)
+      → new ≡ record mid { document = with_nodes nodes mid.document } → Composed old new q × ComposerMatches new
+  done nodes same new is = subst (λ (x : loader_ctx). Composed old x q × ComposerMatches x)
       (sym (is ∙ ap (λ (x : loader_ctx). record x { document = with_nodes nodes x.document }) at.context)) (
         record {
-          goes = at.goes ∙ ap (λ (h : Held). going (held.loader_of mid.collections h)) (sym same);
+          goes = at.goes ∙ ap (λ (h : Held). going (held.loader_by mid.collections h)) (sym same);
           document = refl;
           bound = at.bound;
         },
         subst (λ (h : Held). Standing mid.collections h (opening_of_document old.document)) (sym same) at.stands,
       )
 
-  with_it : IsNode q → with_node true p.node q (held_of old) ≡ with_node (is_id p.node) p.node q (held_of old)
-  with_it n = ap (λ (b : Bool). with_node b p.node q (held_of old)) (sym (ap is_id (at.numbered n)))
+  with_it : IsNode q → with_made_node true p.node q (held_of old) ≡ with_made_node (is_id p.node) p.node q (held_of old)
+  with_it n = ap (λ (b : Bool). with_made_node b p.node q (held_of old)) (sym (ap is_id (at.numbered n)))
 
-  pub node_fits : IsNode q → Fits d p (length (mid.document.nodes ++ node_of q)) (mid.document.nodes ++ node_of q)
-  node_fits n = subst (λ (x : loader_ctx). Fits d p (length (x.document.nodes ++ node_of q)) (x.document.nodes ++ node_of q))
-      (sym at.context) (subst (λ (h : Held). Fits d p (length h.nodes) h.nodes) (sym (with_it n)) at.fits)
+  pub node_fits : IsNode q → FitsParent d p (length (mid.document.nodes ++ nodes_made q)) (mid.document.nodes ++ nodes_made q)
+  node_fits n = subst (λ (x : loader_ctx). FitsParent d p (length (x.document.nodes ++ nodes_made q)) (x.document.nodes ++ nodes_made q))
+      (sym at.context) (subst (λ (h : Held). FitsParent d p (length h.nodes) h.nodes) (sym (with_it n)) at.fits)
 
   pub node_done : IsNode q → (new : loader_ctx)
-      → new ≡ record mid { document = with_nodes (placed d p (mid.document.nodes ++ node_of q)) mid.document }
-      → Composed old new q × Stands new
-  node_done n new is = done (placed d p (old.document.nodes ++ node_of q))
+      → new ≡ record mid { document = with_nodes (placed d p (mid.document.nodes ++ nodes_made q)) mid.document }
+      → Composed old new q × ComposerMatches new
+  node_done n new is = done (placed d p (old.document.nodes ++ nodes_made q))
       (ap (λ (i : ℕ). record {
         opening = Some (opening_of_document old.document);
-        nodes = placed d p (old.document.nodes ++ node_of q);
+        nodes = placed d p (old.document.nodes ++ nodes_made q);
         anchors = anchored_by i q old.anchors;
-      }) (sym (ap number_of (at.numbered n)))
-      ∙ (ap (λ (h : Held). held.with_nodes (placed d p h.nodes) h) (with_it n) ∙ child_applied d (at.put (node_child q n)) p q end (held_of old)))
+      }) (sym (ap natural (at.numbered n)))
+      ∙ (ap (λ (h : Held). held.held_with_nodes (placed d p h.nodes) h) (with_it n) ∙ child_applied d (at.put (node_child q n)) p q end (held_of old)))
       new
       (is ∙ ap (λ (x : loader_ctx). record mid {
-        document = with_nodes (placed d p (x.document.nodes ++ node_of q)) mid.document;
+        document = with_nodes (placed d p (x.document.nodes ++ nodes_made q)) mid.document;
       }) at.context)
 
   -- the node was added
   module _ (n : IsNode q) (add : loader_ctx)
-      (added : add ≡ record mid { document = with_nodes (mid.document.nodes ++ node_of q) mid.document }) where
-    pub added_fits : Fits d p (length add.document.nodes) add.document.nodes
-    added_fits = subst (λ (c : loader_ctx). Fits d p (length c.document.nodes) c.document.nodes) (sym added) (node_fits n)
+      (added : add ≡ record mid { document = with_nodes (mid.document.nodes ++ nodes_made q) mid.document }) where
+    pub added_fits : FitsParent d p (length add.document.nodes) add.document.nodes
+    added_fits = subst (λ (c : loader_ctx). FitsParent d p (length c.document.nodes) c.document.nodes) (sym added) (node_fits n)
 
     pub added_done : (new : loader_ctx) → new ≡ record add { document = with_nodes (placed d p add.document.nodes) add.document }
-        → Composed old new q × Stands new
+        → Composed old new q × ComposerMatches new
     added_done new is = node_done n new
         (is ∙ ap (λ (c : loader_ctx). record c { document = with_nodes (placed d p c.document.nodes) c.document }) added)
 
 -- an alias adds no node
-alias_held : (b : Bool) (i : ℤ) (a : List ℕ) (m : yaml_mark_t) (h : Held) → with_node b i (Some (alias_part a m)) h ≡ h
+alias_held : (b : Bool) (i : ℤ) (a : List ℕ) (m : yaml_mark_t) (h : Held) → with_made_node b i (Some (alias_part a m)) h ≡ h
 alias_held false i a m h = refl
-alias_held true i a m h = ap (λ (l : List yaml_node_t). held.with_nodes l h) (append-nil h.nodes)
+alias_held true i a m h = ap (λ (l : List yaml_node_t). held.held_with_nodes l h) (append-nil h.nodes)
 
 module _ (old mid : loader_ctx) (a : List ℕ) (m end : yaml_mark_t) (d : Deed) (p : place_t)
     (at : Decided old mid (Some (alias_part a m)) end d p) where
-  pub alias_fits : Fits d p (length mid.document.nodes) mid.document.nodes
-  alias_fits = subst (λ (x : loader_ctx). Fits d p (length x.document.nodes) x.document.nodes) (sym at.context)
-      (subst (λ (h : Held). Fits d p (length h.nodes) h.nodes) (alias_held (is_id p.node) p.node a m (held_of old)) at.fits)
+  pub alias_fits : FitsParent d p (length mid.document.nodes) mid.document.nodes
+  alias_fits = subst (λ (x : loader_ctx). FitsParent d p (length x.document.nodes) x.document.nodes) (sym at.context)
+      (subst (λ (h : Held). FitsParent d p (length h.nodes) h.nodes) (alias_held (is_id p.node) p.node a m (held_of old)) at.fits)
 
   pub alias_done : (new : loader_ctx) → new ≡ record mid { document = with_nodes (placed d p mid.document.nodes) mid.document }
-      → Composed old new (Some (alias_part a m)) × Stands new
+      → Composed old new (Some (alias_part a m)) × ComposerMatches new
   alias_done new is = done old mid (Some (alias_part a m)) end d p at (placed d p old.document.nodes)
-      (ap (λ (h : Held). held.with_nodes (placed d p h.nodes) h) (sym (alias_held (is_id p.node) p.node a m (held_of old)))
+      (ap (λ (h : Held). held.held_with_nodes (placed d p h.nodes) h) (sym (alias_held (is_id p.node) p.node a m (held_of old)))
       ∙ child_applied d (at.put tt) p (Some (alias_part a m)) end (held_of old))
       new
       (is ∙ ap (λ (x : loader_ctx). record mid { document = with_nodes (placed d p x.document.nodes) mid.document }) at.context)

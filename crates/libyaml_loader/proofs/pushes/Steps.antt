@@ -7,7 +7,7 @@ use Rattle.libyaml_composer.specs.declared.records.open_t.{open_t}
 use Rattle.libyaml_composer.specs.Composing.{Composer}
 use Rattle.libyaml_composer.specs.Held.{open_of}
 use Rattle.libyaml_composer.specs.Standing.{IsCarried, Opens}
-use Rattle.libyaml_loader.specs.document.Stack.{begun}
+use Rattle.libyaml_loader.specs.document.Stack.{with_document_begun}
 use Rattle.libyaml_types.specs.declared.enums.yaml_error_type_t.{yaml_error_type_t}
 use Rattle.libyaml_documents.specs.Documents.{Document}
 use Rattle.libyaml_documents.specs.LoadedNodes.{begun_document}
@@ -21,7 +21,7 @@ use Rattle.libyaml_loader.specs.declared.composer.Composer as loader
 use Rattle.libyaml_loader.specs.declared.context.loader_ctx.{loader_ctx}
 use Rattle.libyaml_loader.specs.declared.refusal.Refusal.{Refusal}
 use Rattle.libyaml_loader.specs.declared.refusal.Refusal.TheVariants.{Memory}
-use Rattle.libyaml_loader.specs.document.Context.{Composed, Refuses, Stands, loader_of, opening_of_document}
+use Rattle.libyaml_loader.specs.document.Context.{Composed, Refuses, ComposerMatches, loader_of, opening_of_document}
 use Rattle.libyaml_loader.specs.document.Refusals.{fault_by}
 use Rattle.libyaml_loader.specs.loads.LoadGrowth.{load_may_grow}
 use Rattle.libyaml_loader.specs.declared.composer.Closing.{Closing}
@@ -41,11 +41,11 @@ context_is_fresh c o document stack anchors =
 
 -- it begins
 module _ (old c : loader_ctx) (o : parts.Opening) (anchors : old.anchors ≡ no_anchors)
-    (is : c ≡ record old { document = begun_document o.start o.mark; collections = begun old.collections }) where
+    (is : c ≡ record old { document = begun_document o.start o.mark; collections = with_document_begun old.collections }) where
   document : c.document ≡ begun_document o.start o.mark
   document = ap (λ (x : loader_ctx). x.document) is
 
-  collections : c.collections ≡ begun old.collections
+  collections : c.collections ≡ with_document_begun old.collections
   collections = ap (λ (x : loader_ctx). x.collections) is
 
   none : c.anchors ≡ no_anchors
@@ -58,7 +58,7 @@ module _ (old c : loader_ctx) (o : parts.Opening) (anchors : old.anchors ≡ no_
       ∙ ap (λ (d : Document). within (opening_of_document d) (loader_of c)) (sym document))
       (opens_there n e o h)
 
-  pub begun_stands : Stands c
+  pub begun_stands : ComposerMatches c
   begun_stands = record {
     is_within = ap (λ (x : Composer). x.is_within) collections;
     opening = refl;

@@ -15,8 +15,8 @@ use Rattle.libyaml_composer.specs.declared.deed.Deed.{Deed}
 use Rattle.libyaml_composer.specs.declared.deed.Deed.TheVariants as deed
 use Rattle.libyaml_composer.specs.declared.records.place_t.{place_t}
 use Rattle.libyaml_composer.specs.Held as held
-use Rattle.libyaml_composer.specs.Held.{Held, anchored, anchored_by, applied_part, carrier_of, first_mark, with_node}
-use Rattle.libyaml_composer.specs.Standing.{Fits, IsChild, IsClosed, IsNode, IsPart, IsPut, Standing}
+use Rattle.libyaml_composer.specs.Held.{Held, anchored, anchored_by, applied_part, carrier_named, first_mark, with_made_node}
+use Rattle.libyaml_composer.specs.Standing.{FitsParent, IsChild, IsClosed, IsNode, IsPart, PutsNode, Standing}
 use Rattle.libyaml_composer.specs.Numbers.{is_id}
 use Rattle.libyaml_loader.specs.declared.context.loader_ctx.{loader_ctx}
 use Rattle.libyaml_loader.specs.declared.refusal.Refusal.{Refusal}
@@ -45,10 +45,10 @@ held_of c = record {
 }
 
 abbrev pub loader_of : loader_ctx → Loader
-loader_of c = held.loader_of c.collections (held_of c)
+loader_of c = held.loader_by c.collections (held_of c)
 
-abbrev pub Stands : loader_ctx → Type 0
-Stands c = Standing c.collections (held_of c) (opening_of_document c.document)
+abbrev pub ComposerMatches : loader_ctx → Type 0
+ComposerMatches c = Standing c.collections (held_of c) (opening_of_document c.document)
 
 abbrev pub with_nodes : List yaml_node_t → Document → Document
 with_nodes nodes d = record d { nodes = nodes }
@@ -66,17 +66,17 @@ IsListed deed.Value = Unit {0}
 IsListed _ = ⊥
 
 abbrev pub Grows : Deed → place_t → Type 0
-Grows d p = (IsPut d × (is_id p.node ≡ true)) ⊎ IsListed d
+Grows d p = (PutsNode d × (is_id p.node ≡ true)) ⊎ IsListed d
 
 -- The next node is named by this anchor, if there is one. The id is that of the node which carried it before; 0
 -- where none did.
 pub record Named (old new : loader_ctx) (a : Option (List ℕ)) (m : yaml_mark_t) (id : ℤ) : Type 0 where
-  pub carrier : id ≡ pos (id_or (carrier_of old.anchors a))
+  pub carrier : id ≡ pos (id_or (carrier_named old.anchors a))
   pub context : new ≡ record old {
     anchors = anchored a (suc (length old.document.nodes)) m old.anchors;
     first_mark = new.first_mark;
   }
-  pub first : is_id id ≡ true → new.first_mark ≡ first_mark (carrier_of old.anchors a) m
+  pub first : is_id id ≡ true → new.first_mark ≡ first_mark (carrier_named old.anchors a) m
 
 -- why a load stops where this is refused
 abbrev pub refusal_of : Deed → Refusal
@@ -88,7 +88,7 @@ refusal_of _ = Memory
 pub record Decided (old new : loader_ctx) (q : Option Part) (end : yaml_mark_t) (d : Deed) (p : place_t) : Type 0 where
   pub part : IsPart d
   pub goes : bounded_option old.collections.most (loader_of old) q
-      ≡ going (held.loader_of new.collections (applied_part d p q end (held_of old)))
+      ≡ going (held.loader_by new.collections (applied_part d p q end (held_of old)))
   pub stands : Standing new.collections (applied_part d p q end (held_of old)) (opening_of_document old.document)
   pub bound : new.collections.most ≡ old.collections.most
   pub context : new ≡ record old {
@@ -96,11 +96,11 @@ pub record Decided (old new : loader_ctx) (q : Option Part) (end : yaml_mark_t) 
     anchors = anchored_by (suc (length old.document.nodes)) q old.anchors;
     first_mark = new.first_mark;
   }
-  pub fits : Fits d p (length (with_node (is_id p.node) p.node q (held_of old)).nodes)
-      (with_node (is_id p.node) p.node q (held_of old)).nodes
-  pub node : IsPut d → is_id p.node ≡ true → p.node ≡ pos (suc (length old.document.nodes))
+  pub fits : FitsParent d p (length (with_made_node (is_id p.node) p.node q (held_of old)).nodes)
+      (with_made_node (is_id p.node) p.node q (held_of old)).nodes
+  pub node : PutsNode d → is_id p.node ≡ true → p.node ≡ pos (suc (length old.document.nodes))
   pub closed : IsClosed d → IsIdUpTo (length old.document.nodes) p.parent
-  pub put : IsChild q → IsPut d
+  pub put : IsChild q → PutsNode d
   pub numbered : IsNode q → p.node ≡ pos (suc (length old.document.nodes))
   pub grows : Grows d p → load_may_grow (loader_of old) q ≡ true
 

@@ -3,12 +3,12 @@ use Rattle.std.specs.Prelude.{ℕ, [], true, false}
 use Rattle.libyaml_composer.specs.Composing.{Composer}
 
 -- before a stream's first document
-abbrev pub made : ℕ → Composer
-made most = record { is_within = false; nodes = 0; most = most; room = 0; stack = [] }
+abbrev pub first_composer : ℕ → Composer
+first_composer most = record { is_within = false; nodes = 0; most = most; room = 0; stack = [] }
 
 -- a document begins
-abbrev pub begun : Composer → Composer
-begun c = record c { is_within = true; nodes = 0; stack = [] }
+abbrev pub with_document_begun : Composer → Composer
+with_document_begun c = record c { is_within = true; nodes = 0; stack = [] }
 
 -- with room for so many collections
 abbrev pub roomy : ℕ → Composer → Composer

@@ -13,7 +13,7 @@ use Rattle.libyaml_loader.specs.declared.composer.Closing.{Closing}
 use Rattle.libyaml_loader.specs.declared.composer.Composer.{Composer}
 use Rattle.libyaml_loader.specs.declared.composer.Opening.{Opening}
 use Rattle.libyaml_loader.specs.declared.context.loader_ctx.{loader_ctx}
-use Rattle.libyaml_loader.specs.document.Context.{Stands, loader_of, opening_of_document}
+use Rattle.libyaml_loader.specs.document.Context.{ComposerMatches, loader_of, opening_of_document}
 use Rattle.libyaml_graphs.specs.loads.Leads.{Leads, loads_from}
 use Rattle.libyaml_loader.specs.pushes.LoadMemory.{NeedsMemoryAt}
 
@@ -37,7 +37,7 @@ ended_by c x = document (opening_of_document x.document) x.document.nodes c
 
 -- the document that is open is sound, or nothing is left of the one before; the bound is the composer's
 pub record IsSound (c : Composer) : Type 0 where
-  pub stands : c.is_open ≡ true → Stands c.ctx
+  pub stands : c.is_open ≡ true → ComposerMatches c.ctx
   pub fresh : c.is_open ≡ false → (c.ctx.collections.is_within ≡ false) × (c.ctx.anchors ≡ no_anchors)
   pub bound : c.ctx.collections.most ≡ c.max_entries
   pub most : c.max_entries ≤ 2147483647

@@ -23,7 +23,7 @@ standing_loader p s f n = record { parser = p; state = s; fault = f; max_entries
 
 -- a loader that no token was handed to
 abbrev pub made_loader : ℕ → PushLoader
-made_loader n = standing_loader pushed.made between no_fault n
+made_loader n = standing_loader pushed.new_push_parser between no_fault n
 
 -- Since the loader was made it was handed these tokens and gave these documents, without an error: its parser gave
 -- some events, and the loads of all that begin so are these documents and then those from where it stands.

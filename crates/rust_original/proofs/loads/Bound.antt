@@ -35,7 +35,7 @@ over_there n (end_part m) b = false
 
 abbrev pub full_there : ℕ → Part → Built → Bool
 full_there n (end_part m) b = false
-full_there n p b = orig.parent_full n (ids b.places) (halves b.held)
+full_there n p b = orig.is_parent_full n (ids b.places) (halves b.held)
 
 abbrev pub guard_part : ℕ → Option Part → Built → LoaderResult → LoaderResult
 guard_part n None b o = o
@@ -68,7 +68,7 @@ place_full n zero (x ∷ hs) h = full_same n x.key x.node.content h.0
 place_full n (suc p) (x ∷ hs) h = place_full n p hs h.1
 
 any_full : (n : ℕ) (s : List ℕ) (hs : List Held) → AllSound hs
-    → orig.parent_full n (ids s) (halves hs) ≡ machine.parent_full n (stack_of s hs) (nodes_in hs)
+    → orig.is_parent_full n (ids s) (halves hs) ≡ machine.parent_full n (stack_of s hs) (nodes_in hs)
 any_full n [] hs h = refl
 any_full n (p ∷ s) hs h = place_full n p hs h
 
@@ -87,7 +87,7 @@ still_full n zero (y ∷ hs) x h = refl
 still_full n (suc p) (y ∷ hs) x h = still_full n p hs x h
 
 parent_still : (n : ℕ) (s : List ℕ) (hs : List Held) (x : yaml_node_t) → AllHas s hs
-    → orig.parent_full n (ids s) (halves hs ++ x ∷ []) ≡ orig.parent_full n (ids s) (halves hs)
+    → orig.is_parent_full n (ids s) (halves hs ++ x ∷ []) ≡ orig.is_parent_full n (ids s) (halves hs)
 parent_still n [] hs x h = refl
 parent_still n (p ∷ s) hs x h = still_full n p hs x h.0
 
@@ -110,7 +110,7 @@ stack_short : (s : List ℕ) (hs : List Held) → AllHas s hs → Falls s → le
 stack_short [] hs h f = omega arith
 stack_short (p ∷ s) hs h f = let i = has_place p hs h.0 in let j = falls_short s p f.0 f.1 in omega arith
 
-kept_ctx : (l : orig.Loader) (i : ℕ) (c : List ℕ) → l.ctx ≡ c → (orig.child_added l i).ctx ≡ l.ctx
+kept_ctx : (l : orig.OriginalLoader) (i : ℕ) (c : List ℕ) → l.ctx ≡ c → (orig.child_added l i).ctx ≡ l.ctx
 kept_ctx l i c e = go l.ctx
   where
     go : (s : List ℕ) → (orig.child_added (record l { ctx = s }) i).ctx ≡ s
@@ -122,19 +122,19 @@ module _ (n : ℕ) (x : yaml_node_t) (opens : Bool) (b : Built) (has : AllHas b.
     abbrev index : ℕ
     index = suc (length (halves b.held))
 
-    abbrev pushed_node : List yaml_alias_data_t → orig.Loader
+    abbrev pushed_node : List yaml_alias_data_t → orig.OriginalLoader
     pushed_node ys = record { aliases = ys; nodes = halves b.held ++ x ∷ []; ctx = ids b.places }
 
     opened_there : (ys : List yaml_alias_data_t) → nat_lt (length (halves b.held)) n ≡ true
         → orig.if_ok (orig.yaml_parser_load_node_add n (pushed_node ys) index)
         (λ s. if opens then orig.STACK_LIMIT n (length s.ctx) (OK (record s { ctx = index ∷ s.ctx })) else OK s)
-        ≡ guarded false (orig.parent_full n (ids b.places) (halves b.held))
+        ≡ guarded false (orig.is_parent_full n (ids b.places) (halves b.held))
         (OK (finish_there opens (pushed_node ys) index))
     opened_there ys e
         = ap (λ (u : Bool). orig.if_ok (if u then FAIL memory_fault else OK (orig.child_added (pushed_node ys) index))
         (λ s. if opens then orig.STACK_LIMIT n (length s.ctx) (OK (record s { ctx = index ∷ s.ctx })) else OK s))
         (parent_still n b.places b.held x has)
-        ∙ go (orig.parent_full n (ids b.places) (halves b.held)) opens
+        ∙ go (orig.is_parent_full n (ids b.places) (halves b.held)) opens
       where
         fits : nat_lt (length (ids b.places)) n ≡ true
         fits = let i = ltb-true (length (halves b.held)) n e in let j
@@ -154,8 +154,8 @@ module _ (n : ℕ) (x : yaml_node_t) (opens : Bool) (b : Built) (has : AllHas b.
             fits
 
     node_limited : (a : Option (List ℕ)) (xs : List yaml_alias_data_t)
-        → orig.pushed n (there xs b) a x opens
-        ≡ guarded (not (nat_lt (length (halves b.held)) n)) (orig.parent_full n (ids b.places) (halves b.held))
+        → orig.node_pushed n (there xs b) a x opens
+        ≡ guarded (not (nat_lt (length (halves b.held)) n)) (orig.is_parent_full n (ids b.places) (halves b.held))
         (pushed (there xs b) a x opens)
     node_limited a xs = go (nat_lt (length (halves b.held)) n) refl
       where
@@ -172,7 +172,7 @@ module _ (n : ℕ) (x : yaml_node_t) (opens : Bool) (b : Built) (has : AllHas b.
                   (pushed_node
                   (xs ++ record { anchor = c; carrier = record { id = index; mark = x.start_mark } } ∷ [])) index)
                   (λ s. if opens then orig.STACK_LIMIT n (length s.ctx) (OK (record s { ctx = index ∷ s.ctx })) else OK s)
-            ] ≡ guarded false (orig.parent_full n (ids b.places) (halves b.held)) (elim o [
+            ] ≡ guarded false (orig.is_parent_full n (ids b.places) (halves b.held)) (elim o [
               | Some y ↦ orig.yaml_parser_set_composer_error_context (codes "found duplicate anchor; first occurrence")
                   y.mark (codes "second occurrence") x.start_mark
               | None ↦ OK
@@ -187,7 +187,7 @@ module _ (n : ℕ) (x : yaml_node_t) (opens : Bool) (b : Built) (has : AllHas b.
             → orig.yaml_parser_register_anchor (pushed_node xs) index x.start_mark c
             (λ r. orig.if_ok (orig.yaml_parser_load_node_add n r index)
             (λ s. if opens then orig.STACK_LIMIT n (length s.ctx) (OK (record s { ctx = index ∷ s.ctx })) else OK s))
-            ≡ guarded false (orig.parent_full n (ids b.places) (halves b.held)) (pushed (there xs b) c x opens)
+            ≡ guarded false (orig.is_parent_full n (ids b.places) (halves b.held)) (pushed (there xs b) c x opens)
         with_room None e = opened_there xs e
         with_room (Some c) e = registered (alias_of xs c) c e
 
@@ -196,14 +196,14 @@ module _ (n : ℕ) (x : yaml_node_t) (opens : Bool) (b : Built) (has : AllHas b.
             (λ r. orig.if_ok (orig.yaml_parser_load_node_add n r index)
             (λ s. if opens then orig.STACK_LIMIT n (length s.ctx) (OK (record s { ctx = index ∷ s.ctx })) else OK s))
             else FAIL memory_fault)
-            ≡ guarded (not u) (orig.parent_full n (ids b.places) (halves b.held)) (pushed (there xs b) a x opens)
+            ≡ guarded (not u) (orig.is_parent_full n (ids b.places) (halves b.held)) (pushed (there xs b) a x opens)
         go true e = with_room a e
         go false e = refl
 
 alias_limited : (n : ℕ) (a : List ℕ) (m : Mark) (xs : List yaml_alias_data_t) (b : Built)
-    → orig.yaml_parser_load_alias n (there xs b) a m ≡ guarded false (orig.parent_full n (ids b.places) (halves b.held))
+    → orig.yaml_parser_load_alias n (there xs b) a m ≡ guarded false (orig.is_parent_full n (ids b.places) (halves b.held))
     (load_alias (there xs b) a m)
-alias_limited n a m xs b = go (alias_of xs a) (orig.parent_full n (ids b.places) (halves b.held))
+alias_limited n a m xs b = go (alias_of xs a) (orig.is_parent_full n (ids b.places) (halves b.held))
   where
     go : (o : Option Carrier) (u : Bool) → elim o [
       | Some found ↦ if u then FAIL memory_fault else OK (orig.child_added (there xs b) found.id)

@@ -11,10 +11,10 @@ use Rattle.libyaml_graphs.specs.loads.Bounds.{IsBoundedLoads, bounded_loads}
 use Rattle.libyaml_documents.specs.Documents.{Document}
 use Rattle.libyaml_graphs.specs.loads.Loads.{Load, last_load}
 use Rattle.rust_original.specs.loader.Loader as orig
-use Rattle.rust_original.specs.loader.Loader.{FAIL, LoaderResult, OK, State, between, loads_from, loads_there, new_loader, within}
+use Rattle.rust_original.specs.loader.Loader.{FAIL, LoaderResult, OK, OriginalState, between, original_loads_from, loads_there, new_loader, within}
 use Rattle.rust_original.specs.loader.LoadsThere.{LoadsCompare, LoadsThere, loads_part, same_loads}
 use Rattle.rust_original.specs.parser.Differences.{Compares, parts, same}
-use Rattle.rust_original.specs.parser.Runs.{new_parser}
+use Rattle.rust_original.specs.parser.Runs.{new_original_parser}
 use Rattle.rust_original.specs.parser.Texts.{as_held}
 
 -- the loads b and c are the same, or the loads a are documents without an error, which begin both
@@ -30,7 +30,7 @@ more d (begin documents left right front e f) = begin (d ∷ documents) left rig
 
 module _ (n : ℕ) (r t : List Event) (x y : Ending) where
   abbrev Shared : List Event → Type 0
-  Shared b = (s : State) → Shares (loads_from n s b Ends) (loads_from n s (b ++ r) x) (loads_from n s (b ++ t) y)
+  Shared b = (s : OriginalState) → Shares (original_loads_from n s b Ends) (original_loads_from n s (b ++ r) x) (original_loads_from n s (b ++ t) y)
 
   event_shared : (k : unnamed_yaml_event_t_data) (m m' : Mark) (b : List Event) → Shared b → Shared (event k m m' ∷ b)
   event_shared ev.StreamEnd m m' b ih between = equal refl
@@ -39,14 +39,14 @@ module _ (n : ℕ) (r t : List Event) (x y : Ending) where
   event_shared (ev.DocumentEnd d) m m' b ih (within o l) = more _ (ih between)
   event_shared k m m' b ih (within o l) = loaded k
     where
-      go : (v : LoaderResult) → Shares (elim v [ FAIL f ↦ Err f ∷ [] | OK q ↦ loads_from n (within o q) b Ends ])
-          (elim v [ FAIL f ↦ Err f ∷ [] | OK q ↦ loads_from n (within o q) (b ++ r) x ])
-          (elim v [ FAIL f ↦ Err f ∷ [] | OK q ↦ loads_from n (within o q) (b ++ t) y ])
+      go : (v : LoaderResult) → Shares (elim v [ FAIL f ↦ Err f ∷ [] | OK q ↦ original_loads_from n (within o q) b Ends ])
+          (elim v [ FAIL f ↦ Err f ∷ [] | OK q ↦ original_loads_from n (within o q) (b ++ r) x ])
+          (elim v [ FAIL f ↦ Err f ∷ [] | OK q ↦ original_loads_from n (within o q) (b ++ t) y ])
       go (FAIL f) = equal refl
       go (OK q) = ih (within o q)
 
-      loaded : (k : unnamed_yaml_event_t_data) → Shares (loads_from n (within o l) (event k m m' ∷ b) Ends)
-          (loads_from n (within o l) (event k m m' ∷ b ++ r) x) (loads_from n (within o l) (event k m m' ∷ b ++ t) y)
+      loaded : (k : unnamed_yaml_event_t_data) → Shares (original_loads_from n (within o l) (event k m m' ∷ b) Ends)
+          (original_loads_from n (within o l) (event k m m' ∷ b ++ r) x) (original_loads_from n (within o l) (event k m m' ∷ b ++ t) y)
       loaded (ev.DocumentEnd d) = more _ (ih between)
       loaded k = go (orig.load_event n l (event k m m'))
 
@@ -57,16 +57,16 @@ module _ (n : ℕ) (r t : List Event) (x y : Ending) where
 
 pub loads_compared : (n : ℕ) (l : List Token) (f : Fault) (a b : List Load) (there : LoadsThere n l f a)
     → (here : IsBoundedLoads n (map as_held l) f b)
-    → Compares (new_parser (map as_held l) f) there.events there.ending here.events here.ending
+    → Compares (new_original_parser (map as_held l) f) there.events there.ending here.events here.ending
     → loads_there n here.events here.ending ≡ bounded_loads n here.events here.ending
-    → LoadsCompare n (new_parser (map as_held l) f) a b
+    → LoadsCompare n (new_original_parser (map as_held l) f) a b
 loads_compared n l f a b there here compares alike = go compares
   where
     here_too : b ≡ loads_there n here.events here.ending
     here_too = here.all ∙ sym alike
 
-    go : Compares (new_parser (map as_held l) f) there.events there.ending here.events here.ending
-        → LoadsCompare n (new_parser (map as_held l) f) a b
+    go : Compares (new_original_parser (map as_held l) f) there.events there.ending here.events here.ending
+        → LoadsCompare n (new_original_parser (map as_held l) f) a b
     go (same e x) = same_loads (there.all ∙ (ap (λ (z : List Event). loads_there n z there.ending) e
         ∙ (ap (λ (z : Ending). loads_there n here.events z) x ∙ sym here_too)))
     go (parts before e' d' q reached differs e d later_there later_here) = by
@@ -79,7 +79,7 @@ loads_compared n l f a b there here compares alike = go compares
         b_is = here_too ∙ ap (λ (z : List Event). loads_there n z here.ending) d
 
         by : Shares (loads_there n before Ends) (loads_there n (before ++ e') there.ending)
-            (loads_there n (before ++ d') here.ending) → LoadsCompare n (new_parser (map as_held l) f) a b
+            (loads_there n (before ++ d') here.ending) → LoadsCompare n (new_original_parser (map as_held l) f) a b
         by (equal i) = same_loads (a_is ∙ (i ∙ sym b_is))
         by (begin documents left right front i j)
             = loads_part before q reached differs documents front left right (a_is ∙ i) (b_is ∙ j)

@@ -6,7 +6,7 @@ use Rattle.libyaml_documents.specs.declared.node.unnamed_yaml_node_t_data.TheVar
 use Rattle.libyaml_documents.specs.declared.node.yaml_node_t.{yaml_node_t}
 use Rattle.libyaml_documents.specs.declared.pairs.yaml_node_pair_t.{yaml_node_pair_t}
 use Rattle.libyaml_grammar.specs.sentences.Tokens.{Mark}
-use Rattle.libyaml_graphs.specs.machine.Loader.{content_with, key_behind}
+use Rattle.libyaml_graphs.specs.machine.Loader.{content_and_child, key_behind}
 use Rattle.libyaml_graphs.proofs.lent.Building.{Held, change, end_at, hold}
 use Rattle.rust_original.specs.loader.Loader as orig
 use Rattle.rust_original.specs.loader.Loader.{with_value}
@@ -85,8 +85,8 @@ full_append (q ∷ ps) p h i = (h.0, full_append ps p h.1 i)
 
 -- a child handed to a node
 added : (i : ℕ) (k : Option ℤ) (c : unnamed_yaml_node_t_data) → Sound k c
-    → orig.with_child (suc i) (with_half k c) ≡ with_half (key_behind k (pos (suc i)) c)
-    (content_with k (pos (suc i)) c)
+    → orig.content_with_child (suc i) (with_half k c) ≡ with_half (key_behind k (pos (suc i)) c)
+    (content_and_child k (pos (suc i)) c)
 added i None (Scalar s) h = refl
 added i None (Sequence s) h = refl
 added i None (Mapping m) h
@@ -105,7 +105,7 @@ added i (Some k) (Mapping m) h = ap (λ (u : Bool). Mapping (record m {
     ∙ ap (λ (l : List yaml_node_pair_t). Mapping (record m { pairs = l })) (last_value (suc i) m.pairs k)
 
 stays_sound : (i : ℕ) (k : Option ℤ) (c : unnamed_yaml_node_t_data) → Sound k c
-    → Sound (key_behind k (pos (suc i)) c) (content_with k (pos (suc i)) c)
+    → Sound (key_behind k (pos (suc i)) c) (content_and_child k (pos (suc i)) c)
 stays_sound i None (Scalar s) h = tt
 stays_sound i None (Sequence s) h = tt
 stays_sound i None (Mapping m) h = (tt, h)
@@ -114,7 +114,7 @@ stays_sound i (Some k) (Sequence s) h = absurd h
 stays_sound i (Some k) (Mapping m) h = full_append m.pairs (record { key = k; value = pos (suc i) }) h.1 tt
 
 abbrev with_child_there : ℕ → yaml_node_t → yaml_node_t
-with_child_there i x = record x { content = orig.with_child i x.content }
+with_child_there i x = record x { content = orig.content_with_child i x.content }
 
 pub held_there : (p i : ℕ) (hs : List Held) → AllSound hs
     → changed_at p (with_child_there (suc i)) (halves hs) ≡ halves (change p (hold (suc i)) hs)

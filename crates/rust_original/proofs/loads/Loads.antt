@@ -5,8 +5,8 @@ use Rattle.libyaml_documents.specs.declared.node.yaml_node_t.{yaml_node_t}
 use Rattle.libyaml_types.specs.Fault.{Fault}
 use Rattle.libyaml_grammar.specs.runs.Runs.{Ending, Ends, Fails}
 use Rattle.libyaml_grammar.specs.sentences.Events.{Event, document_end_at, end_at as end_event, event, stream_end_at}
-use Rattle.libyaml_grammar.specs.sentences.Nesting.{HasBegun, HasPairs, IsNested, IsOpenDocument, Texts, TextsHavePairs, Value, Values, alias_value, collection_value, first_value, no_texts, no_values, none_open, one_open, scalar_value, NestsSoFar, has_begun, not_begun, text_behind, texts_events}
-use Rattle.libyaml_grammar.specs.sentences.Nesting.{whole, value_events, values_events}
+use Rattle.libyaml_grammar.specs.sentences.Nesting.{HasBegun, HasPairs, IsNested, IsOpenDocument, DocumentTexts, TextsHavePairs, Value, Values, alias_value, collection_value, first_value, no_texts, no_values, none_open, one_open, scalar_value, NestsSoFar, has_begun, not_begun, text_behind}
+use Rattle.libyaml_grammar.specs.sentences.Nesting.{texts_events, whole, value_events, values_events}
 use Rattle.libyaml_grammar.specs.sentences.Tokens.{Mark}
 use Rattle.libyaml_grammar.specs.sentences.Trees.{mapping, sequence}
 use Rattle.libyaml_graphs.specs.graphs.GraphParts.{Closing, Opening, graph, parts}
@@ -14,8 +14,8 @@ use Rattle.libyaml_graphs.specs.loads.Loads.{Load, begun_behind, behind_document
 use Rattle.libyaml_graphs.specs.loads.Bounds.{bounded_loads, first_stop}
 use Rattle.libyaml_graphs.proofs.lent.BoundedLoader.{within_unbuilt}
 use Rattle.libyaml_graphs.proofs.lent.Building.{front_closes, value_behind, unbuilt}
-use Rattle.libyaml_types.specs.declared.event.unnamed_yaml_event_t_data_document_start.{unnamed_yaml_event_t_data_document_start}
 use Rattle.libyaml_graphs.proofs.lent.Building as built
+use Rattle.libyaml_types.specs.declared.event.unnamed_yaml_event_t_data_document_start.{unnamed_yaml_event_t_data_document_start}
 use Rattle.rust_original.specs.loader.Loader as orig
 use Rattle.rust_original.proofs.loads.Halves.{halves}
 use Rattle.rust_original.proofs.loads.Documents.{document_same}
@@ -36,12 +36,12 @@ mutual
 -- loads within the bound
 module _ (limit : ℕ) where
   abbrev Agree : Ending → List Event → Type 0
-  Agree x r = orig.loads_from limit orig.between r x ≡ bounded_loads limit r x
+  Agree x r = orig.original_loads_from limit orig.between r x ≡ bounded_loads limit r x
 
   begun_same : (x : Ending) (o : Opening) (r : List Event)
-      → orig.loads_from limit (orig.within o orig.new_loader) r x
+      → orig.original_loads_from limit (orig.within o orig.new_loader) r x
       ≡ load_then (first_stop limit [] [] (parts r)) (end_of_document r) o (halves (built.held_graph [] (parts r)))
-      (last_load x) (orig.loads_from limit orig.between (behind_document r) x)
+      (last_load x) (orig.original_loads_from limit orig.between (behind_document r) x)
   begun_same x o r = document_same limit o x r [] [] unbuilt [] (within_unbuilt limit) (λ a. refl) tt
 
   text_agrees : (x : Ending) (d : unnamed_yaml_event_t_data_document_start) (m n : Mark) (v : Value) (i : Bool)
@@ -52,15 +52,15 @@ module _ (limit : ℕ) where
       let V : List Event = value_events v (document_end_at i p q ∷ r) in
       begun_same x o V
       ∙ (ap (λ (ns : List yaml_node_t). load_then (first_stop limit [] [] (parts V)) (end_of_document V) o ns (last_load x)
-      (orig.loads_from limit orig.between (behind_document V) x))
+      (orig.original_loads_from limit orig.between (behind_document V) x))
       (none_half (built.held_graph [] (parts V)) (value_keys v [] (document_end_at i p q ∷ r) h tt) ∙ built.graph_nodes
       (parts V) [])
       ∙ ap (λ (l : List Load). load_then (first_stop limit [] [] (parts V)) (end_of_document V) o (graph [] (parts V))
       (last_load x) l)
-      (ap (λ (l : List Event). orig.loads_from limit orig.between l x) (value_left v (document_end_at i p q ∷ r)) ∙
+      (ap (λ (l : List Event). orig.original_loads_from limit orig.between l x) (value_left v (document_end_at i p q ∷ r)) ∙
       (g ∙ sym (ap (loads_by (first_stop limit [] []) x) (value_behind v (document_end_at i p q ∷ r))))))
 
-  texts_agree : (x : Ending) (ts : Texts) (r : List Event) → TextsHavePairs ts → Agree x r → Agree x (texts_events ts r)
+  texts_agree : (x : Ending) (ts : DocumentTexts) (r : List Event) → TextsHavePairs ts → Agree x r → Agree x (texts_events ts r)
   texts_agree x no_texts r h g = g
   texts_agree x (text_behind ts d m n v i p q) r h g
       = texts_agree x ts (event (ev.DocumentStart d) m n ∷ value_events v (document_end_at i p q ∷ r)) h.0
@@ -81,7 +81,7 @@ module _ (limit : ℕ) where
       (begun_same x o f ∙
       (ap (λ (c : Option Closing). load_then (first_stop limit [] [] (parts f)) c o
       (halves (built.held_graph [] (parts f))) (last_load x)
-      (orig.loads_from limit orig.between (behind_document f) x)) (front_closes f b)
+      (orig.original_loads_from limit orig.between (behind_document f) x)) (front_closes f b)
       ∙ (cut_off (first_stop limit [] [] (parts f)) o _ _ (last_load x) _ _
       ∙ sym (ap
       (λ (c : Option Closing). load_then (first_stop limit [] [] (parts f)) c o (graph [] (parts f)) (last_load x)

@@ -22,7 +22,7 @@ abbrev pub ids : List ℕ → List ℕ
 ids [] = []
 ids (p ∷ s) = suc p ∷ ids s
 
-abbrev pub there : List yaml_alias_data_t → Built → orig.Loader
+abbrev pub there : List yaml_alias_data_t → Built → orig.OriginalLoader
 there xs b = record { aliases = xs; nodes = halves b.held; ctx = ids b.places }
 
 abbrev pub Agrees : List Start → List yaml_alias_data_t → Type 0
@@ -65,14 +65,14 @@ top_sound i [] hs h = h
 top_sound i (p ∷ s) hs h = hold_sound p i hs h
 
 -- the original's functions without the bound
-abbrev pub pushed : orig.Loader → Option (List ℕ) → yaml_node_t → Bool → LoaderResult
+abbrev pub pushed : orig.OriginalLoader → Option (List ℕ) → yaml_node_t → Bool → LoaderResult
 pushed l anchor x opens
     = orig.yaml_parser_register_anchor (record l { nodes = l.nodes ++ x ∷ [] }) (suc (length l.nodes)) x.start_mark
     anchor λ r.
     OK (if opens then record (orig.child_added r (suc (length l.nodes))) { ctx = suc (length l.nodes) ∷ r.ctx } else
     orig.child_added r (suc (length l.nodes)))
 
-abbrev pub load_alias : orig.Loader → List ℕ → Mark → LoaderResult
+abbrev pub load_alias : orig.OriginalLoader → List ℕ → Mark → LoaderResult
 load_alias l anchor mark = elim (alias_of l.aliases anchor) [
   | Some found ↦ OK (orig.child_added l found.id)
   | None ↦ orig.yaml_parser_set_composer_error (codes "found undefined alias") mark
@@ -84,7 +84,7 @@ node_add : (xs : List yaml_alias_data_t) (i : ℕ) (s : List ℕ) (hs : List Hel
     ≡ record { aliases = xs; nodes = halves (hold_top (suc i) s hs); ctx = ids s }
 node_add xs i [] hs h = refl
 node_add xs i (p ∷ s) hs h
-    = ap (λ (l : List yaml_node_t). let m : orig.Loader = record { aliases = xs; nodes = l; ctx = suc p ∷ ids s } in m)
+    = ap (λ (l : List yaml_node_t). let m : orig.OriginalLoader = record { aliases = xs; nodes = l; ctx = suc p ∷ ids s } in m)
     (held_there p i hs h)
 
 alias_follows : (a : List ℕ) (m : Mark) (es : List Start) (b : Built) (xs : List yaml_alias_data_t) → Agrees es xs
@@ -158,7 +158,7 @@ put opens x n b
     = opened opens (length b.held)
     (record { places = b.places; held = hold_top (suc n) b.places (b.held ++ bare x ∷ []) })
 
-abbrev pub finish_there : Bool → orig.Loader → ℕ → orig.Loader
+abbrev pub finish_there : Bool → orig.OriginalLoader → ℕ → orig.OriginalLoader
 finish_there opens r index
     = if opens then record (orig.child_added r index) { ctx = index ∷ r.ctx } else orig.child_added r index
 
@@ -183,9 +183,9 @@ module _ (x : yaml_node_t) (opens : Bool) (es : List Start) (b : Built) (size : 
           → finish_there o (record { aliases = ys; nodes = halves (b.held ++ bare x ∷ []); ctx = ids b.places })
           (suc (length es))
           ≡ there ys (put o x (length es) b)
-      go true = ap (λ (l : orig.Loader). let m : orig.Loader = record l { ctx = suc (length es) ∷ ids b.places } in m)
+      go true = ap (λ (l : orig.OriginalLoader). let m : orig.OriginalLoader = record l { ctx = suc (length es) ∷ ids b.places } in m)
           (node_add ys (length es) b.places (b.held ++ bare x ∷ []) (sound_append b.held x h i))
-          ∙ ap (λ (n : ℕ). let m : orig.Loader =
+          ∙ ap (λ (n : ℕ). let m : orig.OriginalLoader =
           record {
             aliases = ys;
             nodes = halves (hold_top (suc (length es)) b.places (b.held ++ bare x ∷ []));
@@ -233,14 +233,14 @@ module _ (x : yaml_node_t) (opens : Bool) (es : List Start) (b : Built) (size : 
         ),
       )
 
-abbrev pub load_event : orig.Loader → Event → LoaderResult
+abbrev pub load_event : orig.OriginalLoader → Event → LoaderResult
 load_event l e = elim e.content [
   | ev.Alias a ↦ load_alias l a.anchor e.start_mark
   | ev.Scalar s ↦ pushed l s.anchor (scalar_loaded s e.start_mark e.end_mark) false
   | ev.SequenceStart s ↦ pushed l s.anchor (sequence_loaded s.tag s.style [] e.start_mark e.end_mark) true
-  | ev.SequenceEnd ↦ OK (orig.ended l e)
+  | ev.SequenceEnd ↦ OK (orig.node_ended l e)
   | ev.MappingStart s ↦ pushed l s.anchor (mapping_loaded s.tag s.style [] e.start_mark e.end_mark) true
-  | ev.MappingEnd ↦ OK (orig.ended l e)
+  | ev.MappingEnd ↦ OK (orig.node_ended l e)
   | _ ↦ OK l
 ]
 
@@ -251,7 +251,7 @@ Moves o (Some p) es b xs = Follows o (composer_part_fault es p) (behind p es) (b
 
 end_follows : (n : Mark) (xs : List yaml_alias_data_t) (es : List Start) (s : List ℕ) (hs : List Held)
     (k : unnamed_yaml_event_t_data) (m : Mark) → Agrees es xs → AllSound hs
-    → Follows (OK (orig.ended (there xs (record { places = s; held = hs })) (event k m n))) None es
+    → Follows (OK (orig.node_ended (there xs (record { places = s; held = hs })) (event k m n))) None es
     (build es (end_part n) (record { places = s; held = hs }))
 end_follows n xs es [] hs k m g h = (refl, (xs, refl, g, h))
 end_follows n xs es (p ∷ s) hs k m g h
@@ -260,7 +260,7 @@ end_follows n xs es (p ∷ s) hs k m g h
       (
         xs,
         ap
-            (λ (l : List yaml_node_t). let r : orig.Loader = record { aliases = xs; nodes = l; ctx = ids s } in r)
+            (λ (l : List yaml_node_t). let r : orig.OriginalLoader = record { aliases = xs; nodes = l; ctx = ids s } in r)
             (ended_there p n hs),
         g,
         end_sound p n hs h,

@@ -9,11 +9,11 @@ use Rattle.libyaml_grammar.specs.sentences.Sentences.{is_end}
 use Rattle.libyaml_grammar.specs.sentences.Tokens.{Mark, Token}
 use Rattle.libyaml_events.specs.machine.Config.{Config, Handles, is_end_state, taken}
 use Rattle.libyaml_events.specs.machine.Want.{AtState}
-use Rattle.rust_original.specs.parser.Parser.{Mends, OK, Outcome, Parser, yaml_parser_state_machine}
+use Rattle.rust_original.specs.parser.Parser.{Mends, OK, ParserResult, OriginalParser, yaml_parser_state_machine}
 use Rattle.rust_original.specs.parser.Runs.{as_here, call}
 use Rattle.rust_original.proofs.parser.Documents as documents
 use Rattle.rust_original.proofs.parser.States as states
-use Rattle.rust_original.proofs.parser.Relation.{Agree, Below, Fits, IsInside, Matches, Opens, Stands, before, behind, behind_end, entering, feed, first, inside, over, root_end, there_with, tokens_of}
+use Rattle.rust_original.proofs.parser.Relation.{Agree, Below, Fits, IsInside, Matches, Opens, SamePlace, before, behind, behind_end, entering, feed, first, inside, over, root_end, there_with, tokens_of}
 
 module _ (f : Fault) (x : Fault) (ss : List yaml_parser_state_t) where
   abbrev conf : yaml_parser_state_t → List Mark → Handles → Bool → Config
@@ -132,18 +132,18 @@ both_end (inside i b a) = refl
 both_end over = refl
 
 -- a parser that has not ended calls its state's function
-begun_call : (m : Mends) (q : Parser) → q.stream_end_produced ≡ false → is_end_state q.state ≡ false
+begun_call : (m : Mends) (q : OriginalParser) → q.stream_end_produced ≡ false → is_end_state q.state ≡ false
     → call m q ≡ yaml_parser_state_machine m q.state q
 begun_call m q h k
     = ap (λ (u : Bool). if u || is_end_state q.state then OK empty_event q else yaml_parser_state_machine m q.state q) h
     ∙ ap (λ (u : Bool). if u then OK empty_event q else yaml_parser_state_machine m q.state q) k
 
 -- a call of both
-pub call_same : (f : Fault) (q : Parser) (d : Config) (l : List Token) → Stands f q d l → is_end_state d.state ≡ false
+pub call_same : (f : Fault) (q : OriginalParser) (d : Config) (l : List Token) → SamePlace f q d l → is_end_state d.state ≡ false
     → Matches f (call as_here q) (feed f AtState (taken d) (tokens_of d.lookahead l))
-call_same f q d l s e = subst (λ (o : Outcome). Matches f o (feed f AtState (taken d) (tokens_of d.lookahead l)))
-    (sym (begun_call as_here q (ap (λ (p : Parser). p.stream_end_produced) s.is ∙ (flagged s.fits ∙ e))
-    (ap (λ (p : Parser). is_end_state p.state) s.is ∙ (both_end s.fits ∙ e))))
-    (subst (λ (p : Parser). Matches f (yaml_parser_state_machine as_here p.state p)
+call_same f q d l s e = subst (λ (o : ParserResult). Matches f o (feed f AtState (taken d) (tokens_of d.lookahead l)))
+    (sym (begun_call as_here q (ap (λ (p : OriginalParser). p.stream_end_produced) s.is ∙ (flagged s.fits ∙ e))
+    (ap (λ (p : OriginalParser). is_end_state p.state) s.is ∙ (both_end s.fits ∙ e))))
+    (subst (λ (p : OriginalParser). Matches f (yaml_parser_state_machine as_here p.state p)
     (feed f AtState (taken d) (tokens_of d.lookahead l))) (sym s.is)
     (called f d.fault d.states s.fits e))

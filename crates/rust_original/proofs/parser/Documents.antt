@@ -14,7 +14,7 @@ use Rattle.libyaml_events.specs.machine.Config.{Config, Handles, config_of, no_h
 use Rattle.libyaml_events.specs.machine.Machine.{Progressed, put, seen}
 use Rattle.libyaml_events.specs.machine.Want.{AtState, Texts, Want, no_texts}
 use Rattle.rust_original.specs.parser.Parser as orig
-use Rattle.rust_original.specs.parser.Parser.{Outcome, Parser, default_tag_directives, directive_of, directives_from}
+use Rattle.rust_original.specs.parser.Parser.{ParserResult, OriginalParser, default_tag_directives, directive_named, directives_from}
 use Rattle.rust_original.specs.parser.Runs.{as_here}
 use Rattle.rust_original.proofs.parser.Handles.{Reads, agree, declares, defaults_appended, none_declared, reads_more}
 use Rattle.rust_original.proofs.parser.Relation.{standing, Matches, fed, feed, first, inside, is_document_end, over, stopped, there, tk}
@@ -24,7 +24,7 @@ module _ (f : Fault) (x : Fault) (ss : List yaml_parser_state_t) (ms : List Mark
   here s be hs
       = record { lookahead = None; state = s; states = ss; marks = ms; handles = hs; behind_document_end = be; fault = x }
 
-  abbrev pub par : yaml_parser_state_t → Bool → List yaml_tag_directive_t → List Token → Parser
+  abbrev pub par : yaml_parser_state_t → Bool → List yaml_tag_directive_t → List Token → OriginalParser
   par s' flag tags l = there f tags flag s' false (here s' false no_handles) l
 
   -- before the stream
@@ -49,7 +49,7 @@ module _ (f : Fault) (x : Fault) (ss : List yaml_parser_state_t) (ms : List Mark
   behind_directive a v ts = record { next = automaton.BehindDirective a (is_some v); texts = directive_texts v ts }
 
   module _ (s s' : yaml_parser_state_t) (be flag : Bool) where
-    abbrev next_there : Mark → Option yaml_version_directive_t → List yaml_tag_directive_t → Parser → Outcome
+    abbrev next_there : Mark → Option yaml_version_directive_t → List yaml_tag_directive_t → OriginalParser → ParserResult
     next_there = orig.behind_directives
 
     abbrev Follows : List Token → Type 0
@@ -95,14 +95,14 @@ module _ (f : Fault) (x : Fault) (ss : List yaml_parser_state_t) (ms : List Mark
     tag_token a o ts g m n l tags hs ih r = subst (λ (w : Option (List ℕ)). Matches f
         (directives_from o ts (next_there a) (tk (TagDirective g) m n ∷ l)
         (par s' flag tags (tk (TagDirective g) m n ∷ l))) (fed f (told w) l)) (r g.handle)
-        (go (directive_of tags g.handle) refl)
+        (go (directive_named tags g.handle) refl)
       where
         told : Option (List ℕ) → Progressed
         told w = put (directive_texts o ts) None None (here s be hs) (tk (TagDirective g) m n) (TagDirective g)
             (automaton.tag_directive (is_some w) a (is_some o) (config_of (here s be hs))
             (seen (tk (TagDirective g) m n) (TagDirective g)))
 
-        go : (w : Option (List ℕ)) → directive_of tags g.handle ≡ w
+        go : (w : Option (List ℕ)) → directive_named tags g.handle ≡ w
             → Matches f (elim w [
               | Some earlier ↦ orig.yaml_parser_set_parser_error (codes "found duplicate %TAG directive") m
               | None ↦ directives_from o (ts ++ declares g.handle g.prefix ∷ []) (next_there a) l
@@ -146,7 +146,7 @@ module _ (f : Fault) (x : Fault) (ss : List yaml_parser_state_t) (ms : List Mark
     )
 
     pub explicit : (k : Content) (m n : Mark) (l : List Token)
-        → Matches f (orig.explicit_document m (par s' flag [] (tk k m n ∷ l)))
+        → Matches f (orig.explicit_document_start m (par s' flag [] (tk k m n ∷ l)))
         (feed f (behind_directive m None []) (here s be no_handles) (tk k m n ∷ l))
     explicit k m n l = directives (tk k m n ∷ l) m None [] [] no_handles none_declared
 

@@ -9,12 +9,12 @@ use Rattle.libyaml_grammar.specs.sentences.Tokens.{Mark}
 use Rattle.libyaml_grammar.proofs.lent.TextMaps.{inserted}
 use Rattle.libyaml_events.specs.machine.Config.{Handles, no_handles}
 use Rattle.libyaml_events.specs.machine.Machine.{or_default}
-use Rattle.rust_original.specs.parser.Parser.{Outcome, Parser, default_tag_directives, directive_of, yaml_parser_append_tag_directive}
+use Rattle.rust_original.specs.parser.Parser.{ParserResult, OriginalParser, default_tag_directives, directive_named, yaml_parser_append_tag_directive}
 use Rattle.rust_original.proofs.parser.Relation.{Agree}
 
 -- before the defaults
 abbrev pub Reads : List yaml_tag_directive_t → Handles → Type 0
-Reads tags hs = (h : List ℕ) → directive_of tags h ≡ get hs h
+Reads tags hs = (h : List ℕ) → directive_named tags h ≡ get hs h
 
 abbrev pub declares : List ℕ → List ℕ → yaml_tag_directive_t
 declares h p = record { handle = h; prefix = p }
@@ -32,27 +32,27 @@ or_none (Some x) = refl
 
 -- a directive after the others
 one_more : (tags : List yaml_tag_directive_t) (d : yaml_tag_directive_t) (h : List ℕ)
-    → directive_of (tags ++ d ∷ []) h ≡ or_else (directive_of tags h) (cond (bytes_eq d.handle h) (Some d.prefix) None)
+    → directive_named (tags ++ d ∷ []) h ≡ or_else (directive_named tags h) (cond (bytes_eq d.handle h) (Some d.prefix) None)
 one_more [] d h = refl
 one_more (e ∷ tags) d h = go (one_more tags d h) (bytes_eq e.handle h)
   where
-    go : directive_of (tags ++ d ∷ []) h ≡ or_else (directive_of tags h)
+    go : directive_named (tags ++ d ∷ []) h ≡ or_else (directive_named tags h)
         (cond (bytes_eq d.handle h) (Some d.prefix) None) → (u : Bool)
-        → cond u (Some e.prefix) (directive_of (tags ++ d ∷ []) h)
-        ≡ or_else (cond u (Some e.prefix) (directive_of tags h)) (cond (bytes_eq d.handle h) (Some d.prefix) None)
+        → cond u (Some e.prefix) (directive_named (tags ++ d ∷ []) h)
+        ≡ or_else (cond u (Some e.prefix) (directive_named tags h)) (cond (bytes_eq d.handle h) (Some d.prefix) None)
     go ih true = refl
     go ih false = ih
 
 pub reads_more : (tags : List yaml_tag_directive_t) (hs : Handles) (g p : List ℕ) → Reads tags hs
-    → directive_of tags g ≡ None → Reads (tags ++ declares g p ∷ []) (insert hs g p)
+    → directive_named tags g ≡ None → Reads (tags ++ declares g p ∷ []) (insert hs g p)
 reads_more tags hs g p r e h = one_more tags (declares g p) h ∙ (go (bytes_eq g h) refl ∙ sym (inserted hs g p h))
   where
     go : (u : Bool) → u ≡ bytes_eq g h
-        → or_else (directive_of tags h) (cond u (Some p) None) ≡ cond u (Some p) (get hs h)
+        → or_else (directive_named tags h) (cond u (Some p) None) ≡ cond u (Some p) (get hs h)
     go true s
         = ap (λ (o : Option (List ℕ)). or_else o (Some p))
-        (subst (λ (y : List ℕ). directive_of tags y ≡ None) (lex.same_text g h s) e)
-    go false s = or_none (directive_of tags h) ∙ r h
+        (subst (λ (y : List ℕ). directive_named tags y ≡ None) (lex.same_text g h s) e)
+    go false s = or_none (directive_named tags h) ∙ r h
 
 -- the defaults
 abbrev with_default : List yaml_tag_directive_t → yaml_tag_directive_t → Option (List ℕ) → List yaml_tag_directive_t
@@ -60,11 +60,11 @@ with_default tags d None = tags ++ d ∷ []
 with_default tags d (Some x) = tags
 
 abbrev after : List yaml_tag_directive_t → yaml_tag_directive_t → List yaml_tag_directive_t
-after tags d = with_default tags d (directive_of tags d.handle)
+after tags d = with_default tags d (directive_named tags d.handle)
 
-appended : (p : Parser) (d : yaml_tag_directive_t) (m : Mark) (next : Parser → Outcome)
+appended : (p : OriginalParser) (d : yaml_tag_directive_t) (m : Mark) (next : OriginalParser → ParserResult)
     → yaml_parser_append_tag_directive d true m p next ≡ next (record p { tag_directives = after p.tag_directives d })
-appended p d m next = go (directive_of p.tag_directives d.handle)
+appended p d m next = go (directive_named p.tag_directives d.handle)
   where
     go : (o : Option (List ℕ))
         → elim o [ Some earlier ↦ next p | None ↦ next (record p { tag_directives = p.tag_directives ++ d ∷ [] }) ]
@@ -73,19 +73,19 @@ appended p d m next = go (directive_of p.tag_directives d.handle)
     go (Some x) = refl
 
 found : (tags : List yaml_tag_directive_t) (d : yaml_tag_directive_t) (h : List ℕ)
-    → directive_of (after tags d) h ≡ or_else (directive_of tags h) (cond (bytes_eq d.handle h) (Some d.prefix) None)
-found tags d h = go (directive_of tags d.handle) refl
+    → directive_named (after tags d) h ≡ or_else (directive_named tags h) (cond (bytes_eq d.handle h) (Some d.prefix) None)
+found tags d h = go (directive_named tags d.handle) refl
   where
-    there : (x : List ℕ) → directive_of tags d.handle ≡ Some x → (u : Bool) → u ≡ bytes_eq d.handle h
-        → directive_of tags h ≡ or_else (directive_of tags h) (cond u (Some d.prefix) None)
+    there : (x : List ℕ) → directive_named tags d.handle ≡ Some x → (u : Bool) → u ≡ bytes_eq d.handle h
+        → directive_named tags h ≡ or_else (directive_named tags h) (cond u (Some d.prefix) None)
     there x e true s =
-        let i : directive_of tags h ≡ Some x
-        = subst (λ (y : List ℕ). directive_of tags y ≡ Some x) (lex.same_text d.handle h s) e in
+        let i : directive_named tags h ≡ Some x
+        = subst (λ (y : List ℕ). directive_named tags y ≡ Some x) (lex.same_text d.handle h s) e in
         i ∙ sym (ap (λ (o : Option (List ℕ)). or_else o (Some d.prefix)) i)
-    there x e false s = sym (or_none (directive_of tags h))
+    there x e false s = sym (or_none (directive_named tags h))
 
-    go : (o : Option (List ℕ)) → directive_of tags d.handle ≡ o
-        → directive_of (with_default tags d o) h ≡ or_else (directive_of tags h)
+    go : (o : Option (List ℕ)) → directive_named tags d.handle ≡ o
+        → directive_named (with_default tags d o) h ≡ or_else (directive_named tags h)
         (cond (bytes_eq d.handle h) (Some d.prefix) None)
     go None e = one_more tags d h
     go (Some x) e = there x e (bytes_eq d.handle h) refl
@@ -99,7 +99,7 @@ bangs = declares (codes "!!") (codes "tag:yaml.org,2002:")
 abbrev pub defaulted : List yaml_tag_directive_t → List yaml_tag_directive_t
 defaulted tags = after (after tags bang) bangs
 
-pub defaults_appended : (p : Parser) (m : Mark) (next : Parser → Outcome)
+pub defaults_appended : (p : OriginalParser) (m : Mark) (next : OriginalParser → ParserResult)
     → default_tag_directives m p next ≡ next (record p { tag_directives = defaulted p.tag_directives })
 defaults_appended p m next = appended p bang m (λ q. yaml_parser_append_tag_directive bangs true m q next)
     ∙ appended (record p { tag_directives = after p.tag_directives bang }) bangs m next
@@ -108,8 +108,8 @@ pub agree : (tags : List yaml_tag_directive_t) (hs : Handles) → Reads tags hs 
 agree tags hs r h = found (after tags bang) bangs h
     ∙ (ap (λ (o : Option (List ℕ)). or_else o
     (cond (bytes_eq (codes "!!") h) (Some (codes "tag:yaml.org,2002:")) None)) (found tags bang h)
-    ∙ (cases (directive_of tags h) (bytes_eq (codes "!") h) (bytes_eq (codes "!!") h)
-    ∙ (swapped (directive_of tags h) ∙ ap (λ (o : Option (List ℕ)). or_default o h) (r h))))
+    ∙ (cases (directive_named tags h) (bytes_eq (codes "!") h) (bytes_eq (codes "!!") h)
+    ∙ (swapped (directive_named tags h) ∙ ap (λ (o : Option (List ℕ)). or_default o h) (r h))))
   where
     cases : (o : Option (List ℕ)) (u v : Bool)
         → or_else (or_else o (cond u (Some (codes "!")) None)) (cond v (Some (codes "tag:yaml.org,2002:")) None)

@@ -14,13 +14,13 @@ use Rattle.libyaml_grammar.specs.sentences.Tokens.{Alias, Anchor, AnchorName, Bl
 use Rattle.libyaml_automaton.specs.declared.node_place.NodePlace.{NodePlace}
 use Rattle.libyaml_automaton.specs.declared.node_place.NodePlace.TheVariants.{Block, BlockOrIndentlessSequence, Flow}
 use Rattle.libyaml_automaton.specs.Automaton as automaton
-use Rattle.libyaml_automaton.specs.Automaton.{Properties, Step, content_problem, is_block_place, may_be_indentless}
+use Rattle.libyaml_automaton.specs.Automaton.{PropertiesRead, Step, content_problem, is_block_place, may_be_indentless}
 use Rattle.libyaml_events.specs.machine.Config.{Config, Handles, config_of}
 use Rattle.libyaml_events.specs.machine.Machine as mach
 use Rattle.libyaml_events.specs.machine.Machine.{Progressed, fault_with, or_default, put, seen, with_prefix, with_texts}
 use Rattle.libyaml_events.specs.machine.Want.{Texts, no_texts}
 use Rattle.rust_original.specs.parser.Parser as orig
-use Rattle.rust_original.specs.parser.Parser.{OK, Outcome, Parser, WrittenTag, prefixed, set_state}
+use Rattle.rust_original.specs.parser.Parser.{OK, ParserResult, OriginalParser, WrittenTag, prefixed, set_state}
 use Rattle.rust_original.proofs.parser.Relation.{standing, Agree, Below, Fits, IsFresh, Matches, entering, fed, inside, popped_fits, popped_fresh, there, tk}
 
 abbrev pub written_text : Option TagName → Option (List ℕ)
@@ -49,21 +49,21 @@ problem_of BlockOrIndentlessSequence m = refl
 problem_of Flow m = refl
 
 -- what the content of a node without properties leads to asks nothing
-plain_none : (h : Texts) (c : Config) (t : Token) (k : Content) (p : NodePlace) (b g : Bool) (r : Properties)
+plain_none : (h : Texts) (c : Config) (t : Token) (k : Content) (p : NodePlace) (b g : Bool) (r : PropertiesRead)
     → with_texts h c t k (automaton.no_content p b g r (config_of c) (seen t k))
     ≡ put h None None c t k (automaton.no_content p b g r (config_of c) (seen t k))
 plain_none h c t k p false false r = refl
 plain_none h c t k p false true r = refl
 plain_none h c t k p true g r = refl
 
-plain_if : (h : Texts) (c : Config) (t : Token) (k : Content) (p : NodePlace) (b : Bool) (s : Step) (r : Properties)
+plain_if : (h : Texts) (c : Config) (t : Token) (k : Content) (p : NodePlace) (b : Bool) (s : Step) (r : PropertiesRead)
     → with_texts h c t k s ≡ put h None None c t k s
     → with_texts h c t k (automaton.if_allowed b s p r (config_of c) (seen t k))
     ≡ put h None None c t k (automaton.if_allowed b s p r (config_of c) (seen t k))
 plain_if h c t k p true s r e = e
 plain_if h c t k p false s r e = plain_none h c t k p r.anchor r.tag r
 
-plain : (h : Texts) (c : Config) (t : Token) (k : Content) (p : NodePlace) (r : Properties)
+plain : (h : Texts) (c : Config) (t : Token) (k : Content) (p : NodePlace) (r : PropertiesRead)
     → with_texts h c t k (automaton.node_content p r (config_of c) (seen t k) (token_type k))
     ≡ put h None None c t k (automaton.node_content p r (config_of c) (seen t k) (token_type k))
 plain h c t (Scalar v) p r = refl
@@ -81,10 +81,10 @@ module _ (f : Fault) (tags : List yaml_tag_directive_t) (hs : Handles) (agree : 
   conf ss =
       record { lookahead = None; state = s; states = ss; marks = ms; handles = hs; behind_document_end = be; fault = x }
 
-  abbrev pub par : List yaml_parser_state_t → List Token → Parser
+  abbrev pub par : List yaml_parser_state_t → List Token → OriginalParser
   par ss l = there f tags flag s' false (conf ss) l
 
-  abbrev props : (anchor tag : Option (List ℕ)) → (start end tag_mark : Mark) → Properties
+  abbrev props : (anchor tag : Option (List ℕ)) → (start end tag_mark : Mark) → PropertiesRead
   props anchor tag a c g
       = record { anchor = is_some anchor; tag = is_some tag; start_mark = a; end_mark = c; tag_mark = g }
 
@@ -99,11 +99,11 @@ module _ (f : Fault) (tags : List yaml_tag_directive_t) (hs : Handles) (agree : 
         (props anchor tag a c g) (config_of (conf ss)) (seen (tk k m n) k))) l)
     alone h None None a b c g k m n l o = missing_content (is_block_place p) a m o ∙ problem_of p m
     alone h None (Some tag) a b c g k m n l o = (
-      ap (event (mach.scalar None (Some tag) [] (is_missing (Some tag)) false YAML_PLAIN_SCALAR_STYLE) a) o,
+      ap (event (mach.scalar_with None (Some tag) [] (is_missing (Some tag)) false YAML_PLAIN_SCALAR_STYLE) a) o,
       standing refl (popped_fits ss inner agree) (popped_fresh ss _ inner),
     )
     alone h (Some anchor) tag a b c g k m n l o = (
-      ap (event (mach.scalar (Some anchor) tag [] (is_missing tag) false YAML_PLAIN_SCALAR_STYLE) a) (ends tag o),
+      ap (event (mach.scalar_with (Some anchor) tag [] (is_missing tag) false YAML_PLAIN_SCALAR_STYLE) a) (ends tag o),
       standing refl (popped_fits ss inner agree) (popped_fresh ss _ inner),
     )
       where
@@ -114,7 +114,7 @@ module _ (f : Fault) (tags : List yaml_tag_directive_t) (hs : Handles) (agree : 
     abbrev ContentOf : (h : Texts) (anchor tag : Option (List ℕ)) (a b c g : Mark) (k : Content) (m n : Mark)
         (l : List Token) → Type 0
     ContentOf h anchor tag a b c g k m n l = Matches f
-        (orig.node_content (par ss (tk k m n ∷ l)) (is_block_place p) (may_be_indentless p) anchor tag a b (tk k m n))
+        (orig.content_of_node (par ss (tk k m n ∷ l)) (is_block_place p) (may_be_indentless p) anchor tag a b (tk k m n))
         (fed f (put h anchor tag (conf ss) (tk k m n) k (automaton.node_content p (props anchor tag a c g)
         (config_of (conf ss)) (seen (tk k m n) k) (token_type k))) l)
 
@@ -126,7 +126,7 @@ module _ (f : Fault) (tags : List yaml_tag_directive_t) (hs : Handles) (agree : 
         = (refl, standing refl (popped_fits ss inner agree) (popped_fresh ss _ inner))
 
     -- a collection that may begin here, or not
-    begun : (may : Bool) (e : Outcome) (y : Step) (h : Texts) (anchor tag : Option (List ℕ)) (a b c g : Mark) (k : Content)
+    begun : (may : Bool) (e : ParserResult) (y : Step) (h : Texts) (anchor tag : Option (List ℕ)) (a b c g : Mark) (k : Content)
         (m n : Mark) (l : List Token) → OnlyAt tag anchor a m b c
         → Matches f e (fed f (put h anchor tag (conf ss) (tk k m n) k y) l)
         → Matches f (if may then e
@@ -162,9 +162,9 @@ module _ (f : Fault) (tags : List yaml_tag_directive_t) (hs : Handles) (agree : 
     wrote None y = None
     wrote (Some g) y = Some (written g.handle g y)
 
-    abbrev content_there : (anchor : Option (List ℕ)) (a b : Mark) → Token → List Token → Option (List ℕ) → Outcome
+    abbrev content_there : (anchor : Option (List ℕ)) (a b : Mark) → Token → List Token → Option (List ℕ) → ParserResult
     content_there anchor a b t l tag
-        = orig.node_content (par ss (t ∷ l)) (is_block_place p) (may_be_indentless p) anchor tag a b t
+        = orig.content_of_node (par ss (t ∷ l)) (is_block_place p) (may_be_indentless p) anchor tag a b t
 
     abbrev content_here : (anchor : Option (List ℕ)) → TagName → (a b y : Mark) → Token → Option (List ℕ) → Progressed
     content_here anchor g a b y t tag
@@ -195,12 +195,12 @@ module _ (f : Fault) (tags : List yaml_tag_directive_t) (hs : Handles) (agree : 
 
     behind : (anchor : Option (List ℕ)) (tag : Option TagName) (a b c y : Mark) (t : Token) (l : List Token)
         → OnlyAt (written_text tag) anchor a t.start_mark b c → Matches f
-        (orig.behind_properties (par ss (t ∷ l)) (is_block_place p) (may_be_indentless p) anchor (wrote tag y) a b)
+        (orig.after_properties (par ss (t ∷ l)) (is_block_place p) (may_be_indentless p) anchor (wrote tag y) a b)
         (fed f (behind_here anchor tag a c y t) l)
     behind anchor None a b c y t l o
         = content (texts anchor None) anchor None a b c y t.content t.start_mark t.end_mark l o
     behind anchor (Some g) a b c y t l o
-        = subst (λ z. Matches f (orig.behind_properties (par ss (t ∷ l)) (is_block_place p) (may_be_indentless p) anchor
+        = subst (λ z. Matches f (orig.after_properties (par ss (t ∷ l)) (is_block_place p) (may_be_indentless p) anchor
         (wrote (Some g) y) a b) (fed f (behind_here anchor (Some g) a z y t) l))
         o (resolved anchor g g.handle a b y t l)
 
@@ -213,7 +213,7 @@ module _ (f : Fault) (tags : List yaml_tag_directive_t) (hs : Handles) (agree : 
     -- after both properties no further one is read
     behind_both : (anchor : List ℕ) (g : TagName) (a b y : Mark) (k : Content) (m n : Mark) (l : List Token)
         → Matches f
-        (orig.behind_properties (par ss (tk k m n ∷ l)) (is_block_place p) (may_be_indentless p) (Some anchor)
+        (orig.after_properties (par ss (tk k m n ∷ l)) (is_block_place p) (may_be_indentless p) (Some anchor)
         (wrote (Some g) y) a b)
         (fed f (next_here (Some anchor) (Some g) a b y k m n) l)
     behind_both anchor g a b y (Anchor z) m n l = behind (Some anchor) (Some g) a b b y (tk (Anchor z) m n) l refl
@@ -243,11 +243,11 @@ module _ (f : Fault) (tags : List yaml_tag_directive_t) (hs : Handles) (agree : 
     behind_tag g a b k m n l = behind None (Some g) a b b a (tk k m n) l refl
 
     bare : (k : Content) (m n : Mark) (l : List Token)
-        → Matches f (orig.behind_properties (par ss (tk k m n ∷ l)) (is_block_place p) (may_be_indentless p) None None m m)
+        → Matches f (orig.after_properties (par ss (tk k m n ∷ l)) (is_block_place p) (may_be_indentless p) None None m m)
         (fed f (with_texts no_texts (conf ss) (tk k m n) k (automaton.node_content p
         (props None None m n zero_mark) (config_of (conf ss)) (seen (tk k m n) k) (token_type k))) l)
     bare k m n l = subst (λ (y : Progressed). Matches f
-        (orig.behind_properties (par ss (tk k m n ∷ l)) (is_block_place p) (may_be_indentless p) None None m m) (fed f y l))
+        (orig.after_properties (par ss (tk k m n ∷ l)) (is_block_place p) (may_be_indentless p) None None m m) (fed f y l))
         (sym (plain no_texts (conf ss) (tk k m n) k p (props None None m n zero_mark)))
         (content no_texts None None m m n zero_mark k m n l refl)
 

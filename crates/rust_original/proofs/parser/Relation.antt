@@ -8,10 +8,11 @@ use Rattle.libyaml_types.specs.Fault.{Fault}
 use Rattle.libyaml_grammar.specs.sentences.Events.{Event}
 use Rattle.libyaml_grammar.specs.sentences.Sentences.{is_end}
 use Rattle.libyaml_grammar.specs.sentences.Tokens.{Content, DocumentEnd, Mark, Token}
-use Rattle.libyaml_events.specs.machine.Config.{Config, Handles, below, no_handles, top}
+use Rattle.libyaml_events.specs.machine.Config.{Config, Handles, no_handles}
+use Rattle.libyaml_automaton.specs.Config.{below, top}
 use Rattle.libyaml_events.specs.machine.Machine.{Progressed, or_default, step}
 use Rattle.libyaml_events.specs.machine.Want.{Want, Given, Wants}
-use Rattle.rust_original.specs.parser.Parser.{FAIL, OK, Outcome, Parser, directive_of}
+use Rattle.rust_original.specs.parser.Parser.{FAIL, OK, ParserResult, OriginalParser, directive_named}
 
 abbrev pub tk : Content → Mark → Mark → Token
 tk k m n = record { content = k; start_mark = m; end_mark = n }
@@ -38,7 +39,7 @@ tokens_of None l = l
 tokens_of (Some t) l = t ∷ l
 
 -- the original's parser with the stacks of a configuration; its marks may be others
-abbrev pub there : Fault → List yaml_tag_directive_t → Bool → yaml_parser_state_t → Bool → Config → List Token → Parser
+abbrev pub there : Fault → List yaml_tag_directive_t → Bool → yaml_parser_state_t → Bool → Config → List Token → OriginalParser
 there f tags flag state ended c l = record {
   tokens = l;
   scanner_fault = f;
@@ -51,12 +52,12 @@ there f tags flag state ended c l = record {
 }
 
 abbrev pub there_with : Fault → List yaml_tag_directive_t → Bool → yaml_parser_state_t → Bool → Config → List Mark
-    → List Token → Parser
+    → List Token → OriginalParser
 there_with f tags flag state ended c marks l = record (there f tags flag state ended c l) { marks = marks }
 
 -- within a document, each handle has the same prefix
 abbrev pub Agree : List yaml_tag_directive_t → Handles → Type 0
-Agree tags hs = (h : List ℕ) → directive_of tags h ≡ or_default (get hs h) h
+Agree tags hs = (h : List ℕ) → directive_named tags h ≡ or_default (get hs h) h
 
 -- where a stack is one of states that a node goes back to, the last of them a document's end
 abbrev pub Below : List yaml_parser_state_t → Type 0
@@ -129,7 +130,7 @@ abbrev pub IsFresh : yaml_parser_state_t → Option Token → Type 0
 IsFresh st.YAML_PARSE_FLOW_SEQUENCE_ENTRY_MAPPING_KEY_STATE (Some t) = ⊥
 IsFresh _ o = Unit {0}
 
-pub record Stands (f : Fault) (q : Parser) (d : Config) (l : List Token) : Type 0 where
+pub record SamePlace (f : Fault) (q : OriginalParser) (d : Config) (l : List Token) : Type 0 where
   pub tags : List yaml_tag_directive_t
   pub flag : Bool
   pub state : yaml_parser_state_t
@@ -142,11 +143,11 @@ pub record Stands (f : Fault) (q : Parser) (d : Config) (l : List Token) : Type 
   pub fresh : IsFresh d.state d.lookahead
 
 -- the parsers stand so, with what the original's fields say
-pub standing : {f : Fault} {q : Parser} {d : Config} {l : List Token} {tags : List yaml_tag_directive_t} {flag ended :
+pub standing : {f : Fault} {q : OriginalParser} {d : Config} {l : List Token} {tags : List yaml_tag_directive_t} {flag ended :
     Bool} {state : yaml_parser_state_t} {marks : List Mark} {tokens : List Token}
     → q ≡ there_with f tags flag state ended d marks tokens
     → Fits d.states d.state state d.marks marks tags d.handles d.behind_document_end flag ended (tokens_of d.lookahead l)
-    tokens → IsFresh d.state d.lookahead → Stands f q d l
+    tokens → IsFresh d.state d.lookahead → SamePlace f q d l
 standing {tags} {flag} {ended} {state} {marks} {tokens} i fits fresh = record {
   tags = tags;
   flag = flag;
@@ -160,8 +161,8 @@ standing {tags} {flag} {ended} {state} {marks} {tokens} i fits fresh = record {
 }
 
 -- the same event, and parsers that stand so again; or the same error
-abbrev pub Matches : Fault → Outcome → HereCall → Type 0
-Matches f (OK e q) (given x d l) = (e ≡ x) × Stands f q d l
+abbrev pub Matches : Fault → ParserResult → HereCall → Type 0
+Matches f (OK e q) (given x d l) = (e ≡ x) × SamePlace f q d l
 Matches f (OK e q) (stopped h) = ⊥
 Matches f (FAIL g) (given x d l) = ⊥
 Matches f (FAIL g) (stopped h) = g ≡ h

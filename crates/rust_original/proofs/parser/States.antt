@@ -12,13 +12,13 @@ use Rattle.libyaml_automaton.specs.Automaton as automaton
 use Rattle.libyaml_events.specs.machine.Config.{Config, Handles}
 use Rattle.libyaml_events.specs.machine.Want.{AtState, Want, no_texts}
 use Rattle.rust_original.specs.parser.Parser as orig
-use Rattle.rust_original.specs.parser.Parser.{Parser, is_one_of}
+use Rattle.rust_original.specs.parser.Parser.{OriginalParser, is_one_of}
 use Rattle.rust_original.specs.parser.Runs.{as_here}
 use Rattle.rust_original.proofs.parser.Nodes.{parsed}
 use Rattle.rust_original.proofs.parser.Relation.{Agree, Below, Matches, standing, behind as behind_document, behind_end, feed, inside, popped_fits, popped_fresh, there, tk}
 
 -- a token is wanted for this, and no text is held
-abbrev behind : automaton.Want → Want
+abbrev behind : automaton.Purpose → Want
 behind n = record { next = n; texts = no_texts }
 
 -- a token that is no STREAM-END is skipped
@@ -37,7 +37,7 @@ module _ (f : Fault) (tags : List yaml_tag_directive_t) (hs : Handles) (be flag 
   here s ms
       = record { lookahead = None; state = s; states = ss; marks = ms; handles = hs; behind_document_end = be; fault = x }
 
-  abbrev pub par : yaml_parser_state_t → Bool → List Mark → List Token → Parser
+  abbrev pub par : yaml_parser_state_t → Bool → List Mark → List Token → OriginalParser
   par s' ended ms l = there f tags flag s' ended (here s' ms) l
 
   document_end_token : (s' : yaml_parser_state_t) (ms : List Mark) (k : Content) (m n : Mark) (l : List Token)

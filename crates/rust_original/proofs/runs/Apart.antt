@@ -10,21 +10,21 @@ use Rattle.libyaml_grammar.specs.runs.Runs.{Ending, Ends, Fails}
 use Rattle.libyaml_grammar.specs.sentences.Events.{Event}
 use Rattle.libyaml_grammar.specs.sentences.Tokens.{Content, DocumentEnd, DocumentStart, FlowEntry, FlowSequenceEnd, Mark, StreamEnd, TagDirective, Token, Value, VersionDirective}
 use Rattle.rust_original.specs.parser.Parser as orig
-use Rattle.rust_original.specs.parser.Parser.{FAIL, Mends, OK, Outcome, Parser, SKIP_TOKEN, behind_directives, implicit_document, is_one_of, skip_document_ends, yaml_parser_parse, yaml_parser_state_machine}
+use Rattle.rust_original.specs.parser.Parser.{FAIL, Mends, OK, ParserResult, OriginalParser, SKIP_TOKEN, behind_directives, implicit_document_start, is_one_of, skip_document_ends, yaml_parser_parse, yaml_parser_state_machine}
 use Rattle.rust_original.specs.parser.Runs.{Runs, as_here, as_there, ends, fails, goes_on}
 use Rattle.rust_original.specs.parser.Differences.{Compares, Differs, bare_document, behind_entry, behind_start, by_call, call_here, call_there, here, pair_key, parts, same, value_first}
 use Rattle.rust_original.proofs.parser.Handles.{defaults_appended}
 use Rattle.libyaml_events.specs.machine.Config.{is_end_state, is_fault}
 use Rattle.rust_original.proofs.parser.Relation.{tk}
 
-abbrev pub Apart : Parser → Outcome → Outcome → Type 0
+abbrev pub Apart : OriginalParser → ParserResult → ParserResult → Type 0
 Apart p o u = (o ≡ u) ⊎ Differs p o u
 
 -- a parser with these tokens to come
-abbrev with : Parser → List Token → Parser
+abbrev with : OriginalParser → List Token → OriginalParser
 with p l = record p { tokens = l }
 
-pair_keys : (p : Parser) (k : Content) (m n : Mark) (l : List Token)
+pair_keys : (p : OriginalParser) (k : Content) (m n : Mark) (l : List Token)
     → p.state ≡ st.YAML_PARSE_FLOW_SEQUENCE_ENTRY_MAPPING_KEY_STATE → Apart (with p (tk k m n ∷ l))
     (orig.yaml_parser_parse_flow_sequence_entry_mapping_key as_there (with p (tk k m n ∷ l)))
     (orig.yaml_parser_parse_flow_sequence_entry_mapping_key as_here (with p (tk k m n ∷ l)))
@@ -33,13 +33,13 @@ pair_keys p FlowEntry m n l s = inr (pair_key _ l s refl refl)
 pair_keys p FlowSequenceEnd m n l s = inr (pair_key _ l s refl refl)
 pair_keys p k m n l s = inl refl
 
-keys : (p : Parser) (k : Content) (m n : Mark) (l : List Token) → p.state ≡ st.YAML_PARSE_BLOCK_MAPPING_KEY_STATE
+keys : (p : OriginalParser) (k : Content) (m n : Mark) (l : List Token) → p.state ≡ st.YAML_PARSE_BLOCK_MAPPING_KEY_STATE
     → Apart (with p (tk k m n ∷ l)) (orig.yaml_parser_parse_block_mapping_key as_there (with p (tk k m n ∷ l)) false)
     (orig.yaml_parser_parse_block_mapping_key as_here (with p (tk k m n ∷ l)) false)
 keys p Value m n l s = inr (value_first _ _ l (behind_entry s) refl refl)
 keys p k m n l s = inl refl
 
-first_keys : (p : Parser) (t : Token) (k : Content) (m n : Mark) (l : List Token)
+first_keys : (p : OriginalParser) (t : Token) (k : Content) (m n : Mark) (l : List Token)
     → p.state ≡ st.YAML_PARSE_BLOCK_MAPPING_FIRST_KEY_STATE → Apart (with p (t ∷ tk k m n ∷ l))
     (orig.yaml_parser_parse_block_mapping_key as_there (with p (t ∷ tk k m n ∷ l)) true)
     (orig.yaml_parser_parse_block_mapping_key as_here (with p (t ∷ tk k m n ∷ l)) true)
@@ -47,8 +47,8 @@ first_keys p t Value m n l s = inr (value_first _ _ l (behind_start t _ s refl) 
 first_keys p t k m n l s = inl refl
 
 -- after DOCUMENT-ENDs, a token that begins no explicit document
-record Bare (p : Parser) (o u : Outcome) : Type 0 where
-  q : Parser
+record Bare (p : OriginalParser) (o u : ParserResult) : Type 0 where
+  q : OriginalParser
   t : Token
   l : List Token
   ended : p.behind_explicit_end ≡ true
@@ -58,22 +58,22 @@ record Bare (p : Parser) (o u : Outcome) : Type 0 where
       (ty.YAML_VERSION_DIRECTIVE_TOKEN ∷ ty.YAML_TAG_DIRECTIVE_TOKEN ∷ ty.YAML_DOCUMENT_START_TOKEN ∷
       ty.YAML_STREAM_END_TOKEN ∷ []) ≡ false
   fault_there : o ≡ FAIL (parser_fault (codes "did not find expected <document start>") t.start_mark)
-  begun_here : u ≡ implicit_document t.start_mark q
+  begun_here : u ≡ implicit_document_start t.start_mark q
 
-abbrev start_there : Parser → Outcome
+abbrev start_there : OriginalParser → ParserResult
 start_there p = orig.yaml_parser_parse_document_start as_there p false
 
-abbrev start_here : Parser → Outcome
+abbrev start_here : OriginalParser → ParserResult
 start_here p = orig.yaml_parser_parse_document_start as_here p false
 
-abbrev Starts : Parser → Type 0
+abbrev Starts : OriginalParser → Type 0
 Starts p = (start_there p ≡ start_here p) ⊎ Bare p (start_there p) (start_here p)
 
-abbrev ended : Parser → Bool → List Token → Parser
+abbrev ended : OriginalParser → Bool → List Token → OriginalParser
 ended p b l = record p { tokens = l; behind_explicit_end = b }
 
 -- one DOCUMENT-END more
-further : (p : Parser) (b : Bool) (m n : Mark) (l : List Token)
+further : (p : OriginalParser) (b : Bool) (m n : Mark) (l : List Token)
     → Starts (SKIP_TOKEN (ended p b (tk DocumentEnd m n ∷ l))) → Starts (ended p b (tk DocumentEnd m n ∷ l))
 further p b m n l (inl e) = inl e
 further p b m n l (inr h) = inr (record {
@@ -88,7 +88,7 @@ further p b m n l (inr h) = inr (record {
   begun_here = h.begun_here;
 })
 
-start_token : (b : Bool) (p : Parser) (k : Content) (m n : Mark) (l : List Token)
+start_token : (b : Bool) (p : OriginalParser) (k : Content) (m n : Mark) (l : List Token)
     → Starts (SKIP_TOKEN (ended p b (tk k m n ∷ l))) → Starts (ended p b (tk k m n ∷ l))
 start_token true p DocumentEnd m n l ih = further p true m n l ih
 start_token true p (VersionDirective v) m n l ih = inl refl
@@ -109,13 +109,13 @@ start_token true p k m n l ih = inr (record {
 start_token false p DocumentEnd m n l ih = further p false m n l ih
 start_token false p k m n l ih = inl refl
 
-starts : (l : List Token) (p : Parser) → Starts (with p l)
+starts : (l : List Token) (p : OriginalParser) → Starts (with p l)
 starts [] p = inl refl
 starts (t ∷ l) p
     = start_token p.behind_explicit_end p t.content t.start_mark t.end_mark l (starts l (SKIP_TOKEN (with p (t ∷ l))))
 
 -- a call
-apart_at : (p : Parser) (s : yaml_parser_state_t) → p.state ≡ s
+apart_at : (p : OriginalParser) (s : yaml_parser_state_t) → p.state ≡ s
     → Apart p (yaml_parser_state_machine as_there s p) (yaml_parser_state_machine as_here s p)
 apart_at p st.YAML_PARSE_FLOW_SEQUENCE_ENTRY_MAPPING_KEY_STATE e = go p.tokens
   where
@@ -141,19 +141,19 @@ apart_at p st.YAML_PARSE_DOCUMENT_START_STATE e = go (starts p.tokens p)
   where
     go : Starts p → Apart p (start_there p) (start_here p)
     go (inl i) = inl i
-    go (inr h) = inr (subst (λ (o : Outcome). Differs p o (start_here p)) (sym h.fault_there)
-        (subst (λ (u : Outcome). Differs p
+    go (inr h) = inr (subst (λ (o : ParserResult). Differs p o (start_here p)) (sym h.fault_there)
+        (subst (λ (u : ParserResult). Differs p
         (FAIL (parser_fault (codes "did not find expected <document start>") h.t.start_mark)) u) (sym h.begun_here)
         (bare_document h.q h.t h.l e h.ended h.skipped h.tokens h.kind)))
 apart_at p _ e = inl refl
 
-pub apart : (p : Parser) → Apart p (call_there p) (call_here p)
+pub apart : (p : OriginalParser) → Apart p (call_there p) (call_here p)
 apart p = go (p.stream_end_produced || is_end_state p.state) (apart_at p p.state refl)
   where
-    there : Outcome
+    there : ParserResult
     there = yaml_parser_state_machine as_there p.state p
 
-    here : Outcome
+    here : ParserResult
     here = yaml_parser_state_machine as_here p.state p
 
     go : (u : Bool) → Apart p there here
@@ -161,7 +161,7 @@ apart p = go (p.stream_end_produced || is_end_state p.state) (apart_at p p.state
     go true h = inl refl
     go false h = h
 
-pub may_differ : (p : Parser) → (call_there p ≡ call_here p) ⊎ ((true ≡ true) × Differs p (call_there p) (call_here p))
+pub may_differ : (p : OriginalParser) → (call_there p ≡ call_here p) ⊎ ((true ≡ true) × Differs p (call_there p) (call_here p))
 may_differ p = go (apart p)
   where
     go : Apart p (call_there p) (call_here p)
@@ -170,38 +170,38 @@ may_differ p = go (apart p)
     go (inr i) = inr (refl, i)
 
 -- runs
-ok_same : {e d : Event} {p q : Parser} → OK e p ≡ OK d q → (e ≡ d) × (p ≡ q)
+ok_same : {e d : Event} {p q : OriginalParser} → OK e p ≡ OK d q → (e ≡ d) × (p ≡ q)
 ok_same {p} h = (ap event_of h, ap (parser_of p) h)
   where
-    event_of : Outcome → Event
+    event_of : ParserResult → Event
     event_of (OK e p) = e
     event_of (FAIL f) = empty_event
 
-    parser_of : Parser → Outcome → Parser
+    parser_of : OriginalParser → ParserResult → OriginalParser
     parser_of r (OK e p) = p
     parser_of r (FAIL f) = r
 
 fail_same : {f g : Fault} → FAIL f ≡ FAIL g → f ≡ g
 fail_same h = ap fault_of h
   where
-    fault_of : Outcome → Fault
+    fault_of : ParserResult → Fault
     fault_of (OK e p) = no_fault
     fault_of (FAIL f) = f
 
-apart_outcomes : {e : Event} {p : Parser} {f : Fault} → OK e p ≡ FAIL f → ⊥
+apart_outcomes : {e : Event} {p : OriginalParser} {f : Fault} → OK e p ≡ FAIL f → ⊥
 apart_outcomes h = cc
 
-both_flags : {p q : Parser} → p ≡ q → p.stream_end_produced ≡ true → q.stream_end_produced ≡ false → ⊥
-both_flags e h k = let i : true ≡ false = sym h ∙ (ap (λ (r : Parser). r.stream_end_produced) e ∙ k) in cc
+both_flags : {p q : OriginalParser} → p ≡ q → p.stream_end_produced ≡ true → q.stream_end_produced ≡ false → ⊥
+both_flags e h k = let i : true ≡ false = sym h ∙ (ap (λ (r : OriginalParser). r.stream_end_produced) e ∙ k) in cc
 
-longer : {p q : Parser} {e d : Event} {l m : List Event} {x y : Ending} → call_there p ≡ OK e q → call_here p ≡ OK e q
+longer : {p q : OriginalParser} {e d : Event} {l m : List Event} {x y : Ending} → call_there p ≡ OK e q → call_here p ≡ OK e q
     → q.stream_end_produced ≡ false → e ≡ d → Compares q l x m y → Compares p (e ∷ l) x (d ∷ m) y
 longer {d} {l} i j f h (same a b) = same (ap (λ (z : Event). z ∷ l) h ∙ ap (λ (z : List Event). d ∷ z) a) b
 longer {e} {m} i j f h (parts before e' d' r reached differs a b s t)
     = parts (e ∷ before) e' d' r (by_call i j f reached) differs (ap (λ (z : List Event). e ∷ z) a)
     (ap (λ (z : Event). z ∷ m) (sym h) ∙ ap (λ (z : List Event). e ∷ z) b) s t
 
-pub compared : {p : Parser} {e : List Event} {x : Ending} → Runs as_there p e x → (d : List Event) (y : Ending)
+pub compared : {p : OriginalParser} {e : List Event} {x : Ending} → Runs as_there p e x → (d : List Event) (y : Ending)
     → Runs as_here p d y → Compares p e x d y
 compared {p} {e} {x} (ends {e = a} {q = q} i f) d y s = go (apart p) d y s
   where
@@ -220,7 +220,7 @@ compared {p} {e} {x} (goes_on {e = a} {q = q} {later = l} i f rest) d y s
     go ih (inr h) d y s = parts [] (a ∷ l) d p here h refl refl (goes_on i f rest) s
     go ih (inl h) d y (ends j g) = absurd (both_flags (sym (ok_same (sym i ∙ (h ∙ j))).1) g f)
     go ih (inl h) d y (goes_on {e = b} {q = r} {later = m} j g later) = let k = ok_same (sym i ∙ (h ∙ j)) in
-        longer i (sym h ∙ i) f k.0 (ih m y (subst (λ (z : Parser). Runs as_here z m y) (sym k.1) later))
+        longer i (sym h ∙ i) f k.0 (ih m y (subst (λ (z : OriginalParser). Runs as_here z m y) (sym k.1) later))
     go ih (inl h) d y (fails j) = absurd (apart_outcomes (sym i ∙ (h ∙ j)))
 compared {p} {e} {x} (fails {f = f} i) d y s = go (apart p) d y s
   where
@@ -232,7 +232,7 @@ compared {p} {e} {x} (fails {f = f} i) d y s = go (apart p) d y s
     go (inl h) d y (fails j) = same refl (ap Fails (fail_same (sym i ∙ (h ∙ j))))
 
 -- one run
-pub one_run : {p : Parser} {e : List Event} {x : Ending} → Runs as_there p e x → (d : List Event) (y : Ending)
+pub one_run : {p : OriginalParser} {e : List Event} {x : Ending} → Runs as_there p e x → (d : List Event) (y : Ending)
     → Runs as_there p d y → (e ≡ d) × (x ≡ y)
 one_run (ends i f) d y (ends j g) = let k = ok_same (sym i ∙ j) in (ap (λ (z : Event). z ∷ []) k.0, refl)
 one_run (ends i f) d y (goes_on j g later) = absurd (both_flags (ok_same (sym i ∙ j)).1 f g)
@@ -240,7 +240,7 @@ one_run (ends i f) d y (fails j) = absurd (apart_outcomes (sym i ∙ j))
 one_run (goes_on i f rest) d y (ends j g) = absurd (both_flags (sym (ok_same (sym i ∙ j)).1) g f)
 one_run (goes_on {e = a} {later = l} i f rest) d y (goes_on {e = b} {later = m} j g later) =
     let k = ok_same (sym i ∙ j) in
-    let h = one_run rest m y (subst (λ (z : Parser). Runs as_there z m y) (sym k.1) later) in
+    let h = one_run rest m y (subst (λ (z : OriginalParser). Runs as_there z m y) (sym k.1) later) in
     (ap (λ (z : Event). z ∷ l) k.0 ∙ ap (λ (z : List Event). b ∷ z) h.0, h.1)
 one_run (goes_on i f rest) d y (fails j) = absurd (apart_outcomes (sym i ∙ j))
 one_run (fails i) d y (ends j g) = absurd (apart_outcomes (sym j ∙ i))
@@ -248,19 +248,19 @@ one_run (fails i) d y (goes_on j g later) = absurd (apart_outcomes (sym j ∙ i)
 one_run (fails i) d y (fails j) = (refl, ap Fails (fail_same (sym i ∙ j)))
 
 -- after the stream's end, and after an error
-pub after_the_end : (m : Mends) (kept : Fault) (p : Parser) → p.stream_end_produced ≡ true
+pub after_the_end : (m : Mends) (kept : Fault) (p : OriginalParser) → p.stream_end_produced ≡ true
     → yaml_parser_parse m kept p ≡ OK empty_event p
 after_the_end m kept p h
     = ap (λ (u : Bool). if u || (is_fault kept.error || is_end_state p.state) then OK empty_event p else
     yaml_parser_state_machine m p.state p) h
 
-pub after_a_fault : (m : Mends) (kept : Fault) (p : Parser) → is_fault kept.error ≡ true
+pub after_a_fault : (m : Mends) (kept : Fault) (p : OriginalParser) → is_fault kept.error ≡ true
     → yaml_parser_parse m kept p ≡ OK empty_event p
 after_a_fault m kept p h
     = ap (λ (u : Bool). if p.stream_end_produced || (u || is_end_state p.state) then OK empty_event p else machine) h
     ∙ always p.stream_end_produced
   where
-    machine : Outcome
+    machine : ParserResult
     machine = yaml_parser_state_machine m p.state p
 
     always : (u : Bool) → (if u || true then OK empty_event p else machine) ≡ OK empty_event p

@@ -4,7 +4,7 @@ use Rattle.libyaml_types.specs.Fault.{Fault}
 use Rattle.libyaml_types.specs.declared.event.unnamed_yaml_event_t_data.TheVariants as ev
 use Rattle.libyaml_grammar.specs.runs.Runs.{Ending, Ends, Fails}
 use Rattle.libyaml_grammar.specs.sentences.Events.{Event, document_end_at, end_at as end_event, event, stream_end_at}
-use Rattle.libyaml_grammar.specs.sentences.Nesting.{IsNested, Texts, Value, Values, alias_value, collection_value, first_value, no_texts, no_values, scalar_value, text_behind, texts_events, value_events, values_events}
+use Rattle.libyaml_grammar.specs.sentences.Nesting.{IsNested, DocumentTexts, Value, Values, alias_value, collection_value, first_value, no_texts, no_values, scalar_value, text_behind, texts_events, value_events, values_events}
 use Rattle.libyaml_grammar.specs.sentences.Trees.{mapping, sequence}
 use Rattle.libyaml_events.specs.sources.History.{is_stream_end}
 
@@ -25,7 +25,7 @@ mutual
   behind_values no_values r h = h
   behind_values (first_value v vs) r h = behind_values vs r (behind_value v (values_events vs r) h)
 
-behind_texts : (ts : Texts) (r : List Event) → NoEnd (texts_events ts r) → NoEnd r
+behind_texts : (ts : DocumentTexts) (r : List Event) → NoEnd (texts_events ts r) → NoEnd r
 behind_texts no_texts r h = h
 behind_texts (text_behind ts d m n v i p q) r h
     = (behind_value v (document_end_at i p q ∷ r)

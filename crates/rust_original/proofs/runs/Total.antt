@@ -20,10 +20,10 @@ use Rattle.libyaml_events.proofs.lent.Pushes as pushed
 use Rattle.libyaml_events.proofs.lent.Pushes.{fed_count, fed_ended, fed_nests, fed_whole, gives_end, hand_runs, none_kept}
 use Rattle.libyaml_events.proofs.lent.RunStops.{whole_run}
 use Rattle.rust_original.specs.parser.Differences.{Differs, bare_document, call_here, pair_key, value_first}
-use Rattle.rust_original.specs.parser.Parser.{FAIL, Mends, OK, Outcome, Parser, SKIP_TOKEN, is_one_of, scalar_event, set_state}
-use Rattle.rust_original.specs.parser.Runs.{Runs, call, ends, fails, goes_on, new_parser}
+use Rattle.rust_original.specs.parser.Parser.{FAIL, Mends, OK, ParserResult, OriginalParser, SKIP_TOKEN, is_one_of, scalar_event_with, set_state}
+use Rattle.rust_original.specs.parser.Runs.{Runs, call, ends, fails, goes_on, new_original_parser}
 use Rattle.rust_original.proofs.parser.Calls.{call_same, flagged}
-use Rattle.rust_original.proofs.parser.Relation.{standing, Agree, Below, Fits, HereCall, IsFresh, Matches, Opens, Stands, before, behind, behind_end, entering, first, inside, over, root_end, there, there_with, tk, tokens_of}
+use Rattle.rust_original.proofs.parser.Relation.{standing, Agree, Below, Fits, HereCall, IsFresh, Matches, Opens, SamePlace, before, behind, behind_end, entering, first, inside, over, root_end, there, there_with, tk, tokens_of}
 use Rattle.rust_original.proofs.runs.Does as does
 use Rattle.rust_original.proofs.runs.Does.{Does}
 use Rattle.rust_original.proofs.runs.Ended.{NoEnd}
@@ -37,7 +37,7 @@ abbrev empty_token : Mark → Token
 empty_token n = tk (Scalar (record { value = []; style = YAML_PLAIN_SCALAR_STYLE })) n n
 
 abbrev empty_at : Mark → Event
-empty_at n = event (scalar_event None None [] true false YAML_PLAIN_SCALAR_STYLE) n n
+empty_at n = event (scalar_event_with None None [] true false YAML_PLAIN_SCALAR_STYLE) n n
 
 empty_step : (n : Mark) (c : Config) → c.state ≡ st.YAML_PARSE_FLOW_SEQUENCE_ENTRY_MAPPING_KEY_STATE
     → step AtState (taken c) (empty_token n) ≡ Ok (Given (empty_at n), behind_pair_key c)
@@ -88,14 +88,14 @@ no_end k m n e = refl
 
 -- The parser with the mends m; it may differ from the one with all three where b is true.
 module _ (f : Fault) (m : Mends) (b : Bool)
-    (places : (p : Parser) → (call m p ≡ call_here p) ⊎ ((b ≡ true) × Differs p (call m p) (call_here p))) (most : ℕ) where
+    (places : (p : OriginalParser) → (call m p ≡ call_here p) ⊎ ((b ≡ true) × Differs p (call m p) (call_here p))) (most : ℕ) where
   -- it stands beside our machine, which was handed l and gave g, with no more tokens than there are
-  record Along (q : Parser) (d : Config) (rest l : List Token) (g : List Event) : Type 0 where
-    stands : Stands f q d rest
+  record Along (q : OriginalParser) (d : Config) (rest l : List Token) (g : List Event) : Type 0 where
+    stands : SamePlace f q d rest
     fed : Fed AtState (taken d) d.lookahead l g
     few : length l + length rest ≤ most
 
-  pub record HasRun (q : Parser) (all : List Token) (g : List Event) : Type 0 where
+  pub record HasRun (q : OriginalParser) (all : List Token) (g : List Event) : Type 0 where
     pub events : List Event
     pub ending : Ending
     pub runs : Runs m q events ending
@@ -104,16 +104,16 @@ module _ (f : Fault) (m : Mends) (b : Bool)
     pub run : b ≡ false → IsRun all f (g ++ events) ending
 
   abbrev Next : ℕ → Type 0
-  Next n = (q : Parser) (d : Config) (rest l : List Token) (g : List Event) → Along q d rest l g
+  Next n = (q : OriginalParser) (d : Config) (rest l : List Token) (g : List Event) → Along q d rest l g
       → 4 * most < n + length g → q.stream_end_produced ≡ false → HasRun q (l ++ rest) g
 
-  over_flag : (q : Parser) (d : Config) (rest l : List Token) (g : List Event) → Along q d rest l g
+  over_flag : (q : OriginalParser) (d : Config) (rest l : List Token) (g : List Event) → Along q d rest l g
       → ended_or_failed d ≡ q.stream_end_produced
   over_flag q d rest l g a
       = ap (λ (u : Bool). u || is_end_state d.state) (none_kept a.fed)
-      ∙ (sym (flagged a.stands.fits) ∙ ap (λ (p : Parser). p.stream_end_produced) (sym a.stands.is))
+      ∙ (sym (flagged a.stands.fits) ∙ ap (λ (p : OriginalParser). p.stream_end_produced) (sym a.stands.is))
 
-  failed_here : (q : Parser) (d : Config) (rest l : List Token) (g : List Event) → Along q d rest l g → (x : Fault)
+  failed_here : (q : OriginalParser) (d : Config) (rest l : List Token) (g : List Event) → Along q d rest l g → (x : Fault)
       → call m q ≡ FAIL x → (b ≡ false → IsRun (l ++ rest) f g (Fails x)) → HasRun q (l ++ rest) g
   failed_here q d rest l g a x i run = record {
     events = [];
@@ -125,7 +125,7 @@ module _ (f : Fault) (m : Mends) (b : Bool)
   }
 
   -- after an event
-  behind_event : (n : ℕ) (q p : Parser) (e : Event) (d : Config) (rest l all : List Token) (g : List Event)
+  behind_event : (n : ℕ) (q p : OriginalParser) (e : Event) (d : Config) (rest l all : List Token) (g : List Event)
       → call m q ≡ OK e p → Along p d rest l (g ++ e ∷ []) → ended_or_failed d ≡ is_stream_end e
       → (b ≡ false → all ≡ l ++ rest) → 4 * most < suc n + length g → Next n → HasRun q all g
   behind_event n q p e d rest l all g i a ends_so same less next = go p.stream_end_produced refl
@@ -167,13 +167,13 @@ module _ (f : Fault) (m : Mends) (b : Bool)
           }
 
   -- where both do the same
-  alike : (n : ℕ) (q : Parser) (d : Config) (rest l : List Token) (g : List Event) → Along q d rest l g
+  alike : (n : ℕ) (q : OriginalParser) (d : Config) (rest l : List Token) (g : List Event) → Along q d rest l g
       → 4 * most < suc n + length g → ended_or_failed d ≡ false → Next n → call m q ≡ call_here q
       → HasRun q (l ++ rest) g
   alike n q d rest l g a less begun next same
       = go (call_here q) refl (does.does f d rest l g a.fed begun) (call_same f q d rest a.stands (not_over d begun))
     where
-      go : (o : Outcome) → call_here q ≡ o → {z : HereCall} → Does f l g rest z → Matches f o z
+      go : (o : ParserResult) → call_here q ≡ o → {z : HereCall} → Does f l g rest z → Matches f o z
           → HasRun q (l ++ rest) g
       go (OK e p) i (does.gives {e = y} {d = x} {r} more j fed ends_so) w =
           let parts : l ++ rest ≡ (l ++ more) ++ r
@@ -195,17 +195,17 @@ module _ (f : Fault) (m : Mends) (b : Bool)
           (λ k. subst (λ (z : Fault). IsRun (l ++ rest) f g (Fails z)) (sym w) run)
 
   -- where they part
-  parted : (n : ℕ) (q : Parser) (d : Config) (rest l : List Token) (g : List Event) → Along q d rest l g
+  parted : (n : ℕ) (q : OriginalParser) (d : Config) (rest l : List Token) (g : List Event) → Along q d rest l g
       → 4 * most < suc n + length g → ended_or_failed d ≡ false → Next n → b ≡ true
-      → {o u : Outcome} → Differs q o u → call m q ≡ o → HasRun q (l ++ rest) g
+      → {o u : ParserResult} → Differs q o u → call m q ≡ o → HasRun q (l ++ rest) g
   parted n q d rest l g a less begun next may (value_first p t k due e i) c
       = failed_here q d rest l g a _ c (λ j. absurd (not_both j may))
   parted n q d rest l g a less begun next may (bare_document p t k s e i h j) c
       = failed_here q d rest l g a _ c (λ v. absurd (not_both v may))
   parted n q d rest l g a less begun next may (pair_key t k s e i) c =
-      let fits = pair_stands a.stands.fits (sym (ap (λ (p : Parser). p.state) a.stands.is) ∙ s) in
+      let fits = pair_stands a.stands.fits (sym (ap (λ (p : OriginalParser). p.state) a.stands.is) ∙ s) in
       let none = fresh_none d.state d.lookahead fits.2 a.stands.fresh in
-      let tokens : tokens_of d.lookahead rest ≡ t ∷ k = sym fits.4 ∙ (sym (ap (λ (p : Parser). p.tokens) a.stands.is) ∙ e) in
+      let tokens : tokens_of d.lookahead rest ≡ t ∷ k = sym fits.4 ∙ (sym (ap (λ (p : OriginalParser). p.tokens) a.stands.is) ∙ e) in
       let left : rest ≡ t ∷ k = ap (λ (o : Option Token). tokens_of o rest) (sym none) ∙ tokens in
       let hand : Fed AtState (taken d) (Some (empty_token t.end_mark)) (l ++ empty_token t.end_mark ∷ []) g
       = pushed.takes AtState (taken d) l g (empty_token t.end_mark)
@@ -239,7 +239,7 @@ module _ (f : Fault) (m : Mends) (b : Bool)
       })
       (gives_end hand (empty_at t.end_mark) (behind_pair_key d) led) (λ j. absurd (not_both j may)) less next
     where
-      goes : Parser → Parser
+      goes : OriginalParser → OriginalParser
       goes p = set_state st.YAML_PARSE_FLOW_SEQUENCE_ENTRY_MAPPING_VALUE_STATE (SKIP_TOKEN p)
 
   total : (n : ℕ) → Next n
@@ -255,7 +255,7 @@ module _ (f : Fault) (m : Mends) (b : Bool)
       go (inr (may, i)) next = parted n q d rest l g a less begun next may i refl
 
 pub has_run : (f : Fault) (m : Mends) (b : Bool)
-    → (places : (p : Parser) → (call m p ≡ call_here p) ⊎ ((b ≡ true) × Differs p (call m p) (call_here p)))
-    → (l : List Token) → HasRun f m b places (length l) (new_parser l f) l []
-has_run f m b places l = total f m b places (length l) (suc (4 * length l)) (new_parser l f) start l [] []
+    → (places : (p : OriginalParser) → (call m p ≡ call_here p) ⊎ ((b ≡ true) × Differs p (call m p) (call_here p)))
+    → (l : List Token) → HasRun f m b places (length l) (new_original_parser l f) l []
+has_run f m b places l = total f m b places (length l) (suc (4 * length l)) (new_original_parser l f) start l [] []
     (record { stands = standing refl before tt; fed = pushed.begins; few = omega arith }) (omega arith) refl

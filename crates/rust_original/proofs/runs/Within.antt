@@ -2,7 +2,7 @@
 use Rattle.std.proofs.Common.{◌≡◌, ◌∷◌, ℕ, zero, suc, List, [], Option, Some, None, Bool, true, false, refl, ap, subst}
 use Rattle.libyaml_grammar.specs.runs.Runs.{Ending, Ends, Fails}
 use Rattle.libyaml_grammar.specs.sentences.Events.{Event}
-use Rattle.rust_original.specs.parser.Parser.{FAIL, Mends, OK, Outcome, Parser}
+use Rattle.rust_original.specs.parser.Parser.{FAIL, Mends, OK, ParserResult, OriginalParser}
 use Rattle.rust_original.specs.parser.Runs.{Runs, call, ends, fails, goes_on, run_within}
 
 abbrev Given : Type 0
@@ -21,10 +21,10 @@ none_given : (e : List Event) (x : Ending) → (let g : Given = ([], None) in g)
 none_given e x h = let i : None ≡ Some x = ending_is h in cc
 
 abbrev Later : Mends → ℕ → Type 0
-Later m n = (q : Parser) (d : List Event) (y : Ending) → run_within m n q ≡ (d, Some y) → Runs m q d y
+Later m n = (q : OriginalParser) (d : List Event) (y : Ending) → run_within m n q ≡ (d, Some y) → Runs m q d y
 
 -- an event and the run after it
-on : (m : Mends) (n : ℕ) (p : Parser) (e : List Event) (x : Ending) (a : Event) (q : Parser) → call m p ≡ OK a q
+on : (m : Mends) (n : ℕ) (p : OriginalParser) (e : List Event) (x : Ending) (a : Event) (q : OriginalParser) → call m p ≡ OK a q
     → q.stream_end_produced ≡ false → (g : Given)
     → run_within m n q ≡ g → Later m n → (let r : Given = (a ∷ g.0, g.1) in r) ≡ (e, Some x) → Runs m p e x
 on m n p e x a q i j (later, None) k ih h = absurd (none_ends (ending_is h))
@@ -34,12 +34,12 @@ on m n p e x a q i j (later, None) k ih h = absurd (none_ends (ending_is h))
 on m n p e x a q i j (later, Some y) k ih h = subst (λ (z : Ending). Runs m p e z) (same_some y x (ending_is h))
     (subst (λ (l : List Event). Runs m p l y) (events_are h) (goes_on i j (ih q later y k)))
 
-pub computed : (m : Mends) (n : ℕ) (p : Parser) (e : List Event) (x : Ending) → run_within m n p ≡ (e, Some x)
+pub computed : (m : Mends) (n : ℕ) (p : OriginalParser) (e : List Event) (x : Ending) → run_within m n p ≡ (e, Some x)
     → Runs m p e x
 computed m zero p e x h = absurd (none_given e x h)
 computed m (suc n) p e x h = go (call m p) refl h (λ q d y k. computed m n q d y k)
   where
-    given : (a : Event) (q : Parser) → call m p ≡ OK a q → (u : Bool) → q.stream_end_produced ≡ u → Later m n
+    given : (a : Event) (q : OriginalParser) → call m p ≡ OK a q → (u : Bool) → q.stream_end_produced ≡ u → Later m n
         → ◌≡◌ {A = Given}
         (elim u [ true ↦ (a ∷ [], Some Ends) | false ↦ let (later, y) = run_within m n q in (a ∷ later, y) ])
         (e, Some x) → Runs m p e x
@@ -47,7 +47,7 @@ computed m (suc n) p e x h = go (call m p) refl h (λ q d y k. computed m n q d 
         (subst (λ (l : List Event). Runs m p l Ends) (events_are h) (ends i j))
     given a q i false j ih h = on m n p e x a q i j (run_within m n q) refl ih h
 
-    go : (o : Outcome) → call m p ≡ o
+    go : (o : ParserResult) → call m p ≡ o
         → ◌≡◌ {A = Given} (elim o [
           | FAIL f ↦ ([], Some (Fails f))
           | OK a q ↦ elim q.stream_end_produced [

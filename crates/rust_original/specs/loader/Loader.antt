@@ -27,21 +27,21 @@ pub record yaml_alias_data_t : Type 0 where
   pub carrier : Carrier
 
 -- The aliases in their order, the document's nodes, and the ids of the open collections, the innermost first.
-pub record Loader : Type 0 where
+pub record OriginalLoader : Type 0 where
   pub aliases : List yaml_alias_data_t
   pub nodes : List yaml_node_t
   pub ctx : List ℕ
 
 -- Before a document.
-abbrev pub new_loader : Loader
+abbrev pub new_loader : OriginalLoader
 new_loader = record { aliases = []; nodes = []; ctx = [] }
 
 -- What a function returns: the loader after it, or the error that is set.
 pub data LoaderResult : Type 0 where
-  OK : Loader → LoaderResult
+  OK : OriginalLoader → LoaderResult
   FAIL : Fault → LoaderResult
 
-abbrev pub if_ok : LoaderResult → (Loader → LoaderResult) → LoaderResult
+abbrev pub if_ok : LoaderResult → (OriginalLoader → LoaderResult) → LoaderResult
 if_ok (FAIL f) next = FAIL f
 if_ok (OK l) next = next l
 
@@ -76,8 +76,8 @@ alias_of [] anchor = None
 alias_of (d ∷ ds) anchor = if bytes_eq d.anchor anchor then Some d.carrier else alias_of ds anchor
 
 -- A node's anchor comes after the others; one that is there already is an error. `mark` is the node's start.
-abbrev pub yaml_parser_register_anchor : Loader → (index : ℕ) → (mark : Mark) → (anchor : Option (List ℕ))
-    → (Loader → LoaderResult) → LoaderResult
+abbrev pub yaml_parser_register_anchor : OriginalLoader → (index : ℕ) → (mark : Mark) → (anchor : Option (List ℕ))
+    → (OriginalLoader → LoaderResult) → LoaderResult
 yaml_parser_register_anchor l index mark None next = next l
 yaml_parser_register_anchor l index mark (Some anchor) next = elim (alias_of l.aliases anchor) [
   | Some first ↦
@@ -107,10 +107,10 @@ with_value index (p ∷ []) = record p { value = pos index } ∷ []
 with_value index (p ∷ q ∷ ps) = p ∷ with_value index (q ∷ ps)
 
 -- The parent with one item more, or the last pair's value, or one pair more, without a value.
-abbrev pub with_child : (index : ℕ) → unnamed_yaml_node_t_data → unnamed_yaml_node_t_data
-with_child index (Scalar s) = Scalar s
-with_child index (Sequence s) = Sequence (record s { items = s.items ++ pos index ∷ [] })
-with_child index (Mapping m) =
+abbrev pub content_with_child : (index : ℕ) → unnamed_yaml_node_t_data → unnamed_yaml_node_t_data
+content_with_child index (Scalar s) = Scalar s
+content_with_child index (Sequence s) = Sequence (record s { items = s.items ++ pos index ∷ [] })
+content_with_child index (Mapping m) =
     let begun : List yaml_node_pair_t = m.pairs ++ record { key = pos index; value = pos 0 } ∷ [] in
     Mapping (record m { pairs = if waits m.pairs then with_value index m.pairs else begun })
 
@@ -132,43 +132,43 @@ full_at limit zero (x ∷ nodes) = is_full limit x.content
 full_at limit (suc n) (x ∷ nodes) = full_at limit n nodes
 
 -- That of the innermost open collection; none has a bound at the root.
-abbrev pub parent_full : (limit : ℕ) → (ctx : List ℕ) → List yaml_node_t → Bool
-parent_full limit [] nodes = false
-parent_full limit (zero ∷ outer) nodes = false
-parent_full limit (suc n ∷ outer) nodes = full_at limit n nodes
+abbrev pub is_parent_full : (limit : ℕ) → (ctx : List ℕ) → List yaml_node_t → Bool
+is_parent_full limit [] nodes = false
+is_parent_full limit (zero ∷ outer) nodes = false
+is_parent_full limit (suc n ∷ outer) nodes = full_at limit n nodes
 
 -- The innermost open collection gets the child of this id.
-abbrev pub child_added : Loader → (index : ℕ) → Loader
+abbrev pub child_added : OriginalLoader → (index : ℕ) → OriginalLoader
 child_added l index = elim l.ctx [
   | [] ↦ l
   | parent ∷ outer ↦ record l {
-    nodes = change parent (λ x. record x { content = with_child index x.content }) l.nodes;
+    nodes = change parent (λ x. record x { content = content_with_child index x.content }) l.nodes;
   }
 ]
 
 -- The same, where there is room.
-abbrev pub yaml_parser_load_node_add : (limit : ℕ) → Loader → (index : ℕ) → LoaderResult
+abbrev pub yaml_parser_load_node_add : (limit : ℕ) → OriginalLoader → (index : ℕ) → LoaderResult
 yaml_parser_load_node_add limit l index
-    = if parent_full limit l.ctx l.nodes then FAIL memory_fault else OK (child_added l index)
+    = if is_parent_full limit l.ctx l.nodes then FAIL memory_fault else OK (child_added l index)
 
 -- events
 
 -- An alias: the id of its anchored node is handed to the parent.
-abbrev pub yaml_parser_load_alias : (limit : ℕ) → Loader → (anchor : List ℕ) → Mark → LoaderResult
+abbrev pub yaml_parser_load_alias : (limit : ℕ) → OriginalLoader → (anchor : List ℕ) → Mark → LoaderResult
 yaml_parser_load_alias limit l anchor mark = elim (alias_of l.aliases anchor) [
   | Some found ↦ yaml_parser_load_node_add limit l found.id
   | None ↦ yaml_parser_set_composer_error (codes "found undefined alias") mark
 ]
 
 -- A node's tag: the default for none and for `!`.
-abbrev pub tag_or : (default : List ℕ) → Option (List ℕ) → List ℕ
-tag_or default None = default
-tag_or default (Some tag) = elim (bytes_eq tag (codes "!")) [ true ↦ default | false ↦ tag ]
+abbrev pub tag_or_default : (default : List ℕ) → Option (List ℕ) → List ℕ
+tag_or_default default None = default
+tag_or_default default (Some tag) = elim (bytes_eq tag (codes "!")) [ true ↦ default | false ↦ tag ]
 
 -- What yaml_parser_load_scalar, .._sequence and .._mapping have in common: a node comes after the others, its
 -- anchor is registered, and its parent gets its id; a collection is then open.
-abbrev pub pushed : (limit : ℕ) → Loader → (anchor : Option (List ℕ)) → yaml_node_t → (opens : Bool) → LoaderResult
-pushed limit l anchor x opens =
+abbrev pub node_pushed : (limit : ℕ) → OriginalLoader → (anchor : Option (List ℕ)) → yaml_node_t → (opens : Bool) → LoaderResult
+node_pushed limit l anchor x opens =
     let index : ℕ = suc (length l.nodes) in
     STACK_LIMIT limit (length l.nodes)
     (yaml_parser_register_anchor (record l { nodes = l.nodes ++ x ∷ [] }) index x.start_mark anchor λ r.
@@ -181,8 +181,8 @@ node tag content e = record { tag = tag; content = content; start_mark = e.start
 
 -- yaml_parser_load_sequence_end and yaml_parser_load_mapping_end: the innermost collection ends where the
 -- event does.
-abbrev pub ended : Loader → Event → Loader
-ended l e = elim l.ctx [
+abbrev pub node_ended : OriginalLoader → Event → OriginalLoader
+node_ended l e = elim l.ctx [
   | [] ↦ l
   | index ∷ outer ↦ record l {
     nodes = change index (λ x. record x { end_mark = e.end_mark }) l.nodes;
@@ -191,54 +191,54 @@ ended l e = elim l.ctx [
 ]
 
 -- The match of yaml_parser_load_nodes.
-abbrev pub load_event : (limit : ℕ) → Loader → Event → LoaderResult
+abbrev pub load_event : (limit : ℕ) → OriginalLoader → Event → LoaderResult
 load_event limit l e = elim e.content [
   | ev.Alias a ↦ yaml_parser_load_alias limit l a.anchor e.start_mark
   | ev.Scalar s ↦
-      pushed limit l s.anchor
-      (node (tag_or (codes "tag:yaml.org,2002:str") s.tag)
+      node_pushed limit l s.anchor
+      (node (tag_or_default (codes "tag:yaml.org,2002:str") s.tag)
       (Scalar (record { value = s.value; style = s.style })) e)
       false
   | ev.SequenceStart s ↦
-      pushed limit l s.anchor
-      (node (tag_or (codes "tag:yaml.org,2002:seq") s.tag) (Sequence (record { items = []; style = s.style }))
+      node_pushed limit l s.anchor
+      (node (tag_or_default (codes "tag:yaml.org,2002:seq") s.tag) (Sequence (record { items = []; style = s.style }))
       e)
       true
-  | ev.SequenceEnd ↦ OK (ended l e)
+  | ev.SequenceEnd ↦ OK (node_ended l e)
   | ev.MappingStart m ↦
-      pushed limit l m.anchor
-      (node (tag_or (codes "tag:yaml.org,2002:map") m.tag) (Mapping (record { pairs = []; style = m.style }))
+      node_pushed limit l m.anchor
+      (node (tag_or_default (codes "tag:yaml.org,2002:map") m.tag) (Mapping (record { pairs = []; style = m.style }))
       e)
       true
-  | ev.MappingEnd ↦ OK (ended l e)
+  | ev.MappingEnd ↦ OK (node_ended l e)
   | _ ↦ OK l
 ]
 
 -- whole loads
 
 -- Between documents, or in the loop over a document's events.
-pub data State : Type 0 where
-  between : State
-  within : Opening → Loader → State
+pub data OriginalState : Type 0 where
+  between : OriginalState
+  within : Opening → OriginalLoader → OriginalState
 
 -- yaml_parser_load, yaml_parser_load_document and yaml_parser_load_nodes, again and again: a document each,
 -- up to an error or, at the stream's end, the document without root.
-abbrev pub loads_from : (limit : ℕ) → State → List Event → Ending → List Load
-loads_from limit s [] Ends = Ok (empty_document None [] false false) ∷ []
-loads_from limit s [] (Fails f) = Err f ∷ []
-loads_from limit between (e ∷ r) x = elim e.content [
+abbrev pub original_loads_from : (limit : ℕ) → OriginalState → List Event → Ending → List Load
+original_loads_from limit s [] Ends = Ok (empty_document None [] false false) ∷ []
+original_loads_from limit s [] (Fails f) = Err f ∷ []
+original_loads_from limit between (e ∷ r) x = elim e.content [
   | ev.StreamEnd ↦ Ok (empty_document None [] false false) ∷ []
   | ev.DocumentStart d ↦
-      loads_from limit (within (record { start = d; mark = e.start_mark }) new_loader) r x
-  | _ ↦ loads_from limit between r x
+      original_loads_from limit (within (record { start = d; mark = e.start_mark }) new_loader) r x
+  | _ ↦ original_loads_from limit between r x
 ]
-loads_from limit (within o l) (e ∷ r) x = elim e.content [
+original_loads_from limit (within o l) (e ∷ r) x = elim e.content [
   | ev.DocumentEnd d ↦
-      Ok (document o l.nodes (record { is_implicit = d.implicit; mark = e.end_mark })) ∷ loads_from limit
+      Ok (document o l.nodes (record { is_implicit = d.implicit; mark = e.end_mark })) ∷ original_loads_from limit
       between r x
-  | _ ↦ elim (load_event limit l e) [ FAIL f ↦ Err f ∷ [] | OK m ↦ loads_from limit (within o m) r x ]
+  | _ ↦ elim (load_event limit l e) [ FAIL f ↦ Err f ∷ [] | OK m ↦ original_loads_from limit (within o m) r x ]
 ]
 
 -- The loads over a run's events and ending.
 abbrev pub loads_there : (limit : ℕ) → List Event → Ending → List Load
-loads_there limit e x = loads_from limit between e x
+loads_there limit e x = original_loads_from limit between e x

@@ -9,7 +9,7 @@ use Rattle.libyaml_documents.specs.Documents.{Document}
 use Rattle.libyaml_graphs.specs.loads.Loads.{Load, last_load}
 use Rattle.rust_original.specs.loader.Loader.{loads_there}
 use Rattle.rust_original.specs.parser.Differences.{Differs, Reaches, call_here, call_there}
-use Rattle.rust_original.specs.parser.Parser.{Parser}
+use Rattle.rust_original.specs.parser.Parser.{OriginalParser}
 use Rattle.rust_original.specs.parser.Runs.{RunsThere}
 
 -- Its loads over a list, with this bound on its lists.
@@ -21,9 +21,9 @@ pub record LoadsThere (limit : ℕ) (l : List Token) (f : Fault) (a : List Load)
 
 -- Loads there and here, of a parser and its tokens: they are the same; or calls do the same up to one of the
 -- three kinds, the loads of the events before it have no error, and their documents begin both.
-pub data LoadsCompare (limit : ℕ) (p : Parser) (a b : List Load) : Type 0 where
+pub data LoadsCompare (limit : ℕ) (p : OriginalParser) (a b : List Load) : Type 0 where
   same_loads : a ≡ b → LoadsCompare limit p a b
-  loads_part : (before : List Event) (q : Parser) → Reaches p before q
+  loads_part : (before : List Event) (q : OriginalParser) → Reaches p before q
       → Differs q (call_there q) (call_here q)
       → (documents : List Document) → loads_there limit before Ends ≡ map Ok documents ++ last_load Ends ∷ []
       → (a' b' : List Load) → a ≡ map Ok documents ++ a' → b ≡ map Ok documents ++ b' → LoadsCompare limit p a b

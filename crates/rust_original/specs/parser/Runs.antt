@@ -5,12 +5,12 @@ use Rattle.libyaml_types.specs.Fault.{Fault, no_fault}
 use Rattle.libyaml_grammar.specs.sentences.Events.{Event}
 use Rattle.libyaml_grammar.specs.sentences.Tokens.{Token}
 use Rattle.libyaml_grammar.specs.runs.Runs.{Ending, Ends, Fails}
-use Rattle.rust_original.specs.parser.Parser.{FAIL, Mends, OK, Outcome, Parser, yaml_parser_parse}
+use Rattle.rust_original.specs.parser.Parser.{FAIL, Mends, OK, ParserResult, OriginalParser, yaml_parser_parse}
 use Rattle.rust_original.specs.parser.Texts.{as_held}
 
 -- A parser before its first call.
-abbrev pub new_parser : List Token → Fault → Parser
-new_parser tokens scanner_fault = record {
+abbrev pub new_original_parser : List Token → Fault → OriginalParser
+new_original_parser tokens scanner_fault = record {
   tokens = tokens;
   scanner_fault = scanner_fault;
   stream_end_produced = false;
@@ -29,23 +29,23 @@ abbrev pub as_here : Mends
 as_here = record { pair_key_stays = true; value_begins_entry = true; bare_document_behind_end = true }
 
 -- A call of a parser that keeps no error.
-abbrev pub call : Mends → Parser → Outcome
+abbrev pub call : Mends → OriginalParser → ParserResult
 call mends p = yaml_parser_parse mends no_fault p
 
 -- Calls in turn, up to the stream end event or an error.
-pub data Runs (mends : Mends) : Parser → List Event → Ending → Type 0 where
-  ends : {p : Parser} {e : Event} {q : Parser} → call mends p ≡ OK e q → q.stream_end_produced ≡ true
+pub data Runs (mends : Mends) : OriginalParser → List Event → Ending → Type 0 where
+  ends : {p : OriginalParser} {e : Event} {q : OriginalParser} → call mends p ≡ OK e q → q.stream_end_produced ≡ true
       → Runs mends p (e ∷ []) Ends
-  goes_on : {p : Parser} {e : Event} {q : Parser} {later : List Event} {x : Ending} → call mends p ≡ OK e q
+  goes_on : {p : OriginalParser} {e : Event} {q : OriginalParser} {later : List Event} {x : Ending} → call mends p ≡ OK e q
       → q.stream_end_produced ≡ false → Runs mends q later x → Runs mends p (e ∷ later) x
-  fails : {p : Parser} {f : Fault} → call mends p ≡ FAIL f → Runs mends p [] (Fails f)
+  fails : {p : OriginalParser} {f : Fault} → call mends p ≡ FAIL f → Runs mends p [] (Fails f)
 
 -- The run of the Rust crate over a list, whose texts are held as there.
 abbrev pub RunsThere : List Token → Fault → List Event → Ending → Type 0
-RunsThere l f e x = Runs as_there (new_parser (map as_held l) f) e x
+RunsThere l f e x = Runs as_there (new_original_parser (map as_held l) f) e x
 
 -- The same by computation, within so many calls.
-abbrev pub run_within : Mends → ℕ → Parser → List Event × Option Ending
+abbrev pub run_within : Mends → ℕ → OriginalParser → List Event × Option Ending
 run_within mends zero p = ([], None)
 run_within mends (suc n) p = elim (call mends p) [
   | FAIL f ↦ ([], Some (Fails f))
@@ -60,7 +60,7 @@ abbrev pub enough_calls : List Token → ℕ
 enough_calls l = 4 * length l + 1
 
 abbrev pub run_there : List Token → Fault → List Event × Option Ending
-run_there l f = run_within as_there (enough_calls l) (new_parser (map as_held l) f)
+run_there l f = run_within as_there (enough_calls l) (new_original_parser (map as_held l) f)
 
 abbrev pub run_here : List Token → Fault → List Event × Option Ending
-run_here l f = run_within as_here (enough_calls l) (new_parser l f)
+run_here l f = run_within as_here (enough_calls l) (new_original_parser l f)

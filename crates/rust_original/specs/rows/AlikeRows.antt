@@ -6,7 +6,7 @@ use Rattle.libyaml_types.specs.declared.token.unnamed_yaml_token_t_data.TheVaria
 use Rattle.libyaml_grammar.specs.rows.RowNotation.{SCALAR, STREAM, at, flow_mapping, flow_sequence, list, mapping, nothing, sequence, text}
 use Rattle.libyaml_grammar.specs.sentences.Tokens.{Token}
 use Rattle.libyaml_graphs.specs.rows.LoadRows.{implicit, no_memory, no_root, pair}
-use Rattle.rust_original.specs.rows.Notation.{alike, block_map, block_seq, broken_run, flow_seq, loads_within, no_flow_content, row_node, parse, plain, run_to, str}
+use Rattle.rust_original.specs.rows.Notation.{alike, block_map, block_seq, broken_run, flow_seq, loads_within, fails_without_flow_content, row_node, parse, plain, run_to, str}
 
 -- A sequence without indentation ends where the next token begins.
 abbrev pub RowIndentlessSequenceAlike : Type 0
@@ -21,8 +21,8 @@ RowIndentlessSequenceAlike = parse (list (STREAM ∷ BlockMappingStart ∷ Key �
 -- A pair's key is no block collection.
 abbrev pub RowBlockSequenceAsAPairsKey : Type 0
 RowBlockSequenceAsAPairsKey = parse (list (STREAM ∷ FlowSequenceStart ∷ Key ∷ BlockSequenceStart ∷ StreamEnd ∷
-    [])) ≡ alike (broken_run (no_flow_content 6) (at 2 3 flow_sequence ∷ at 4 5 flow_mapping ∷ []))
-    (Err (no_flow_content 6) ∷ [])
+    [])) ≡ alike (broken_run (fails_without_flow_content 6) (at 2 3 flow_sequence ∷ at 4 5 flow_mapping ∷ []))
+    (Err (fails_without_flow_content 6) ∷ [])
 
 -- A document of three nodes, with a bound of three and of two.
 abbrev pub two_entries : List Token

@@ -5,7 +5,7 @@ use Rattle.libyaml_types.specs.declared.event.unnamed_yaml_event_t_data.TheVaria
 use Rattle.libyaml_types.specs.declared.token.unnamed_yaml_token_t_data.TheVariants.{BlockEnd, BlockMappingStart, DocumentEnd, DocumentStart, FlowEntry, FlowSequenceEnd, FlowSequenceStart, Key, StreamEnd, Value}
 use Rattle.libyaml_grammar.specs.rows.RowNotation.{SCALAR, STREAM, TAG, at, bare_document, explicit_end, flow_mapping, flow_sequence, headed_document, list, mapping, no_document_end, nothing, stream, text}
 use Rattle.libyaml_graphs.specs.rows.LoadRows.{implicit, loaded, no_root, pair}
-use Rattle.rust_original.specs.rows.Notation.{broken_run, fails, flow_map, flow_seq, no_block_content, no_document_start, no_flow_content, no_key, no_separator, row_node, parse, plain, run_to, str, undefined_handle}
+use Rattle.rust_original.specs.rows.Notation.{broken_run, fails, flow_map, flow_seq, fails_without_block_content, fails_without_document_start, fails_without_flow_content, fails_without_key, no_separator, row_node, parse, plain, run_to, str, fails_at_undefined_handle}
 
 -- the KEY of a flow sequence's pair, and after it a token that begins no node
 
@@ -35,7 +35,7 @@ RowPairKeyThenTwoValues = parse (list (STREAM ∷ FlowSequenceStart ∷ Key ∷ 
     FlowSequenceEnd ∷ StreamEnd ∷ [])) ≡ record {
       there = run_to 14 (at 2 3 flow_sequence ∷ at 4 5 flow_mapping ∷ at 7 7 nothing ∷ at 10 11 (text (codes "x")) ∷
           at 12 12 ev.MappingEnd ∷ at 12 13 ev.SequenceEnd ∷ []);
-      here = broken_run (no_flow_content 8) (at 2 3 flow_sequence ∷ at 4 5 flow_mapping ∷ at 6 6 nothing ∷ []);
+      here = broken_run (fails_without_flow_content 8) (at 2 3 flow_sequence ∷ at 4 5 flow_mapping ∷ at 6 6 nothing ∷ []);
       loads = implicit 14 (row_node 2 13 (flow_seq (2 ∷ [])) ∷ row_node 4 12 (flow_map (pair 3 4 ∷ [])) ∷
           row_node 7 7 (str plain []) ∷ row_node 10 11 (str plain (codes "x")) ∷ []) ∷ no_root ∷ [];
     }
@@ -55,7 +55,7 @@ RowPairKeyThenTwoEntries = parse (list (STREAM ∷ FlowSequenceStart ∷ Key ∷
     SCALAR (codes "x") ∷ FlowSequenceEnd ∷ StreamEnd ∷ [])) ≡ record {
       there = run_to 14 (at 2 3 flow_sequence ∷ at 4 5 flow_mapping ∷ at 7 7 nothing ∷ at 8 8 nothing ∷
           at 8 8 ev.MappingEnd ∷ at 10 11 (text (codes "x")) ∷ at 12 13 ev.SequenceEnd ∷ []);
-      here = broken_run (no_flow_content 8) (at 2 3 flow_sequence ∷ at 4 5 flow_mapping ∷ at 6 6 nothing ∷
+      here = broken_run (fails_without_flow_content 8) (at 2 3 flow_sequence ∷ at 4 5 flow_mapping ∷ at 6 6 nothing ∷
           at 6 6 nothing ∷ at 6 6 ev.MappingEnd ∷ []);
       loads = implicit 14 (row_node 2 13 (flow_seq (2 ∷ 5 ∷ [])) ∷ row_node 4 8 (flow_map (pair 3 4 ∷ [])) ∷
           row_node 7 7 (str plain []) ∷ row_node 8 8 (str plain []) ∷ row_node 10 11 (str plain (codes "x")) ∷ []) ∷
@@ -76,7 +76,7 @@ RowPairKeyThenTwoEnds = parse (list (STREAM ∷ FlowSequenceStart ∷ Key ∷ Fl
     StreamEnd ∷ [])) ≡ record {
       there = run_to 10 (at 2 3 flow_sequence ∷ at 4 5 flow_mapping ∷ at 7 7 nothing ∷ at 8 8 nothing ∷
           at 8 8 ev.MappingEnd ∷ at 8 9 ev.SequenceEnd ∷ []);
-      here = broken_run (no_document_start 8) (at 2 3 flow_sequence ∷ at 4 5 flow_mapping ∷ at 6 6 nothing ∷
+      here = broken_run (fails_without_document_start 8) (at 2 3 flow_sequence ∷ at 4 5 flow_mapping ∷ at 6 6 nothing ∷
           at 6 6 nothing ∷ at 6 6 ev.MappingEnd ∷ at 6 7 ev.SequenceEnd ∷ at 8 8 no_document_end ∷ []);
       loads = implicit 10 (row_node 2 9 (flow_seq (2 ∷ [])) ∷ row_node 4 8 (flow_map (pair 3 4 ∷ [])) ∷
           row_node 7 7 (str plain []) ∷ row_node 8 8 (str plain []) ∷ []) ∷ no_root ∷ [];
@@ -87,18 +87,18 @@ RowPairKeyThenTwoEnds = parse (list (STREAM ∷ FlowSequenceStart ∷ Key ∷ Fl
 abbrev pub RowValueFirst : Type 0
 RowValueFirst = parse (list (STREAM ∷ BlockMappingStart ∷ Value ∷ SCALAR (codes "x") ∷ BlockEnd ∷ StreamEnd ∷
     [])) ≡ record {
-      there = broken_run (no_key 2 4) (at 2 3 mapping ∷ []);
+      there = broken_run (fails_without_key 2 4) (at 2 3 mapping ∷ []);
       here = run_to 10 (at 2 3 mapping ∷ at 4 4 nothing ∷ at 6 7 (text (codes "x")) ∷ at 8 9 ev.MappingEnd ∷ []);
-      loads = Err (no_key 2 4) ∷ [];
+      loads = Err (fails_without_key 2 4) ∷ [];
     }
 
 abbrev pub RowValueBehindAnEntry : Type 0
 RowValueBehindAnEntry = parse (list (STREAM ∷ BlockMappingStart ∷ Key ∷ SCALAR (codes "k") ∷ Value ∷ Value ∷
     BlockEnd ∷ StreamEnd ∷ [])) ≡ record {
-      there = broken_run (no_key 2 10) (at 2 3 mapping ∷ at 6 7 (text (codes "k")) ∷ at 9 9 nothing ∷ []);
+      there = broken_run (fails_without_key 2 10) (at 2 3 mapping ∷ at 6 7 (text (codes "k")) ∷ at 9 9 nothing ∷ []);
       here = run_to 14 (at 2 3 mapping ∷ at 6 7 (text (codes "k")) ∷ at 9 9 nothing ∷ at 10 10 nothing ∷
           at 11 11 nothing ∷ at 12 13 ev.MappingEnd ∷ []);
-      loads = Err (no_key 2 10) ∷ [];
+      loads = Err (fails_without_key 2 10) ∷ [];
     }
 
 -- no DOCUMENT-START after a document with a DOCUMENT-END
@@ -106,26 +106,26 @@ RowValueBehindAnEntry = parse (list (STREAM ∷ BlockMappingStart ∷ Key ∷ SC
 abbrev pub RowScalarBehindADocumentEnd : Type 0
 RowScalarBehindADocumentEnd = parse (list (STREAM ∷ SCALAR (codes "a") ∷ DocumentEnd ∷ SCALAR (codes "b") ∷
     StreamEnd ∷ [])) ≡ record {
-      there = broken_run (no_document_start 6) (at 2 3 (text (codes "a")) ∷ at 4 5 explicit_end ∷ []);
+      there = broken_run (fails_without_document_start 6) (at 2 3 (text (codes "a")) ∷ at 4 5 explicit_end ∷ []);
       here = run_to 8 (at 2 3 (text (codes "a")) ∷ at 4 5 explicit_end ∷ at 6 6 bare_document ∷ at 6 7 (text (codes "b")) ∷
           []);
-      loads = loaded [] true false 2 5 (row_node 2 3 (str plain (codes "a")) ∷ []) ∷ Err (no_document_start 6) ∷ [];
+      loads = loaded [] true false 2 5 (row_node 2 3 (str plain (codes "a")) ∷ []) ∷ Err (fails_without_document_start 6) ∷ [];
     }
 
 abbrev pub RowTagBehindADocumentEnd : Type 0
 RowTagBehindADocumentEnd = parse (list (STREAM ∷ DocumentStart ∷ DocumentEnd ∷ TAG (codes "!e!") (codes "x") ∷
     SCALAR (codes "b") ∷ StreamEnd ∷ [])) ≡ record {
-      there = fails (no_document_start 6) (at 0 0 stream ∷ at 2 3 (headed_document None []) ∷ at 4 4 nothing ∷
+      there = fails (fails_without_document_start 6) (at 0 0 stream ∷ at 2 3 (headed_document None []) ∷ at 4 4 nothing ∷
           at 4 5 explicit_end ∷ []);
-      here = fails (undefined_handle 6) (at 0 0 stream ∷ at 2 3 (headed_document None []) ∷ at 4 4 nothing ∷
+      here = fails (fails_at_undefined_handle 6) (at 0 0 stream ∷ at 2 3 (headed_document None []) ∷ at 4 4 nothing ∷
           at 4 5 explicit_end ∷ at 6 6 bare_document ∷ []);
-      loads = loaded [] false false 2 5 (row_node 4 4 (str plain []) ∷ []) ∷ Err (no_document_start 6) ∷ [];
+      loads = loaded [] false false 2 5 (row_node 4 4 (str plain []) ∷ []) ∷ Err (fails_without_document_start 6) ∷ [];
     }
 
 abbrev pub RowNoNodeBehindADocumentEnd : Type 0
 RowNoNodeBehindADocumentEnd = parse (list (STREAM ∷ SCALAR (codes "a") ∷ DocumentEnd ∷ BlockEnd ∷ StreamEnd ∷
     [])) ≡ record {
-      there = broken_run (no_document_start 6) (at 2 3 (text (codes "a")) ∷ at 4 5 explicit_end ∷ []);
-      here = broken_run (no_block_content 6) (at 2 3 (text (codes "a")) ∷ at 4 5 explicit_end ∷ at 6 6 bare_document ∷ []);
-      loads = loaded [] true false 2 5 (row_node 2 3 (str plain (codes "a")) ∷ []) ∷ Err (no_document_start 6) ∷ [];
+      there = broken_run (fails_without_document_start 6) (at 2 3 (text (codes "a")) ∷ at 4 5 explicit_end ∷ []);
+      here = broken_run (fails_without_block_content 6) (at 2 3 (text (codes "a")) ∷ at 4 5 explicit_end ∷ at 6 6 bare_document ∷ []);
+      loads = loaded [] true false 2 5 (row_node 2 3 (str plain (codes "a")) ∷ []) ∷ Err (fails_without_document_start 6) ∷ [];
     }

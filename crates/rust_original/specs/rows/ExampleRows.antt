@@ -9,7 +9,7 @@ use Rattle.libyaml_grammar.specs.sentences.Events.{Event}
 use Rattle.libyaml_grammar.specs.sentences.Tokens.{Token}
 use Rattle.libyaml_graphs.specs.rows.LoadRows.{no_root, pair}
 use Rattle.rust_original.specs.loader.LoadsThere.{LoadsThere}
-use Rattle.rust_original.specs.rows.Notation.{alike, block_map, block_seq, double, e, e_to, ends, fails, flow_map, flow_seq, folded, line, line_of, literal, mark, n, n_to, no_separator, parse, plain, single, str, styled, t, t_to, whole}
+use Rattle.rust_original.specs.rows.Notation.{alike, block_map, block_seq, double, e, e_to, ends, fails, flow_map, flow_seq, folded, line, line_of, literal, mark, n, n_to, no_separator, parse, plain, single, str, styled, t, t_to, whole_load}
 
 abbrev pub list_tokens : List Token
 list_tokens =
@@ -199,11 +199,11 @@ abbrev pub RowListBegun : Type 0
 RowListBegun = parse (take 10 list_tokens) ≡ alike (fails no_more (take 7 list_events)) (Err no_more ∷ [])
 
 abbrev pub RowList : Type 0
-RowList = parse list_tokens ≡ alike (ends list_events) (whole (mark 21 1 0) (mark 184 12 0) list_nodes ∷ no_root ∷ [])
+RowList = parse list_tokens ≡ alike (ends list_events) (whole_load (mark 21 1 0) (mark 184 12 0) list_nodes ∷ no_root ∷ [])
 
 abbrev pub RowCompose : Type 0
 RowCompose = parse compose_tokens
-    ≡ alike (ends compose_events) (whole (mark 17 1 0) (mark 528 27 0) compose_nodes ∷ no_root ∷ [])
+    ≡ alike (ends compose_events) (whole_load (mark 17 1 0) (mark 528 27 0) compose_nodes ∷ no_root ∷ [])
 
 abbrev pub RowFault : Type 0
 RowFault = parse fault_tokens ≡ alike (fails (no_separator 7 15) fault_events) (Err (no_separator 7 15) ∷ [])

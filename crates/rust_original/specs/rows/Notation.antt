@@ -58,23 +58,23 @@ broken_run f e = fails f (at 0 0 stream ∷ at 2 2 bare_document ∷ e)
 abbrev pub no_separator : ℕ → ℕ → Fault
 no_separator i j = says_while (codes "while parsing a flow sequence") i (codes "did not find expected ',' or ']'") j
 
-abbrev pub no_key : ℕ → ℕ → Fault
-no_key i j = says_while (codes "while parsing a block mapping") i (codes "did not find expected key") j
+abbrev pub fails_without_key : ℕ → ℕ → Fault
+fails_without_key i j = says_while (codes "while parsing a block mapping") i (codes "did not find expected key") j
 
-abbrev pub no_flow_content : ℕ → Fault
-no_flow_content j = says_while (codes "while parsing a flow node") j (codes "did not find expected node content") j
+abbrev pub fails_without_flow_content : ℕ → Fault
+fails_without_flow_content j = says_while (codes "while parsing a flow node") j (codes "did not find expected node content") j
 
-abbrev pub no_block_content : ℕ → Fault
-no_block_content j = says_while (codes "while parsing a block node") j (codes "did not find expected node content") j
+abbrev pub fails_without_block_content : ℕ → Fault
+fails_without_block_content j = says_while (codes "while parsing a block node") j (codes "did not find expected node content") j
 
-abbrev pub undefined_handle : ℕ → Fault
-undefined_handle j = says_while (codes "while parsing a node") j (codes "found undefined tag handle") j
+abbrev pub fails_at_undefined_handle : ℕ → Fault
+fails_at_undefined_handle j = says_while (codes "while parsing a node") j (codes "found undefined tag handle") j
 
 abbrev pub second_handle : ℕ → Fault
 second_handle j = says (codes "found duplicate %TAG directive") j
 
-abbrev pub no_document_start : ℕ → Fault
-no_document_start j = says (codes "did not find expected <document start>") j
+abbrev pub fails_without_document_start : ℕ → Fault
+fails_without_document_start j = says (codes "did not find expected <document start>") j
 
 -- texts: two with a zero byte between them, and one with its line feed
 abbrev pub zero_between : List ℕ → List ℕ → List ℕ
@@ -145,8 +145,8 @@ abbrev pub row_node : ℕ → ℕ → NodePart → yaml_node_t
 row_node i j p = node_from (place i) (place j) p
 
 -- a document whose start and end are implicit
-abbrev pub whole : Mark → Mark → List yaml_node_t → Load
-whole m n nodes = Ok (record {
+abbrev pub whole_load : Mark → Mark → List yaml_node_t → Load
+whole_load m n nodes = Ok (record {
   nodes = nodes;
   version_directive = None;
   tag_directives = [];

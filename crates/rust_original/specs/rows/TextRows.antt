@@ -4,7 +4,7 @@ use Rattle.libyaml_types.specs.declared.event.unnamed_yaml_event_t_data.TheVaria
 use Rattle.libyaml_types.specs.declared.token.unnamed_yaml_token_t_data.TheVariants.{DocumentStart, FlowEntry, FlowSequenceEnd, FlowSequenceStart, StreamEnd}
 use Rattle.libyaml_grammar.specs.rows.RowNotation.{ALIAS, ANCHOR, HANDLE, SCALAR, STREAM, TAG, alias, at, declaring, flow_sequence, headed_document, list, no_document_end, nothing, scalar, stream}
 use Rattle.libyaml_graphs.specs.rows.LoadRows.{implicit, loaded, no_carrier, no_root, second_carrier}
-use Rattle.rust_original.specs.rows.Notation.{broken_run, ends, fails, flow_seq, row_node, parse, plain, run_to, second_handle, str, row_tagged, undefined_handle, zero_between}
+use Rattle.rust_original.specs.rows.Notation.{broken_run, ends, fails, flow_seq, row_node, parse, plain, run_to, second_handle, str, row_tagged, fails_at_undefined_handle, zero_between}
 
 abbrev pub RowAliasWithAZeroByte : Type 0
 RowAliasWithAZeroByte = parse (list (STREAM ∷ ALIAS (zero_between (codes "a") (codes "b")) ∷ StreamEnd ∷
@@ -52,7 +52,7 @@ abbrev pub RowHandleOfAZeroByte : Type 0
 RowHandleOfAZeroByte = parse (list (STREAM ∷ TAG (zero_between [] []) (codes "x") ∷ SCALAR (codes "a") ∷ StreamEnd ∷
     [])) ≡ record {
       there = run_to 6 (at 2 5 (scalar None (Some (codes "x")) (codes "a") false false plain) ∷ []);
-      here = broken_run (undefined_handle 2) [];
+      here = broken_run (fails_at_undefined_handle 2) [];
       loads = implicit 6 (row_node 2 5 (row_tagged (codes "x") plain (codes "a")) ∷ []) ∷ no_root ∷ [];
     }
 

@@ -1,5 +1,5 @@
 use Rattle.std.proofs.Common.{◌∙◌, sym, ap}
-use Rattle.token_steps.specs.Numbers.{number, is_undone, is_given}
+use Rattle.token_steps.specs.Numbers.{number, is_nothing_done, is_given}
 use Rattle.token_steps_c.proofs.Said.{number_undone, number_given, number_not_given, number_three, number_four, number_five, number_six}
 use Rattle.token_steps_c.proofs.pokhvizi_step.Goals as goal
 
@@ -27,7 +27,7 @@ returns-clause-full_marks c = rw (sym c.token_kind.ensures) (λ w. (
 
 pub returns-clause-undone : goal.returns-clause-undone
 returns-clause-undone c = λ e. c.step.ensures.undone
-    (number_undone _ (sym (ap is_undone c.number.ensures) ∙ e))
+    (number_undone _ (sym (ap is_nothing_done c.number.ensures) ∙ e))
 
 pub returns-clause-holds_nothing : goal.returns-clause-holds_nothing
 returns-clause-holds_nothing c = λ e. c.step.ensures.holds_nothing

@@ -1,7 +1,7 @@
 use Rattle.std.proofs.Common.{map, refl}
 use Rattle.libyaml_grammar.specs.rows.RowNotation.{no_more}
 use Rattle.libyaml_grammar.specs.runs.Runs.{Fails}
-use Rattle.rust_original.specs.parser.Runs.{as_there, enough_calls, new_parser}
+use Rattle.rust_original.specs.parser.Runs.{as_there, enough_calls, new_original_parser}
 use Rattle.rust_original.specs.parser.Texts.{as_held}
 use Rattle.rust_original.specs.rows.ExampleRows.{fault_events, fault_tokens}
 use Rattle.rust_original.specs.rows.Notation.{no_separator}
@@ -13,6 +13,6 @@ returns c = record {
   events = fault_events;
   ending = Fails (no_separator 7 15);
   run = computed as_there (enough_calls fault_tokens)
-      (new_parser (map as_held fault_tokens) no_more) fault_events (Fails (no_separator 7 15)) refl;
+      (new_original_parser (map as_held fault_tokens) no_more) fault_events (Fails (no_separator 7 15)) refl;
   all = refl;
 }

@@ -2,7 +2,7 @@ use Rattle.std.proofs.Common.{◌∙◌, length, nat_le, rules, sym, w32}
 use Rattle.std.proofs.lemmas.Bool.{false_from_ne_true}
 use Rattle.std.proofs.lemmas.Int.{to_z-of_z}
 use Rattle.libyaml_composer.specs.declared.deed.Deed.TheVariants as deed
-use Rattle.libyaml_composer.specs.Composing.{adding, composer_of, list_full, new_id, opened, stack_of, unless}
+use Rattle.libyaml_composer.specs.Composing.{adding, composer_of, is_list_full, new_id, with_open_node, stack_of, unless}
 use Rattle.libyaml_composer.proofs.Handing.{is_done, is_good, opened_so}
 use Rattle.libyaml_composer.proofs.composer.composer_t.start.Goals as goal
 
@@ -11,12 +11,12 @@ returns-clause-tells c =
     let n = c.in_default-deed.not-FullList in
     let h = c.hand-deed.ensures.handed n in
     let k = composer_of c.args.self.now c.args.stack.now in
-    let new = opened c.args.is_mapping (new_id k) (adding k) in
+    let new = with_open_node c.args.is_mapping (new_id k) (adding k) in
     let is_over = nat_le k.room (length k.stack) in
-    let f = false_from_ne_true (list_full k.most k.stack) (λ e. n (c.hand-deed.ensures.full.1 e)) in
+    let f = false_from_ne_true (is_list_full k.most k.stack) (λ e. n (c.hand-deed.ensures.full.1 e)) in
     let g = sym c.is_stack_full.ensures.full ∙ c.if-is_stack_full.false in
     let free = rw (to_z-of_z w32 c.args.carrier c.ranges.carrier) at c.refusal.ensures.none c.in_default.is
-    c.args.place.now (unless (list_full k.most k.stack) deed.FullList c.args.place.now k
+    c.args.place.now (unless (is_list_full k.most k.stack) deed.FullList c.args.place.now k
     (unless is_over deed.FullStack c.args.place.now k new)) in
     opened_so k is_over c.args.place.now _ new f g (search rules) ∙ sym free
 

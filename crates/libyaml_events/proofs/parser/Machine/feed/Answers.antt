@@ -1,7 +1,7 @@
 use Rattle.std.proofs.Common.{◌≤◌, ap, arith, rules, sym}
 use Rattle.std.specs.Vec.{vec_capacity}
 use Rattle.std.proofs.lemmas.Bool.{both_ways}
-use Rattle.libyaml_events.proofs.pushes.Taking.{taking_begins, wants_next, fails_onto, goes_on, is_done, step_falls}
+use Rattle.libyaml_events.proofs.pushes.PushLoop.{taking_begins, wants_next, fails_onto, goes_on, is_done, step_falls}
 use Rattle.libyaml_events.specs.machine.Answers.{wanted}
 use Rattle.libyaml_events.specs.machine.Want.{Want}
 use Rattle.libyaml_events.proofs.parser.Machine.feed.Goals.{then-not-take_lookahead-via-then-not-take_lookahead, then-not-take_lookahead-via-else-not-take_lookahead+then-is_over}

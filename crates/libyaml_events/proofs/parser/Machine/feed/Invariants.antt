@@ -3,7 +3,7 @@ use Rattle.std.specs.Vec.{vec_capacity}
 use Rattle.libyaml_events.specs.machine.Answers.{wanted}
 use Rattle.libyaml_events.specs.automaton.View.{InStep}
 use Rattle.libyaml_events.proofs.machine.StepKinds.{room}
-use Rattle.libyaml_events.proofs.pushes.Taking.{Taking}
+use Rattle.libyaml_events.proofs.pushes.PushLoop.{Taking}
 use Rattle.libyaml_events.proofs.parser.Machine.feed.Given as goal
 
 abbrev pub invariant-loop-self : goal.invariant-loop-self

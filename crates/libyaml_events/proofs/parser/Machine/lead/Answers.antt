@@ -2,7 +2,7 @@ use Rattle.libyaml_types.specs.Fault.{fault_of}
 use Rattle.libyaml_automaton.specs.Growth.{opens, pushes}
 use Rattle.libyaml_automaton.specs.Numbers.{next_of}
 use Rattle.libyaml_events.specs.machine.Config.{handles_of, token_ahead}
-use Rattle.libyaml_events.proofs.layer.Leads.{grows_asked, grows_full, leads, pushes_full, still_ready}
+use Rattle.libyaml_events.proofs.layer.StepWithTexts.{grows_asked, grows_full, leads, pushes_full, still_ready}
 use Rattle.libyaml_events.proofs.parser.Machine.lead.Goals as goal
 
 pub returns-clause-led : goal.returns-clause-led

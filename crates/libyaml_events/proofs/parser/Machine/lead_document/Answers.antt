@@ -3,7 +3,7 @@ use Rattle.libyaml_types.specs.Fault.{fault_of}
 use Rattle.libyaml_automaton.specs.Growth.{pushes_in_documents}
 use Rattle.libyaml_automaton.specs.Numbers.{next_of}
 use Rattle.libyaml_events.specs.machine.Config.{Config, handles_of, token_ahead}
-use Rattle.libyaml_events.proofs.layer.Leads.{still_ready}
+use Rattle.libyaml_events.proofs.layer.StepWithTexts.{still_ready}
 use Rattle.libyaml_events.proofs.layer.Directives.{document_grows, document_leads, handle_grows}
 use Rattle.libyaml_events.proofs.parser.Machine.lead_document.Goals as goal
 

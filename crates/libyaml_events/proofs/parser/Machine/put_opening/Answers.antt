@@ -3,7 +3,7 @@ use Rattle.libyaml_events.proofs.layer.Contents.{opening_put}
 use Rattle.libyaml_grammar.specs.sentences.Events.{event, Event}
 use Rattle.libyaml_events.specs.machine.Config.{Config}
 use Rattle.libyaml_events.specs.machine.Want.{Given}
-use Rattle.libyaml_events.specs.automaton.Led.{start_of}
+use Rattle.libyaml_events.specs.automaton.Led.{collection_start}
 use Rattle.libyaml_types.specs.declared.event.unnamed_yaml_event_t_data.{unnamed_yaml_event_t_data}
 use Rattle.libyaml_events.proofs.parser.Machine.put_opening.Goals as goal
 
@@ -14,7 +14,7 @@ returns c = record {
         c.args.start_mark.now c.requires.opening c.requires.fits es s ∙ (ap (λ (e : Event). Ok (Given e, c.args.self.now))
         (sym (c.put_node.ensures.put ∙ ap (λ (x : unnamed_yaml_event_t_data). event x c.args.start_mark.now c.args.token.now.end_mark)
         (c.collection_start-content.ensures
-        ∙ ap (λ (a : Option (List ℕ)). start_of a (option_map string_bytes c.args.tag) c.args.token.now.content)
+        ∙ ap (λ (a : Option (List ℕ)). collection_start a (option_map string_bytes c.args.tag) c.args.token.now.content)
         c.take_anchor-anchor.ensures)))
         ∙ ap (λ (m : Config). Ok (Given c.put_node.new.out, m)) (sym c.put_node.ensures.same)),
     λ e. cc,

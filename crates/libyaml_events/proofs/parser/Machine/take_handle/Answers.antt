@@ -1,7 +1,7 @@
 use Rattle.std.proofs.Common.{◌≡◌, ◌∙◌, None, ap, sym}
 use Rattle.libyaml_types.specs.Fault.{fault_of}
 use Rattle.libyaml_automaton.specs.Automaton as automaton
-use Rattle.libyaml_automaton.specs.Wanted.{wanted}
+use Rattle.libyaml_automaton.specs.Wanted.{purpose_of}
 use Rattle.libyaml_events.specs.declared.pending.Pending.{Pending}
 use Rattle.libyaml_events.specs.machine.Answers.{directive_texts}
 use Rattle.libyaml_events.specs.machine.Config.{Config, config_of, config_with, handles_of, token_ahead}
@@ -33,7 +33,7 @@ returns-in-Wants c = record {
       ∙ ap (λ (p : Pending). directive_texts p.directives) (sym held)) (sym (c.hold_directive.ensures.same w ∙ (made ∙ c.in-Ok.ensures.ok))) c.requires.none
       (l.1 ∙ ap (λ (z : automaton.Step). put h None None c.args.self.now c.args.token.now c.args.token.now.content z)
       (does
-      ∙ ap (λ (p : Pending). automaton.Wants (wanted p.reading) (config_of c.args.self.now)) (sym held))))
+      ∙ ap (λ (p : Pending). automaton.Wants (purpose_of p.reading) (config_of c.args.self.now)) (sym held))))
       (λ i. ap (λ (d : Config). d.fault) (c.hold_directive.ensures.failed i));
 }
 

@@ -1,6 +1,6 @@
 use Rattle.std.proofs.Common.{rules}
 use Rattle.libyaml_types.specs.Events.{zero_mark}
-use Rattle.libyaml_automaton.specs.Wanted.{token}
+use Rattle.libyaml_automaton.specs.Wanted.{kind_and_marks}
 use Rattle.token_steps.proofs.Told.{fits_in_document, not_states, put_plainly, told_in_document}
 use Rattle.token_steps.proofs.steps.steps_t.document.Goals as goal
 
@@ -12,14 +12,14 @@ returns-in-AsksVersion-clause-tells c = λ marks.
     rw (c.in-AsksVersion.ensures.steps marks c.args.at.now.end_mark)
     (c.tell.ensures.tells _ zero_mark c.document_step.new.states marks
     (c.version_directive-answer.ensures.steps c.document_step.new.states marks
-    (token c.args.kind c.args.at.now.start_mark c.args.at.now.end_mark)))
+    (kind_and_marks c.args.kind c.args.at.now.start_mark c.args.at.now.end_mark)))
 
 pub returns-in-AsksHandle-clause-tells : goal.returns-in-AsksHandle-clause-tells
 returns-in-AsksHandle-clause-tells c = λ marks.
     rw (c.in-AsksHandle.ensures.steps marks c.args.at.now.end_mark)
     (c.tell-in-AsksHandle.ensures.tells _ zero_mark c.document_step.new.states marks
     (c.tag_directive-answer.ensures.steps c.document_step.new.states marks
-    (token c.args.kind c.args.at.now.start_mark c.args.at.now.end_mark)))
+    (kind_and_marks c.args.kind c.args.at.now.start_mark c.args.at.now.end_mark)))
 
 pub returns-in_default : goal.returns-in_default
 returns-in_default c =

@@ -1,10 +1,10 @@
 use Rattle.std.proofs.Common.{◌∙◌, sym, ap, refl, rules, true}
 use Rattle.libyaml_types.specs.Events.{zero_mark}
-use Rattle.libyaml_automaton.specs.Config.{config_of}
+use Rattle.libyaml_automaton.specs.Config.{stacks_of}
 use Rattle.libyaml_automaton.specs.Growth.{stack_part_of}
 use Rattle.libyaml_automaton.specs.Numbers.{flag, next_of, place_of}
 use Rattle.libyaml_automaton.specs.Wanted.{properties}
-use Rattle.token_steps.specs.Facts.{step, tag_if}
+use Rattle.token_steps.specs.Facts.{step_by_fact, tag_if}
 use Rattle.token_steps.specs.Records.{span_token}
 use Rattle.token_steps.specs.Tells.{Tells, want_in}
 use Rattle.token_steps.proofs.Problems.{content_number, failed_number, step_number}
@@ -67,24 +67,24 @@ returns-in-Document-clause-holds_nothing c = told_want _ _ _ _ _ _ (c.document.e
 pub returns-in-Document-clause-fault_number : goal.returns-in-Document-clause-fault_number
 returns-in-Document-clause-fault_number c = λ e. failed_number _ _ _ _ _ _
     (step_number (want_in (record { machine = c.step.new.self; read = c.step.new.read; tag = c.args.self.now.tag }))
-    (config_of c.step.new.self c.step.new.states c.step.new.marks)
+    (stacks_of c.step.new.self c.step.new.states c.step.new.marks)
     (span_token c.args.kind c.args.fact c.args.at.now)) e (c.document.ensures.tells c.step.new.marks)
 
 pub returns-in-AsksContent-clause-fault_number : goal.returns-in-AsksContent-clause-fault_number
 returns-in-AsksContent-clause-fault_number c = λ e. failed_number _ _ _ _ _ _
     (content_number (tag_if (flag c.step.new.read.has_tag) c.args.self.now.tag) c.args.self.now.tag
     (place_of c.step.new.read.place) (properties c.step.new.read)
-    (config_of c.step.new.self c.step.new.states c.step.new.marks)
+    (stacks_of c.step.new.self c.step.new.states c.step.new.marks)
     (span_token c.args.kind c.args.fact c.args.at.now)) e c.content.ensures.tells
 
 pub returns-in_default : goal.returns-in_default
 returns-in_default c =
     let told = told_in_step _ _ _ _ c.step.ensures.fits c.in_default.not-FullStates c.in_default.not-FullMarks c.in_default.not-Document c.in_default.not-AsksContent in
     let done = c.tell.ensures.done told in
-    let tells : Tells c.tell.result (step (want_in c.args.self.now)
-    (config_of c.args.self.now.machine c.args.states.now c.args.marks.now)
+    let tells : Tells c.tell.result (step_by_fact (want_in c.args.self.now)
+    (stacks_of c.args.self.now.machine c.args.states.now c.args.marks.now)
     (span_token c.args.kind c.args.fact c.args.at.now)) c.tell.new.self c.tell.new.event c.tell.new.fault
-    (config_of c.tell.new.self.machine c.step.new.states c.step.new.marks)
+    (stacks_of c.tell.new.self.machine c.step.new.states c.step.new.marks)
     = rw (told_step _ _ c.args.self.now.tag _ (span_token c.args.kind c.args.fact c.args.at.now) _ _ _ _ _
     c.settle.ensures.wanted c.step.ensures.steps told)
     (c.tell.ensures.tells _ zero_mark c.step.new.states c.step.new.marks c.step.ensures.steps) in
@@ -101,7 +101,7 @@ returns-in_default c =
       full_marks = λ w. (
         λ e. absurd (not_marks _ done e),
         λ h. absurd (room_for_marks _ _ _ _ c.settle.new.self
-            (config_of c.args.self.now.machine c.args.states.now c.args.marks.now) _ _ _ _ _ _ _ _ c.settle.ensures.next refl c.step.ensures.steps told
+            (stacks_of c.args.self.now.machine c.args.states.now c.args.marks.now) _ _ _ _ _ _ _ _ c.settle.ensures.next refl c.step.ensures.steps told
             (λ f. c.in_default.not-FullMarks (c.step.ensures.full_marks.1 f)) h),
       );
       undone = λ u. absurd (not_undone _ done u);
@@ -110,7 +110,7 @@ returns-in_default c =
       event_flags = c.tell.ensures.event_flags;
       event_unused = c.tell.ensures.event_unused;
       fault_number = λ e. failed_number _ _ _ _ _ _ (step_number (want_in c.args.self.now)
-          (config_of c.args.self.now.machine c.args.states.now c.args.marks.now)
+          (stacks_of c.args.self.now.machine c.args.states.now c.args.marks.now)
           (span_token c.args.kind c.args.fact c.args.at.now)) e tells;
       event_kept = c.tell.ensures.event_kept;
       fault_kept = c.tell.ensures.fault_kept;

@@ -11,35 +11,35 @@ use Rattle.libyaml_automaton.specs.declared.next.Next.TheVariants as next
 use Rattle.libyaml_automaton.specs.declared.node_place.NodePlace.{NodePlace}
 use Rattle.libyaml_automaton.specs.Numbers.{next_of}
 use Rattle.libyaml_automaton.specs.Wanted.{wanted_by}
-use Rattle.libyaml_automaton.specs.Fits.{FitsBare, IsFull, IsUndone, Stays, SameReading, opens_at}
-use Rattle.libyaml_automaton.specs.Growth.{pushes, begins, opens, HasNoRoom}
+use Rattle.libyaml_automaton.specs.Fits.{FitsBare, IsFull, IsNothingDone, Stays, SameReading, opens_at}
+use Rattle.libyaml_automaton.specs.Growth.{pushes, begun_place, opens, HasNoRoom}
 
 -- it is full where a stack that it pushes on is
 pub full_states_where : (n : Next) (k : yaml_token_type_t) (p : NodePlace) (a : Answer) (m d : Machine)
-    (states : List ℕ) (marks : List yaml_mark_t) → pushes n k ≡ true → begins n k ≡ Some p → d ≡ m
+    (states : List ℕ) (marks : List yaml_mark_t) → pushes n k ≡ true → begun_place n k ≡ Some p → d ≡ m
     → (a ≡ did.FullStates) ↔ (HasNoRoom true states d.states_count × (HasNoRoom (opens_at p k) marks d.marks_count → ⊥))
     → (a ≡ did.FullStates) ↔ (HasNoRoom (pushes n k) states m.states_count
     × (HasNoRoom (opens n k) marks m.marks_count → ⊥))
 full_states_where n k p a m d states marks e b s f = rw (e, b, sym s) f
 
 pub full_marks_where : (n : Next) (k : yaml_token_type_t) (p : NodePlace) (a : Answer) (m d : Machine)
-    (marks : List yaml_mark_t) → begins n k ≡ Some p → d ≡ m
+    (marks : List yaml_mark_t) → begun_place n k ≡ Some p → d ≡ m
     → (a ≡ did.FullMarks) ↔ HasNoRoom (opens_at p k) marks d.marks_count
     → (a ≡ did.FullMarks) ↔ HasNoRoom (opens n k) marks m.marks_count
 full_marks_where n k p a m d marks b s f = rw (b, sym s) f
 
 -- what was read is wanted still
 wanted_still : (n : Next) (k : yaml_token_type_t) (p : NodePlace) (r : Reading) (entering place : ℕ)
-    → begins n k ≡ Some p → wanted_by n (record r { entering = entering; place = place }) ≡ wanted_by n r
+    → begun_place n k ≡ Some p → wanted_by n (record r { entering = entering; place = place }) ≡ wanted_by n r
 wanted_still next.BehindProperties k p r e q b = absurd cc
 wanted_still _ k p r e q b = refl
 
 pub stays : (k : yaml_token_type_t) (p : NodePlace) (r d : Reading) (entering place : ℕ)
-    → begins (next_of r.next) k ≡ Some p → d ≡ record r { entering = entering; place = place } → SameReading r d
+    → begun_place (next_of r.next) k ≡ Some p → d ≡ record r { entering = entering; place = place } → SameReading r d
 stays k p r d e q b s = rw s (refl, wanted_still (next_of r.next) k p r e q b)
 
 -- nothing else is undone
-pub full_of : (a : Answer) (k : yaml_token_type_t) (r : Reading) → FitsBare a k r ⊎ IsFull a → IsUndone a → IsFull a
+pub full_of : (a : Answer) (k : yaml_token_type_t) (r : Reading) → FitsBare a k r ⊎ IsFull a → IsNothingDone a → IsFull a
 full_of did.FullStates k r f u = tt
 full_of did.FullMarks k r f u = tt
 full_of _ k r (inr e) u = e
@@ -60,7 +60,7 @@ full_stays _ r r' f s = s
 -- a node that was begun, where its function did nothing
 pub undone_at : (k : yaml_token_type_t) (p : NodePlace) (a : Answer) (m d m' : Machine) (r s r' : Reading)
     (states states' : List ℕ) (marks marks' : List yaml_mark_t) (entering place : ℕ)
-    → begins (next_of r.next) k ≡ Some p → d ≡ m → s ≡ record r { entering = entering; place = place } → IsFull a
+    → begun_place (next_of r.next) k ≡ Some p → d ≡ m → s ≡ record r { entering = entering; place = place } → IsFull a
     → (IsFull a → (m' ≡ d) × ((states' ≡ states) × ((marks' ≡ marks) × (r' ≡ s))))
     → (m' ≡ m) × ((states' ≡ states) × ((marks' ≡ marks) × Stays a r r'))
 undone_at k p a m d m' r s r' states states' marks marks' entering place b i j f h =

@@ -22,9 +22,9 @@ use Rattle.libyaml_events.proofs.calls.CallLemmas.{begun_alive}
 use Rattle.libyaml_events.proofs.calls.Measure.{FallsBelow, falls_on, weight}
 use Rattle.libyaml_events.proofs.calls.Parsed.{has_failed}
 use Rattle.libyaml_events.proofs.machine.StepKinds.{room}
-use Rattle.libyaml_events.proofs.machine.Stand.{Leads, Links}
-use Rattle.libyaml_events.proofs.pushes.Feeding.{InHand, Running, fed_to, has_ended, running, runs}
-use Rattle.libyaml_events.proofs.pushes.Few.{few}
+use Rattle.libyaml_events.proofs.machine.MachinePosition.{Leads, Links}
+use Rattle.libyaml_events.proofs.pushes.HistoryInvariant.{InHand, Running, fed_to, has_ended, running, runs}
+use Rattle.libyaml_events.proofs.pushes.AtMostFourEvents.{at_most_four}
 use Rattle.libyaml_events.proofs.lent.OneOutcome.{failed_run}
 
 -- a step that gives an event after which the token stays leaves less
@@ -54,7 +54,7 @@ pub record Taking (w0 : Want) (c0 : Config) (t : Token) (before : List Event) (w
   pub added : List Event
   pub appended : now ≡ before ++ added
   pub fed : (l : List Token) (g : List Event) → Fed w0 c0 None l g → Fed w c (Some u) (l ++ t ∷ []) (g ++ added)
-  pub few : (l : List Token) (g : List Event) → Fed w0 c0 None l g → length added ≤ 4
+  pub at_most_four : (l : List Token) (g : List Event) → Fed w0 c0 None l g → length added ≤ 4
 
 pub taking_begins : (w : Want) (c : Config) (t : Token) (before : List Event) → ended_or_failed c ≡ false
     → c.lookahead ≡ None → Taking w c t before w c t before
@@ -63,7 +63,7 @@ taking_begins w c t before h n = record {
   alive = begun_alive c h;
   none = n;
   added = [];
-  few = λ l g f. omega arith;
+  at_most_four = λ l g f. omega arith;
   appended = sym (append-nil before);
   fed = λ l g f. takes w c l (g ++ []) t (subst (λ (x : List Event). Fed w c None l x) (sym (append-nil g)) f) h;
 }
@@ -77,7 +77,7 @@ module _ (Full : Type 0) (w0 : Want) (c0 : Config) (t : Token) (before : List Ev
   wants_next w' new h = record {
     added = k.added;
     appended = k.appended;
-    at_most_four = k.few;
+    at_most_four = k.at_most_four;
     ends_so =
         λ l g f. wants w old u (k.fed l g f) h.0;
   }
@@ -93,7 +93,7 @@ module _ (Full : Type 0) (w0 : Want) (c0 : Config) (t : Token) (before : List Ev
   fails x w' new h grows = record {
     added = k.added;
     appended = k.appended;
-    at_most_four = k.few;
+    at_most_four = k.at_most_four;
     ends_so =
         λ l g f. by l g f x grows h;
   }
@@ -125,7 +125,7 @@ module _ (Full : Type 0) (w0 : Want) (c0 : Config) (t : Token) (before : List Ev
   no_room e mid h w' d i full = record {
     added = k.added;
     appended = k.appended;
-    at_most_four = k.few;
+    at_most_four = k.at_most_four;
     ends_so = λ l g f. by_memory i w old u (k.fed l g f) (for_event e mid h full);
   }
 
@@ -164,7 +164,7 @@ module _ (Full : Type 0) (w0 : Want) (c0 : Config) (t : Token) (before : List Ev
             (subst (λ (o : Progressed). Leads o (l ++ t ∷ []) (g ++ k.added)) h (fed_to (k.fed l g f)).leads)
 
         by : Running w0 c0 l g → length (k.added ++ e ∷ []) ≤ 4
-        by (runs i s) = few l g w0 c0 t (k.added ++ e ∷ []) mid s links
+        by (runs i s) = at_most_four l g w0 c0 t (k.added ++ e ∷ []) mid s links
         by (has_ended i m) = absurd (both_ways (ended_or_failed c0) k.begun i)
 
     -- and the token stays
@@ -177,7 +177,7 @@ module _ (Full : Type 0) (w0 : Want) (c0 : Config) (t : Token) (before : List Ev
       added = k.added ++ e ∷ [];
       appended = all_added;
       fed = given_fed (Some v) i;
-      few = given_few;
+      at_most_four = given_few;
     }
 
     -- or none is held, or the stream has ended

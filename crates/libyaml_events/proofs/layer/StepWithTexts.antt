@@ -2,27 +2,27 @@
 use Rattle.std.proofs.Common.{◌≡◌, ◌⊎◌, inl, inr, ◌∙◌, ◌||◌, ℕ, List, Option, Some, None, Bool, true, false, refl, sym, ap, subst}
 use Rattle.libyaml_types.specs.Fault.{Fault}
 use Rattle.libyaml_types.specs.Types.{token_type}
+use Rattle.libyaml_types.specs.declared.token.unnamed_yaml_token_t_data.{unnamed_yaml_token_t_data}
+use Rattle.libyaml_types.specs.declared.token.unnamed_yaml_token_t_data_tag.{unnamed_yaml_token_t_data_tag}
+use Rattle.libyaml_types.specs.declared.enums.yaml_parser_state_t.{yaml_parser_state_t}
+use Rattle.libyaml_types.specs.declared.token.yaml_token_t.{yaml_token_t}
 use Rattle.libyaml_types.specs.declared.enums.yaml_token_type_t.{yaml_token_type_t}
 use Rattle.libyaml_types.specs.declared.enums.yaml_token_type_t.TheVariants as kinds
-use Rattle.libyaml_types.specs.declared.enums.yaml_parser_state_t.{yaml_parser_state_t}
 use Rattle.libyaml_types.specs.declared.enums.yaml_parser_state_t.TheVariants as st
-use Rattle.libyaml_types.specs.declared.token.yaml_token_t.{yaml_token_t}
-use Rattle.libyaml_types.specs.declared.token.unnamed_yaml_token_t_data.{unnamed_yaml_token_t_data}
 use Rattle.libyaml_types.specs.declared.token.unnamed_yaml_token_t_data.TheVariants as tok
-use Rattle.libyaml_types.specs.declared.token.unnamed_yaml_token_t_data_tag.{unnamed_yaml_token_t_data_tag}
 use Rattle.libyaml_automaton.specs.declared.answer.Answer.{Answer}
 use Rattle.libyaml_automaton.specs.declared.answer.Answer.TheVariants as did
 use Rattle.libyaml_automaton.specs.declared.next.Next.{Next}
 use Rattle.libyaml_automaton.specs.declared.next.Next.TheVariants as next
 use Rattle.libyaml_automaton.specs.declared.node_place.NodePlace.{NodePlace}
 use Rattle.libyaml_automaton.specs.declared.reading.Reading.{Reading}
-use Rattle.libyaml_automaton.specs.Answers.{Outcome, Undone, Does, Says, outcome}
+use Rattle.libyaml_automaton.specs.Answers.{Outcome, NothingDone, Does, IsOutcome, outcome}
 use Rattle.libyaml_automaton.specs.Automaton as automaton
 use Rattle.libyaml_automaton.specs.Config as automaton_config
 use Rattle.libyaml_automaton.specs.Fits.{FitsStep, IsFull, is_simple, SameReading, opens_at}
 use Rattle.libyaml_automaton.specs.Growth.{opens, pushes}
 use Rattle.libyaml_automaton.specs.Numbers.{next_of, place_of}
-use Rattle.libyaml_automaton.specs.Wanted.{IsAt, next_at, next_for, properties, token, wanted_by}
+use Rattle.libyaml_automaton.specs.Wanted.{IsAt, next_at, next_for, properties, kind_and_marks, wanted_by}
 use Rattle.libyaml_automaton.specs.Wanted as automaton_want
 use Rattle.libyaml_events.specs.declared.pending.Pending.{Pending}
 use Rattle.libyaml_events.specs.machine.Answers.{property_texts, texts_for, wanted}
@@ -35,19 +35,19 @@ use Rattle.libyaml_events.specs.automaton.Led.{GrowsBehind, IsHeld, IsPlain, Led
 use Rattle.libyaml_events.specs.automaton.View.{Ready}
 
 -- What a step does with texts hangs on the handles, the error and the lookahead, which the automaton leaves alone.
-module _ (hs : Handles) (f : Fault) (o : Option yaml_token_t) (a b : automaton_config.Config) (h : Texts) (t : yaml_token_t)
+module _ (hs : Handles) (f : Fault) (o : Option yaml_token_t) (a b : automaton_config.Stacks) (h : Texts) (t : yaml_token_t)
     (k : unnamed_yaml_token_t_data) where
   put_same : (anchor tag : Option (List ℕ)) (x : automaton.Step)
       → put h anchor tag (config_with a hs f o) t k x ≡ put h anchor tag (config_with b hs f o) t k x
   put_same anchor tag (automaton.Gives e y) = refl
   put_same anchor tag _ = refl
 
-  resolved_same : (p : NodePlace) (r : automaton.Properties) (y : automaton_config.Config) (g : Option (List ℕ))
+  resolved_same : (p : NodePlace) (r : automaton.PropertiesRead) (y : automaton_config.Stacks) (g : Option (List ℕ))
       → content_resolved g p r y h (config_with a hs f o) t k ≡ content_resolved g p r y h (config_with b hs f o) t k
   resolved_same p r y None = refl
   resolved_same p r y (Some g) = put_same _ _ _
 
-  content_same : (p : NodePlace) (r : automaton.Properties) (y : automaton_config.Config)
+  content_same : (p : NodePlace) (r : automaton.PropertiesRead) (y : automaton_config.Stacks)
       (g : Option unnamed_yaml_token_t_data_tag)
       → content_behind g p r y h (config_with a hs f o) t k ≡ content_behind g p r y h (config_with b hs f o) t k
   content_same p r y None = put_same _ _ _
@@ -62,10 +62,10 @@ module _ (hs : Handles) (f : Fault) (o : Option yaml_token_t) (a b : automaton_c
   with_same _ = refl
 
 -- so for what is said of it
-pub says_texts : (hs : Handles) (f : Fault) (o : Option yaml_token_t) (a b : automaton_config.Config) (h : Texts)
-    (t : yaml_token_t) (s : automaton.Step) (x : Outcome) → Says s x
+pub says_texts : (hs : Handles) (f : Fault) (o : Option yaml_token_t) (a b : automaton_config.Stacks) (h : Texts)
+    (t : yaml_token_t) (s : automaton.Step) (x : Outcome) → IsOutcome s x
     → SaysIn (with_texts h (config_with a hs f o) t t.content s) h (config_with b hs f o) t x
-says_texts hs f o a b h t s Undone e = tt
+says_texts hs f o a b h t s NothingDone e = tt
 says_texts hs f o a b h t s (Does x) e
     = ap (λ (y : automaton.Step). with_texts h (config_with a hs f o) t t.content y) e ∙ with_same hs f o a b h t t.content x
 
@@ -78,8 +78,8 @@ abbrev TagIn : PropertyTexts → DirectiveTexts → unnamed_yaml_token_t_data_ta
 TagIn p d g h (automaton.Wants v x) = texts_for v (record p { tag = Some g }) d ≡ record h { tag = Some g }
 TagIn p d g h _ = Unit {0}
 
-module _ (p : PropertyTexts) (d : DirectiveTexts) (c : automaton_config.Config) (t : automaton.Token) where
-  anchor_behind : (a : List ℕ) (n : NodePlace) (r : automaton.Properties) (b : Bool)
+module _ (p : PropertyTexts) (d : DirectiveTexts) (c : automaton_config.Stacks) (t : automaton.KindAndMarks) where
+  anchor_behind : (a : List ℕ) (n : NodePlace) (r : automaton.PropertiesRead) (b : Bool)
       → AnchorIn p d a (property_texts r p) (automaton.anchor_behind b n r c t)
   anchor_behind a n r false = refl
   anchor_behind a n r true = tt
@@ -95,14 +95,14 @@ module _ (p : PropertyTexts) (d : DirectiveTexts) (c : automaton_config.Config) 
   anchor_at a st.YAML_PARSE_FLOW_MAPPING_FIRST_KEY_STATE = refl
   anchor_at a _ = tt
 
-  anchor_in : (a : List ℕ) (w : automaton.Want)
+  anchor_in : (a : List ℕ) (w : automaton.Purpose)
       → AnchorIn p d a (texts_for w p d) (automaton.step w c t kinds.YAML_ANCHOR_TOKEN)
   anchor_in a automaton.AtState = anchor_at a c.state
   anchor_in a (automaton.BehindDirective start has_version) = tt
   anchor_in a (automaton.BehindProperties n r) = anchor_behind a n r r.anchor
   anchor_in a _ = refl
 
-  tag_behind : (g : unnamed_yaml_token_t_data_tag) (n : NodePlace) (r : automaton.Properties) (b : Bool)
+  tag_behind : (g : unnamed_yaml_token_t_data_tag) (n : NodePlace) (r : automaton.PropertiesRead) (b : Bool)
       → TagIn p d g (property_texts r p) (automaton.tag_behind b n r c t)
   tag_behind g n r false = refl
   tag_behind g n r true = tt
@@ -118,7 +118,7 @@ module _ (p : PropertyTexts) (d : DirectiveTexts) (c : automaton_config.Config) 
   tag_at g st.YAML_PARSE_FLOW_MAPPING_FIRST_KEY_STATE = refl
   tag_at g _ = tt
 
-  tag_in : (g : unnamed_yaml_token_t_data_tag) (w : automaton.Want)
+  tag_in : (g : unnamed_yaml_token_t_data_tag) (w : automaton.Purpose)
       → TagIn p d g (texts_for w p d) (automaton.step w c t kinds.YAML_TAG_TOKEN)
   tag_in g automaton.AtState = tag_at g c.state
   tag_in g (automaton.BehindDirective start has_version) = tt
@@ -136,40 +136,40 @@ asked : (n : Next) (r : Reading) (p : PropertyTexts) (d : DirectiveTexts) → n 
 asked n r p d e = rw e refl
 
 -- what the texts that were held have to do with those that are held now
-held : (q : Pending) (r' : Reading) (a : Answer) (c : automaton_config.Config) (t : automaton.Token)
-    (k : yaml_token_type_t) (s : yaml_parser_state_t) (x : automaton_config.Config) → FitsStep a k r' s
+held : (q : Pending) (r' : Reading) (a : Answer) (c : automaton_config.Stacks) (t : automaton.KindAndMarks)
+    (k : yaml_token_type_t) (s : yaml_parser_state_t) (x : automaton_config.Stacks) → FitsStep a k r' s
     → (a ≡ did.AsksContent → r' ≡ q.reading)
-    → Says (automaton.step (automaton_want.wanted q.reading) c t k) (outcome a (automaton.no_properties t) t r' x)
+    → IsOutcome (automaton.step (automaton_want.purpose_of q.reading) c t k) (outcome a (automaton.no_properties t) t r' x)
     → IsHeld a (wanted q).texts (record q { reading = r' })
 held q r' did.Wants c t k s x f u e = plain (next_of r'.next) r' f.0
 held q r' did.WantsAnchor c t k s x f u e = λ a.
     subst (λ (y : automaton.Step). AnchorIn q.properties q.directives a (wanted q).texts y) e
     (subst (λ (z : yaml_token_type_t). AnchorIn q.properties q.directives a (wanted q).texts
-    (automaton.step (automaton_want.wanted q.reading) c t z)) (sym f.0)
-    (anchor_in q.properties q.directives c t a (automaton_want.wanted q.reading)))
+    (automaton.step (automaton_want.purpose_of q.reading) c t z)) (sym f.0)
+    (anchor_in q.properties q.directives c t a (automaton_want.purpose_of q.reading)))
 held q r' did.WantsTag c t k s x f u e = λ g.
     subst (λ (y : automaton.Step). TagIn q.properties q.directives g (wanted q).texts y) e
     (subst (λ (z : yaml_token_type_t). TagIn q.properties q.directives g (wanted q).texts
-    (automaton.step (automaton_want.wanted q.reading) c t z)) (sym f.0)
-    (tag_in q.properties q.directives c t g (automaton_want.wanted q.reading)))
+    (automaton.step (automaton_want.purpose_of q.reading) c t z)) (sym f.0)
+    (tag_in q.properties q.directives c t g (automaton_want.purpose_of q.reading)))
 held q r' did.AsksContent c t k s x f u e =
     let i : r' ≡ q.reading = u refl in
-    subst (λ (y : Reading). texts_for (automaton_want.wanted q.reading) q.properties q.directives
+    subst (λ (y : Reading). texts_for (automaton_want.purpose_of q.reading) q.properties q.directives
     ≡ property_texts (properties y) q.properties) (sym i)
     (asked (next_of q.reading.next) q.reading q.properties q.directives (ap (λ (y : Reading). next_of y.next) (sym i) ∙ f))
 held q r' _ c t k s x f u e = tt
 
 -- a step of the automaton is a step of the parser
-pub leads : (hs : Handles) (f : Fault) (o : Option yaml_token_t) (a b : automaton_config.Config) (c : Config)
+pub leads : (hs : Handles) (f : Fault) (o : Option yaml_token_t) (a b : automaton_config.Stacks) (c : Config)
     (t : yaml_token_t) (q : Pending) (r' : Reading) (x : Answer) (k : yaml_token_type_t) → config_with a hs f o ≡ c
     → k ≡ token_type t.content → FitsStep x k r' b.state → (x ≡ did.AsksContent → r' ≡ q.reading)
-    → Says (automaton.step (automaton_want.wanted q.reading) a (token k t.start_mark t.end_mark) k)
-    (outcome x (automaton.no_properties (token k t.start_mark t.end_mark)) (token k t.start_mark t.end_mark) r' b)
+    → IsOutcome (automaton.step (automaton_want.purpose_of q.reading) a (kind_and_marks k t.start_mark t.end_mark) k)
+    (outcome x (automaton.no_properties (kind_and_marks k t.start_mark t.end_mark)) (kind_and_marks k t.start_mark t.end_mark) r' b)
     → Led (step (wanted q) c t) (wanted q).texts t x (record q { reading = r' }) (config_with b hs f o)
 leads hs f o a b c t q r' x k ec ek fits u s =
     subst (λ (y : Config). Led (step (wanted q) y t) (wanted q).texts t x (record q { reading = r' }) (config_with b hs f o))
     ec (
-      held q r' x a (token k t.start_mark t.end_mark) k b.state b fits u s,
+      held q r' x a (kind_and_marks k t.start_mark t.end_mark) k b.state b fits u s,
       says_texts hs f o a b (wanted q).texts t _ _ (rw ek at s),
     )
 
@@ -181,7 +181,7 @@ still_ready q r' c d e s y = (
     none = ap (λ (x : Config). x.lookahead) e ∙ y.none;
     agrees = rw (e, s.0) y.agrees;
   },
-  ap (λ (v : automaton.Want). record { next = v; texts = texts_for v q.properties q.directives }) s.1,
+  ap (λ (v : automaton.Purpose). record { next = v; texts = texts_for v q.properties q.directives }) s.1,
   e,
 )
 
@@ -214,23 +214,23 @@ grows_full q c k kind y e o = grows_there (next_of q.reading.next) q.reading (wa
     (either _ _ (rw e at o))
 
 -- at an ANCHOR the content comes after another
-joins_where : (hs : Handles) (g : Option unnamed_yaml_token_t_data_tag) (n m : NodePlace) (r r' : automaton.Properties)
-    (c x : automaton_config.Config) (t : automaton.Token) (b : Bool)
+joins_where : (hs : Handles) (g : Option unnamed_yaml_token_t_data_tag) (n m : NodePlace) (r r' : automaton.PropertiesRead)
+    (c x : automaton_config.Stacks) (t : automaton.KindAndMarks) (b : Bool)
     → automaton.anchor_behind b n r c t ≡ automaton.AsksContent m r' x → joins g hs ≡ true
     → joins_behind_anchor b g hs ≡ true
 joins_where hs g n m r r' c x t false e j = absurd cc
 joins_where hs g n m r r' c x t true e j = j
 
-joins_asked : (hs : Handles) (h : Texts) (n m : NodePlace) (r r' : automaton.Properties) (c x : automaton_config.Config)
-    (t : automaton.Token) (k : unnamed_yaml_token_t_data)
+joins_asked : (hs : Handles) (h : Texts) (n m : NodePlace) (r r' : automaton.PropertiesRead) (c x : automaton_config.Stacks)
+    (t : automaton.KindAndMarks) (k : unnamed_yaml_token_t_data)
     → automaton.behind_properties n r c t (token_type k) ≡ automaton.AsksContent m r' x → joins h.tag hs ≡ true
     → joins_before r h hs k ≡ true
 joins_asked hs h n m r r' c x t (tok.Anchor a) e j = joins_where hs h.tag n m r r' c x t r.anchor e j
 joins_asked hs h n m r r' c x t _ e j = j
 
 -- content after properties may take memory
-content_grows : (n : Next) (r : Reading) (p : PropertyTexts) (d : DirectiveTexts) (c : Config) (t : automaton.Token)
-    (m : NodePlace) (r' : automaton.Properties) (x : automaton_config.Config) (k : unnamed_yaml_token_t_data)
+content_grows : (n : Next) (r : Reading) (p : PropertyTexts) (d : DirectiveTexts) (c : Config) (t : automaton.KindAndMarks)
+    (m : NodePlace) (r' : automaton.PropertiesRead) (x : automaton_config.Stacks) (k : unnamed_yaml_token_t_data)
     → n ≡ next.BehindProperties
     → automaton.step (wanted_by n r) (config_of c) t (token_type k) ≡ automaton.AsksContent m r' x
     → (joins (property_texts (properties r) p).tag c.handles ≡ true) ⊎ (opens_at (place_of r.place) (token_type k) ≡ true)
@@ -239,18 +239,18 @@ content_grows n r p d c t m r' x k i e (inl j) = rw i (either _ _ (inl (joins_as
     (property_texts (properties r) p) (place_of r.place) m (properties r) r' (config_of c) x t k (rw i at e) j)))
 content_grows n r p d c t m r' x k i e (inr j) = rw i (either _ _ (inr j))
 
-pub grows_asked : (hs : Handles) (f : Fault) (o : Option yaml_token_t) (a b : automaton_config.Config) (c : Config)
+pub grows_asked : (hs : Handles) (f : Fault) (o : Option yaml_token_t) (a b : automaton_config.Stacks) (c : Config)
     (t : yaml_token_t) (q : Pending) (r' : Reading) (x : Answer) (k : yaml_token_type_t) → config_with a hs f o ≡ c
     → k ≡ token_type t.content → FitsStep x k r' b.state → (x ≡ did.AsksContent → r' ≡ q.reading)
-    → Says (automaton.step (automaton_want.wanted q.reading) a (token k t.start_mark t.end_mark) k)
-    (outcome x (automaton.no_properties (token k t.start_mark t.end_mark)) (token k t.start_mark t.end_mark) r' b)
+    → IsOutcome (automaton.step (automaton_want.purpose_of q.reading) a (kind_and_marks k t.start_mark t.end_mark) k)
+    (outcome x (automaton.no_properties (kind_and_marks k t.start_mark t.end_mark)) (kind_and_marks k t.start_mark t.end_mark) r' b)
     → x ≡ did.AsksContent → GrowsBehind (record q { reading = r' }) (config_with b hs f o) t
     → may_grow (wanted q) c t.content ≡ true
 grows_asked hs f o a b c t q r' x k ec ek fits u s i g =
     let e : r' ≡ q.reading = u i in
     subst (λ (y : Config). may_grow (wanted q) y t.content ≡ true) ec
     (content_grows (next_of q.reading.next) q.reading q.properties q.directives (config_with a hs f o)
-    (token (token_type t.content) t.start_mark t.end_mark) (place_of r'.place) (properties r') b t.content
+    (kind_and_marks (token_type t.content) t.start_mark t.end_mark) (place_of r'.place) (properties r') b t.content
     (ap (λ (y : Reading). next_of y.next) (sym e) ∙ (rw i at fits)) (rw (i, ek) at s) (rw e at g))
 
 pub pushes_full : (x : Answer) (p o : Bool) → (x ≡ did.FullStates → p ≡ true) → (x ≡ did.FullMarks → o ≡ true) → IsFull x
