@@ -1,2 +1,4 @@
 pub mod tokens
 pub mod sources
+mod Words
+mod Ends

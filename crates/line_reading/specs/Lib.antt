@@ -1,2 +1,3 @@
 pub mod tokens
 pub mod sources
+pub mod Clean

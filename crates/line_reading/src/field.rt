@@ -5,10 +5,10 @@ ghost use Rattle.line_reading.specs.tokens.Field.{encoding_of, scalar_style_of};
 ghost use Rattle.percent_encoding.specs.Percent as percent;
 ghost use Rattle.line_reading.specs.tokens.Reading.{IsTextReadAs};
 
+use crate::bytes::is_clean;
 use crate::line_problem::LineProblem;
 use crate::number::read_signed;
 use crate::pieces::Pieces;
-use byte_tests::is_clean;
 use libyaml_types::{
     unnamed_yaml_token_t_data_version_directive, yaml_encoding_t, yaml_scalar_style_t,
 };

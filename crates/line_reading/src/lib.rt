@@ -1,6 +1,7 @@
 //! Token lines as they are read.
 #![tactic(auto)]
 
+pub mod bytes;
 mod field;
 pub mod laws;
 mod line;

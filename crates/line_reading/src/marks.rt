@@ -12,7 +12,7 @@ ghost use Rattle.line_reading.specs.tokens.Prefixes.{behind_first, behind_field,
 ghost use Rattle.line_reading.specs.tokens.Prefixes.{HasDigits, IsNumberRead, IsRowRead, BeginsWithNoDigit};
 ghost use Rattle.std.specs.Char.{is_ascii_digit};
 
-use byte_tests::end_alike;
+use crate::bytes::end_alike;
 use libyaml_types::yaml_mark_t;
 
 /// Where the line number of a mark is, and its value; the end is 0 where there is none.

@@ -2,7 +2,7 @@
 ghost use Rattle.std.specs.Prelude.{◌≡◌, ◌++◌, OnOk, string_bytes};
 ghost use Rattle.line_writing.specs.Escape.{escaped};
 
-use byte_tests::is_clean;
+use line_reading::bytes::is_clean;
 use percent_encoding::{AsciiSet, CONTROLS, ascii_set, utf8_percent_encode};
 use std::alloc::AllocError;
 

@@ -8,7 +8,7 @@ use Rattle.percent_encoding.specs.AsciiSet.{should_percent_encode}
 use Rattle.percent_encoding.specs.Percent.{percent_encode, percent_encode_byte, encode_byte, percent_decode}
 use Rattle.percent_encoding.proofs.PercentLemmas.{round_trip, IsByte}
 use Rattle.line_writing.specs.declared.escape.TheConstants.{ESCAPED}
-use Rattle.byte_tests.specs.Clean.{IsClean}
+use Rattle.line_reading.specs.Clean.{IsClean}
 use Rattle.line_writing.specs.Escape.{needs_escape, escape, escaped, written_byte}
 
 -- the set has exactly the bytes that need an escape

@@ -5,7 +5,7 @@ use Rattle.std.specs.Slice.Scan.{little_endian}
 use native.Mathlib.Nat.{pow-suc, mul_comm, mul-suc, div-div-eq-div-mul, div-one, zero-div}
 use lib.Pow.{pow-add}
 use Rattle.std.proofs.lemmas.Nat.{div-mul-add}
-use Rattle.byte_tests.proofs.Words.{AreBytes, word, bytes_of, eight_are}
+use Rattle.line_reading.proofs.Words.{AreBytes, word, bytes_of, eight_are}
 
 power : (k : ℕ) → 2 ^ (8 * k) ≡ 256 ^ k
 power zero = refl

@@ -1,5 +1,4 @@
 //! Whether a text is clean, and whether two end alike, eight bytes at a time.
-#![tactic(auto)]
 
 mod clean;
 mod same;

@@ -5,7 +5,7 @@ use Rattle.std.proofs.lemmas.Bool.{agree_below, agree_below_at, eqb-true, eqb-fa
 use Rattle.std.proofs.lemmas.List.{get_or-drop, get_or-take, length-take}
 use Rattle.std.proofs.lemmas.Nat.{and_block, or_block, xor_block, and_le_r, or_lt, xor_lt}
 use Rattle.std.specs.Slice.Scan.{little_endian, HoldsNowhere, HoldsSomewhere}
-use Rattle.byte_tests.specs.Clean.{is_odd, is_odd_at}
+use Rattle.line_reading.specs.Clean.{is_odd, is_odd_at}
 
 abbrev pub AreBytes : List ℕ → Type 0
 AreBytes [] = Unit {0}

@@ -1,7 +1,7 @@
 use Rattle.std.proofs.Common.{◌-◌, ◌≤◌}
 use Rattle.std.specs.Slice.Scan.{HoldsNowhere}
-use Rattle.byte_tests.specs.Clean.{is_odd_at}
-use Rattle.byte_tests.proofs.clean.is_clean.Given as goal
+use Rattle.line_reading.specs.Clean.{is_odd_at}
+use Rattle.line_reading.proofs.bytes.clean.is_clean.Given as goal
 
 abbrev pub invariant-loop-byte : goal.invariant-loop-byte
 invariant-loop-byte l = HoldsNowhere (is_odd_at l.bytes) 0 l.byte-index

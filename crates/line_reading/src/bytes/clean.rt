@@ -1,9 +1,9 @@
 //! Texts that need no escape.
 ghost use Rattle.std.specs.Prelude.{◌≡◌, ◌+◌, ◌≤◌, true, false, length, All};
 ghost use Rattle.std.specs.Slice.Scan.{HoldsNowhere, HoldsSomewhere};
-ghost use Rattle.byte_tests.specs.Clean.{IsClean, is_odd_at};
+ghost use Rattle.line_reading.specs.Clean.{IsClean, is_odd_at};
 
-use crate::word::word_at;
+use crate::bytes::word::word_at;
 
 /// Returns whether each byte is a visible ASCII character other than `%`.
 #[inline(always)]

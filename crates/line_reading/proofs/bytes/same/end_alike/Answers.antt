@@ -1,8 +1,8 @@
 use Rattle.std.proofs.Common.{◌≡◌, ◌-◌, ◌∙◌, ap, sym, ℕ, length, length-drop, drop, arith}
 use Rattle.std.proofs.lemmas.Bool.{eqb-true, eqb-false}
-use Rattle.byte_tests.proofs.Ends.{word_of, ends_are, same}
-use Rattle.byte_tests.proofs.Words.{word}
-use Rattle.byte_tests.proofs.same.end_alike.Goals as goal
+use Rattle.line_reading.proofs.Ends.{word_of, ends_are, same}
+use Rattle.line_reading.proofs.Words.{word}
+use Rattle.line_reading.proofs.bytes.same.end_alike.Goals as goal
 
 pub returns-clause-yes : goal.returns-clause-yes
 returns-clause-yes c e =

@@ -2,7 +2,7 @@
 ghost use Rattle.std.specs.Prelude.{◌≡◌, ◌≢◌, ◌-◌, ◌≤◌, ◌<◌, true, false, length, drop};
 ghost use Rattle.std.specs.Slice.Scan.{little_endian};
 
-use crate::word::word_at;
+use crate::bytes::word::word_at;
 
 /// Returns whether two texts end with the same `len` bytes, from 1 to 8.
 #[inline(always)]

@@ -1,8 +1,8 @@
 use Rattle.std.proofs.Common.{◌<◌, ◌^◌, arith}
 use Rattle.std.specs.Int.Bits.{bit_and}
 use Rattle.std.proofs.lemmas.Nat.{and_le_r, xor_lt}
-use Rattle.byte_tests.proofs.Words.{clean_at, odd_at}
-use Rattle.byte_tests.proofs.clean.is_clean_at.Goals as goal
+use Rattle.line_reading.proofs.Words.{clean_at, odd_at}
+use Rattle.line_reading.proofs.bytes.clean.is_clean_at.Goals as goal
 
 pub overflow_add-no_percent : goal.overflow_add-no_percent
 overflow_add-no_percent c =
