@@ -89,14 +89,14 @@ def print_table(title, rows):
 
 def print_lists(bench, kinds):
     """Ours in nanoseconds, and each peer's ratios, with their geometric means."""
-    found = {title: [measured(bench, kind, *column[1:]) for column in COLUMNS] for kind, title in kinds.items()}
-    print_table("nanoseconds a token", {title: [f"{ns:.1f}" for ns, _ in cells] for title, cells in found.items()})
+    found = {kind: [measured(bench, kind, *column[1:]) for column in COLUMNS] for kind in kinds}
+    print_table("nanoseconds a token", {kind: [f"{ns:.1f}" for ns, _ in cells] for kind, cells in found.items()})
     for peer in PEERS:
         if bench.has(peer):
-            ratios = {title: [each[peer] for _, each in cells] for title, cells in found.items()}
+            ratios = {kind: [each[peer] for _, each in cells] for kind, cells in found.items()}
             shown = {
-                title: [f"{middle:.2f} ({low:.2f} to {high:.2f})" for middle, low, high in cells]
-                for title, cells in ratios.items()
+                kind: [f"{middle:.2f} ({low:.2f}–{high:.2f})" for middle, low, high in cells]
+                for kind, cells in ratios.items()
             }
             columns = [[middle for middle, _, _ in column] for column in zip(*ratios.values())]
             shown["geometric mean"] = [f"{math.exp(sum(map(math.log, column)) / len(column)):.2f}" for column in columns]
@@ -113,11 +113,11 @@ def print_program(bench, turns):
                 times[each].append(seconds(list(each), bench.tokens("program"), {}))
         middle, low, high = ratio(times[words[1]], times[words[0]])
         took = lower_fifth(times[words[0]])
-        print(f"`yamltokens {what}`: {took:.3f} s; libyaml takes {middle:.2f} ({low:.2f} to {high:.2f}) times as long")
+        print(f"`yamltokens {what}`: {took:.3f} s; libyaml takes {middle:.2f} ({low:.2f}–{high:.2f}) times as long")
 
 
 def print_clock(bench, kinds, with_program):
-    """All tables, for kinds with their titles."""
+    """All tables, for these kinds."""
     core = int(os.environ.get("CORE", max(os.sched_getaffinity(0))))
     os.sched_setaffinity(0, {core})
     print(f"\nMachine: {machine()}; load {os.getloadavg()[0]:.1f} as the clock is started.")

@@ -161,7 +161,7 @@ def print_table(what, columns, figures):
     print(f"\n| {what} | " + " | ".join(columns) + " |")
     print("|---|" + "---|" * len(columns))
     for kind, measured in figures.items():
-        print(f"| {KINDS[kind]} | " + " | ".join(shown(measured, m) for m in columns.values()) + " |")
+        print(f"| {kind} | " + " | ".join(shown(measured, m) for m in columns.values()) + " |")
 
 
 def measure_lists(bench, kinds):
@@ -180,13 +180,13 @@ def measure_lists(bench, kinds):
 def print_growth(bench):
     """Instructions a token of lists that have ten times as many tokens."""
     print("\n| list | tokens | events, instructions a token | nodes, instructions a token |\n|---|---|---|---|")
-    for kind, title in GROWING.items():
+    for kind in GROWING:
         few, many = kind + "-few", kind + "-many"
         cells = [f"{bench.token_count(few):,}, {bench.token_count(many):,}"]
         for measure in ("place events", "place nodes"):
             first, last = (bench.measure(list_, measure)[0] for list_ in (few, many))
             cells.append(f"{first:,.1f}, {last:,.1f}")
-        print(f"| {title} | " + " | ".join(cells) + " |")
+        print(f"| {kind} | " + " | ".join(cells) + " |")
 
 
 def print_program(bench):
@@ -223,7 +223,7 @@ def main():
     if program:
         print_program(bench)
     if clock:
-        print_clock(bench, {kind: KINDS[kind] for kind in kinds}, program)
+        print_clock(bench, kinds, program)
 
 
 if __name__ == "__main__":

@@ -1,5 +1,5 @@
 /* compose < FILE: the nodes of each document of a YAML text, printed as soon as the document ends, of libyaml's events and by
- * pokhvizi/compose.h. The status is 1 after a fault.
+ * pokhvizi/compose.h. The status is 1 after an error.
  *
  *     cc compose.c -o compose $(pkg-config --cflags --libs pokhvizi) -lyaml */
 #include <pokhvizi/compose.h>

@@ -162,7 +162,7 @@ static void put_token(struct text *text, const yaml_token_t *token)
     put_words(text, "\n");
 }
 
-/* ---- The scanner's faults ---- */
+/* ---- The scanner's errors ---- */
 
 /* The character at a place, and how many bytes it has; the text is valid up to there. */
 static unsigned long character_at(const struct text *yaml, yaml_encoding_t encoding, size_t at, size_t *width)
@@ -214,7 +214,7 @@ static yaml_mark_t mark_at(const struct text *yaml, yaml_encoding_t encoding, si
     return mark;
 }
 
-/* A line of a fault: who found it, its mark and its words, and maybe a line of its context. */
+/* A line of an error: who found it, its mark and its words, and maybe a line of its context. */
 static void put_fault(struct text *text, const char *finder, yaml_mark_t mark, const char *problem, yaml_mark_t context_mark,
                       const char *context)
 {
@@ -671,7 +671,7 @@ static void end(struct run *run)
         free(all[i]->bytes);
 }
 
-/* Scans a text: the lines of its tokens, or what a run makes of them. The scanner's fault goes to `fault`. */
+/* Scans a text: the lines of its tokens, or what a run makes of them. The scanner's error goes to `fault`. */
 static int scan(const struct text *yaml, struct run *run, int wants_tokens, struct text *fault)
 {
     yaml_parser_t parser;
@@ -720,7 +720,7 @@ static size_t line_before(const struct text *text, size_t at)
     return at;
 }
 
-/* Says on standard error the fault that a text ends with, which has room for a byte more, and returns the status. A line
+/* Says on standard error the one that a text ends with, which has room for a byte more, and returns the status. A line
  * of a context may follow it. */
 static int say_fault(const char *name, struct text *text)
 {
@@ -761,7 +761,7 @@ static int read_text(const char *name, struct text *yaml)
     return status;
 }
 
-/* Writes the lines of a file where memory was found for all. Among tokens no fault stands. */
+/* Writes the lines of a file where memory was found for all. Among tokens no error stands. */
 static int show(const char *mode, const char *name)
 {
     int wants_tokens = strcmp(mode, "tokens") == 0;

@@ -41,10 +41,10 @@ check python3 scripts/figures.py
 check python3 scripts/surface.py
 check python3 scripts/definitions.py --check
 check python3 scripts/unused_dependencies.py
-check python3 scripts/lent.py
-check python3 scripts/passed_on.py
+check python3 scripts/proofs_between_crates.py
+check python3 scripts/reexports.py
 check python3 scripts/imports.py --check
-check python3 scripts/doubles.py
+check python3 scripts/dead_and_duplicate.py
 check python3 scripts/doors/abi.py
 check sh scripts/wrong_words.sh
 check layout

@@ -1,8 +1,8 @@
 #!/usr/bin/env python3
 """Tells which test vector sees each mutant of crates/*/must-fail; fails where none does and WRONG_BODIES doesn't say so.
 
-    python3 scripts/mutants_seen.py [--write] [CRATE | CRATE/EDIT]..        (no such word: every edit)
-    python3 scripts/mutants_seen.py none                                    runs the programs over no edit
+    python3 scripts/mutants_seen.py [--write] [CRATE | CRATE/MUTANT]..        (no such word: every mutant)
+    python3 scripts/mutants_seen.py none                                    runs the programs over no mutant
 
 Each mutant is made in a copy, and the programs of its crate's line in PROGRAMS are run over it in turn, without proof
 (`rt try`), until one ends otherwise than it should: `yamltokens` over the lists of `rows_yaml` and `rows_lines`, the
@@ -10,7 +10,7 @@ programs of test vectors table by table, other programs over what is stored besi
 the test vectors are proved. None runs over the libraries for C. The program that WRONG_BODIES names goes first, `rows_yaml` where it names none; where it names
 `PROGRAM failing`, that runs with the allocation failed that it names, or with each of the first 60 in turn. With --write the
 place goes into WRONG_BODIES, without the name of that program's table `rows`; where there is none, what the page says after
-`Seen in no row` stays. Two mutants at a time (JOBS), half a minute to three minutes a program; needs `rt`.
+`Seen: nowhere` stays. Two mutants at a time (JOBS), half a minute to three minutes a program; needs `rt`.
 
 Run by hand, after mutants or test vectors changed.
 """
@@ -46,7 +46,7 @@ PROGRAMS = {
     "example_source": ["rows_hostile"],
     "yaml_path": ["example_paths"],
 }
-# Tables that take minutes without proof: they are tried only for an edit of which the page names them.
+# Tables that take minutes without proof: they are tried only for a mutant of which the page names them.
 SLOW = {
     "lines as long as any, and longer",
     "large lists, parsed",
@@ -60,7 +60,7 @@ SECONDS = "240"
 
 
 class NotRun(Exception):
-    """A program was not built over an edit, or gave no answer."""
+    """A program was not built over a mutant, or gave no result."""
 
 
 class Case:
@@ -85,7 +85,7 @@ def lists():
                 if wanted.exists():
                     text = text_of(wanted)
                     status = int(bool(re.search(r"^FAULT ", text, flags=re.M)))
-                    yield f"`yamltokens {kind}` over `{tokens.stem}` of \"{table.name}\"", Case([kind], text_of(tokens), text, status)
+                    yield f"`yamltokens {kind}` over `{tokens.stem}` of `{table.name}`", Case([kind], text_of(tokens), text, status)
 
 
 def cases_of(program, named):
@@ -107,12 +107,12 @@ def cases_of(program, named):
 
 
 def first_row(said):
-    """The first row that a program of rows tells as another, in words."""
+    """The first test vector that a program tells as another, in words."""
     named = re.search(r"^(?:.*?: this (?:row )?differs: (.*)|\w+/([\w.@-]+), (.*):)$", said, flags=re.M)
     if not named:
         return ""
     how = "" if named[3] == "a run over its lines" else f", {named[3]}"
-    return ": " + (named[1] or f"`{named[2]}`{how}").rstrip(".")
+    return ": " + (f"`{named[1].rstrip('.')}`" if named[1] else f"`{named[2]}`{how}")
 
 
 def made(folder, cases):
@@ -137,7 +137,7 @@ def data_of(home):
 
 
 def run_failing(room, program, nth):
-    """The failed allocation, this one or one of the first, with which a row of a program differs, in words."""
+    """The failed allocation, this one or one of the first, with which a test vector of a program differs, in words."""
     home = room / "crates" / program
     for n in [nth] if nth else map(str, range(1, 61)):
         command = ["rt", "try", "--seconds", SECONDS, "--fail-alloc", n, *data_of(home), "--", "failing"]
@@ -167,7 +167,7 @@ def run_cases(room, program, cases):
                 run.terminate()
                 run.wait()
                 texts.seek(0)
-                how = "" if "run=ended" in case[2] else f" ({case[2].partition(' runners')[0]})"
+                how = "" if "run=ended" in case[2] else f" (`{case[2].partition(' runners')[0]}`)"
                 return names[int(case[1])] + first_row(texts.read()) + how
         run.wait()
     if ended < len(cases):
@@ -176,17 +176,17 @@ def run_cases(room, program, cases):
 
 
 def run_laws(room, _):
-    """Whether the worked rows of the Rust crate's definitions are proved no more."""
+    """Whether the test vectors of the Rust crate's definitions are proved no more."""
     home = room / "crates/rust_original"
     run = subprocess.run(["rt", "check", "--only", "rows"], cwd=home, stdin=subprocess.DEVNULL, capture_output=True, text=True)
     said = run.stdout + run.stderr
     if not re.search(r"^only=[1-9]", said, flags=re.M):
         raise NotRun(f"rust_original: {said[-1500:]}")
-    return None if run.returncode == 0 else "the worked rows"
+    return None if run.returncode == 0 else "its test vectors"
 
 
 def tried(crate, edit):
-    """Where an edit is seen, in words, and None where it is not; or why that is not known."""
+    """Where a mutant is seen, in words, and None where it is not; or why that is not known."""
     try:
         return place(crate, edit)
     except NotRun as why:
@@ -194,7 +194,7 @@ def tried(crate, edit):
 
 
 def place(crate, edit):
-    """Where an edit is seen, in words; None where it is not."""
+    """Where a mutant is seen, in words; None where it is not."""
     with tempfile.TemporaryDirectory() as room:
         copied(Path(room))
         for path, text in edited(Path(room) / "crates" / crate, edit).items():
@@ -212,7 +212,7 @@ def place(crate, edit):
 
 
 def run_unedited():
-    """Runs each program over no edit, and fails where one ends otherwise than it should."""
+    """Runs each program over no mutant, and fails where one ends otherwise than it should."""
     with tempfile.TemporaryDirectory() as room:
         copied(Path(room))
         programs = sorted({program for named in PROGRAMS.values() for program in named} - {"rows"})
@@ -223,16 +223,16 @@ def run_unedited():
 
 
 def line_of(crate, edit):
-    """The line of an edit in WRONG_BODIES: what it gets wrong, where it is seen, and what refuses it."""
+    """The line of a mutant in WRONG_BODIES: what it gets wrong, where it is seen, and what refuses it."""
     part = re.search(rf"(?ms)^## `{crate}`.*?(?=^## |\Z)", PAGE.read_text())
-    line = re.compile(rf"(?m)^(- `{re.escape(edit)}`: .*?)( Seen in [^\n]*?\.)?( Refused by [^\n]*)?$")
+    line = re.compile(rf"(?m)^(- `{re.escape(edit)}`: .*?)( Seen: [^\n]*?\.)?( Refused: [^\n]*)?$")
     return part and line.search(PAGE.read_text(), *part.span())
 
 
 def write(crate, edit, seen):
-    """Puts into its line where an edit is seen."""
+    """Puts into its line where a mutant is seen."""
     line, page = line_of(crate, edit), PAGE.read_text()
-    now = f"{line[1]} Seen in {(seen or 'no row').removeprefix(ROWS)}.{line[3] or ''}"
+    now = f"{line[1]} Seen: {(seen or 'nowhere').removeprefix(ROWS)}.{line[3] or ''}"
     PAGE.write_text(page[: line.start()] + now + page[line.end() :])
 
 
@@ -254,14 +254,14 @@ def main(words):
         for done in as_completed(tries):
             (crate, path), seen = tries[done], done.result()
             known = not isinstance(seen, NotRun)
-            told = (line_of(crate, path.stem)[2] or "").startswith(" Seen in no row")
-            says = "seen in " + seen if known and seen else "seen in no row" if known else f"not known: {seen}"
+            told = (line_of(crate, path.stem)[2] or "").startswith(" Seen: nowhere")
+            says = "seen in " + seen if known and seen else "seen nowhere" if known else f"not known: {seen}"
             print(f"{crate}/{path.stem}: {says}", flush=True)
             wrong += not known or not seen and not told
             if writes and known and (seen or not told):
                 write(crate, path.stem, seen)
     if wrong:
-        sys.exit(f"{wrong} seen in no row, or not known")
+        sys.exit(f"{wrong} seen nowhere, or not known")
 
 
 if __name__ == "__main__":

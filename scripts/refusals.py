@@ -9,7 +9,7 @@ What is refused in a proof by hand of a function (`proofs/**/Answers.antt`) is s
 changes the same lines (`controls/`) is proved over it. What refuses the mutant is then a goal that is left open without the
 parts of the file that it breaks: the mutant is made in the repository, these parts are left out, and the function is checked
 with its holes; afterwards all is as before. Where no goal is left open, it is refused by shape too. What another proof
-refuses is so for a lemma, as where a definition is turned. The last line counts. Needs `rt`, and the crates
+refuses is so for a lemma, as where a definition is changed. The last line counts. Needs `rt`, and the crates
 below proved.
 
 Run by hand, after mutants or their functions changed.
@@ -65,19 +65,19 @@ def clause_of(crate, function, goal):
 
 
 def turned(edit):
-    """The lines of functions that an edit turns."""
+    """The lines of functions that a mutant changes."""
     lines = {line.strip() for line in re.findall(r"^old: (.*)$", edit.read_text(), flags=re.M)}
     return {line for line in lines if not line.startswith(("use ", "///", "const ", "pub const "))}
 
 
 def is_proved_over(crate, function, edit):
-    """Whether an edit of equal meaning that turns the same lines is proved over the answers of this function."""
+    """Whether an equivalent mutant that changes the same lines is proved over the answers of this function."""
     edits = [own for own in crate.glob("controls/*.edit") if answered(crate, own) == function and not is_by_shape(own)]
     return any(turned(crate / "must-fail" / f"{edit}.edit") <= turned(own) for own in edits)
 
 
 def without(text, names):
-    """Answers without those of some goals."""
+    """The text of an `Answers.antt` without those of some goals."""
     kept, is_one = [], False
     for line in text.splitlines(keepends=True):
         if line[0].isalpha():
@@ -87,7 +87,7 @@ def without(text, names):
 
 
 def left_open(crate, function, edit):
-    """The goals of a function that an edit leaves open, where the answers that it breaks are left out."""
+    """The goals of a function that a mutant leaves open, where the parts of `Answers.antt` that it breaks are left out."""
     path = answers(crate)[function]
     texts = edited(crate, crate / "must-fail" / f"{edit}.edit")
     was = {file: file.read_text() for file in [*texts, path]}
@@ -108,7 +108,7 @@ def left_open(crate, function, edit):
 
 
 def reason(crate, edit, said):
-    """What refused an edit: a clause, or its shape; None where it was not refused or nothing tells what refused it."""
+    """What refused a mutant: a clause, or its shape; None where it was not refused or nothing tells what refused it."""
     if not said.startswith("refused, as it must be"):
         return None
     if "only because a proof file names" in said:
@@ -136,14 +136,14 @@ def reason(crate, edit, said):
 
 
 def written(page, reasons):
-    """The page with the reason at the end of each edit's line that has one here."""
+    """The page with the reason at the end of each mutant's line that has one here."""
     lines, crate = [], ""
     for line in page.splitlines():
         crate = (re.match(r"## `(\w+)`", line) or [None, crate])[1]
         edit = re.match(r"- `([^`]+)`: ", line)
         if edit and (crate, edit[1]) in reasons:
-            line = re.sub(r" Refused by (?:[^.`]|`[^`]*`)*\.$", "", line)
-            line += f" Refused by {reasons[crate, edit[1]].removeprefix('by ')}."
+            line = re.sub(r" Refused: (?:[^.`]|`[^`]*`)*\.$", "", line)
+            line += f" Refused: {reasons[crate, edit[1]]}."
         lines.append(line)
     return "\n".join(lines) + "\n"
 

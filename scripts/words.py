@@ -5,8 +5,8 @@
 
 The lines of a paragraph or of a comment are read as one text, so that a phrase over two of them is found; the first is named.
 Names of code, in backticks, in blocks or as the target of a link, are not words. SURFACE, which is made of comments, is left out.
-The words of a reader's own field stand in for those of OWN on each page but CHANGELOG and the two that other scripts fill, in the
-first lines of scripts, and in the comments of the crates of RENAMED; in headers `fault` is the name of a struct.
+The words of a reader's own field stand in for those of OWN on each page but CHANGELOG, in names of mutants, in headers, in the
+first lines of scripts, and in the comments of the crates of RENAMED.
 
 Run by check.sh.
 """
@@ -40,7 +40,8 @@ OWN = {
     r"\brefusals?\b": "error",
 }
 LEFT_OUT = {"SURFACE.md"}
-OLD_PAGES = {"CHANGELOG.md", "WRONG_BODIES.md", "PERFORMANCE.md"}
+OLD_PAGES = {"CHANGELOG.md"}
+CALL = re.compile(r"\b\w+\([^()]*\);")
 RENAMED = ["libyaml_types", "libyaml_grammar", "libyaml_documents", "libyaml_graphs", "unsafe_libyaml", "yaml_path", "line_reading", "line_writing",
            "libyaml_automaton", "libyaml_events", "libyaml_composer", "libyaml_loader", "token_steps", "token_steps_c", "document_steps",
            "document_steps_c", "rust_original", "token_lines", *(path.name for path in TOP.glob("crates/example_*"))]
@@ -67,6 +68,13 @@ def first_lines(path):
     found = re.match(r'(?:#![^\n]*\n)?(?:"""(.*?)"""|/\*(.*?)\*/|((?:#[^\n]*\n)*))', text, flags=re.S)
     lines = [re.sub(r"^(?: ?\*|#) ?", "", line) for line in next((part for part in found.groups() if part), "").split("\n")]
     return ["" if line.startswith("    ") else re.sub(r"\b[\w/]+\.(sh|py|c|edit)\b", "`", line) for line in lines]
+
+
+def comments_of_c(path):
+    """The lines of a file of C, each with its comment alone; a call in it is no word."""
+    text = re.sub(r"(?s)/\*.*?\*/|[^\n]", lambda found: found[0] if found[0].startswith("/*") else "", path.read_text())
+    for line in text.split("\n"):
+        yield CALL.sub("`", re.sub(r"^\s*/?\*+/?", "", line))
 
 
 def given_up(lines, words):
@@ -104,7 +112,7 @@ def files(crates):
     for page in pages():
         yield page, lines_of_page(page.read_text()), INSTEAD if page.name in OLD_PAGES else both
     for path in headers():
-        yield path, lines_of_page(path.read_text()), INSTEAD
+        yield path, comments_of_c(path), both
     for path in scripts():
         yield path, first_lines(path), both
     for crate in crates:
@@ -116,10 +124,11 @@ def files(crates):
 
 def edits():
     """The words given up that the name of a mutant has after its function's."""
-    pattern = re.compile("|".join(f"({word})" for word in INSTEAD), re.IGNORECASE)
+    words = INSTEAD | OWN
+    pattern = re.compile("|".join(f"({word})" for word in words), re.IGNORECASE)
     for path in sorted(TOP.glob("crates/*/must-fail/*.edit")):
         for match in pattern.finditer(path.stem.partition("-")[2].replace("_", " ")):
-            yield path, list(INSTEAD.values())[match.lastindex - 1]
+            yield path, list(words.values())[match.lastindex - 1]
 
 
 def main():

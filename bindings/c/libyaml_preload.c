@@ -593,7 +593,7 @@ static int grow_carriers(struct loading *loading)
     return 1;
 }
 
-/* Makes a node the carrier of its anchor, which no other has, and takes the anchor; 0 where memory is refused. */
+/* Makes a node the anchored node of its anchor, which no other has, and takes the anchor; 0 where memory is refused. */
 static int carry(yaml_parser_t *parser, struct loading *loading, yaml_char_t **anchor, int32_t node)
 {
     uint32_t hash = hash_of(*anchor, key_of(parser));

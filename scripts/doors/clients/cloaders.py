@@ -6,6 +6,8 @@ NAMES are of files, a line each. All fields are compared, and all marks. Each te
 bytes at a time, and as a string where it is UTF-8. Prints a line for each file that differs: its name, how it was read, and what
 PyYAML's reading ended with. With `--turned` the proved loaders read another text, so all have to differ. The last line, on standard
 error, has how many were read.
+
+Run by clients.sh.
 """
 import sys
 

@@ -1,6 +1,8 @@
 """Prints the number of each event's kind (yaml_event_type_t), as soon as the event is there, of YAML on standard input.
 
     events.py plain|proved|late    PyYAML's parser in Python, or that of bindings/python; over the input once it has ended
+
+Run by clients.sh.
 """
 import io
 import os

@@ -1,5 +1,5 @@
 //! Prints the number of each event's kind (yaml_event_type_t), as soon as the event is there, of YAML on standard input; with a
-//! word, over the input once it has ended.
+//! word, over the input once it has ended. Run by clients.sh.
 
 use std::ffi::c_void;
 use std::io::{self, Read, Write};

@@ -5,6 +5,8 @@
 Events are compared without marks, and without `flow_style`; errors with their text and snippet. Prints a line for each file
 that differs, its name and how. With `--turned` the proved loader reads another text, so all have to differ. The last line,
 on standard error, has how many were read.
+
+Run by clients.sh.
 """
 import os
 import sys

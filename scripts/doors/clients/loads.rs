@@ -1,6 +1,8 @@
 //! Loads all documents of a file by `unsafe-libyaml`, and says how many nodes they have and the peak of resident memory in KB.
 //!
 //!     loads FILE
+//!
+//! Run by clients.sh.
 
 use std::mem::MaybeUninit;
 use std::{env, fs, process, ptr};

@@ -1,5 +1,6 @@
 # Prints, for each file that a line of standard input names, its name and what psych makes of it: a checksum of its events
 # with their marks, or the error. After `--bare`, whether a document without `---` may follow `...`, and nothing else.
+# Run by clients.sh.
 require "psych"
 require "digest"
 

@@ -3,6 +3,8 @@
     pyyaml_ext.py plain|proved [WORDS OF PyYAML'S test_yaml_ext.py]
 
 The folder is that of the tests. With `proved`, it first makes sure that the extension is in place.
+
+Run by clients.sh.
 """
 import sys
 

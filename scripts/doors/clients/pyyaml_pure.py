@@ -3,6 +3,8 @@
     pyyaml_pure.py plain|proved [WORDS OF PyYAML'S test_yaml.py]
 
 The folder is that of the tests. With `proved`, it first makes sure that the parser is in place.
+
+Run by clients.sh.
 """
 import sys
 

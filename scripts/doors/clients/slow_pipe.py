@@ -5,6 +5,8 @@
 
 The program prints the number of each event's kind (yaml_event_type_t) in a line of its own. The exit status is 1 where an
 event comes late (after ten seconds, or those that SECONDS names) or is another.
+
+Run by clients.sh.
 """
 import os
 import select

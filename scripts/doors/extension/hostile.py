@@ -4,6 +4,8 @@
 
 LEVELS is how deep the deep texts nest. Each case has an outcome that is wanted; with `--turned` each wants another, so all have
 to be wrong. Says what is wrong, and exits with 1 where something is.
+
+Run by extension_checks.sh.
 """
 import copy
 import gc

@@ -4,6 +4,8 @@
 
 A stream gives one byte at a time. The first event with content has to come before the end of a text of many lines. With
 `--turned` the proved loader's stream gives two bytes, so the files have to differ. Says what is wrong, and exits with 1 then.
+
+Run by extension_checks.sh.
 """
 import sys
 

@@ -127,7 +127,7 @@ uint8_t pokhvizi_directive_fact(const pokhvizi_handle_t *handles, size_t count, 
                                 const uint8_t *handle, size_t handle_length);
 
 /* The fact of a TAG. `*size` is the length of the tag in full, or SIZE_MAX where the handle isn't declared. The tag in full is
- * put at the beginning of `out` where all of it has room; else, and beyond it, `out` stays as it was. A handle needs no directive
+ * put at the start of `out` where all of it has room; else, and beyond it, `out` stays as it was. A handle needs no directive
  * if it is empty, `!` or `!!`. As pokhvizi_directive_fact it looks at the handles one after the other. */
 uint8_t pokhvizi_tag(const pokhvizi_handle_t *handles, size_t count, const uint8_t *texts, size_t length,
                      const uint8_t *handle, size_t handle_length, const uint8_t *suffix, size_t suffix_length,
@@ -135,7 +135,7 @@ uint8_t pokhvizi_tag(const pokhvizi_handle_t *handles, size_t count, const uint8
 
 /* ---- Words ---- */
 
-/* Returns libyaml's words of a fault's problem, and sets `*context` to those of its context, or to NULL. */
+/* Returns libyaml's words of an error's problem, and sets `*context` to those of its context, or to NULL. */
 static __inline const char *pokhvizi_problem(uint8_t problem, const char **context)
 {
     static const char *const words[13][2] = {

@@ -1,8 +1,8 @@
 #!/usr/bin/env python3
-"""Fails where a crate that stands for those below it doesn't pass on a module of `specs/` that its public clauses reach.
+"""Fails where a crate that stands for those below it doesn't re-export a module of `specs/` that its public clauses reach.
 
-    python3 scripts/passed_on.py              names what is missing
-    python3 scripts/passed_on.py CRATE        prints the modules that the crate's public clauses reach
+    python3 scripts/reexports.py              names what is missing
+    python3 scripts/reexports.py CRATE        prints the modules that the crate's public clauses reach
 
 The public clauses are those of the items that the crate's root names, its own and those of the crates below; a clause reaches
 the modules of the words that it cites, and of the words in their definitions. Declared types are named by Rust's own paths.
@@ -145,7 +145,7 @@ def own_modules(folder, listing):
             yield inner.with_suffix(".antt")
 
 
-def passed_on(crate):
+def reexported(crate):
     """The modules that a crate's specs/Lib.antt names, each under the name that a user writes."""
     specs = ROOT / "crates" / crate / "specs"
     found = {}
@@ -165,7 +165,7 @@ def main():
         return
     failed = False
     for crate in FACADES:
-        told = passed_on(crate)
+        told = reexported(crate)
         for module in reached(crate, files):
             if module not in told:
                 failed = True

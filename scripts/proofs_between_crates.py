@@ -2,7 +2,7 @@
 """Fails where a crate names a proof of another crate of the repository that isn't in its `proofs/lent`, where a definition in
 `specs/` names a proof of the repository, or where what stands in `proofs/lent` is named by no other crate.
 
-    python3 scripts/lent.py
+    python3 scripts/proofs_between_crates.py
 
 Run by check.sh.
 """
@@ -10,7 +10,7 @@ import re
 import sys
 
 from definitions import ROOT
-from passed_on import CRATES
+from reexports import CRATES
 
 NAMED = re.compile(r"(?:Rattle\.)?\b(\w+)(?:\.|::)proofs(?:\.|::)((?:lent(?:\.|::))?\w+)")
 
