@@ -169,7 +169,7 @@ def main():
         for module in reached(crate, files):
             if module not in told:
                 failed = True
-                print(f"crates/{crate}/specs/Lib.antt doesn't pass on {module}")
+                print(f"crates/{crate}/specs/Lib.antt doesn't re-export {module}")
         for name in {name for name in told.values() if list(told.values()).count(name) > 1}:
             failed = True
             print(f"crates/{crate}/specs/Lib.antt has two modules {name}")
