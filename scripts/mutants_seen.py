@@ -225,7 +225,7 @@ def run_unedited():
 def line_of(crate, edit):
     """The line of a mutant in WRONG_BODIES: what it gets wrong, where it is seen, and what refuses it."""
     part = re.search(rf"(?ms)^## `{crate}`.*?(?=^## |\Z)", PAGE.read_text())
-    line = re.compile(rf"(?m)^(- `{re.escape(edit)}`: .*?)( Seen: [^\n]*?\.)?( Refused: [^\n]*)?$")
+    line = re.compile(rf"(?m)^(- `{re.escape(edit)}`[.:].*?)( Seen: [^\n]*?\.)?( Refused: [^\n]*)?$")
     return part and line.search(PAGE.read_text(), *part.span())
 
 

@@ -140,7 +140,7 @@ def written(page, reasons):
     lines, crate = [], ""
     for line in page.splitlines():
         crate = (re.match(r"## `(\w+)`", line) or [None, crate])[1]
-        edit = re.match(r"- `([^`]+)`: ", line)
+        edit = re.match(r"- `([^`]+)`[.:] ", line)
         if edit and (crate, edit[1]) in reasons:
             line = re.sub(r" Refused: (?:[^.`]|`[^`]*`)*\.$", "", line)
             line += f" Refused: {reasons[crate, edit[1]]}."
