@@ -30,14 +30,14 @@ pub fn run_fails()
     ensures { RunFails }
 {}
 
-/// Where a call puts a node or an alias, or ends a collection, the fields of the place that its deed has no use
-/// for are 0.
+/// Where a call puts a node or an alias, or ends a collection, the fields of the place that its deed has
+/// no use for are 0.
 pub fn places_are_whole()
     ensures { RunPlaces }
 {}
 
-/// How large the stack gets: within a document the record counts at most the open collections. A stack with an
-/// entry for each is never full.
+/// How large the stack gets: within a document the record counts at most the open collections. A stack
+/// with an entry for each is never full.
 pub fn stack_fits()
     ensures depth { StackFits }
     ensures full { FullWhereOpen }
@@ -70,5 +70,6 @@ pub fn documents_of_tokens()
     ensures composer_fails { RefusedEvents (λ most tokens documents fault. has_end tokens ≡ false
         → (source : Fault) → TokensLoadAs most tokens source documents (Err fault)) }
     ensures composer_fails_at_end { RefusedEvents (λ most tokens documents fault. has_end tokens ≡ true
-        → (more : List Token) (source : Fault) → TokensLoadAs most (tokens ++ more) source documents (Err fault)) }
+        → (more : List Token) (source : Fault) → TokensLoadAs most (tokens ++ more) source documents (Err
+        fault)) }
 {}

@@ -1,5 +1,5 @@
-//! The calls of `libyaml_composer` and `document_steps` for C. `bindings/c/include/pokhvizi/compose.h` declares
-//! them, and says what a caller does.
+//! The calls of `libyaml_composer` and `document_steps` for C. `bindings/c/include/pokhvizi/compose.h`
+//! declares them, and says what a caller does.
 #![tactic(auto)]
 
 ghost use Rattle.std.specs.Prelude.{◌≡◌, ◌≤◌, ◌↔◌, List, [], length, true, false};
@@ -12,8 +12,8 @@ ghost use Rattle.document_steps.specs.Anchors.{node_in};
 use document_steps::{anchor_t, carrier};
 use libyaml_composer::{composer_t, event_kind, open_t, place_t};
 
-/// Puts what is kept before a stream's first event. Each list of a document may have `max_entries` entries, and
-/// never more than 2,147,483,647.
+/// Puts what is kept before a stream's first event. Each list of a document may have `max_entries`
+/// entries, and never more than 2,147,483,647.
 #[unsafe(no_mangle)]
 pub extern "C" fn pokhvizi_composer_new(composer: &mut composer_t, max_entries: u32)
     ensures depth { composer.new.depth ≡ 0 }
@@ -28,11 +28,11 @@ pub extern "C" fn pokhvizi_composer_new(composer: &mut composer_t, max_entries: 
     *composer = composer_t::new(max_entries);
 }
 
-/// Takes an event by its kind and fact, as `composer_t::compose` does. Returns 0 where the event is no part of
-/// a document; 1 and 2 where a document begins and ends; 3 to 6 where a node or an alias was put, as a root,
-/// an item, a key or a value; 7 where a collection ends; 8 where the stack has no room, and nothing was done; 9
-/// and 10 where an alias is undefined, and where an anchor comes twice; 11 where a list is full; and 12 where
-/// the record counts more than the stack has room for, and nothing was done.
+/// Takes an event by its kind and fact, as `composer_t::compose` does. Returns 0 where the event is no
+/// part of a document; 1 and 2 where a document begins and ends; 3 to 6 where a node or an alias was put,
+/// as a root, an item, a key or a value; 7 where a collection ends; 8 where the stack has no room, and
+/// nothing was done; 9 and 10 where an alias is undefined, and where an anchor comes twice; 11 where a
+/// list is full; and 12 where the record counts more than the stack has room for, and nothing was done.
 #[unsafe(no_mangle)]
 pub extern "C" fn pokhvizi_compose(
     composer: &mut composer_t,

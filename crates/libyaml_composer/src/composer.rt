@@ -1,10 +1,13 @@
 //! The call.
-ghost use Rattle.std.specs.Prelude.{◌≡◌, ◌≤◌, ◌<◌, ◌-◌, ◌∷◌, ◌↔◌, length, true, false, List, [], IfSome, None, nat_le};
+ghost use Rattle.std.specs.Prelude.{◌≡◌, ◌≤◌, ◌<◌, ◌-◌, ◌∷◌, ◌↔◌, length, true, false, List, [], IfSome};
+ghost use Rattle.std.specs.Prelude.{None, nat_le};
 ghost use Rattle.libyaml_composer.specs.declared.records.open_t.{open_t};
 ghost use Rattle.libyaml_composer.specs.declared.records.place_t.{place_t};
 ghost use Rattle.libyaml_composer.specs.Composing.{Told, at_start, between_step, composer_of, deed_for};
-ghost use Rattle.libyaml_composer.specs.Composing.{collection_ended, holding_top, if_free, if_placed, does_nothing, is_list_full};
-ghost use Rattle.libyaml_composer.specs.Composing.{adding, at_carrier, most_of, place_in, stack_of, composer_step, told};
+ghost use Rattle.libyaml_composer.specs.Composing.{collection_ended, holding_top, if_free, if_placed};
+ghost use Rattle.libyaml_composer.specs.Composing.{does_nothing, is_list_full};
+ghost use Rattle.libyaml_composer.specs.Composing.{adding, at_carrier, most_of, place_in, stack_of};
+ghost use Rattle.libyaml_composer.specs.Composing.{composer_step, told};
 ghost use Rattle.libyaml_composer.specs.Numbers.{is_id, event_kind};
 
 use crate::collection::is_id;
@@ -187,7 +190,8 @@ impl composer_t {
         self.top(stack).is_full(self.most())
     }
 
-    /// Hands a child to the innermost open collection, unless that has no room for it, and puts where it goes.
+    /// Hands a child to the innermost open collection, unless that has no room for it, and puts where it
+    /// goes.
     #[inline(always)]
     #[tactic(auto, using(crate::proofs::Tops::none_open, crate::proofs::Tops::top_below, crate::proofs::Tops::top_set))]
     fn hand(&self, stack: &mut [open_t], node: i32, child: i32, place: &mut place_t) -> Deed
@@ -195,8 +199,8 @@ impl composer_t {
         ensures full { (result ≡ Deed.FullList)
             ↔ (is_list_full (most_of self.now.max_entries) (stack_of self.now.depth stack.old) ≡ true) }
         ensures undone { result ≡ Deed.FullList → (stack.new ≡ stack.old) × (place.new ≡ place.old) }
-        ensures handed { (result ≡ Deed.FullList → ⊥) → (result ≡ deed_for (stack_of self.now.depth stack.old))
-            × ((place.new ≡ place_in node child (stack_of self.now.depth stack.old))
+        ensures handed { (result ≡ Deed.FullList → ⊥) → (result ≡ deed_for (stack_of self.now.depth
+            stack.old)) × ((place.new ≡ place_in node child (stack_of self.now.depth stack.old))
             × (stack_of self.now.depth stack.new ≡ holding_top child (stack_of self.now.depth stack.old))) }
     {
         if self.depth == 0 {
@@ -351,7 +355,8 @@ impl composer_t {
     pub fn end(&mut self, stack: &[open_t], place: &mut place_t) -> Deed
         requires { self.old.depth ≤ length stack.now }
         ensures tells { told result place.new (composer_of self.new stack.now)
-            ≡ collection_ended (stack_of self.old.depth stack.now) place.old (composer_of self.old stack.now) }
+            ≡ collection_ended (stack_of self.old.depth stack.now) place.old (composer_of self.old
+            stack.now) }
         ensures within { self.new.depth ≤ length stack.now }
         ensures undone { does_nothing result ≡ true → (self.new ≡ self.old) × (place.new ≡ place.old) }
         ensures good { result ≡ Deed.Bad → ⊥ }

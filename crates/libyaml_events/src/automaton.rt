@@ -86,9 +86,9 @@ impl Automaton {
         end: &yaml_mark_t,
     ) -> Answer
         requires at { IsAt (next_of read.old.next) self.old.state }
-        ensures steps { IsOutcome (automaton.step (purpose_of read.old) self.old (kind_and_marks kind start.now end.now) kind)
-            (outcome result (automaton.no_properties (kind_and_marks kind start.now end.now))
-            (kind_and_marks kind start.now end.now) read.new self.new) }
+        ensures steps { IsOutcome (automaton.step (purpose_of read.old) self.old (kind_and_marks kind
+            start.now end.now) kind) (outcome result (automaton.no_properties (kind_and_marks kind
+            start.now end.now)) (kind_and_marks kind start.now end.now) read.new self.new) }
         ensures fits { FitsStep result kind read.new self.new.state }
         ensures full_states { result ≡ Answer.FullStates → pushes (next_of read.old.next) kind ≡ true }
         ensures full_marks { result ≡ Answer.FullMarks → opens (next_of read.old.next) kind ≡ true }
@@ -132,8 +132,8 @@ impl Automaton {
     /// Goes on where `document_step` returned `AsksVersion`.
     #[inline(always)]
     pub(crate) fn version_directive(&mut self, read: &mut Reading, is_accepted: bool) -> Answer
-        ensures steps { (t : KindAndMarks) → IsOutcome (automaton.first_version is_accepted read.old.start_mark self.old
-            t) (outcome result (automaton.no_properties t) t read.new self.new) }
+        ensures steps { (t : KindAndMarks) → IsOutcome (automaton.first_version is_accepted
+            read.old.start_mark self.old t) (outcome result (automaton.no_properties t) t read.new self.new) }
         ensures fits { AnswersDirective result read.new }
         ensures kept { self.new ≡ self.old }
     {
@@ -143,9 +143,9 @@ impl Automaton {
     /// Goes on where `document_step` returned `AsksHandle`.
     #[inline(always)]
     pub(crate) fn tag_directive(&mut self, read: &mut Reading, was_declared: bool) -> Answer
-        ensures steps { (t : KindAndMarks) → IsOutcome (automaton.tag_directive was_declared read.old.start_mark
-            (flag read.old.has_version) self.old t) (outcome result (automaton.no_properties t) t read.new
-            self.new) }
+        ensures steps { (t : KindAndMarks) → IsOutcome (automaton.tag_directive was_declared
+            read.old.start_mark (flag read.old.has_version) self.old t) (outcome result
+            (automaton.no_properties t) t read.new self.new) }
         ensures fits { AnswersDirective result read.new }
         ensures kept { self.new ≡ self.old }
     {
@@ -162,8 +162,8 @@ impl Automaton {
         start: &yaml_mark_t,
         end: &yaml_mark_t,
     ) -> Answer
-        ensures steps { IsOutcome (automaton.node_content (place_of read.old.place) (properties read.old) self.old
-            (kind_and_marks kind start.now end.now) kind) (outcome result (properties read.old)
+        ensures steps { IsOutcome (automaton.node_content (place_of read.old.place) (properties read.old)
+            self.old (kind_and_marks kind start.now end.now) kind) (outcome result (properties read.old)
             (kind_and_marks kind start.now end.now) read.new self.new) }
         ensures fits { FitsContent result kind read.new }
         ensures full { result ≡ Answer.FullMarks → opens_at (place_of read.old.place) kind ≡ true }

@@ -263,7 +263,8 @@ impl loader_ctx {
     /// `Memory`.
     #[inline(always)]
     fn named(&mut self, anchor: &mut Option<String>, mark: &yaml_mark_t) -> Result<i32, Refusal>
-        ensures ok { IfOk result (λ id. Named self.old self.new (option_map string_bytes anchor.old) mark.now id) }
+        ensures ok { IfOk result (λ id. Named self.old self.new (option_map string_bytes anchor.old)
+            mark.now id) }
         ensures err { IfErr result (λ r. r ≡ Refusal.Memory) }
     {
         match anchor {
@@ -275,7 +276,8 @@ impl loader_ctx {
     /// As `named`, and a function of its own since few nodes have an anchor.
     #[inline(never)]
     fn register(&mut self, anchor: &mut Option<String>, mark: &yaml_mark_t) -> Result<i32, Refusal>
-        ensures ok { IfOk result (λ id. Named self.old self.new (option_map string_bytes anchor.old) mark.now id) }
+        ensures ok { IfOk result (λ id. Named self.old self.new (option_map string_bytes anchor.old)
+            mark.now id) }
         ensures err { IfErr result (λ r. r ≡ Refusal.Memory) }
     {
         let Some(anchor) = anchor.take() else {
@@ -313,10 +315,10 @@ impl loader_ctx {
         place: &mut place_t,
     ) -> Result<Deed, Refusal>
         requires { ComposerMatches self.old }
-        ensures ok { IfOk result (λ d. (e : Event) → IsEvent kind (option_map string_bytes anchor.old) mark.now e
-            → IsNode (part_of e) → Decided self.old self.new (part_of e) e.end_mark d place.new) }
-        ensures err { IfErr result (λ r. (e : Event) → IsEvent kind (option_map string_bytes anchor.old) mark.now e
-            → IsNode (part_of e) → Refuses self.old self.new (part_of e) mark.now r) }
+        ensures ok { IfOk result (λ d. (e : Event) → IsEvent kind (option_map string_bytes anchor.old)
+            mark.now e → IsNode (part_of e) → Decided self.old self.new (part_of e) e.end_mark d place.new) }
+        ensures err { IfErr result (λ r. (e : Event) → IsEvent kind (option_map string_bytes anchor.old)
+            mark.now e → IsNode (part_of e) → Refuses self.old self.new (part_of e) mark.now r) }
     {
         let carrier = self.named(anchor, mark)?;
         let deed = taken(self.collections.take(kind, carrier, place)?)?;
@@ -336,8 +338,8 @@ impl loader_ctx {
         place: &mut place_t,
     ) -> Result<Deed, Refusal>
         requires { ComposerMatches self.old }
-        ensures ok { IfOk result (λ d. Decided self.old self.new (Some (alias_part anchor.now mark.now)) mark.now d
-            place.new) }
+        ensures ok { IfOk result (λ d. Decided self.old self.new (Some (alias_part anchor.now mark.now))
+            mark.now d place.new) }
         ensures err { IfErr result (λ r. Refuses self.old self.new (Some (alias_part anchor.now mark.now))
             mark.now r) }
     {
@@ -405,7 +407,8 @@ impl loader_ctx {
     ) -> Result<(), Refusal>
         ensures added { OnOk result (self.new ≡ record self.old {
           document = with_nodes (self.old.document.nodes
-              ++ sequence_loaded start.old.tag start.old.style [] start_mark.now end_mark.now ∷ []) self.old.document;
+              ++ sequence_loaded start.old.tag start.old.style [] start_mark.now end_mark.now ∷ [])
+              self.old.document;
         }) }
         ensures err { IfErr result (λ r. r ≡ Refusal.Memory) }
     {
@@ -423,7 +426,8 @@ impl loader_ctx {
     ) -> Result<(), Refusal>
         ensures added { OnOk result (self.new ≡ record self.old {
           document = with_nodes (self.old.document.nodes
-              ++ mapping_loaded start.old.tag start.old.style [] start_mark.now end_mark.now ∷ []) self.old.document;
+              ++ mapping_loaded start.old.tag start.old.style [] start_mark.now end_mark.now ∷ [])
+              self.old.document;
         }) }
         ensures err { IfErr result (λ r. r ≡ Refusal.Memory) }
     {

@@ -121,7 +121,8 @@ impl OpenCollections {
     #[inline(always)]
     fn make_room(&mut self, kind: yaml_event_type_t) -> Result<(), AllocError>
         ensures roomy { OnOk result (self.new ≡ roomy self.new.room self.old) }
-        ensures left { OnOk result (is_start kind ≡ true → nat_le self.new.room (length self.new.stack) ≡ false) }
+        ensures left { OnOk result (is_start kind ≡ true → nat_le self.new.room (length self.new.stack) ≡
+            false) }
         ensures err { OnErr result (is_start kind ≡ true) }
     {
         if is_start(kind) && self.is_full() {

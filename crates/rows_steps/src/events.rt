@@ -158,7 +158,8 @@ impl Parser {
         Ok(did)
     }
 
-    /// Whether a step over stacks of a state or a mark fewer than the record counts does nothing, and says so.
+    /// Whether a step over stacks of a state or a mark fewer than the record counts does nothing, and says
+    /// so.
     fn are_short_stacks_bad(&mut self, token: &token_record_t, fact: u8) -> bool {
         let states = self.steps.machine.states_count;
         let marks = self.steps.machine.marks_count;
@@ -304,7 +305,8 @@ impl Parser {
         self.deepest = self.deepest.max(self.open);
     }
 
-    /// Whether the stacks have no more entries than one for each collection that was open, and one state more.
+    /// Whether the stacks have no more entries than one for each collection that was open, and one state
+    /// more.
     fn are_stacks_needed(&self) -> bool {
         self.states.len() <= self.deepest.saturating_add(1) && self.marks.len() <= self.deepest
     }

@@ -43,7 +43,8 @@ pub fn runs_here()
 /// A call of any parser does the same with the mends and without, but at three places; what it does there.
 /// After the stream's end, and after an error, it returns the empty event and changes nothing.
 pub fn calls()
-    ensures places { (p : OriginalParser) → (call_there p ≡ call_here p) ⊎ Differs p (call_there p) (call_here p) }
+    ensures places { (p : OriginalParser) → (call_there p ≡ call_here p) ⊎ Differs p (call_there p)
+        (call_here p) }
     ensures after_the_end { (m : Mends) (kept : Fault) (p : OriginalParser) → p.stream_end_produced ≡ true
         → yaml_parser_parse m kept p ≡ OK empty_event p }
     ensures after_a_fault { (m : Mends) (kept : Fault) (p : OriginalParser) → is_fault kept.error ≡ true

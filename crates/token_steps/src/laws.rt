@@ -18,7 +18,8 @@ ghost use Rattle.libyaml_events.specs.sources.Parsing.{IsWhole, StopsShort};
 ghost use Rattle.token_steps.specs.Texts.{bit, fact_of, tag_fact};
 ghost use Rattle.token_steps.specs.declared.tags.handles.handle_t.{handle_t};
 ghost use Rattle.token_steps.specs.Handles.{AreHandlesWithin, bytes_at, handles_at};
-ghost use Rattle.token_steps.specs.RunLaws.{BetweenTokens, FailsInHand, ForFailed, ForRuns, ForStacks, RunIsFed};
+ghost use Rattle.token_steps.specs.RunLaws.{BetweenTokens, FailsInHand, ForFailed, ForRuns, ForStacks};
+ghost use Rattle.token_steps.specs.RunLaws.{RunIsFed};
 
 /// Whatever a caller handed in and was given, with the texts that it kept by the kinds of tokens alone, a
 /// parser was handed and gave. So what is proved of pushes holds of a caller's calls.

@@ -166,9 +166,10 @@ impl steps_t {
         requires fits { FitsTold answer kind self.old.read (head_tag head.now) }
         ensures tells { (p : Step) (g : yaml_mark_t) (states : List ℕ) (marks : List yaml_mark_t)
             → IsOutcome p (outcome answer (head_of head.now start.now end.now g)
-            (kind_and_marks kind at.now.start_mark at.now.end_mark) self.old.read (stacks_of self.old.machine states marks))
-            → Tells result (facts.put_by_fact (head_tag head.now) self.old.tag (span_token kind fact at.now) p)
-            self.new event.new fault.new (stacks_of self.new.machine states marks) }
+            (kind_and_marks kind at.now.start_mark at.now.end_mark) self.old.read (stacks_of
+            self.old.machine states marks)) → Tells result (facts.put_by_fact (head_tag head.now)
+            self.old.tag (span_token kind fact at.now) p) self.new event.new fault.new (stacks_of
+            self.new.machine states marks) }
         ensures machine { self.new.machine ≡ self.old.machine }
         ensures done { IsTold answer → IsDone result }
         ensures event_number { IsGiven result → IsEventNumber event.new.kind }

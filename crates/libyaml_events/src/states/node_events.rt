@@ -80,7 +80,8 @@ pub(super) fn sequence_start(
     tag: Option<String>,
     style: yaml_sequence_style_t,
 ) -> unnamed_yaml_event_t_data
-    ensures { result ≡ sequence_start_with (option_map string_bytes anchor) (option_map string_bytes tag) style }
+    ensures { result ≡ sequence_start_with (option_map string_bytes anchor) (option_map string_bytes tag)
+        style }
 {
     let implicit = is_missing(&tag);
     unnamed_yaml_event_t_data::SequenceStart(unnamed_yaml_event_t_data_sequence_start {
@@ -96,7 +97,8 @@ pub(super) fn mapping_start(
     tag: Option<String>,
     style: yaml_mapping_style_t,
 ) -> unnamed_yaml_event_t_data
-    ensures { result ≡ mapping_start_with (option_map string_bytes anchor) (option_map string_bytes tag) style }
+    ensures { result ≡ mapping_start_with (option_map string_bytes anchor) (option_map string_bytes tag)
+        style }
 {
     let implicit = is_missing(&tag);
     unnamed_yaml_event_t_data::MappingStart(unnamed_yaml_event_t_data_mapping_start {
@@ -113,7 +115,8 @@ pub(super) fn collection_start(
     tag: Option<String>,
     token: &unnamed_yaml_token_t_data,
 ) -> unnamed_yaml_event_t_data
-    ensures { result ≡ collection_start (option_map string_bytes anchor) (option_map string_bytes tag) token.now }
+    ensures { result ≡ collection_start (option_map string_bytes anchor) (option_map string_bytes tag)
+        token.now }
 {
     match token {
         unnamed_yaml_token_t_data::BlockSequenceStart => {
