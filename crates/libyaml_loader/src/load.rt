@@ -13,7 +13,8 @@ ghost use Rattle.libyaml_events.specs.sources.History.{has_failed, kept_fault};
 ghost use Rattle.libyaml_graphs.specs.loads.Bounds.{next_bounded};
 ghost use Rattle.libyaml_graphs.specs.loads.Loads.{left_over};
 ghost use Rattle.libyaml_loader.specs.document.Ids.{magnitude};
-ghost use Rattle.libyaml_loader.specs.loads.Loading.{HasEnded, LoadsFrom, Took};
+ghost use Rattle.libyaml_events.specs.sources.CallsInTurn.{Took};
+ghost use Rattle.libyaml_loader.specs.loads.Loading.{HasEnded, LoadsFrom};
 ghost use Rattle.libyaml_loader.specs.loads.NextLoad.{Answers};
 ghost use Rattle.libyaml_loader.specs.pushes.Composing.{IsSound};
 

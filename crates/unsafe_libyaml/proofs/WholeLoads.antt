@@ -27,8 +27,10 @@ use Rattle.libyaml_graphs.proofs.lent.LoadLists.{roots_behind}
 use Rattle.libyaml_graphs.proofs.lent.Roots.{fault_of, last_of, roots_follow}
 use Rattle.libyaml_graphs.proofs.lent.RunLoads.{sentence_loads}
 use Rattle.libyaml_loader.specs.document.Ids.{magnitude}
-use Rattle.libyaml_loader.specs.loads.Loading.{DocumentOrError, KeptBy, LoadFails, Loads, LoadsFrom, ParserFails, Took, at_end, by_loader, by_memory, by_parser, whole}
-use Rattle.libyaml_loader.proofs.lent.LoadsInTurn.{LoadedInTurn, none_in_turn, one_more}
+use Rattle.libyaml_events.specs.sources.CallsInTurn.{Took}
+use Rattle.libyaml_loader.specs.loads.Loading.{DocumentOrError, KeptBy, LoadFails, Loads, LoadsFrom, ParserFails, at_end, by_loader, by_memory, by_parser, whole}
+use Rattle.libyaml_loader.proofs.lent.LoadsInTurn.{none_in_turn, one_more}
+use Rattle.libyaml_loader.specs.loads.LoadsInTurn.{LoadedInTurn}
 use Rattle.unsafe_libyaml.specs.WholeRun.{ending_of}
 use Rattle.unsafe_libyaml.specs.WholeLoads.{GathersLoads, LoadsTo, as_whole_loads}
 use Rattle.unsafe_libyaml.specs.WholeLoads as told
@@ -45,7 +47,7 @@ oks ds = map (λ (d : Document). Ok d) ds
 
 -- Within the loads over a source: the parser loaded these documents since it was made.
 pub record Loaded {S : Type 0} (g : Ghosts S) (source : S) (p : Parser S) (loaded : List Document) : Type 0 where
-  pub in_turn : LoadedInTurn g most (new_parser source) p loaded
+  pub in_turn : LoadedInTurn g.gives most (new_parser source) p loaded [] []
   pub between : between_documents p ≡ true
   pub bound : p.max_entries ≡ pos 2147483647
 
@@ -84,8 +86,8 @@ loaded_first within all (met ds rest i j) loaded behind h = let k = oks_first lo
 pub loaded_none : {S : Type 0} (g : Ghosts S) (source : S) (p : Parser S) → p ≡ new_parser source
     → between_documents p ≡ true → p.max_entries ≡ pos 2147483647 → Loaded g source p []
 loaded_none g source p is between bound = record {
-  in_turn = subst (λ q. LoadedInTurn g most (new_parser source) q []) (sym is)
-      (none_in_turn g most (new_parser source));
+  in_turn = subst (λ q. LoadedInTurn g.gives most (new_parser source) q [] [] []) (sym is)
+      (none_in_turn g most [] [] (new_parser source) here);
   between = between;
   bound = bound;
 }
@@ -101,7 +103,7 @@ module _ {S : Type 0} (g : Ghosts S) (source : S) (old new : Parser S) (r : Docu
   given = was.in_turn.taken
 
   abbrev so : GaveSoFar g.gives source old given
-  so = was.in_turn.took.history [] [] here
+  so = was.in_turn.carried
 
   loads_of_call : (q : DocumentOrError) → r ≡ q → LoadsFrom g (next_bounded most) left_over old q new
   loads_of_call q is =
@@ -124,7 +126,7 @@ module _ {S : Type 0} (g : Ghosts S) (source : S) (old new : Parser S) (r : Docu
   pub loaded_next : between_documents new ≡ true → new.max_entries ≡ old.max_entries → (d : Document) → r ≡ Ok d
       → d.nodes ≢ [] → Loaded g source new (loaded ++ d ∷ [])
   loaded_next between bound d is has_root = record {
-    in_turn = one_more g most (new_parser source) old new loaded d was.in_turn (loads_of_call (Ok d) is) has_root;
+    in_turn = one_more g most [] [] (new_parser source) old new loaded d was.in_turn (loads_of_call (Ok d) is) has_root;
     between = between;
     bound = bound ∙ was.bound;
   }

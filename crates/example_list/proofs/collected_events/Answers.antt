@@ -18,7 +18,7 @@ returns g c l f e x run k =
     let i : c.yaml_parser_initialize-item-items.result ≡ c.into_iter-item-iterator.result = search rules in
     let whole = subst (λ p. RunToCome known p e x) i
     (c.yaml_parser_initialize-item-items.ensures.run_to_come known l f k e x run) in
-    let r = (c.items_in_turn.ensures.events _ _ _ c.loop-item.invariant).run e x whole in
+    let r = (c.items_in_turn.ensures.events _ _ _ c.loop-item.invariant).runs e x whole in
     let n = c.items_in_turn.ensures.end _ c.in-None.ensures.steps.0 r.later x r.run in (
       sym (r.all ∙ (ap (λ (y : List yaml_event_t). c.loop-item.events.items ++ y) n.0
           ∙ append-nil c.loop-item.events.items)),

@@ -9,7 +9,8 @@ use Rattle.libyaml_graphs.specs.loads.Bounds.{first_stop, next_bounded}
 use Rattle.libyaml_graphs.specs.loads.Linear.{size}
 use Rattle.libyaml_graphs.specs.loads.Loads.{left_over}
 use Rattle.libyaml_graphs.proofs.lent.RunLoads.{next_linear}
-use Rattle.libyaml_loader.specs.loads.Loading.{DocumentOrError, LoadsFrom, Took, at_end, whole}
+use Rattle.libyaml_events.specs.sources.CallsInTurn.{Took}
+use Rattle.libyaml_loader.specs.loads.Loading.{DocumentOrError, LoadsFrom, at_end, whole}
 
 pub linear : (n : ℕ) {S : Type 0} (g : Ghosts S) (old new : Parser S) (r : DocumentOrError)
     → LoadsFrom g (next_bounded n) left_over old r new

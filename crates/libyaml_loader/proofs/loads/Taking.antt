@@ -1,5 +1,5 @@
 -- What one call of the parser says of the events that a load takes.
-use Rattle.std.proofs.Common.{◌≡◌, ◌++◌, ◌∷◌, List, [], Some, Bool, Ok, Err, true, false, refl, sym, ap, ◌∙◌, subst, append_assoc}
+use Rattle.std.proofs.Common.{◌≡◌, ◌∷◌, List, [], Some, Bool, Ok, Err, true, false, refl, sym, ap, ◌∙◌, subst}
 use Rattle.std.proofs.lemmas.Bool.{true≢false}
 use Rattle.libyaml_types.specs.declared.enums.yaml_error_type_t.{yaml_error_type_t}
 use Rattle.libyaml_types.specs.declared.event.unnamed_yaml_event_t_data.{unnamed_yaml_event_t_data}
@@ -7,55 +7,30 @@ use Rattle.libyaml_types.specs.declared.event.unnamed_yaml_event_t_data.TheVaria
 use Rattle.libyaml_types.specs.declared.mark.yaml_mark_t.{yaml_mark_t}
 use Rattle.libyaml_types.specs.Events.{empty_event}
 use Rattle.libyaml_events.specs.sources.Calls.{EventOrError}
-use Rattle.libyaml_events.specs.sources.CallsInTurn.{CarriedOn}
+use Rattle.libyaml_events.specs.sources.CallsInTurn.{CarriedOn, Took}
 use Rattle.libyaml_events.specs.machine.Config.{Parser}
 use Rattle.libyaml_grammar.specs.sentences.Events.{Event}
 use Rattle.libyaml_types.specs.Fault.{Answer}
 use Rattle.libyaml_events.specs.sources.History.{History, between_documents, has_failed, is_over}
 use Rattle.libyaml_events.specs.sources.ParsesNext.{ParsesNext}
 use Rattle.libyaml_events.specs.sources.Parsing.{CarriesOn}
-use Rattle.libyaml_events.specs.sources.RunToCome.{RunToCome}
+use Rattle.libyaml_events.specs.sources.RunToCome.{RestOfRun, RunToCome}
 use Rattle.libyaml_grammar.specs.runs.Runs.{Ending, Ends}
 use Rattle.libyaml_types.specs.Source.{Follows}
 use Rattle.libyaml_types.specs.declared.source.yaml_token_source_t.{Ghosts}
 use Rattle.libyaml_events.specs.parsers.OutsideEvents.{is_outside_event}
 use Rattle.libyaml_events.specs.parsers.Stages.{is_event}
 use Rattle.libyaml_grammar.specs.sentences.Tokens.{Token}
-use Rattle.libyaml_events.proofs.lent.CallsInTurn.{both_calls, no_call, one_call}
 use Rattle.libyaml_events.proofs.lent.Histories as histories
-use Rattle.libyaml_events.proofs.lent.KnownTokens.{fails_here, further}
+use Rattle.libyaml_events.proofs.lent.KnownTokens.{fails_here}
+use Rattle.libyaml_events.proofs.lent.Taking.{took_none, took_one}
 use Rattle.libyaml_graphs.specs.graphs.GraphParts.{Closing, closing_in, closing_of}
-use Rattle.libyaml_loader.specs.loads.Loading.{HasEnded, ParserFails, Took}
+use Rattle.libyaml_loader.specs.loads.Loading.{HasEnded, ParserFails}
 
 outside_end : (k : unnamed_yaml_event_t_data) (m : yaml_mark_t) (c : Closing) → closing_in k m ≡ Some c
     → is_outside_event k ≡ true
 outside_end (ev.DocumentEnd d) m c h = refl
 outside_end _ m c h = absurd cc
-
-module _ {S : Type 0} (g : Ghosts S) where
-  pub took_none : (p : Parser S) → Took g p p []
-  took_none p = record {
-    history = λ (asked : List Token) (given : List Event)
-        (h : History p asked given). no_call g.gives p p p asked given h;
-    runs = λ (events : List Event) (ending : Ending) (run : RunToCome g.known p events ending). record
-        { later = events; all = refl; run = run };
-  }
-
-  pub took_both : (old mid new : Parser S) (a b : List Event) → Took g old mid a
-      → Took g mid new b → Took g old new (a ++ b)
-  took_both old mid new a b x y = record {
-    history = λ (asked : List Token) (given : List Event) (h : History old asked given). let c
-        = x.history asked given h in both_calls g.gives old mid new asked given a b c (y.history _ _ c.history);
-    runs = λ (events : List Event) (ending : Ending) (run : RunToCome g.known old events ending).
-        let l = x.runs events ending run in
-        let m = y.runs l.later ending l.run in
-        record {
-          later = m.later;
-          all = l.all ∙ ap (λ (r : List Event). a ++ r) m.all
-              ∙ sym (append_assoc a b m.later);
-          run = m.run;
-        };
-  }
 
 module _ {S : Type 0} (g : Ghosts S) where
   -- no event was left
@@ -90,12 +65,7 @@ module _ {S : Type 0} (g : Ghosts S) where
       carried an_event = rw is at (c.carries_on (running an_event))
 
       pub took_event : is_event e.content ≡ true → Took g old new (e ∷ [])
-      took_event an_event = record {
-        history = λ asked given h. one_call g.gives old old new asked given e (carried an_event asked given h);
-        runs = λ events ending run.
-            let k = carried an_event run.asked run.given run.history in
-            further g follows old new events ending run k.more (e ∷ []) k.gave k.history;
-      }
+      took_event an_event = took_one g follows old new e (carried an_event)
 
       -- after a document's end the parser stands between documents
       pub behind_close : (d : Closing) → closing_of e ≡ Some d → between_documents new ≡ true
@@ -112,16 +82,10 @@ module _ {S : Type 0} (g : Ghosts S) where
       pub finds_end : is_event e.content ≡ false → FindsEnd old new
       finds_end empty = record {
         took = record {
-          history = λ (asked : List Token) (given : List Event) (h : History old asked given).
-              subst (λ (p : Parser S). CarriedOn g.gives old p asked given [])
-              (sym (c.ended (over empty asked given h)).1) (no_call g.gives old old old asked given h);
-          runs = λ (events : List Event) (ending : Ending) (run : RunToCome g.known old events ending). record {
-            later = events;
-            all = refl;
-            run
-                = subst (λ (p : Parser S). RunToCome g.known p events ending)
-                (sym (c.ended (over empty run.asked run.given run.history)).1) run;
-          };
+          history = λ asked given h. subst (λ (p : Parser S). CarriedOn g.gives old p asked given [])
+              (sym (c.ended (over empty asked given h)).1) ((took_none g old).history asked given h);
+          runs = λ events ending run. subst (λ (p : Parser S). RestOfRun g.known p [] events ending)
+              (sym (c.ended (over empty run.asked run.given run.history)).1) ((took_none g old).runs events ending run);
         };
         ends = λ (events : List Event) (ending : Ending) (run : RunToCome g.known old events ending).
             let h = over empty run.asked run.given run.history in

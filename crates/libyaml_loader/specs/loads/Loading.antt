@@ -2,7 +2,7 @@
 use Rattle.std.specs.Prelude.{◌≡◌, ◌≤◌, ◌+◌, ◌++◌, ◌∷◌, List, [], None, Result, Ok, Err, true, false}
 use Rattle.libyaml_types.specs.declared.enums.yaml_error_type_t.{yaml_error_type_t}
 use Rattle.libyaml_documents.specs.Documents.{Document, empty_document}
-use Rattle.libyaml_events.specs.sources.CallsInTurn.{CarriedOn}
+use Rattle.libyaml_events.specs.sources.CallsInTurn.{Took}
 use Rattle.libyaml_events.specs.machine.Config.{Parser}
 use Rattle.libyaml_grammar.specs.sentences.Events.{Event}
 use Rattle.libyaml_types.specs.Fault.{Fault, memory_fault}
@@ -11,7 +11,7 @@ use Rattle.libyaml_events.specs.parsers.Lookahead.{lookahead_tokens}
 use Rattle.libyaml_events.specs.parsers.Stages.{open_collections, stage_of}
 use Rattle.libyaml_events.specs.sources.Parsing.{FailsBy, IsWhole}
 use Rattle.libyaml_grammar.specs.runs.Runs.{Ending, Ends}
-use Rattle.libyaml_events.specs.sources.RunToCome.{FailsHere, RestOfRun, RunToCome}
+use Rattle.libyaml_events.specs.sources.RunToCome.{FailsHere, RunToCome}
 use Rattle.libyaml_types.specs.declared.source.yaml_token_source_t.{Ghosts}
 use Rattle.libyaml_grammar.specs.sentences.Tokens.{Token}
 use Rattle.libyaml_graphs.specs.loads.Loads.{Load, last_load}
@@ -20,14 +20,6 @@ use Rattle.libyaml_loader.specs.loads.LoadGrowth.{GrowsAt}
 -- what a load returns
 abbrev pub DocumentOrError : Type 0
 DocumentOrError = Result Document yaml_error_type_t
-
--- From the one parser to the other these events were taken: each history of the first goes on by them, and they are the
--- first of each run that it has to come.
-pub record Took {S : Type 0} (g : Ghosts S) (old new : Parser S) (taken : List Event) : Type 0 where
-  pub history : (asked : List Token) (given : List Event) → History old asked given
-      → CarriedOn g.gives old new asked given taken
-  pub runs : (events : List Event) (ending : Ending) → RunToCome g.known old events ending
-      → RestOfRun g.known new taken events ending
 
 -- a call of the parser failed, and left no token held and the stack within its depth
 pub record ParserFails {S : Type 0} (g : Ghosts S) (old new : Parser S) : Type 0 where

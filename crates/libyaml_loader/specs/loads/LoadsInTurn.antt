@@ -1,20 +1,22 @@
 -- A loop over the documents of a parser (docs/DEFINITIONS.md, "Loads of a parser").
-use Rattle.std.specs.Prelude.{◌≡◌, ◌≢◌, ◌≤◌, ◌<◌, ◌⊎◌, ◌*◌, ◌++◌, ◌∷◌, List, [], length, map, Option, None, Some, Result, Ok, Err, IfOk, IfErr, true, false}
-use Rattle.libyaml_types.specs.Fault.{Fault, fault_of, memory_fault}
+use Rattle.std.specs.Prelude.{◌≡◌, ◌≢◌, ◌≤◌, ◌<◌, ◌⊎◌, ◌*◌, ◌++◌, ◌∷◌, ℕ, List, [], All, length, map, Option, None, Some, Result, Ok, Err, IfOk, IfErr, true, false}
+use Rattle.libyaml_types.specs.Fault.{Answer, Fault, fault_of, memory_fault}
 use Rattle.libyaml_types.specs.declared.fault.yaml_parser_t_prefix.{yaml_parser_t_prefix}
 use Rattle.libyaml_types.specs.declared.source.yaml_token_source_t.{Ghosts}
 use Rattle.libyaml_grammar.specs.runs.Runs.{Ending, Ends, Fails}
 use Rattle.libyaml_grammar.specs.sentences.Events.{Event}
+use Rattle.libyaml_grammar.specs.sentences.Tokens.{Token}
 use Rattle.libyaml_events.specs.machine.Config.{Parser}
 use Rattle.libyaml_events.specs.parsers.EventsLeft.{events_left}
+use Rattle.libyaml_events.specs.sources.CallsInTurn.{CarriedOn, Took}
 use Rattle.libyaml_events.specs.sources.History.{ForHistory, between_documents, has_failed, is_over, kept_fault}
 use Rattle.libyaml_events.specs.sources.RunToCome.{ForRun, UnlessBroken}
 use Rattle.libyaml_documents.specs.Documents.{Document, empty_document}
-use Rattle.libyaml_graphs.specs.loads.Bounds.{next_bounded}
+use Rattle.libyaml_graphs.specs.loads.Bounds.{bounded_loads, next_bounded}
 use Rattle.libyaml_graphs.specs.loads.Linear.{size}
 use Rattle.libyaml_graphs.specs.loads.Loads.{Load, last_load, left_over}
 use Rattle.libyaml_loader.specs.document.Ids.{magnitude}
-use Rattle.libyaml_loader.specs.loads.Loading.{DocumentOrError, HasEnded, LoadsFrom, Took}
+use Rattle.libyaml_loader.specs.loads.Loading.{DocumentOrError, HasEnded, LoadsFrom}
 use Rattle.libyaml_loader.specs.loads.NextLoad.{Answers}
 
 -- what the clauses of `yaml_parser_load` say of a parser that keeps no error
@@ -53,6 +55,16 @@ pub data LoopYields {S : Type 0} (g : Ghosts S) : Parser S → List Document →
   document : (d : Document) (later : List Document) (ending : Ending) (next : Parser S) → {old new : Parser S}
       → YieldsDocument g old (Some (Ok d)) next → LoopYields g next later ending new
       → LoopYields g old (d ∷ later) ending new
+
+-- From the one parser to the other loads returned these documents, each with a root: the history went on by the events
+-- that they took, whose loads they are, whatever follows them.
+pub record LoadedInTurn {S : Type 0} (gives : S → Answer → S → Type 0) (n : ℕ) (old new : Parser S)
+    (documents : List Document) (asked : List Token) (given : List Event) : Type 0 where
+  pub taken : List Event
+  pub carried : CarriedOn gives old new asked given taken
+  pub loads : (rest : List Event) (x : Ending)
+      → bounded_loads n (taken ++ rest) x ≡ map (λ (d : Document). Ok d) documents ++ bounded_loads n rest x
+  pub roots : All (λ (d : Document). d.nodes ≢ []) documents
 
 -- The documents of a loop and its ending are these loads; or memory ran out, or the source failed early, with an
 -- error that it names as possible where it then stands, and the documents are a prefix.

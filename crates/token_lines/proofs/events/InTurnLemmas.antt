@@ -1,5 +1,5 @@
 -- How a run's calls write the text of each event in its turn.
-use Rattle.std.proofs.Common.{◌≡◌, ◌++◌, ℕ, List, [], ◌∷◌, map, Option, false, refl, sym, ap, ◌∙◌, subst, append_assoc}
+use Rattle.std.proofs.Common.{◌≡◌, ◌++◌, ℕ, List, [], ◌∷◌, map, Option, false, sym, ap, ◌∙◌, subst}
 use Rattle.std.proofs.KnownBytes.{Appends-nil, Appends-trans}
 use Rattle.std.proofs.lemmas.List.{append-nil, map-append}
 use Rattle.std.proofs.lemmas.List.Folds.{concat-append}
@@ -10,31 +10,16 @@ use Rattle.libyaml_types.specs.declared.token.yaml_token_t.{yaml_token_t}
 use Rattle.libyaml_events.specs.machine.Config.{Parser}
 use Rattle.libyaml_events.specs.sources.History.{History, is_over, is_stream_end}
 use Rattle.libyaml_types.specs.Fault.{Answer, Fault}
-use Rattle.libyaml_events.proofs.lent.CallsInTurn.{gave_both}
+use Rattle.libyaml_events.proofs.lent.CallsInTurn.{both_calls, no_call, one_call}
 use Rattle.token_lines.specs.events.InTurn.{AllWritten, CallSays, WrittenInTurn, gave_event, failed}
-
-module _ {S : Type 0} (p : Parser S) where
-  pub history_none : (asked : List yaml_token_t) (given : List yaml_event_t) → History p asked given
-      → History p (asked ++ []) (given ++ [])
-  history_none asked given h = subst (λ l. History p l (given ++ [])) (sym (append-nil asked))
-      (subst (λ l. History p asked l) (sym (append-nil given)) h)
-
-  pub history_more : (asked more last : List yaml_token_t) (given events taken : List yaml_event_t)
-      → History p ((asked ++ more) ++ last) ((given ++ events) ++ taken)
-      → History p (asked ++ (more ++ last)) (given ++ (events ++ taken))
-  history_more asked more last given events taken h =
-      subst (λ l. History p l (given ++ (events ++ taken))) (append_assoc asked more last)
-      (subst (λ l. History p ((asked ++ more) ++ last) l) (append_assoc given events taken) h)
 
 module _ {S : Type 0} (text : yaml_event_t → List ℕ) (gives : S → Answer → S → Type 0) where
   pub none_yet : (p : Parser S) (x : Option (List ℕ)) (asked : List yaml_token_t) (given : List yaml_event_t)
       → History p asked given → is_over p ≡ false
       → AllWritten text gives p p x x asked given
   none_yet p x asked given h running = record {
-    more = [];
     events = [];
-    gave = refl;
-    history = history_none p asked given h;
+    carried = no_call gives p p p asked given h;
     running = running;
     wrote = Appends-nil x;
   }
@@ -51,16 +36,15 @@ module _ {S : Type 0} (text : yaml_event_t → List ℕ) (gives : S → Answer �
       → (is_over p ≡ false → (asked' : List yaml_token_t) (given' : List yaml_event_t) → History p asked' given'
       → CallSays gives (λ e. (is_stream_end e ≡ false) × Appends b c (text e)) (λ f. ⊥) p q asked' given')
       → AllWritten text gives first q a c asked given
-  one_more first p q a b c asked given w calls = go (calls w.running (asked ++ w.more) (given ++ w.events) w.history)
+  one_more first p q a b c asked given w calls = go (calls w.running (asked ++ w.carried.more) (given ++ w.events) w.carried.history)
     where
-      go : CallSays gives (λ e. (is_stream_end e ≡ false) × Appends b c (text e)) (λ f. ⊥) p q (asked ++ w.more)
-          (given ++ w.events)
+      go : CallSays gives (λ e. (is_stream_end e ≡ false) × Appends b c (text e)) (λ f. ⊥) p q
+          (asked ++ w.carried.more) (given ++ w.events)
           → AllWritten text gives first q a c asked given
       go (gave_event e on wrote) = record {
-        more = w.more ++ on.more;
         events = w.events ++ e ∷ [];
-        gave = gave_both gives w.more on.more first.source p.source q.source w.gave on.gave;
-        history = history_more q asked w.more on.more given w.events (e ∷ []) on.history;
+        carried = both_calls gives first p q asked given w.events (e ∷ []) w.carried
+            (one_call gives p p q (asked ++ w.carried.more) (given ++ w.events) e on);
         running = on.ends ∙ wrote.0;
         wrote = subst (Appends a c) (texts_more w.events e)
             (Appends-trans a b c (concat (map text w.events)) (text e) w.wrote wrote.1);
@@ -80,6 +64,6 @@ module _ {S : Type 0} (text : yaml_event_t → List ℕ) (gives : S → Answer �
         parser = p;
         writer = writer;
         earlier = w;
-        call = closes w.running (asked ++ w.more)
-            (given ++ w.events) w.history;
+        call = closes w.running (asked ++ w.carried.more)
+            (given ++ w.events) w.carried.history;
       }

@@ -11,7 +11,7 @@ use Rattle.libyaml_events.specs.parsers.Stages.{is_event}
 use Rattle.libyaml_events.specs.sources.Calls.{EventOrError}
 use Rattle.libyaml_events.specs.sources.History.{is_over}
 use Rattle.libyaml_events.specs.sources.RunToCome.{FailsHere, RunToCome}
-use Rattle.libyaml_events.proofs.lent.CallsInTurn.{gave_both}
+use Rattle.libyaml_events.proofs.lent.CallsInTurn.{both_calls, one_call}
 use Rattle.libyaml_events.proofs.lent.KnownTokens.{fails_behind, further, nothing_behind_end}
 use Rattle.libyaml_grammar.specs.runs.Runs.{Ending, Ends}
 use Rattle.libyaml_types.specs.declared.fault.yaml_parser_t_prefix.{yaml_parser_t_prefix}
@@ -25,7 +25,7 @@ use Rattle.token_lines.specs.events.EventRun.{event_lines}
 use Rattle.token_lines.specs.events.EventStep.{Turn}
 use Rattle.token_lines.specs.events.InTurn.{AllWritten, gave_event, failed}
 use Rattle.token_lines.specs.lines.LineRun.{WritesFault, whole, broken_off}
-use Rattle.token_lines.proofs.events.InTurnLemmas.{history_more, texts_more}
+use Rattle.token_lines.proofs.events.InTurnLemmas.{texts_more}
 use Rattle.token_lines.proofs.lines.RunLemmas.{keeps_then}
 
 -- Whether a parser had ended, by the event that it returned.
@@ -51,14 +51,14 @@ module _ {S : Type 0} (g : Ghosts S)
   module _ (first p q : Parser S) (a b c d : Option (List ℕ)) (all : List yaml_event_t) (ending : Ending)
       (r : RunToCome g.known first all ending)
       (w : AllWritten event_line g.gives first p a b r.asked r.given) where
-    pub all_lines : Turn g.gives step.Ended p q b c (r.asked ++ w.more) (r.given ++ w.events) → Keeps c d
+    pub all_lines : Turn g.gives step.Ended p q b c (r.asked ++ w.carried.more) (r.given ++ w.events) → Keeps c d
         → (ending ≡ Ends)
         × Appends a d (concat (event_lines all))
     all_lines (gave_event e on wrote) kept =
         let done = w.events ++ e ∷ [] in
-        let rest = further g follows first q all ending r (w.more ++ on.more) done
-        (gave_both g.gives w.more on.more first.source p.source q.source w.gave on.gave)
-        (history_more q r.asked w.more on.more r.given w.events (e ∷ []) on.history) in
+        let k = both_calls g.gives first p q r.asked r.given w.events (e ∷ []) w.carried
+        (one_call g.gives p p q (r.asked ++ w.carried.more) (r.given ++ w.events) e on) in
+        let rest = further g follows first q all ending r k.more done k.gave k.history in
         let none = nothing_behind_end g.known q (on.ends ∙ wrote.0) rest.later ending rest.run in
         let same : w.events ++ e ∷ [] ≡ all =
         sym (rest.all ∙ ap (λ (l : List yaml_event_t). done ++ l) none.0 ∙ append-nil done) in
@@ -83,7 +83,7 @@ module _ {S : Type 0} (g : Ghosts S)
         (ap event_lines split ∙ map-append event_line w.events later) why wrote
 
     pub lines_and_fault : (f : yaml_parser_t_prefix)
-        → Turn g.gives (step.Failed f) p q b c (r.asked ++ w.more) (r.given ++ w.events)
+        → Turn g.gives (step.Failed f) p q b c (r.asked ++ w.carried.more) (r.given ++ w.events)
         → Appends c d (fault_text (fault_of f)) → WritesFault (g.may_break q.source) (fault_of f) a d
         (event_lines all) ending
     lines_and_fault f turn told = go turn
@@ -92,13 +92,13 @@ module _ {S : Type 0} (g : Ghosts S)
         then_fault kept = Appends-trans a b d (concat (event_lines w.events)) (fault_text (fault_of f)) w.wrote
             (keeps_then b c d (fault_text (fault_of f)) kept told)
 
-        go : Turn g.gives (step.Failed f) p q b c (r.asked ++ w.more) (r.given ++ w.events)
+        go : Turn g.gives (step.Failed f) p q b c (r.asked ++ w.carried.more) (r.given ++ w.events)
             → WritesFault (g.may_break q.source) (fault_of f) a d (event_lines all) ending
         go (gave_event e on wrote) =
-            let rest = further g follows first p all ending r w.more w.events w.gave w.history in
+            let rest = further g follows first p all ending r w.carried.more w.events w.carried.gave w.carried.history in
             fails_there (fault_of f) rest.later rest.all (inr (inl wrote.0)) (then_fault wrote.1)
         go (failed by wrote) =
-            let rest = fails_behind g follows first p q all ending r w.more w.events w.gave w.history by in
+            let rest = fails_behind g follows first p q all ending r w.carried.more w.events w.carried.gave w.carried.history by in
             fails_there (fault_of f) rest.0 rest.1
             (subst (λ (v : Fault). FailsHere (g.may_break q.source) v rest.0 ending) (sym wrote.0) rest.2)
             (then_fault wrote.1)

@@ -1,5 +1,5 @@
 -- Two outcomes of one `write_events` over any source wrote the same.
-use Rattle.std.proofs.Common.{◌≡◌, ◌⊎◌, inl, inr, ℕ, List, [], ◌∷◌, ◌++◌, Option, None, Some, Ok, refl, sym, ap, ◌∙◌, subst, append_assoc}
+use Rattle.std.proofs.Common.{◌≡◌, ◌⊎◌, inl, inr, ℕ, List, [], ◌∷◌, ◌++◌, Option, None, Some, Ok, refl, sym, ap, ap₂, ◌∙◌, subst, append_assoc}
 use Rattle.std.proofs.KnownBytes.{Appends-trans}
 use Rattle.std.proofs.lemmas.List.{append-nil}
 use Rattle.std.specs.List.{concat}
@@ -8,15 +8,16 @@ use Rattle.libyaml_types.specs.declared.event.yaml_event_t.{yaml_event_t}
 use Rattle.libyaml_types.specs.declared.token.yaml_token_t.{yaml_token_t}
 use Rattle.libyaml_events.specs.machine.Config.{Parser}
 use Rattle.libyaml_events.specs.sources.Determined.{OneBegins}
-use Rattle.libyaml_events.specs.sources.History.{History, answers, kept_fault}
+use Rattle.libyaml_events.specs.sources.History.{answers, kept_fault}
 use Rattle.libyaml_events.specs.sources.Needs.{EachNeeded, EachWasNeeded}
-use Rattle.libyaml_events.specs.sources.Parsing.{CarriesOn, Cause, FailsBy, IsWhole, of_grammar, of_memory, of_source}
+use Rattle.libyaml_events.specs.sources.Parsing.{CarriesOn, Cause, FailsBy, of_grammar, of_memory, of_source}
+use Rattle.libyaml_events.proofs.lent.CallsInTurn.{both_calls, one_call}
 use Rattle.libyaml_events.proofs.lent.OneOutcome.{front_same}
 use Rattle.libyaml_events.proofs.lent.RunStops.{RunStop, answers_both, ended_stop, grammar_stop, one_run_by_answers, source_stop}
 use Rattle.libyaml_events.proofs.lent.Histories as histories
 use Rattle.libyaml_grammar.specs.runs.Runs.{Ending, Ends, Fails}
 use Rattle.libyaml_grammar.proofs.lent.Same.{fault_same}
-use Rattle.libyaml_types.specs.Fault.{Answer, Fault, memory_fault}
+use Rattle.libyaml_types.specs.Fault.{Answer, memory_fault}
 use Rattle.libyaml_types.specs.declared.fault.yaml_parser_t_prefix.{yaml_parser_t_prefix}
 use Rattle.line_writing.specs.EventText.{event_line}
 use Rattle.line_writing.specs.FaultText.{fault_text}
@@ -58,11 +59,10 @@ pub nothing_needed : (l : List yaml_token_t) (g : List yaml_event_t) → EachNee
 nothing_needed l g [] x later e = absurd cc
 nothing_needed l g (t ∷ front) x later e = absurd cc
 
--- what was written of a run that stopped so
-abbrev Wrote : Ending → Outcome → List yaml_event_t → (before after : Option (List ℕ)) → Type 0
-Wrote Ends o events before after = (o ≡ outcome.Ended) × Appends before after (concat (event_lines events))
-Wrote (Fails f) o events before after = (o ≡ outcome.Faulted)
-    × Appends before after (concat (event_lines events) ++ fault_text f)
+-- what was written of these lines and an ending
+abbrev pub Wrote : Ending → Outcome → (lines : List (List ℕ)) → (before after : Option (List ℕ)) → Type 0
+Wrote Ends o lines before after = (o ≡ outcome.Ended) × Appends before after (concat lines)
+Wrote (Fails f) o lines before after = (o ≡ outcome.Faulted) × Appends before after (concat lines ++ fault_text f)
 
 module _ {S W : Type 0} (gives : S → Answer → S → Type 0) (contents : W → Option (List ℕ))
     (old : Parser S)
@@ -73,32 +73,26 @@ module _ {S W : Type 0} (gives : S → Answer → S → Type 0) (contents : W �
     stopped : (m : List yaml_token_t) (u : List Answer) (e : List yaml_event_t) (x : Ending) → a ≡ answers m u
         → EachWasNeeded [] (asked ++ m) [] (given ++ e)
         → EachNeeded (asked ++ m) u (given ++ e) → RunStop (answers (asked ++ m) u) (given ++ e) x
-        → Wrote x o e before after → Came o after a
+        → Wrote x o (event_lines e) before after → Came o after a
     broke : BrokeOff BreaksOffByNone o before after → Came o after a
     unknown : o ≡ outcome.OutputFailed → Came o after a
 
   module _ (last : Parser S) (after : Option (List ℕ)) where
     -- the last call gave the stream end event
     ended : (o : LastCall gives contents Ended old last before after asked given) (e : yaml_event_t)
-        → (c : CarriesOn gives o.parser e last (asked ++ o.earlier.more) (given ++ o.earlier.events))
+        → (c : CarriesOn gives o.parser e last (asked ++ o.earlier.carried.more) (given ++ o.earlier.events))
         → WroteForEvent Ended e (contents o.writer) after
-        → Came outcome.Ended after (answers o.earlier.more (answers c.more []))
+        → Came outcome.Ended after (answers o.earlier.carried.more (answers c.more []))
     ended o e c w =
-        let tokens : (asked ++ o.earlier.more) ++ c.more ≡ asked ++ (o.earlier.more ++ c.more) =
-        append_assoc asked o.earlier.more c.more in
-        let events : (given ++ o.earlier.events) ++ e ∷ [] ≡ given ++ (o.earlier.events ++ e ∷ []) =
-        append_assoc given o.earlier.events (e ∷ []) in
-        let history : History last (asked ++ (o.earlier.more ++ c.more)) (given ++ (o.earlier.events ++ e ∷ [])) =
-        subst (λ (l : List yaml_token_t). History last l (given ++ (o.earlier.events ++ e ∷ []))) tokens
-        (subst (History last ((asked ++ o.earlier.more) ++ c.more)) events c.history) in
-        let is_whole : IsWhole (asked ++ (o.earlier.more ++ c.more)) (given ++ (o.earlier.events ++ e ∷ [])) =
-        subst (λ (l : List yaml_token_t). IsWhole l (given ++ (o.earlier.events ++ e ∷ []))) tokens
-        (subst (IsWhole ((asked ++ o.earlier.more) ++ c.more)) events (c.whole w.0)) in
-        stopped (o.earlier.more ++ c.more) [] (o.earlier.events ++ e ∷ []) Ends (answers_both o.earlier.more c.more [])
-        (histories.needed last (asked ++ (o.earlier.more ++ c.more)) (given ++ (o.earlier.events ++ e ∷ [])) history)
-        (nothing_needed (asked ++ (o.earlier.more ++ c.more)) (given ++ (o.earlier.events ++ e ∷ [])))
-        (ended_stop (asked ++ (o.earlier.more ++ c.more)) [] (given ++ (o.earlier.events ++ e ∷ []))
-        (nothing_needed (asked ++ (o.earlier.more ++ c.more)) (given ++ (o.earlier.events ++ e ∷ []))) is_whole) (
+        let so_far = o.earlier.carried in
+        let all = o.earlier.events ++ e ∷ [] in
+        let k = both_calls gives old o.parser last asked given o.earlier.events (e ∷ []) so_far
+        (one_call gives o.parser o.parser last (asked ++ so_far.more) (given ++ o.earlier.events) e c) in
+        let none = nothing_needed (asked ++ k.more) (given ++ all) in
+        stopped k.more [] all Ends (answers_both so_far.more c.more [])
+        (histories.needed last (asked ++ k.more) (given ++ all) k.history) none
+        (ended_stop (asked ++ k.more) [] (given ++ all) none
+        (histories.whole last (c.ends ∙ w.0) (asked ++ k.more) (given ++ all) k.history)) (
           refl,
           subst (Appends before after) (sym (line_after o.earlier.events e))
               (Appends-trans before (contents o.writer) after (concat (event_lines o.earlier.events))
@@ -106,11 +100,25 @@ module _ {S W : Type 0} (gives : S → Answer → S → Type 0) (contents : W �
         )
 
     -- it failed
-    by_fault : (told : yaml_parser_t_prefix) (o : LastCall gives contents (Faulted told) old last before after asked given)
-        → (h : FailsBy gives o.parser last (asked ++ o.earlier.more) (given ++ o.earlier.events))
+    at_stop : (told : yaml_parser_t_prefix) (o : LastCall gives contents (Faulted told) old last before after asked given)
+        → (h : FailsBy gives o.parser last (asked ++ o.earlier.carried.more) (given ++ o.earlier.events))
         → Appends (contents o.writer) after (fault_text (kept_fault last))
-        → Cause o.parser.config (asked ++ o.earlier.more) (given ++ o.earlier.events) h.more (kept_fault last)
-        → Came outcome.Faulted after (answers o.earlier.more h.more)
+        → RunStop (answers (asked ++ o.earlier.carried.more) h.more) (given ++ o.earlier.events) (Fails (kept_fault last))
+        → Came outcome.Faulted after (answers o.earlier.carried.more h.more)
+    at_stop told o h w stop =
+        let k = o.earlier.carried in
+        stopped k.more h.more o.earlier.events (Fails (kept_fault last)) refl
+        (histories.needed o.parser (asked ++ k.more) (given ++ o.earlier.events) k.history) h.needed stop (
+          refl,
+          Appends-trans before (contents o.writer) after (concat (event_lines o.earlier.events))
+              (fault_text (kept_fault last)) o.earlier.wrote w,
+        )
+
+    by_fault : (told : yaml_parser_t_prefix) (o : LastCall gives contents (Faulted told) old last before after asked given)
+        → (h : FailsBy gives o.parser last (asked ++ o.earlier.carried.more) (given ++ o.earlier.events))
+        → Appends (contents o.writer) after (fault_text (kept_fault last))
+        → Cause o.parser.config (asked ++ o.earlier.carried.more) (given ++ o.earlier.events) h.more (kept_fault last)
+        → Came outcome.Faulted after (answers o.earlier.carried.more h.more)
     by_fault told o h w (of_memory l e take meets f) = broke (record {
       faulted = refl;
       fault = kept_fault last;
@@ -119,22 +127,10 @@ module _ {S W : Type 0} (gives : S → Answer → S → Type 0) (contents : W �
       wrote = Appends-trans before (contents o.writer) after (concat (event_lines o.earlier.events))
           (fault_text (kept_fault last)) o.earlier.wrote w;
     })
-    by_fault told o h w (of_grammar l e f)
-        = stopped o.earlier.more h.more o.earlier.events (Fails (kept_fault last)) refl
-        (histories.needed o.parser (asked ++ o.earlier.more) (given ++ o.earlier.events) o.earlier.history) h.needed
-        (grammar_stop (asked ++ o.earlier.more) h.more (given ++ o.earlier.events) (kept_fault last) l e f) (
-          refl,
-          Appends-trans before (contents o.writer) after (concat (event_lines o.earlier.events))
-              (fault_text (kept_fault last)) o.earlier.wrote w,
-        )
-    by_fault told o h w (of_source l e s f)
-        = stopped o.earlier.more h.more o.earlier.events (Fails (kept_fault last)) refl
-        (histories.needed o.parser (asked ++ o.earlier.more) (given ++ o.earlier.events) o.earlier.history) h.needed
-        (source_stop (asked ++ o.earlier.more) h.more (given ++ o.earlier.events) (kept_fault last) l e f) (
-          refl,
-          Appends-trans before (contents o.writer) after (concat (event_lines o.earlier.events))
-              (fault_text (kept_fault last)) o.earlier.wrote w,
-        )
+    by_fault told o h w (of_grammar l e f) = at_stop told o h w
+        (grammar_stop (asked ++ o.earlier.carried.more) h.more (given ++ o.earlier.events) (kept_fault last) l e f)
+    by_fault told o h w (of_source l e s f) = at_stop told o h w
+        (source_stop (asked ++ o.earlier.carried.more) h.more (given ++ o.earlier.events) (kept_fault last) l e f)
 
     came : (end : run_end_t) (o : LastCall gives contents end old last before after asked given)
         → Came (outcome_of end) after (writing_results_of end o)
@@ -142,16 +138,16 @@ module _ {S W : Type 0} (gives : S → Answer → S → Type 0) (contents : W �
       where
         go : (k : CallSays gives (λ e. WroteForEvent Ended e (contents o.writer) after)
             (λ f. WroteFault Ended f (contents o.writer) after) o.parser last
-            (asked ++ o.earlier.more) (given ++ o.earlier.events))
-            → Came outcome.Ended after (answers o.earlier.more (results_in_call k))
+            (asked ++ o.earlier.carried.more) (given ++ o.earlier.events))
+            → Came outcome.Ended after (answers o.earlier.carried.more (results_in_call k))
         go (gave_event e c w) = ended o e c w
         go (failed h w) = absurd w
     came (Faulted told) o = go o.call
       where
         go : (k : CallSays gives (λ e. WroteForEvent (Faulted told) e (contents o.writer) after)
             (λ f. WroteFault (Faulted told) f (contents o.writer) after) o.parser last
-            (asked ++ o.earlier.more) (given ++ o.earlier.events))
-            → Came outcome.Faulted after (answers o.earlier.more (results_in_call k))
+            (asked ++ o.earlier.carried.more) (given ++ o.earlier.events))
+            → Came outcome.Faulted after (answers o.earlier.carried.more (results_in_call k))
         go (gave_event e c w) = broke (record {
           faulted = refl;
           fault = memory_fault;
@@ -164,23 +160,17 @@ module _ {S W : Type 0} (gives : S → Answer → S → Type 0) (contents : W �
     came OutputFailed o = unknown refl
 
 -- two that stopped wrote the same
-both_wrote : (x y : Ending) (o u : Outcome) (d e : List yaml_event_t) (written : List ℕ)
+pub both_wrote : (x y : Ending) (o u : Outcome) (d e : List (List ℕ)) (written : List ℕ)
     (after later : Option (List ℕ)) → x ≡ y → d ≡ e
     → Wrote x o d (Some written) after → Wrote y u e (Some written) later → (o ≡ u) × (after ≡ later)
-both_wrote Ends Ends o u d e written after later i j g h
-    = (
-      g.0 ∙ sym h.0,
-      same_bytes written after later (concat (event_lines d)) (concat (event_lines e))
-          (ap (λ (l : List yaml_event_t). concat (event_lines l)) j) g.1 h.1,
-    )
+both_wrote Ends Ends o u d e written after later i j g h =
+    (g.0 ∙ sym h.0, same_bytes written after later (concat d) (concat e) (ap concat j) g.1 h.1)
 both_wrote Ends (Fails f) o u d e written after later i j g h = absurd cc
 both_wrote (Fails f) Ends o u d e written after later i j g h = absurd cc
 both_wrote (Fails f) (Fails k) o u d e written after later i j g h = (
   g.0 ∙ sym h.0,
-  same_bytes written after later (concat (event_lines d) ++ fault_text f) (concat (event_lines e) ++ fault_text k)
-      (ap (λ (l : List yaml_event_t). concat (event_lines l) ++ fault_text f) j
-      ∙ ap (λ (z : Fault). concat (event_lines e) ++ fault_text z) (fault_same f k i))
-      g.1 h.1,
+  same_bytes written after later (concat d ++ fault_text f) (concat e ++ fault_text k)
+      (ap₂ (λ l z. concat l ++ fault_text z) j (fault_same f k i)) g.1 h.1,
 )
 
 pub one_writing_proof : {S W : Type 0} (gives : S → Answer → S → Type 0) (contents : W → Option (List ℕ))
@@ -210,8 +200,8 @@ one_writing_proof {S} gives contents old p q first second written after later as
         let r = one_run_by_answers (given ++ d) (given ++ c) x y
         (record { asked = asked ++ m; last = u; needed = each; needed_last = then; stop = stop })
         (record { asked = asked ++ n; last = v; needed = other; needed_last = also; stop = halt }) both in
-        let s = both_wrote x y (outcome_of first) (outcome_of second) d c written after later r.2
-        (front_same given d c r.1) w z in
+        let s = both_wrote x y (outcome_of first) (outcome_of second) (event_lines d) (event_lines c) written after
+        later r.2 (ap event_lines (front_same given d c r.1)) w z in
         alike s.0 s.1
 
 -- nothing was left to write

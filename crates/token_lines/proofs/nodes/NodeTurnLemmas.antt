@@ -13,14 +13,14 @@ use Rattle.libyaml_documents.specs.Documents.{Document}
 use Rattle.libyaml_events.specs.machine.Config.{Parser}
 use Rattle.libyaml_types.specs.declared.fault.yaml_parser_t_prefix.{yaml_parser_t_prefix}
 use Rattle.libyaml_types.specs.Fault.{Fault, fault_of}
-use Rattle.libyaml_events.specs.sources.History.{ForHistory, History, has_failed, kept_fault}
+use Rattle.libyaml_events.specs.sources.History.{ForHistory, has_failed, kept_fault}
 use Rattle.libyaml_types.specs.declared.source.yaml_token_source_t.{Ghosts}
 use Rattle.libyaml_events.proofs.lent.Histories as histories
 use Rattle.libyaml_graphs.specs.loads.Bounds.{next_bounded}
 use Rattle.libyaml_graphs.specs.loads.Loads.{left_over}
 use Rattle.libyaml_loader.specs.document.Ids.{magnitude}
 use Rattle.libyaml_loader.specs.loads.Loading.{DocumentOrError, HasEnded, LoadsFrom}
-use Rattle.libyaml_loader.proofs.lent.LoadsInTurn.{LoadedInTurn, none_in_turn}
+use Rattle.libyaml_loader.proofs.lent.LoadsInTurn.{none_in_turn}
 use Rattle.libyaml_loader.proofs.lent.LoadsInTurn as loader
 use Rattle.line_writing.specs.DocumentText.{document_lines}
 use Rattle.line_writing.specs.FaultText.{fault_text}
@@ -51,13 +51,6 @@ keeps_both (Some x) None c h k = absurd h
 keeps_both (Some x) (Some y) None h k = absurd k
 keeps_both (Some x) (Some y) (Some z) h k = k ∙ h
 
--- From the first parser to this one loads returned documents in turn, and the text of each was written.
-pub record WrittenInTurn {S : Type 0} (g : Ghosts S) (n : ℕ) (first now : Parser S)
-    (before after : Option (List ℕ)) : Type 0 where
-  pub documents : List Document
-  pub loaded : LoadedInTurn g n first now documents
-  pub wrote : Appends before after (concat (flat_map document_lines documents))
-
 module _ {S : Type 0} (g : Ghosts S) (n : ℕ) where
   pub turn_of : (s : RunStep) (p q : Parser S) (b c : Option (List ℕ)) (r a : DocumentOrError) → r ≡ a
       → LoadsFrom g (next_bounded n) left_over p r q → StepForLoad s a (kept_fault q) b c
@@ -71,8 +64,12 @@ module _ {S : Type 0} (g : Ghosts S) (n : ℕ) where
         ends = ends;
       }
 
-  pub none_loaded : (p : Parser S) (x : Option (List ℕ)) → WrittenInTurn g n p p x x
-  none_loaded p x = record { documents = []; loaded = none_in_turn g n p; wrote = Appends-nil x }
+  pub none_loaded : (p : Parser S) (x : Option (List ℕ)) → ForHistory p (AllLoaded g.gives n p p x x)
+  none_loaded p x asked given h = record {
+    documents = [];
+    loaded = none_in_turn g n asked given p h;
+    wrote = Appends-nil x;
+  }
 
   texts_more : (ds : List Document) (d : Document)
       → concat (flat_map document_lines ds) ++ concat (document_lines d) ≡ concat (flat_map document_lines (ds ++ d ∷ []))
@@ -83,36 +80,20 @@ module _ {S : Type 0} (g : Ghosts S) (n : ℕ) where
       ∙ ap (λ (l : List ℕ). concat (document_lines e) ++ l) (texts_more ds d)
       ∙ sym (concat-append (document_lines e) (flat_map document_lines (ds ++ d ∷ [])))
 
-  pub one_loaded : (first p q : Parser S) (a b c : Option (List ℕ)) → WrittenInTurn g n first p a b
-      → LoadTurn g n step.Written p q b c → WrittenInTurn g n first q a c
-  one_loaded first p q a b c w turn = go turn.loaded turn.load turn.wrote
+  pub one_loaded : (first p q : Parser S) (a b c : Option (List ℕ)) (asked : List yaml_token_t)
+      (given : List yaml_event_t) → AllLoaded g.gives n first p a b asked given
+      → LoadTurn g n step.Written p q b c → AllLoaded g.gives n first q a c asked given
+  one_loaded first p q a b c asked given w turn = go turn.loaded turn.load turn.wrote
     where
       go : (r : DocumentOrError) → LoadsFrom g (next_bounded n) left_over p r q
-          → StepForLoad step.Written r (kept_fault q) b c → WrittenInTurn g n first q a c
+          → StepForLoad step.Written r (kept_fault q) b c → AllLoaded g.gives n first q a c asked given
       go (Ok d) load (some, wrote) = record {
         documents = w.documents ++ d ∷ [];
-        loaded = loader.one_more g n first p q w.documents d w.loaded load some;
+        loaded = loader.one_more g n asked given first p q w.documents d w.loaded load some;
         wrote = subst (Appends a c) (texts_more w.documents d)
             (Appends-trans a b c (concat (flat_map document_lines w.documents)) (concat (document_lines d)) w.wrote wrote);
       }
       go (Err x) load wrote = absurd wrote
-
-  -- as what was asked for and given since
-  all_loaded : (first p : Parser S) (a b : Option (List ℕ)) → WrittenInTurn g n first p a b
-      → (asked : List yaml_token_t) (given : List yaml_event_t) → History first asked given
-      → AllLoaded g.gives n first p a b asked given
-  all_loaded first p a b w asked given history =
-      let on = w.loaded.took.history asked given history in
-      record {
-        more = on.more;
-        events = w.loaded.taken;
-        documents = w.documents;
-        gave = on.gave;
-        history = on.history;
-        loads = w.loaded.loads;
-        roots = w.loaded.roots;
-        wrote = w.wrote;
-      }
 
 -- nothing more was written
 pub loads_end : (end : run_end_t) (kept : Fault) (b c d : Option (List ℕ)) → (end ≡ Ended) ⊎ (end ≡ OutputFailed)
@@ -162,15 +143,15 @@ module _ {S : Type 0} (g : Ghosts S) (s : RunStep) (p q : Parser S) (b c : Optio
 pub last_load_at : {S W : Type 0} (g : Ghosts S) (contents : W → Option (List ℕ)) (end : run_end_t) (s : RunStep)
     (first p q : Parser S) (writer : W) (a c d : Option (List ℕ)) (asked : List yaml_token_t)
     (given : List yaml_event_t) → p.max_entries ≡ first.max_entries
-    → WrittenInTurn g (magnitude first.max_entries) first p a (contents writer)
+    → AllLoaded g.gives (magnitude first.max_entries) first p a (contents writer) asked given
     → (has_failed p ≡ false → LoadTurn g (magnitude p.max_entries) s p q (contents writer) c)
     → ((r : DocumentOrError) → StepForLoad s r (kept_fault q) (contents writer) c
     → WroteForLoad end r (kept_fault q) (contents writer) d)
-    → (end ≡ Ended → s ≡ step.Ended) → History first asked given
+    → (end ≡ Ended → s ≡ step.Ended)
     → LastLoad g contents (magnitude first.max_entries) end first q a d asked given
-last_load_at g contents end s first p q writer a c d asked given bound w turns wrote ended history =
-    let earlier = all_loaded g (magnitude first.max_entries) first p a (contents writer) w asked given history in
-    let running = histories.faultless p (asked ++ earlier.more) (given ++ earlier.events) earlier.history in
+last_load_at g contents end s first p q writer a c d asked given bound earlier turns wrote ended =
+    let before = earlier.loaded.carried in
+    let running = histories.faultless p (asked ++ before.more) (given ++ earlier.loaded.taken) before.history in
     let turn = turn_at g s p q (contents writer) c p.max_entries first.max_entries bound turns running in
     record {
       parser = p;
@@ -179,6 +160,6 @@ last_load_at g contents end s first p q writer a c d asked given bound w turns w
       loaded = turn.loaded;
       load = turn.load;
       wrote = wrote turn.loaded turn.wrote;
-      ends = λ (is : end ≡ Ended). turn.ends (ended is) (asked ++ earlier.more)
-          (given ++ earlier.events) earlier.history;
+      ends = λ (is : end ≡ Ended). turn.ends (ended is) (asked ++ before.more)
+          (given ++ earlier.loaded.taken) before.history;
     }

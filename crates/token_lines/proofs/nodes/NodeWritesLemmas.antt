@@ -71,9 +71,9 @@ module _ {S W : Type 0} (g : Ghosts S)
     (contents : W → Option (List ℕ)) (n : ℕ) (first last : Parser S) (before after : Option (List ℕ))
     (events : List yaml_event_t) (ending : Ending) (run : RunToCome g.known first events ending) (result : run_end_t)
     (l : LastLoad g contents n result first last before after run.asked run.given) where
-  rest : RestOfRun g.known l.parser l.earlier.events events ending
-  rest = further g follows first l.parser events ending run l.earlier.more l.earlier.events
-      l.earlier.gave l.earlier.history
+  rest : RestOfRun g.known l.parser l.earlier.loaded.taken events ending
+  rest = let k = l.earlier.loaded.carried in
+      further g follows first l.parser events ending run k.more l.earlier.loaded.taken k.gave k.history
 
   abbrev later : List Load
   later = bounded_loads n rest.later ending
@@ -85,10 +85,10 @@ module _ {S W : Type 0} (g : Ghosts S)
   earlier = flat_map document_lines l.earlier.documents
 
   all : loads ≡ map Ok l.earlier.documents ++ later
-  all = ap (λ (e : List yaml_event_t). bounded_loads n e ending) rest.all ∙ l.earlier.loads rest.later ending
+  all = ap (λ (e : List yaml_event_t). bounded_loads n e ending) rest.all ∙ l.earlier.loaded.loads rest.later ending
 
   lines : loads_lines loads ≡ earlier ++ loads_lines later
-  lines = ap loads_lines all ∙ lines_of l.earlier.documents l.earlier.roots later
+  lines = ap loads_lines all ∙ lines_of l.earlier.documents l.earlier.loaded.roots later
 
   ends : loads_ending loads ≡ loads_ending later
   ends = ap loads_ending all ∙ ending_of l.earlier.documents later

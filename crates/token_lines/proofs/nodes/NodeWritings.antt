@@ -10,15 +10,16 @@ use Rattle.libyaml_documents.specs.Documents.{Document, empty_document}
 use Rattle.libyaml_events.specs.machine.Config.{Parser}
 use Rattle.libyaml_events.specs.sources.CallsInTurn.{CarriedOn}
 use Rattle.libyaml_events.specs.sources.Determined.{BeginsEachRun, OneBegins}
-use Rattle.libyaml_events.specs.sources.History.{History, answers, kept_fault}
+use Rattle.libyaml_events.specs.sources.History.{answers, kept_fault}
 use Rattle.libyaml_events.specs.sources.Needs.{EachNeeded, EachWasNeeded}
-use Rattle.libyaml_events.specs.sources.Parsing.{Cause, FailsBy, IsWhole, of_grammar, of_memory, of_source}
+use Rattle.libyaml_events.specs.sources.Parsing.{Cause, FailsBy, of_grammar, of_memory, of_source}
+use Rattle.libyaml_events.proofs.lent.CallsInTurn.{both_calls}
 use Rattle.libyaml_events.proofs.lent.OneOutcome.{front_same}
 use Rattle.libyaml_events.proofs.lent.RunStops.{RunStop, answers_both, begins_stopped, ended_stop, grammar_stop, one_run_by_answers, source_stop, taken_comparable}
 use Rattle.libyaml_events.proofs.lent.Histories as histories
 use Rattle.libyaml_grammar.specs.cuts.Settled.{Begins}
 use Rattle.libyaml_grammar.specs.runs.Runs.{Ending, Ends, Fails}
-use Rattle.libyaml_grammar.proofs.lent.Same.{ok_not_err, fault_same}
+use Rattle.libyaml_grammar.proofs.lent.Same.{ok_not_err}
 use Rattle.libyaml_graphs.specs.loads.Bounds.{bounded_loads, next_bounded}
 use Rattle.libyaml_graphs.specs.loads.GraphLaws.{RootsFollow}
 use Rattle.libyaml_graphs.specs.loads.Loads.{Load, last_load, left_over}
@@ -39,32 +40,7 @@ use Rattle.token_lines.specs.lines.LineRun.{outcome_of}
 use Rattle.token_lines.specs.lines.OneOutput.{BrokeOff, OneOutput, alike, first_breaks, output_failed, second_breaks}
 use Rattle.token_lines.specs.lines.OneWriting.{BreaksOffByNone, results_of_nodes}
 use Rattle.token_lines.specs.nodes.LastLoad.{CutText, LastLoad, WroteForLoad}
-use Rattle.token_lines.proofs.lines.OneOutputs.{same_bytes}
-use Rattle.token_lines.proofs.lines.OneWritings.{after_asked, nothing_needed}
-
--- what was written of documents and an ending
-abbrev Wrote : Ending → Outcome → List Document → (before after : Option (List ℕ)) → Type 0
-Wrote Ends o docs before after = (o ≡ outcome.Ended) × Appends before after (concat (flat_map document_lines docs))
-Wrote (Fails f) o docs before after = (o ≡ outcome.Faulted)
-    × Appends before after (concat (flat_map document_lines docs) ++ fault_text f)
-
-both_wrote : (x y : Ending) (o u : Outcome) (d e : List Document) (written : List ℕ) (after later : Option (List ℕ))
-    → x ≡ y → d ≡ e
-    → Wrote x o d (Some written) after → Wrote y u e (Some written) later → (o ≡ u) × (after ≡ later)
-both_wrote Ends Ends o u d e written after later i j g h = (
-  g.0 ∙ sym h.0,
-  same_bytes written after later (concat (flat_map document_lines d)) (concat (flat_map document_lines e))
-      (ap (λ (l : List Document). concat (flat_map document_lines l)) j) g.1 h.1,
-)
-both_wrote Ends (Fails f) o u d e written after later i j g h = absurd cc
-both_wrote (Fails f) Ends o u d e written after later i j g h = absurd cc
-both_wrote (Fails f) (Fails k) o u d e written after later i j g h = (
-  g.0 ∙ sym h.0,
-  same_bytes written after later (concat (flat_map document_lines d) ++ fault_text f)
-      (concat (flat_map document_lines e) ++ fault_text k)
-      (ap (λ (l : List Document). concat (flat_map document_lines l) ++ fault_text f) j
-      ∙ ap (λ (z : Fault). concat (flat_map document_lines e) ++ fault_text z) (fault_same f k i)) g.1 h.1,
-)
+use Rattle.token_lines.proofs.lines.OneWritings.{Wrote, after_asked, both_wrote, nothing_needed}
 
 after_given : (given a b : List yaml_event_t) → Begins (given ++ a) (given ++ b) → Begins a b
 after_given given a b h = (h.0, front_same given b (a ++ h.0) (h.1 ∙ append_assoc given a h.0))
@@ -82,13 +58,13 @@ module _ {S W : Type 0} (g : Ghosts S) (contents : W → Option (List ℕ)) (n :
         → a ≡ answers m u
         → EachWasNeeded [] (asked ++ m) [] (given ++ e) → EachNeeded (asked ++ m) u (given ++ e)
         → RunStop (answers (asked ++ m) u) (given ++ e) x
-        → bounded_loads n e x ≡ map Ok d ++ last_load x ∷ [] → Wrote x o d before after → Came o after a
+        → bounded_loads n e x ≡ map Ok d ++ last_load x ∷ [] → Wrote x o (flat_map document_lines d) before after → Came o after a
     composer : (m : List yaml_token_t) (e : List yaml_event_t) (d : List Document) (f : Fault) → a ≡ answers m []
         → EachWasNeeded [] (asked ++ m) [] (given ++ e)
         → BeginsEachRun (asked ++ m) (given ++ e)
         → ((rest : List yaml_event_t) (x : Ending) → bounded_loads n (e ++ rest) x ≡ map Ok d
         ++ last_load (Fails f) ∷ [])
-        → Wrote (Fails f) o d before after → Came o after a
+        → Wrote (Fails f) o (flat_map document_lines d) before after → Came o after a
     broke : BrokeOff BreaksOffByNone o before after → Came o after a
     unknown : o ≡ outcome.OutputFailed → Came o after a
 
@@ -96,26 +72,26 @@ module _ {S W : Type 0} (g : Ghosts S) (contents : W → Option (List ℕ)) (n :
     abbrev Of : run_end_t → Type 0
     Of end = LastLoad g contents n end old last before after asked given
 
+    abbrev so_far : (end : run_end_t) → (o : Of end) → CarriedOn g.gives old o.parser asked given o.earlier.loaded.taken
+    so_far end o = o.earlier.loaded.carried
+
     -- the events of a load are further ones of the run
-    further : (end : run_end_t) (o : Of end) (p : Parser S) (taken : List yaml_event_t)
-        → (c : CarriedOn g.gives o.parser p (asked ++ o.earlier.more) (given ++ o.earlier.events) taken)
-        → History p (asked ++ (o.earlier.more ++ c.more)) (given ++ (o.earlier.events ++ taken))
-    further end o p taken c =
-        subst (λ (l : List yaml_token_t). History p l (given ++ (o.earlier.events ++ taken)))
-        (append_assoc asked o.earlier.more c.more)
-        (subst (History p ((asked ++ o.earlier.more) ++ c.more)) (append_assoc given o.earlier.events taken) c.history)
+    abbrev further : (end : run_end_t) → (o : Of end) → (p : Parser S) → (taken : List yaml_event_t)
+        → CarriedOn g.gives o.parser p (asked ++ (so_far end o).more) (given ++ o.earlier.loaded.taken) taken
+        → CarriedOn g.gives old p asked given (o.earlier.loaded.taken ++ taken)
+    further end o p taken c = both_calls g.gives old o.parser p asked given o.earlier.loaded.taken taken (so_far end o) c
 
     all_loads : (end : run_end_t) (o : Of end) (taken : List yaml_event_t) (x : Ending) (z : Load)
         → bounded_loads n taken x ≡ z ∷ []
-        → bounded_loads n (o.earlier.events ++ taken) x ≡ map Ok o.earlier.documents ++ z ∷ []
-    all_loads end o taken x z e = o.earlier.loads taken x ∙ ap (λ (l : List Load). map Ok o.earlier.documents ++ l) e
+        → bounded_loads n (o.earlier.loaded.taken ++ taken) x ≡ map Ok o.earlier.documents ++ z ∷ []
+    all_loads end o taken x z e = o.earlier.loaded.loads taken x ∙ ap (λ (l : List Load). map Ok o.earlier.documents ++ l) e
 
     roots : (end : run_end_t) (o : Of end) (p : Parser S) (taken : List yaml_event_t)
-        → (c : CarriedOn g.gives o.parser p (asked ++ o.earlier.more) (given ++ o.earlier.events) taken)
+        → (c : CarriedOn g.gives o.parser p (asked ++ (so_far end o).more) (given ++ o.earlier.loaded.taken) taken)
         → RootsFollow taken
-    roots end o p taken c = roots_behind (given ++ o.earlier.events) taken
-        (roots_follow ((given ++ o.earlier.events) ++ taken)
-        (histories.nests p ((asked ++ o.earlier.more) ++ c.more) ((given ++ o.earlier.events) ++ taken) c.history))
+    roots end o p taken c = roots_behind (given ++ o.earlier.loaded.taken) taken
+        (roots_follow ((given ++ o.earlier.loaded.taken) ++ taken)
+        (histories.nests p ((asked ++ (so_far end o).more) ++ c.more) ((given ++ o.earlier.loaded.taken) ++ taken) c.history))
 
     abbrev text : (end : run_end_t) → Of end → List ℕ
     text end o = concat (flat_map document_lines o.earlier.documents)
@@ -140,18 +116,18 @@ module _ {S W : Type 0} (g : Ghosts S) (contents : W → Option (List ℕ)) (n :
     }
 
     abbrev asked_there : (end : run_end_t) → Of end → List yaml_token_t
-    asked_there end o = asked ++ o.earlier.more
+    asked_there end o = asked ++ (so_far end o).more
 
     abbrev given_there : (end : run_end_t) → Of end → List yaml_event_t
-    given_there end o = given ++ o.earlier.events
+    given_there end o = given ++ o.earlier.loaded.taken
 
     abbrev FromHere : (end : run_end_t) → Of end → DocumentOrError → Type 0
     FromHere end o r = LoadsFrom g (next_bounded n) left_over o.parser r last
 
     abbrev results : (end : run_end_t) (o : Of end) (r : DocumentOrError) → FromHere end o r → List Answer
-    results end o r l = answers o.earlier.more
+    results end o r l = answers (so_far end o).more
         (results_in g (next_bounded n) left_over o.parser last (asked_there end o)
-        (given_there end o) o.earlier.history r l)
+        (given_there end o) (so_far end o).history r l)
 
     -- the same of lists that were put together the other way round
     moved : (P : List yaml_token_t → List yaml_event_t → Type 0) (a b : List yaml_token_t) (d e : List yaml_event_t)
@@ -166,29 +142,49 @@ module _ {S W : Type 0} (g : Ghosts S) (contents : W → Option (List ℕ)) (n :
         → Came outcome.Ended after (results Ended o r l)
     ended o (Err x) l w = absurd w
     ended o (Ok d) (whole taken took load leaves stands) w =
-        let c = took.history (asked_there Ended o) (given_there Ended o) o.earlier.history in
+        let c = took.history (asked_there Ended o) (given_there Ended o) (so_far Ended o).history in
         let here : next_bounded n taken (Fails no_fault) ≡ Ok d =
         ap (λ (l : List yaml_event_t). next_bounded n l (Fails no_fault)) (sym (append-nil taken))
         ∙ load [] (Fails no_fault) in
         absurd (ok_not_err d no_fault (sym (last_of taken (Fails no_fault) n d (roots Ended o last taken c) here w.0).1))
     ended o (Ok d) (at_end taken took load leaves runs is over) w =
-        let c = took.history (asked_there Ended o) (given_there Ended o) o.earlier.history in
-        let history = further Ended o last taken c in
-        let asked_all = asked ++ (o.earlier.more ++ c.more) in
-        let given_all = given ++ (o.earlier.events ++ taken) in
-        let is_whole : IsWhole asked_all given_all =
-        (over (asked_there Ended o) (given_there Ended o) o.earlier.history).whole asked_all given_all history
-        in
-        stopped (o.earlier.more ++ c.more) [] (o.earlier.events ++ taken) o.earlier.documents Ends
-        (answers_both o.earlier.more c.more [])
-        (histories.needed last asked_all given_all history) (nothing_needed asked_all given_all)
-        (ended_stop asked_all [] given_all (nothing_needed asked_all given_all) is_whole)
+        let c = took.history (asked_there Ended o) (given_there Ended o) (so_far Ended o).history in
+        let k = further Ended o last taken c in
+        let all = o.earlier.loaded.taken ++ taken in
+        let none = nothing_needed (asked ++ k.more) (given ++ all) in
+        stopped k.more [] all o.earlier.documents Ends (answers_both (so_far Ended o).more c.more [])
+        (histories.needed last (asked ++ k.more) (given ++ all) k.history) none
+        (ended_stop (asked ++ k.more) [] (given ++ all) none ((over (asked_there Ended o) (given_there Ended o)
+        (so_far Ended o).history).whole (asked ++ k.more) (given ++ all) k.history))
         (all_loads Ended o taken Ends (last_load Ends)
         (last_of taken Ends n (empty_document None [] false false) (roots Ended o last taken c)
         (load Ends) refl).0)
         (refl, Appends-kept before (contents o.writer) after (text Ended o) o.earlier.wrote w.1)
 
     -- it failed
+    at_stop : (told : yaml_parser_t_prefix) (o : Of (Faulted told)) (parser : Parser S) (taken : List yaml_event_t)
+        → (c : CarriedOn g.gives o.parser parser (asked_there (Faulted told) o) (given_there (Faulted told) o) taken)
+        → (load : (x : Ending) → next_bounded n taken x ≡ last_load x)
+        → Appends (contents o.writer) after (fault_text (kept_fault last))
+        → (h : FailsBy g.gives parser last (asked_there (Faulted told) o ++ c.more)
+        (given_there (Faulted told) o ++ taken))
+        → RunStop (answers (asked_there (Faulted told) o ++ c.more) h.more) (given_there (Faulted told) o ++ taken)
+        (Fails (kept_fault last))
+        → Came outcome.Faulted after (answers (so_far (Faulted told) o).more (answers c.more h.more))
+    at_stop told o parser taken c load w h stop =
+        let before = so_far (Faulted told) o in
+        let k = further (Faulted told) o parser taken c in
+        let first = o.earlier.loaded.taken in
+        let x = Fails (kept_fault last) in
+        stopped k.more h.more (first ++ taken) o.earlier.documents x (answers_both before.more c.more h.more)
+        (histories.needed parser (asked ++ k.more) (given ++ (first ++ taken)) k.history)
+        (moved (λ (l : List yaml_token_t) (v : List yaml_event_t). EachNeeded l h.more v) before.more c.more
+        first taken h.needed)
+        (moved (λ (l : List yaml_token_t) (v : List yaml_event_t). RunStop (answers l h.more) v x)
+        before.more c.more first taken stop)
+        (all_loads (Faulted told) o taken x (Err (kept_fault last)) (fault_of taken x n (kept_fault last) (load x)))
+        (refl, faulted told o (kept_fault last) w)
+
     by_cause : (told : yaml_parser_t_prefix) (o : Of (Faulted told)) (parser : Parser S) (taken : List yaml_event_t)
         → (c : CarriedOn g.gives o.parser parser (asked_there (Faulted told) o) (given_there (Faulted told) o) taken)
         → (load : (x : Ending) → next_bounded n taken x ≡ last_load x)
@@ -197,7 +193,7 @@ module _ {S W : Type 0} (g : Ghosts S) (contents : W → Option (List ℕ)) (n :
         (given_there (Faulted told) o ++ taken))
         → Cause parser.config (asked_there (Faulted told) o ++ c.more) (given_there (Faulted told) o ++ taken)
         h.more (kept_fault last)
-        → Came outcome.Faulted after (answers o.earlier.more (answers c.more h.more))
+        → Came outcome.Faulted after (answers (so_far (Faulted told) o).more (answers c.more h.more))
     by_cause told o parser taken c load w h (of_memory l e take meets f) = broke (record {
       faulted = refl;
       fault = kept_fault last;
@@ -205,61 +201,37 @@ module _ {S W : Type 0} (g : Ghosts S) (contents : W → Option (List ℕ)) (n :
       written = text (Faulted told) o;
       wrote = faulted told o (kept_fault last) w;
     })
-    by_cause told o parser taken c load w h (of_grammar l e f)
-        = stopped (o.earlier.more ++ c.more) h.more (o.earlier.events ++ taken) o.earlier.documents
-        (Fails (kept_fault last))
-        (answers_both o.earlier.more c.more h.more)
-        (histories.needed parser (asked ++ (o.earlier.more ++ c.more)) (given ++ (o.earlier.events ++ taken))
-        (further (Faulted told) o parser taken c))
-        (moved (λ (l : List yaml_token_t) (v : List yaml_event_t). EachNeeded l h.more v) o.earlier.more c.more
-        o.earlier.events taken h.needed)
-        (moved (λ (l : List yaml_token_t) (v : List yaml_event_t). RunStop (answers l h.more) v
-        (Fails (kept_fault last))) o.earlier.more c.more o.earlier.events taken
+    by_cause told o parser taken c load w h (of_grammar l e f) = at_stop told o parser taken c load w h
         (grammar_stop (asked_there (Faulted told) o ++ c.more) h.more (given_there (Faulted told) o ++ taken)
-        (kept_fault last) l e f))
-        (all_loads (Faulted told) o taken (Fails (kept_fault last)) (Err (kept_fault last))
-        (fault_of taken (Fails (kept_fault last)) n (kept_fault last) (load (Fails (kept_fault last)))))
-        (refl, faulted told o (kept_fault last) w)
-    by_cause told o parser taken c load w h (of_source l e s f)
-        = stopped (o.earlier.more ++ c.more) h.more (o.earlier.events ++ taken) o.earlier.documents
-        (Fails (kept_fault last))
-        (answers_both o.earlier.more c.more h.more)
-        (histories.needed parser (asked ++ (o.earlier.more ++ c.more)) (given ++ (o.earlier.events ++ taken))
-        (further (Faulted told) o parser taken c))
-        (moved (λ (l : List yaml_token_t) (v : List yaml_event_t). EachNeeded l h.more v) o.earlier.more c.more
-        o.earlier.events taken h.needed)
-        (moved (λ (l : List yaml_token_t) (v : List yaml_event_t). RunStop (answers l h.more) v
-        (Fails (kept_fault last))) o.earlier.more c.more o.earlier.events taken
+        (kept_fault last) l e f)
+    by_cause told o parser taken c load w h (of_source l e s f) = at_stop told o parser taken c load w h
         (source_stop (asked_there (Faulted told) o ++ c.more) h.more (given_there (Faulted told) o ++ taken)
-        (kept_fault last) l e f))
-        (all_loads (Faulted told) o taken (Fails (kept_fault last)) (Err (kept_fault last))
-        (fault_of taken (Fails (kept_fault last)) n (kept_fault last) (load (Fails (kept_fault last)))))
-        (refl, faulted told o (kept_fault last) w)
+        (kept_fault last) l e f)
 
     failed : (told : yaml_parser_t_prefix) (o : Of (Faulted told)) (r : DocumentOrError)
         (l : FromHere (Faulted told) o r) → WroteForLoad (Faulted told) r (kept_fault last) (contents o.writer) after
         → Came outcome.Faulted after (results (Faulted told) o r l)
     failed told o (Ok d) l w = broke (cut told o d w.2)
     failed told o (Err x) (by_parser taken parser took fails load) w =
-        let c = took.history (asked_there (Faulted told) o) (given_there (Faulted told) o) o.earlier.history in
+        let c = took.history (asked_there (Faulted told) o) (given_there (Faulted told) o) (so_far (Faulted told) o).history in
         let h = fails.history (asked_there (Faulted told) o ++ c.more) (given_there (Faulted told) o ++ taken) c.history in
         by_cause told o parser taken c load w.1 h h.cause
     failed told o (Err x) (by_loader prior e parser took f kept waits load) w =
-        let c = took.history (asked_there (Faulted told) o) (given_there (Faulted told) o) o.earlier.history in
+        let c = took.history (asked_there (Faulted told) o) (given_there (Faulted told) o) (so_far (Faulted told) o).history in
         let taken = prior ++ e ∷ [] in
-        let history = further (Faulted told) o parser taken c in
+        let k = further (Faulted told) o parser taken c in
+        let all = o.earlier.loaded.taken ++ taken in
         let is : kept_fault last ≡ f = ap (λ (p : Parser S). p.config.fault)
         (kept (asked_there (Faulted told) o ++ c.more) (given_there (Faulted told) o ++ taken) c.history) in
-        composer (o.earlier.more ++ c.more) (o.earlier.events ++ taken) o.earlier.documents f
-        (answers_both o.earlier.more c.more [])
-        (histories.needed parser (asked ++ (o.earlier.more ++ c.more)) (given ++ (o.earlier.events ++ taken)) history)
-        (histories.begins_each_run parser (asked ++ (o.earlier.more ++ c.more)) (given ++ (o.earlier.events ++ taken)) history)
-        (λ rest y. ap (λ (l : List yaml_event_t). bounded_loads n l y) (append_assoc o.earlier.events taken rest)
-        ∙ (o.earlier.loads (taken ++ rest) y ∙ ap (λ (l : List Load). map Ok o.earlier.documents ++ l)
+        composer k.more all o.earlier.documents f (answers_both (so_far (Faulted told) o).more c.more [])
+        (histories.needed parser (asked ++ k.more) (given ++ all) k.history)
+        (histories.begins_each_run parser (asked ++ k.more) (given ++ all) k.history)
+        (λ rest y. ap (λ (l : List yaml_event_t). bounded_loads n l y) (append_assoc o.earlier.loaded.taken taken rest)
+        ∙ (o.earlier.loaded.loads (taken ++ rest) y ∙ ap (λ (l : List Load). map Ok o.earlier.documents ++ l)
         (fault_of (taken ++ rest) y n f (load rest y))))
         (refl, faulted told o f (subst (λ (v : Fault). Appends (contents o.writer) after (fault_text v)) is w.1))
     failed told o (Err x) (by_memory prior e parser took kept grows) w =
-        let c = took.history (asked_there (Faulted told) o) (given_there (Faulted told) o) o.earlier.history in
+        let c = took.history (asked_there (Faulted told) o) (given_there (Faulted told) o) (so_far (Faulted told) o).history in
         broke (record {
           faulted = refl;
           fault = kept_fault last;
@@ -314,10 +286,12 @@ one_writing_of_nodes_proof {S} g contents n old p q first second written
         (ap (λ (z : List yaml_event_t). bounded_loads n z (Fails x)) (sym (append-nil t)) ∙ k [] (Fails x)) h
 
     alike_by : (x y : Ending) (d c : List Document) → (d ≡ c) × (x ≡ y)
-        → Wrote x (outcome_of first) d (Some written) after → Wrote y (outcome_of second) c (Some written) later
+        → Wrote x (outcome_of first) (flat_map document_lines d) (Some written) after
+        → Wrote y (outcome_of second) (flat_map document_lines c) (Some written) later
         → OneOutput BreaksOffByNone BreaksOffByNone (outcome_of first) (outcome_of second) (Some written) after later
-    alike_by x y d c s w z = let r = both_wrote x y (outcome_of first) (outcome_of second) d c written after later
-        s.1 s.0 w z in alike r.0 r.1
+    alike_by x y d c s w z = let r = both_wrote x y (outcome_of first) (outcome_of second)
+        (flat_map document_lines d) (flat_map document_lines c) written after later s.1
+        (ap (flat_map document_lines) s.0) w z in alike r.0 r.1
 
     go : (k l : List Answer) → OneBegins k l → Came g contents n old
         (Some written) asked given (outcome_of first) after k → Came g contents n old (Some written) asked given

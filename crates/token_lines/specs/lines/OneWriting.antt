@@ -27,16 +27,16 @@ abbrev pub writing_results_of : {S W : Type 0} {gives : S → Answer → S → T
     {first last : Parser S}
     {before after : Option (List ℕ)} {asked : List yaml_token_t} {given : List yaml_event_t}
     → (end : run_end_t) → LastCall gives contents end first last before after asked given → List Answer
-writing_results_of end o = answers o.earlier.more (results_in_call o.call)
+writing_results_of end o = answers o.earlier.carried.more (results_in_call o.call)
 
 -- likewise of documents, whose last load names what it asked for
 abbrev pub results_of_nodes : {S W : Type 0} {g : Ghosts S} {contents : W → Option (List ℕ)} {n : ℕ} {end : run_end_t}
     {first last : Parser S} {before after : Option (List ℕ)} {asked : List yaml_token_t} {given : List yaml_event_t}
     → LastLoad g contents n end first last before after asked given → List Answer
 results_of_nodes {g} {n} {last} {asked} {given} o
-    = answers o.earlier.more (results_in g (next_bounded n) left_over o.parser last
-    (asked ++ o.earlier.more) (given ++ o.earlier.events)
-    o.earlier.history o.loaded o.load)
+    = let before = o.earlier.loaded in
+    answers before.carried.more (results_in g (next_bounded n) left_over o.parser last
+    (asked ++ before.carried.more) (given ++ before.taken) before.carried.history o.loaded o.load)
 
 -- such a source fails early by no error
 abbrev pub BreaksOffByNone : Fault → Type 0

@@ -1,21 +1,20 @@
 -- That no document is held back: the text of each is written before anything of the next is asked for
 -- (docs/DEFINITIONS.md, "Runs over lines").
-use Rattle.std.specs.Prelude.{◌≡◌, ◌≤◌, ◌*◌, ◌-◌, ◌++◌, ◌∷◌, ℕ, List, [], length, map, Option, Ok, Err, ◌≢◌, All}
+use Rattle.std.specs.Prelude.{◌≡◌, ◌≤◌, ◌*◌, ◌-◌, ◌++◌, ◌∷◌, ℕ, List, [], length, Option, Ok, Err, ◌≢◌}
 use Rattle.std.specs.List.{concat, flat_map}
 use Rattle.std.specs.Io.KnownBytes.{Appends, Keeps}
 use Rattle.libyaml_types.specs.declared.event.yaml_event_t.{yaml_event_t}
 use Rattle.libyaml_types.specs.declared.token.yaml_token_t.{yaml_token_t}
 use Rattle.libyaml_documents.specs.Documents.{Document}
-use Rattle.libyaml_events.specs.sources.Calls.{Gave}
 use Rattle.libyaml_events.specs.machine.Config.{Parser}
 use Rattle.libyaml_types.specs.Fault.{Answer, Fault, fault_of, memory_fault}
-use Rattle.libyaml_events.specs.sources.History.{History, answers, kept_fault}
-use Rattle.libyaml_grammar.specs.runs.Runs.{Ending}
+use Rattle.libyaml_events.specs.sources.History.{kept_fault}
 use Rattle.libyaml_types.specs.declared.source.yaml_token_source_t.{Ghosts}
-use Rattle.libyaml_graphs.specs.loads.Bounds.{bounded_loads, next_bounded}
+use Rattle.libyaml_graphs.specs.loads.Bounds.{next_bounded}
 use Rattle.libyaml_graphs.specs.loads.Linear.{documents_size}
-use Rattle.libyaml_graphs.specs.loads.Loads.{Load, left_over}
+use Rattle.libyaml_graphs.specs.loads.Loads.{left_over}
 use Rattle.libyaml_loader.specs.loads.Loading.{DocumentOrError, HasEnded, LoadsFrom}
+use Rattle.libyaml_loader.specs.loads.LoadsInTurn.{LoadedInTurn}
 use Rattle.line_reading.specs.sources.LineSource.{LineSource, BreaksOff, Gives, known_of}
 use Rattle.line_writing.specs.DocumentText.{document_lines}
 use Rattle.line_writing.specs.FaultText.{fault_text}
@@ -43,19 +42,12 @@ WroteForLoad (Faulted f) (Ok d) kept before after = (fault_of f ≡ memory_fault
 WroteForLoad OutputFailed (Ok d) kept before after = Unit {0}
 WroteForLoad end (Err x) kept before after = WroteFault end kept before after
 
--- From the first parser to this one the source gave these tokens more and the parser these events, whose loads are these
--- documents, whatever follows them; each has a root, and its text was written.
+-- From the first parser to this one loads returned these documents, and the text of each was written.
 pub record AllLoaded {S : Type 0} (gives : S → Answer → S
     → Type 0) (n : ℕ) (first parser : Parser S) (before after : Option (List ℕ)) (asked : List yaml_token_t)
     (given : List yaml_event_t) : Type 0 where
-  pub more : List yaml_token_t
-  pub events : List yaml_event_t
   pub documents : List Document
-  pub gave : Gave gives first.source (answers more []) parser.source
-  pub history : History parser (asked ++ more) (given ++ events)
-  pub loads : (rest : List yaml_event_t) (x : Ending) → ◌≡◌ {A = List Load} (bounded_loads n (events ++ rest) x)
-      (map Ok documents ++ bounded_loads n rest x)
-  pub roots : All (λ (d : Document). d.nodes ≢ []) documents
+  pub loaded : LoadedInTurn gives n first parser documents asked given
   pub wrote : Appends before after (concat (flat_map document_lines documents))
 
 -- The last load: the writer held the text of each document that was loaded before, and what was written since is of this
@@ -103,4 +95,4 @@ pub record NodesOver {R W : Type 0} (remaining : R → Option (List ℕ)) (conte
   pub starts : StartsAt reader first
   pub writes : WritesNodesOf (remaining reader) (BreaksOff last.source) end before after
   pub in_turn : LastLoad (line_source remaining) contents most_entries end first last before after [] []
-  pub linear : documents_size in_turn.earlier.documents ≤ 8 * length in_turn.earlier.more
+  pub linear : documents_size in_turn.earlier.documents ≤ 8 * length in_turn.earlier.loaded.carried.more

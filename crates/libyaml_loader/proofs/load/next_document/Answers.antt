@@ -11,7 +11,8 @@ use Rattle.libyaml_graphs.specs.loads.Bounds.{next_bounded}
 use Rattle.libyaml_graphs.specs.loads.Loads.{left_over}
 use Rattle.libyaml_loader.specs.declared.composer.Composer.{Composer}
 use Rattle.libyaml_loader.specs.document.Context.{loader_of, opening_of_document}
-use Rattle.libyaml_loader.specs.loads.Loading.{DocumentOrError, LoadsFrom, Took}
+use Rattle.libyaml_events.specs.sources.CallsInTurn.{Took}
+use Rattle.libyaml_loader.specs.loads.Loading.{DocumentOrError, LoadsFrom}
 use Rattle.libyaml_loader.specs.pushes.Composing.{RefusesEvent, closing_by, ended_by, state_by, composer_state}
 use Rattle.libyaml_graphs.specs.loads.Leads.{Leads}
 use Rattle.libyaml_loader.proofs.loads.Ended.{has_not_ended, no_error, still_ended}

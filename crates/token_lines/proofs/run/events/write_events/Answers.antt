@@ -46,7 +46,7 @@ returns-in-Ended-clause-writes g c events ending run =
     all_lines t g.met.S.yaml_token_source_t.follows first at.parser c.write_next.new.parser before (contents at.writer)
     (contents c.write_next.new.writer) after events
     ending run w
-    (c.in-Ended.ensures.turn w.running (run.asked ++ w.more) (run.given ++ w.events) w.history) c.flushed.ensures.keeps))
+    (c.in-Ended.ensures.turn w.running (run.asked ++ w.carried.more) (run.given ++ w.events) w.carried.history) c.flushed.ensures.keeps))
 
 pub returns-in-Failed-clause-writes : goal.returns-in-Failed-clause-writes
 returns-in-Failed-clause-writes g c events ending run =
@@ -69,7 +69,7 @@ returns-in-Failed-clause-writes g c events ending run =
     (contents at.writer)
     (contents c.write_next.new.writer) after events
     ending run w fault
-    (c.in-Failed.ensures.turn w.running (run.asked ++ w.more) (run.given ++ w.events) w.history) told))
+    (c.in-Failed.ensures.turn w.running (run.asked ++ w.carried.more) (run.given ++ w.events) w.carried.history) told))
 
 pub loop-writer-init : goal.loop-writer-init
 loop-writer-init g c = record {

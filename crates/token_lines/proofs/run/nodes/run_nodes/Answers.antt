@@ -36,5 +36,5 @@ returns g c =
           (run.ensures.writes events ending
           (parser.ensures.run_to_come known tokens f (ap known c.new-source.ensures.value ∙ e) events ending is))));
       in_turn = in_turn;
-      linear = loaded_linear (Gives remaining) most_entries parser.result in_turn.parser _ _ in_turn.earlier;
+      linear = loaded_linear (Gives remaining) most_entries parser.result in_turn.parser _ in_turn.earlier.loaded;
     }

@@ -35,8 +35,9 @@ loop-writer-preserved g c =
       bound = c.write_next.ensures.bound ∙ bound;
       kept = λ failed. absurd (c.in-Written.ensures.kept (ap has_failed (c.loop-writer.invariant.kept failed).0
           ∙ failed)).0;
-      in_turn = one_loaded t n c.args.parser.now p q (contents c.args.writer.now)
-          (contents c.loop-writer.writer) (contents c.write_next.new.writer) c.loop-writer.invariant.in_turn
+      in_turn = λ asked given history. one_loaded t n c.args.parser.now p q (contents c.args.writer.now)
+          (contents c.loop-writer.writer) (contents c.write_next.new.writer) asked given
+          (c.loop-writer.invariant.in_turn asked given history)
           (turn_at t step.Written p q (contents c.loop-writer.writer)
           (contents c.write_next.new.writer) _ _ bound c.in-Written.ensures.turn
           (false_from_ne_true (has_failed p) (λ failed. (c.in-Written.ensures.kept failed).0)));
@@ -73,8 +74,8 @@ returns-in-Ended-clause-in_turn g c asked given history =
     let at = c.loop-writer in
     last_load_at g.S.yaml_token_source_t g.W.Write.contents c.flushed.result
     step.Ended c.args.parser.now at.parser c.write_next.new.parser at.writer _ _ _
-    asked given at.invariant.bound at.invariant.in_turn c.in-Ended.ensures.turn
-    (loads_end c.flushed.result _ _ _ _ c.flushed.ensures.end c.flushed.ensures.keeps) (λ is. refl) history
+    asked given at.invariant.bound (at.invariant.in_turn asked given history) c.in-Ended.ensures.turn
+    (loads_end c.flushed.result _ _ _ _ c.flushed.ensures.end c.flushed.ensures.keeps) (λ is. refl)
 
 pub returns-in-Failed-clause-in_turn : goal.returns-in-Failed-clause-in_turn
 returns-in-Failed-clause-in_turn g c asked given history =
@@ -82,9 +83,9 @@ returns-in-Failed-clause-in_turn g c asked given history =
     last_load_at g.S.yaml_token_source_t g.W.Write.contents c.faulted.result
     (step.Failed c.in-Failed.fault) c.args.parser.now at.parser
     c.write_next.new.parser at.writer _ _ _ asked given at.invariant.bound
-    at.invariant.in_turn c.in-Failed.ensures.turn
+    (at.invariant.in_turn asked given history) c.in-Failed.ensures.turn
     (loads_failed c.faulted.result c.in-Failed.fault _ _ _ _ c.faulted.ensures)
-    (λ is. absurd ((rw is at c.faulted.ensures))) history
+    (λ is. absurd ((rw is at c.faulted.ensures)))
 
 pub returns-in-OutputFailed-clause-in_turn : goal.returns-in-OutputFailed-clause-in_turn
 returns-in-OutputFailed-clause-in_turn g c asked given history =
@@ -94,11 +95,11 @@ returns-in-OutputFailed-clause-in_turn g c asked given history =
     last_load_at g.S.yaml_token_source_t contents _ step.OutputFailed
     c.args.parser.now at.parser q at.writer (contents c.args.writer.now)
     (contents c.write_next.new.writer) (contents c.write_next.new.writer) asked given at.invariant.bound
-    at.invariant.in_turn
+    (at.invariant.in_turn asked given history)
     c.in-OutputFailed.ensures.turn
     (loads_output (kept_fault q) (contents at.writer) (contents c.write_next.new.writer)
     (contents c.write_next.new.writer))
-    output_is_no_end history
+    output_is_no_end
 
 pub returns-in-Ended-clause-writes : goal.returns-in-Ended-clause-writes
 returns-in-Ended-clause-writes g c events ending run =
