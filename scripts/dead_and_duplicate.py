@@ -3,10 +3,10 @@
 
     python3 scripts/dead_and_duplicate.py [--write] [names|dead|twice]
 
-names: names of specs/ that stand for more than one definition. dead: definitions of specs/ and proofs/ that no code, contract
-or proof reaches, by the names that are mentioned. twice: lemmas whose statements are equal but for the names of their
-variables. scripts/dead_and_duplicate.txt has the three figures, which may only fall: the exit status is 1 where one is another, and with
---write it is written. A word prints what is counted.
+names: names of specs/ that stand for more than one definition. dead: definitions of specs/ and proofs/ that no
+code, contract or proof reaches, by the names that are mentioned. twice: lemmas whose statements are equal but for
+the names of their variables. scripts/dead_and_duplicate.txt has the three figures, which may only fall: the exit
+status is 1 where one is another, and with --write it is written. A word prints what is counted.
 
 Run by check.sh.
 """
