@@ -28,7 +28,7 @@ NAMED = (
     "document_steps", "document_steps_c",
 )
 INNER = re.compile(r"putting::")  # a module for the crates above alone
-EXAMPLES = {"example_source", "example_list", "example_theorems", "rows_common"}
+EXAMPLES = {"example_source", "example_theorems", "rows_common"}
 WIDTH = 110
 
 HEAD = """# Every public item

@@ -4,6 +4,7 @@
 
 mod laws;
 mod lines;
+mod lists;
 mod loading;
 mod parsing;
 mod runs;
@@ -11,6 +12,7 @@ mod runs;
 pub use laws::determined::{documents_twice, events_twice};
 pub use laws::{headline, of_every_history, one_tree};
 pub use lines::{lines_of_reader, texts_of_reader};
+pub use lists::{collected_events, documents_of, events_of};
 pub use loading::{load_fails_after_parse, next_document, next_load_fails};
 pub use parsing::next_event;
 pub use runs::{all_documents, all_events};

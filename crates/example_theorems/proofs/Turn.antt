@@ -9,7 +9,7 @@ use Rattle.libyaml_grammar.specs.runs.Runs.{Ends, Fails, IsRun}
 use Rattle.libyaml_grammar.specs.sentences.Sentences.{has_end}
 use Rattle.libyaml_events.specs.sources.Pushed.{ForPushed, Pushed, PushParser, fault_in, has_stopped, keeps_fault}
 use Rattle.libyaml_events.specs.sources.Pushes.{Done, Pushes, Stops, Takes, by_grammar, by_memory, done_if}
-use Rattle.example_list.specs.Answer.{FailsSo, GivesRun}
+use Rattle.example_theorems.specs.Answer.{FailsSo, GivesRun}
 
 abbrev Tokens : Type 0
 Tokens = List yaml_token_t

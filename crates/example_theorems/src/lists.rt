@@ -1,12 +1,10 @@
 //! What callers prove of loops by the contracts alone: over pushes of a list's tokens to a parser and to a
 //! loader, and over a parser's events.
-#![tactic(auto)]
-
 ghost use Rattle.std.specs.Prelude.{◌≡◌, IfOk, List, MatchResult, Some};
 ghost use Rattle.libyaml_grammar.specs.runs.Runs.{Ending, Ends, IsRun};
 ghost use Rattle.libyaml_types.specs.Fault.{Fault, fault_of};
 ghost use Rattle.libyaml_types.specs.Source.{coming};
-ghost use Rattle.example_list.specs.Answer.{FailsSo, GivesLoads, GivesRun, LoadsFail};
+ghost use Rattle.example_theorems.specs.Answer.{FailsSo, GivesLoads, GivesRun, LoadsFail};
 
 use libyaml_documents::yaml_document_t;
 use libyaml_events::laws::items::items_in_turn;

@@ -1,6 +1,6 @@
 use Rattle.std.proofs.Common.{[]}
 use Rattle.libyaml_events.specs.sources.Iterated.{Iterated, items_then}
-use Rattle.example_list.proofs.collected_events.Given as goal
+use Rattle.example_theorems.proofs.lists.collected_events.Given as goal
 
 abbrev pub invariant-loop-item : goal.invariant-loop-item
 invariant-loop-item g l =

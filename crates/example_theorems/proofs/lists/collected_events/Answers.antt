@@ -2,7 +2,7 @@ use Rattle.std.proofs.Common.{◌≡◌, ◌++◌, ◌∷◌, [], List, ap, rule
 use Rattle.std.proofs.lemmas.List.{append-nil}
 use Rattle.libyaml_types.specs.declared.event.yaml_event_t.{yaml_event_t}
 use Rattle.libyaml_events.specs.sources.RunToCome.{RunToCome}
-use Rattle.example_list.proofs.collected_events.Goals as goal
+use Rattle.example_theorems.proofs.lists.collected_events.Goals as goal
 
 pub loop-item-init : goal.loop-item-init
 loop-item-init g c = rw c.new-events.ensures.items (c.items_in_turn.ensures.none _)

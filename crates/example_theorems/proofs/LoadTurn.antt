@@ -12,7 +12,7 @@ use Rattle.libyaml_events.specs.sources.Pushes.{Done, done_if}
 use Rattle.libyaml_graphs.specs.loads.Loads.{last_load}
 use Rattle.libyaml_loader.specs.pushes.Loaded.{ForLoaded, Loaded, PushLoader, loader_fault, loader_has_stopped, loader_keeps_fault}
 use Rattle.libyaml_loader.specs.pushes.PushesLoads.{AreThen, PushesLoads, StopsLoading, TakesLoads, by_memory, by_tokens}
-use Rattle.example_list.specs.Answer.{GivesLoads, LoadsFail}
+use Rattle.example_theorems.specs.Answer.{GivesLoads, LoadsFail}
 
 abbrev Tokens : Type 0
 Tokens = List yaml_token_t
