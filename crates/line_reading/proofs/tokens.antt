@@ -3,6 +3,7 @@ pub mod Numerals
 pub mod Texts
 pub mod WholeNumbers
 pub mod Marks
+pub mod Names
 pub mod PrefixTokens
 pub mod Digits
 pub mod Repeats

@@ -36,6 +36,7 @@ pub(crate) fn read_version(field: &[u8]) -> Option<unnamed_yaml_token_t_data_ver
 /// # Errors
 ///
 /// `BadTokenLine`, where it is none, and `Memory`, where an allocation fails.
+#[inline(always)]
 pub(crate) fn read_text(alloc: Global, field: &[u8]) -> Result<String, LineProblem>
     ensures { IsTextReadAs result (text_of field.now) }
 {
@@ -45,6 +46,7 @@ pub(crate) fn read_text(alloc: Global, field: &[u8]) -> Result<String, LineProbl
     escaped_text(alloc, escaped)
 }
 
+#[inline(always)]
 #[tactic(auto, using(crate::proofs::tokens::Texts::clean_text))]
 fn escaped_text(alloc: Global, escaped: &[u8]) -> Result<String, LineProblem>
     ensures { IsTextReadAs result (utf8_text (percent.percent_decode escaped.now)) }
@@ -56,6 +58,7 @@ fn escaped_text(alloc: Global, escaped: &[u8]) -> Result<String, LineProblem>
     }
 }
 
+#[inline(never)]
 fn decoded_text(alloc: Global, escaped: &[u8]) -> Result<String, LineProblem>
     ensures { IsTextReadAs result (utf8_text (percent.percent_decode escaped.now)) }
 {

@@ -9,8 +9,7 @@ use crate::field::{read_encoding, read_scalar_style, read_text, read_version};
 use crate::line_problem::LineProblem;
 use crate::marks::{NO_ROW, read_mark};
 use crate::pieces::Pieces;
-use crate::search::len_before;
-use crate::token_name::read_token_type;
+use crate::token_name::{NameRead, read_name};
 use libyaml_types::{
     unnamed_yaml_token_t_data, unnamed_yaml_token_t_data_alias, unnamed_yaml_token_t_data_anchor,
     unnamed_yaml_token_t_data_scalar, unnamed_yaml_token_t_data_stream_start,
@@ -39,11 +38,9 @@ pub(crate) fn read_token_line(
 fn take_token(alloc: Global, line: &[u8], token: &mut yaml_token_t) -> Result<(), LineProblem>
     ensures { IsReadInto result token.new (line_token_at line.now) }
 {
-    let name = len_before(line, b' ');
-    if name == line.len() {
+    let Some(NameRead { type_, end: name }) = read_name(line) else {
         return Err(LineProblem::BadTokenLine);
-    }
-    let type_ = read_token_type(&line[..name]).ok_or(LineProblem::BadTokenLine)?;
+    };
     let mut row = NO_ROW;
     let start = read_mark(line, name + 1, &mut row, &mut token.start_mark);
     if start == 0 || start == line.len() {

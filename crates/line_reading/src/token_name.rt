@@ -1,11 +1,93 @@
 //! The names of tokens.
-ghost use Rattle.std.specs.Prelude.{◌≡◌};
+ghost use Rattle.std.specs.Prelude.{◌≡◌, Some, None, true, IfSome, IfNone, length, take};
+ghost use Rattle.line_reading.specs.tokens.Prefixes.{IsNameRead, line_token_at};
 ghost use Rattle.line_reading.specs.tokens.TokenName.{token_type_of};
 
+use crate::search::len_before;
 use libyaml_types::yaml_token_type_t;
 
+/// A token's type, and where its name ends in the line.
+#[derive(Copy, Clone)]
+pub(crate) struct NameRead {
+    pub type_: yaml_token_type_t,
+    pub end: usize,
+}
+
+/// Returns the name of a type, which ends at an index.
+#[inline(always)]
+fn name_read(type_: yaml_token_type_t, end: usize) -> Option<NameRead>
+    ensures { result ≡ Some (record { type_ = type_; end = end }) }
+{
+    Some(NameRead { type_, end })
+}
+
+/// Reads the name that begins a line, and that a space follows.
+///
+/// The names that most lines have are asked for first, with their space.
+#[inline(always)]
+pub(crate) fn read_name(line: &[u8]) -> Option<NameRead>
+    ensures some { IfSome result (λ read. IsNameRead line.now read) }
+    ensures none { IfNone result (line_token_at line.now ≡ None) }
+{
+    if begins_with(line, b"SCALAR ") {
+        return name_read(yaml_token_type_t::YAML_SCALAR_TOKEN, 6);
+    }
+    if begins_with(line, b"KEY ") {
+        return name_read(yaml_token_type_t::YAML_KEY_TOKEN, 3);
+    }
+    if begins_with(line, b"VALUE ") {
+        return name_read(yaml_token_type_t::YAML_VALUE_TOKEN, 5);
+    }
+    if begins_with(line, b"BLOCK-END ") {
+        return name_read(yaml_token_type_t::YAML_BLOCK_END_TOKEN, 9);
+    }
+    if begins_with(line, b"BLOCK-MAPPING-START ") {
+        return name_read(yaml_token_type_t::YAML_BLOCK_MAPPING_START_TOKEN, 19);
+    }
+    if begins_with(line, b"BLOCK-ENTRY ") {
+        return name_read(yaml_token_type_t::YAML_BLOCK_ENTRY_TOKEN, 11);
+    }
+    if begins_with(line, b"FLOW-ENTRY ") {
+        return name_read(yaml_token_type_t::YAML_FLOW_ENTRY_TOKEN, 10);
+    }
+    if begins_with(line, b"BLOCK-SEQUENCE-START ") {
+        return name_read(yaml_token_type_t::YAML_BLOCK_SEQUENCE_START_TOKEN, 20);
+    }
+    read_any_name(line)
+}
+
+/// Returns whether a line begins with these bytes.
+#[inline(always)]
+fn begins_with(line: &[u8], start: &[u8]) -> bool
+    ensures { result ≡ true → take (length start.now) line.now ≡ start.now }
+{
+    if line.len() < start.len() {
+        return false;
+    }
+    for (at, byte) in start.iter().enumerate() {
+        if line[at] != *byte {
+            return false;
+        }
+    }
+    true
+}
+
+/// The same of any name.
+#[inline(never)]
+fn read_any_name(line: &[u8]) -> Option<NameRead>
+    ensures some { IfSome result (λ read. IsNameRead line.now read) }
+    ensures none { IfNone result (line_token_at line.now ≡ None) }
+{
+    let end = len_before(line, b' ');
+    if end == line.len() {
+        return None;
+    }
+    let type_ = read_token_type(&line[..end])?;
+    Some(NameRead { type_, end })
+}
+
 /// Returns a token's type by its name in lines.
-pub(crate) fn read_token_type(name: &[u8]) -> Option<yaml_token_type_t>
+fn read_token_type(name: &[u8]) -> Option<yaml_token_type_t>
     ensures { result ≡ token_type_of name.now }
 {
     if name == b"NO-TOKEN".as_slice() {

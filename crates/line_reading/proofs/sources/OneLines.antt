@@ -1,17 +1,17 @@
 -- Two results of line sources that keep the same, over readers of the same bytes, are one.
-use Rattle.std.proofs.Common.{◌≡◌, ◌<◌, ◌≤◌, ◌+◌, ◌⊎◌, inl, inr, ◌==◌, ℕ, List, [], ◌∷◌, Bool, true, false, cond, drop, length, nat_lt, Option, Some, None, Ok, Err, refl, sym, ap, subst, ◌∙◌, arith}
+use Rattle.std.proofs.Common.{◌≡◌, ◌<◌, ◌≤◌, ◌+◌, inl, inr, ◌==◌, ℕ, List, [], ◌∷◌, Bool, true, false, cond, drop, length, nat_lt, Option, Some, None, Ok, Err, refl, sym, ap, subst, ◌∙◌, arith}
 use Rattle.std.proofs.lemmas.Bool.{cases_lt}
 use Rattle.std.specs.Io.KnownBytes.{Consumes}
 use Rattle.std.specs.List.{onto_first, slice_split}
 use Rattle.libyaml_types.specs.declared.token.yaml_token_t.{yaml_token_t}
 use Rattle.libyaml_types.specs.Fault.{Answer, Fault}
-use Rattle.line_reading.specs.declared.line_problem.LineProblem.TheVariants.{BadTokenLine, LineTooLong, NoMoreTokens, TooManyTokens}
+use Rattle.line_reading.specs.declared.line_problem.LineProblem.TheVariants.{BadTokenLine, LineTooLong, TooManyTokens}
 use Rattle.line_reading.specs.sources.LineFault.{line_fault}
 use Rattle.line_reading.specs.sources.LineLaws.{HasPieces, has_pieces, lines_of_more}
 use Rattle.line_reading.specs.sources.LineSource.{Gives, GivesBy, GivesNext, LineSource, answer_fault, answer_tokens}
-use Rattle.line_reading.specs.sources.NextLine.{BreaksOffAt, IsBehindLine, IsWithinLine, KnownAnswer, LineAnswer, TakesAtMost, first_answer}
+use Rattle.line_reading.specs.sources.NextLine.{IsBehindLine, IsWithinLine, KnownAnswer, LineAnswer, first_answer}
 use Rattle.line_reading.specs.sources.OneLine.{LineBreaksOff, LineOutcome, OneLine, SourcesAlike, alike, first_breaks, second_breaks}
-use Rattle.line_reading.specs.sources.ReadLines.{behind_line, last_line, line_answer, lines, lines_of_pieces, longest_line, token_or_fault}
+use Rattle.line_reading.specs.sources.ReadLines.{behind_line, line_answer, lines, lines_of_pieces, longest_line, token_or_fault}
 use Rattle.line_reading.specs.tokens.TokenLine.{token_of_line}
 
 -- an input without a line has no byte

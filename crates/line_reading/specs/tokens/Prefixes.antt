@@ -1,10 +1,11 @@
 -- How a line is read by its prefixes. That this gives what `token_of_line` says is a lemma (proofs/tokens/PrefixTokens).
-use Rattle.std.specs.Prelude.{◌≡◌, ◌<◌, ◌≤◌, ℕ, List, [], ◌∷◌, ◌==◌, length, take, drop, Option, Some, None, option_map, if◌then◌else◌}
+use Rattle.std.specs.Prelude.{◌≡◌, ◌+◌, ◌<◌, ◌≤◌, ℕ, List, [], ◌∷◌, ◌==◌, length, take, drop, Option, Some, None, option_map, if◌then◌else◌}
 use Rattle.std.specs.Char.{is_ascii_digit}
 use Rattle.libyaml_types.specs.declared.mark.yaml_mark_t.{yaml_mark_t}
 use Rattle.libyaml_types.specs.declared.token.yaml_token_t.{yaml_token_t}
 use Rattle.line_reading.specs.declared.marks.NumberRead.{NumberRead}
 use Rattle.line_reading.specs.declared.marks.RowRead.{RowRead}
+use Rattle.line_reading.specs.declared.token_name.NameRead.{NameRead}
 use Rattle.line_reading.specs.tokens.Number.{value_of, number_of}
 use Rattle.line_reading.specs.tokens.Field.{◌>>=◌}
 use Rattle.line_reading.specs.tokens.Pieces.{pieces_of}
@@ -59,6 +60,12 @@ pub record IsNumberRead (line : List ℕ) (at : ℕ) (read : NumberRead) : Type 
   pub within : read.end ≤ length line
   pub none : read.end ≡ 0 → number_at (drop at line) ≡ None
   pub some : 0 < read.end → number_at (drop at line) ≡ Some (read.value, drop read.end line)
+
+-- a name that was read: the line's first field, whose end a space follows
+pub record IsNameRead (line : List ℕ) (read : NameRead) : Type 0 where
+  pub within : read.end < length line
+  pub type : token_type_of (before_byte 32 line) ≡ Some read.type_
+  pub behind : behind_byte 32 line ≡ Some (drop (read.end + 1) line)
 
 -- no digit begins the bytes
 pub record BeginsWithNoDigit (bytes : List ℕ) : Type 0 where
