@@ -217,7 +217,7 @@ impl Machine {
             Step::Given => {}
         }
         if events.push(event).is_err() {
-            return Step::failed(self.out_of_memory());
+            return self.fail_out_of_memory();
         }
         Step::Given
     }

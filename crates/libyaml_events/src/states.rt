@@ -102,11 +102,11 @@ impl Machine {
         ensures ready { result ≡ Step.Wants → Ready pending.new self.new }
     {
         if !self.automaton.grow(full) {
-            return Step::failed(self.out_of_memory());
+            return self.fail_out_of_memory();
         }
         match self.lead(token, pending) {
-            Answer::FullStates => Step::failed(self.out_of_memory()),
-            Answer::FullMarks => Step::failed(self.out_of_memory()),
+            Answer::FullStates => self.fail_out_of_memory(),
+            Answer::FullMarks => self.fail_out_of_memory(),
             Answer::Document => self.step_document(token, pending, out),
             answer => self.put(answer, token, pending, out),
         }
@@ -313,7 +313,7 @@ impl Machine {
         ensures kept { self.new ≡ with_fault self.old
             (fault_with (record { problem = problem; context_mark = context_mark.now; mark = mark.now })) }
     {
-        Step::failed(match problem {
+        match problem {
             NO_STREAM_START => self.set_parser_error("did not find expected <stream-start>", *mark),
             NO_DOCUMENT_START => self.set_parser_error(
                 "did not find expected <document start>",
@@ -367,6 +367,7 @@ impl Machine {
                 "did not find expected ',' or '}'",
                 *mark,
             ),
-        })
+        };
+        Step::Failed
     }
 }

@@ -43,7 +43,7 @@ impl Machine {
     {
         let tag = match self.take_tag(pending) {
             Ok(tag) => tag,
-            Err(error) => return Step::failed(error),
+            Err(_) => return Step::Failed,
         };
         self.put_content(tag, token, pending, out)
     }
@@ -121,10 +121,10 @@ impl Machine {
             × (result ≡ Step.Wants → ⊥) }
     {
         if !self.automaton.grow(Answer::FullMarks) {
-            return Step::failed(self.out_of_memory());
+            return self.fail_out_of_memory();
         }
         match self.lead_content(token, pending) {
-            Answer::FullMarks => Step::failed(self.out_of_memory()),
+            Answer::FullMarks => self.fail_out_of_memory(),
             answer => self.put_head(answer, tag, start_mark, end_mark, token, pending, out),
         }
     }

@@ -193,10 +193,10 @@ impl Machine {
         ensures ready { result ≡ Step.Wants → Ready pending.new self.new }
     {
         if !self.automaton.grow(Answer::FullStates) {
-            return Step::failed(self.out_of_memory());
+            return self.fail_out_of_memory();
         }
         match self.lead_document(token, pending) {
-            Answer::FullStates => Step::failed(self.out_of_memory()),
+            Answer::FullStates => self.fail_out_of_memory(),
             answer => self.put_document(answer, token, pending, out),
         }
     }
@@ -373,7 +373,7 @@ impl Machine {
     {
         let was_declared = match self.declare_handle(token) {
             Ok(was_declared) => was_declared,
-            Err(error) => return Step::failed(error),
+            Err(_) => return Step::Failed,
         };
         match self
             .automaton
@@ -420,7 +420,7 @@ impl Machine {
                 prefix: mem::replace(&mut directive.prefix, String::new(self.allocator())),
             };
             if pending.directives.tag_directives.push(directive).is_err() {
-                return Step::failed(self.out_of_memory());
+                return self.fail_out_of_memory();
             }
         }
         Step::Wants
