@@ -1,6 +1,6 @@
 -- Which results ask nothing further, what the next token is wanted for then, and which stack was full.
 use mathlib.Core.Bool.{true≢false}
-use Rattle.std.proofs.Common.{◌≡◌, ◌∙◌, ℕ, List, Bool, true, false, Err, refl, sym, ap, subst, ◌⊎◌, inl, inr}
+use Rattle.std.proofs.Common.{◌≡◌, ◌∙◌, ℕ, List, Bool, true, false, refl, sym, ap, subst, ◌⊎◌, inl, inr}
 use Rattle.libyaml_types.specs.declared.mark.yaml_mark_t.{yaml_mark_t}
 use Rattle.libyaml_types.specs.declared.enums.yaml_token_type_t.{yaml_token_type_t}
 use Rattle.libyaml_types.specs.declared.enums.yaml_token_type_t.TheVariants as tok
@@ -19,7 +19,6 @@ use Rattle.libyaml_automaton.specs.Config.{Stacks, stacks_of}
 use Rattle.libyaml_automaton.specs.Fits.{FitsStep, FitsDocument, FitsContent, HandledBy, Nodes, Documents, is_simple, opens_at}
 use Rattle.libyaml_automaton.specs.Growth.{HasNoRoom, opens, stack_part_of, pushes, pushes_in_documents}
 use Rattle.libyaml_automaton.specs.Numbers.{flag, next_of}
-use Rattle.libyaml_automaton.specs.Problems as problem
 use Rattle.libyaml_automaton.specs.Wanted.{purpose_of, wanted_by}
 use Rattle.token_steps.specs.Facts.{StepResult, TagRead, NoTag, EmptyTag, Bang, OtherTag, Undefined, StepToken, content_by_fact, put_by_fact, without_fact, step_by_fact, with_facts}
 use Rattle.token_steps.specs.Growth.{content_opens, pushes_by, pushes_mark, pushes_state}
@@ -100,12 +99,6 @@ pub defined : (g : TagRead) (tag : ℕ) (p : NodePlace) (r : PropertiesRead) (c 
     → content_by_fact g tag p r c t ≡ put_by_fact g tag t (automaton.node_content p r c (without_fact t) t.kind)
 defined Undefined tag p r c t e = absurd (true≢false e)
 defined _ tag p r c t e = refl
-
-pub undefined : (g : TagRead) (tag : ℕ) (p : NodePlace) (r : PropertiesRead) (c : Stacks) (t : StepToken) → is_undefined g ≡ true
-    → content_by_fact g tag p r c t
-    ≡ Err (record { problem = problem.undefined_handle; context_mark = r.start_mark; mark = r.tag_mark })
-undefined Undefined tag p r c t e = refl
-undefined _ tag p r c t e = no e
 
 pub opens_defined : (g : TagRead) (p : NodePlace) (k : yaml_token_type_t) → is_undefined g ≡ false
     → content_opens g p k ≡ opens_at p k

@@ -28,7 +28,3 @@ pub ruleset cleared = (states_none, marks_none)
 pub same_reading : (a : Answer) (r r' : Reading) → Stays a r r' → SameReading r r'
 same_reading did.AsksContent r r' e = (ap (λ (x : Reading). x.next) e, ap purpose_of e)
 same_reading _ r r' e = e
-
-pub stays : (a : Answer) (r r' : Reading) → a ≡ did.AsksContent → Stays a r r' → r' ≡ r
-stays did.AsksContent r r' i e = e
-stays _ r r' i e = absurd cc i

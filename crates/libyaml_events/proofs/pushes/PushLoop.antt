@@ -4,10 +4,10 @@ use Rattle.std.proofs.lemmas.Bool.{both_ways}
 use Rattle.libyaml_types.specs.declared.enums.yaml_error_type_t.{yaml_error_type_t}
 use Rattle.libyaml_types.specs.declared.enums.yaml_error_type_t.TheVariants.{YAML_MEMORY_ERROR, YAML_PARSER_ERROR}
 use Rattle.libyaml_types.specs.declared.enums.yaml_parser_state_t.TheVariants.{YAML_PARSE_END_STATE}
-use Rattle.libyaml_types.specs.Fault.{Fault, memory_fault}
+use Rattle.libyaml_types.specs.Fault.{memory_fault}
 use Rattle.libyaml_grammar.specs.sentences.Tokens.{Token}
 use Rattle.libyaml_grammar.specs.sentences.Events.{Event}
-use Rattle.libyaml_events.specs.machine.Config.{Config, is_fault, taken, token_if, ended_or_failed}
+use Rattle.libyaml_events.specs.machine.Config.{Config, taken, token_if, ended_or_failed}
 use Rattle.libyaml_events.specs.machine.Growth.{may_grow}
 use Rattle.libyaml_events.specs.machine.Machine.{Progressed, step}
 use Rattle.libyaml_events.specs.machine.Steps.{FailsAs, Steps}
@@ -82,10 +82,6 @@ module _ (Full : Type 0) (w0 : Want) (c0 : Config) (t : Token) (before : List Ev
         λ l g f. wants w old u (k.fed l g f) h.0;
   }
 
-  pub no_lookahead : (w' : Want) (new : Config) → Steps (step w old u) old (Ok (Wants w')) new
-      → new.lookahead ≡ None
-  no_lookahead w' new h = h.1 ∙ k.none
-
   -- the step failed
   pub fails : (x : yaml_error_type_t) (w' : Want) (new : Config) → Steps (step w old u) old (Err x) new
       → (x ≡ YAML_MEMORY_ERROR → may_grow w old u.content ≡ true)
@@ -107,16 +103,6 @@ module _ (Full : Type 0) (w0 : Want) (c0 : Config) (t : Token) (before : List Ev
           (subst (λ (o : Progressed). Leads o (l ++ t ∷ []) (g ++ k.added)) i.0 (fed_to (k.fed l g f)).leads) in
           by_grammar failed (λ more s. failed_run (l ++ t ∷ []) (g ++ k.added) new.fault more s failed)
       by l g f _ m i = absurd i
-
-  pub fault_kept : (x : yaml_error_type_t) (new : Config) → Steps (step w old u) old (Err x) new
-      → (x ≡ new.fault.error) × (is_fault new.fault.error ≡ true)
-  fault_kept x new h = by x h
-    where
-      by : (x : yaml_error_type_t) → FailsAs new (step w old u) x → (x ≡ new.fault.error)
-          × (is_fault new.fault.error ≡ true)
-      by YAML_MEMORY_ERROR i = (ap (λ (f : Fault). f.error) (sym i), ap (λ (f : Fault). is_fault f.error) i)
-      by YAML_PARSER_ERROR i = (sym i.1, ap is_fault i.1)
-      by _ i = absurd i
 
   -- an event is given that finds no room
   pub no_room : (e : Event) (mid : Config) → Steps (step w old u) old (Ok (Given e)) mid

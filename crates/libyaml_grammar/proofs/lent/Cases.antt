@@ -1,17 +1,13 @@
--- All that one token may do at a position that is met.
-use Rattle.std.proofs.Common.{◌≡◌, List, Some, None, refl, sym, ap, ◌∙◌, subst, Bool, true, false}
+-- What a tag and a directive lead to where the grammar takes them.
+use Rattle.std.proofs.Common.{◌≡◌, List, Some, None, refl, subst, Bool}
 use Rattle.std.specs.Prelude.{Option}
-use Rattle.libyaml_grammar.specs.sentences.Tokens.{Content, HandleDeclared, Mark, Marks, Tag, TagDirective, TagName, VersionAsked, VersionDirective, tok}
+use Rattle.libyaml_grammar.specs.sentences.Tokens.{Content, HandleDeclared, Marks, Tag, TagDirective, TagName, VersionAsked, VersionDirective}
 use Rattle.libyaml_grammar.specs.sentences.Trees.{Directive, Directives, FlowNode, alone, anchor_tag, no_directives, tag, tag_directive, version}
-use Rattle.libyaml_grammar.specs.sentences.Events.{Event, directive_start}
+use Rattle.libyaml_grammar.specs.sentences.Events.{Event}
 use Rattle.libyaml_grammar.specs.sentences.Order.{is_known}
-use Rattle.libyaml_grammar.specs.cuts.CutTrees.{Cut, Place, at_directive, block, declared, implicit_root, part_place, root, slot}
-use Rattle.libyaml_grammar.specs.cuts.CutEvents.{shown_cut}
-use Rattle.libyaml_grammar.proofs.lent.Positions.{Position, due, headed, shown}
-use Rattle.libyaml_grammar.proofs.lent.Reading.{Step, bad, checked, fill_flow, goes, is_legal, leave, over, pending, reads, step}
-use Rattle.libyaml_grammar.proofs.lent.Given.{gives}
-use Rattle.libyaml_grammar.proofs.lent.Shows.{Shows, step_shows}
-use Rattle.libyaml_grammar.proofs.lent.StepsMeet.{IsMet, Meets, step_met}
+use Rattle.libyaml_grammar.specs.cuts.CutTrees.{Place, block, declared, implicit_root, part_place, root, slot}
+use Rattle.libyaml_grammar.proofs.lent.Positions.{Position, due, headed}
+use Rattle.libyaml_grammar.proofs.lent.Reading.{Step, bad, fill_flow, goes, is_legal, leave, over, pending, step}
 use Rattle.libyaml_grammar.proofs.lent.ReadSteps.{Moves, ReadStep, a_tag, fails, first_handle, first_version, is_alone, is_past, leaves, moves, next_handle, next_version, read_step, tag_behind_anchor}
 
 -- a tag that grammar takes is held
@@ -86,44 +82,3 @@ step_version q a m = head_goes (read_step m q (VersionDirective a)) (version a m
 pub step_handle : (q : Position) (g : HandleDeclared) (m : Marks)
     → HeadGoes (step q (TagDirective g) m) (pending q) (tag_directive g m)
 step_handle q g m = head_goes (read_step m q (TagDirective g)) (tag_directive g m) refl
-
--- What a token does at a position: it goes on; it is bad, with the events of its place; or it is a tag that is found
--- unknown later.
-pub data Case (q : Position) (k : Content) (m : Marks) : Type 0 where
-  is_good : (p : Position) → step q k m ≡ goes p → is_legal q k ≡ true → IsMet p → Case q k m
-  is_bad : (c : Cut) → reads q (tok k m) ≡ bad c
-      → ((r : List Event) → shown_cut c m.start r ≡ shown q m.start (gives q k m r)) → Case q k m
-  is_doomed : (p : Position) → step q k m ≡ goes p → is_legal q k ≡ false → IsTagHeld p false m → Case q k m
-  is_over : step q k m ≡ over → Case q k m
-
-illegal_directive : (q p : Position) (k : Content) (d : Directive) (m : Marks) → step q k m ≡ goes p
-    → is_legal q k ≡ false → IsHeaded p (pending q) d
-    → directive_start d ≡ m.start → Shows (goes p) q m (gives q k m) → Case q k m
-illegal_directive q (headed c ds d) k x m e f (g, h) z s
-    = is_bad (at_directive c ds) (ap (λ (y : Step). checked y (is_legal q k)) e
-    ∙ ap (λ (u : Bool). checked (goes (headed c ds d)) u) f)
-    (λ r. ap (λ (n : Mark). shown_cut (at_directive c ds) n r) (sym z)
-    ∙ (ap (λ (y : Directive). shown (headed c ds y) m.start r) (sym h) ∙ s m.start r))
-illegal_directive q _ k x m e f h z s = absurd h
-
-illegal : (q p : Position) (k : Content) (m : Marks) → step q k m ≡ goes p → is_legal q k ≡ false
-    → Shows (goes p) q m (gives q k m) → Case q k m
-illegal q p (VersionDirective a) m e f s
-    = illegal_directive q p _ (version a m) m e f
-    (subst (λ (x : Step). HeadGoes x (pending q) (version a m)) e (step_version q a m)) refl s
-illegal q p (TagDirective a) m e f s
-    = illegal_directive q p _ (tag_directive a m) m e f
-    (subst (λ (x : Step). HeadGoes x (pending q) (tag_directive a m)) e (step_handle q a m)) refl s
-illegal q p (Tag h) m e f s = is_doomed p e f
-    (subst (λ (u : Bool). IsTagHeld p u m) f (subst (λ (x : Step). TagGoes x (is_legal q (Tag h)) m) e (step_tag q h m)))
-illegal q p k m e f s = absurd cc
-
-pub cases : (q : Position) (k : Content) (m : Marks) → IsMet q → Case q k m
-cases q k m w = go (step q k m) refl (is_legal q k) refl
-  where
-    go : (s : Step) → step q k m ≡ s → (b : Bool) → is_legal q k ≡ b → Case q k m
-    go (goes p) e true f = is_good p e f (subst (λ (x : Step). Meets x (is_legal q k)) e (step_met q k m w) f)
-    go (goes p) e false f = illegal q p k m e f (subst (λ (x : Step). Shows x q m (gives q k m)) e (step_shows q k m))
-    go (bad c) e b f = is_bad c (ap (λ (x : Step). checked x (is_legal q k)) e)
-        (subst (λ (x : Step). Shows x q m (gives q k m)) e (step_shows q k m))
-    go over e b f = is_over e

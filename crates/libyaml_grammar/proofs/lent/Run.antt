@@ -4,10 +4,8 @@ use Rattle.std.proofs.Common.{◌≡◌, List, [], ◌∷◌, ◌++◌, sym, ap,
 use Rattle.libyaml_grammar.specs.sentences.Tokens.{Mark, Token, marks_of}
 use Rattle.libyaml_grammar.specs.sentences.Trees.{Stream, tokens}
 use Rattle.libyaml_grammar.specs.sentences.Events.{Event, events}
-use Rattle.libyaml_grammar.specs.cuts.CutTrees.{Cut}
-use Rattle.libyaml_grammar.specs.cuts.CutEvents.{shown_cut}
 use Rattle.libyaml_grammar.proofs.lent.Positions.{Position, done, shown, unopened}
-use Rattle.libyaml_grammar.proofs.lent.Reading.{Step, along, bad, feed, feeds, goes}
+use Rattle.libyaml_grammar.proofs.lent.Reading.{Step, along, feeds, goes}
 use Rattle.libyaml_grammar.proofs.lent.Given.{gives, gives_all, if_all}
 use Rattle.libyaml_grammar.proofs.trees.Complete.{stream_reads}
 use Rattle.libyaml_grammar.proofs.lent.Shows.{Shows, step_shows}
@@ -30,14 +28,6 @@ pub tree_run : (t : Stream) → gives_all (tokens t) unopened [] ≡ events t
 tree_run t =
     let m : Mark = record { index = 0; line = 0; column = 0 } in
     sym (given_shown (tokens t) unopened (done t) (stream_reads t) m [])
-
-pub cut_run : (l : List Token) (b : Token) (q : Position) (c : Cut) → feeds l unopened ≡ goes q → feed q b ≡ bad c
-    → shown_cut c b.start_mark [] ≡ gives_all l unopened (gives q b.content (marks_of b) [])
-cut_run l b q c e f =
-    let s : Shows (bad c) q (marks_of b) (gives q b.content (marks_of b))
-    = subst (λ (x : Step). Shows x q (marks_of b) (gives q b.content (marks_of b))) f
-    (step_shows q b.content (marks_of b)) in
-    s [] ∙ given_shown l unopened q e b.start_mark (gives q b.content (marks_of b) [])
 
 pub given_append : (a b : List Token) (q p : Position) → feeds a q ≡ goes p → (r : List Event)
     → gives_all (a ++ b) q r ≡ gives_all a q (gives_all b p r)

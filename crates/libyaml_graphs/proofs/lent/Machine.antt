@@ -20,12 +20,6 @@ pub nothing_left : (n : ℕ) (s : State) (x : Ending) → load_from n s [] x ≡
 nothing_left n between x = refl
 nothing_left n (within o l) x = refl
 
--- between documents an event that opens none is passed over
-pub passes : (n : ℕ) (e : Event) (r : List Event) (x : Ending) → opening_of e ≡ None
-    → load_from n between (e ∷ r) x ≡ load_from n between r x
-passes n e r x h = ap (λ (c : Option Opening). elim c
-    [ None ↦ load_from n between r x | Some o ↦ load_from n (within o fresh) r x ]) h
-
 abbrev documents_at : List Event → Option Opening → List Begun
 documents_at r c = elim c [ None ↦ begun r | Some o ↦ record { opening = o; rest = r } ∷ begun_behind r ]
 

@@ -1,5 +1,5 @@
 -- What the composer decides of an event is what the loader's machine does.
-use Rattle.std.proofs.Common.{◌≡◌, ◌⊎◌, inl, inr, ◌++◌, List, [], ◌∷◌, ℕ, suc, ℤ, pos, length, map, refl, sym, ap, subst, ◌∙◌, Option, Some, None, Bool, true, false, append-nil, nat_le, nat_lt}
+use Rattle.std.proofs.Common.{◌≡◌, inl, inr, List, [], ◌∷◌, ℕ, suc, ℤ, pos, length, map, refl, sym, ap, subst, ◌∙◌, Option, Some, None, Bool, true, false, append-nil, nat_le, nat_lt}
 use Rattle.std.specs.FinMap.{get}
 use Rattle.libyaml_types.specs.Types.{event_anchor, event_type}
 use Rattle.libyaml_types.specs.declared.event.unnamed_yaml_event_t_data.TheVariants as ev
@@ -12,8 +12,8 @@ use Rattle.libyaml_documents.specs.declared.node.unnamed_yaml_node_t_data.{unnam
 use Rattle.libyaml_documents.specs.declared.node.unnamed_yaml_node_t_data.TheVariants.{Scalar, Sequence, Mapping}
 use Rattle.libyaml_documents.specs.declared.node.yaml_node_t.{yaml_node_t}
 use Rattle.libyaml_graphs.specs.graphs.Graphs.{Carrier, id_or}
-use Rattle.libyaml_graphs.specs.graphs.GraphParts.{Opening, Part, alias_part, closing_of, end_part, leaf_part, part_in, part_of, start_part}
-use Rattle.libyaml_graphs.specs.machine.Loader.{Anchors, Loader, Loading, OpenNode, bounded_option, failed, going, if_child_fits, on_alias, parent_full, unless_full}
+use Rattle.libyaml_graphs.specs.graphs.GraphParts.{Part, alias_part, closing_of, end_part, leaf_part, part_in, part_of, start_part}
+use Rattle.libyaml_graphs.specs.machine.Loader.{Anchors, Loader, OpenNode, bounded_option, failed, going, if_child_fits, on_alias, parent_full, unless_full}
 use Rattle.libyaml_composer.specs.declared.deed.Deed.{Deed}
 use Rattle.libyaml_composer.specs.declared.deed.Deed.TheVariants as deed
 use Rattle.libyaml_composer.specs.declared.records.open_t.{open_t}
@@ -24,7 +24,7 @@ use Rattle.libyaml_composer.specs.Composing.{Composer, Told, adding, at_carrier,
 use Rattle.libyaml_composer.specs.Held as held
 use Rattle.libyaml_composer.specs.Held.{Held, IsRefused, anchor_in, anchored, anchored_by, applied_part, event_fact, fault_part, open_of, with_made_node}
 use Rattle.libyaml_composer.specs.Numbers.{is_set, is_id}
-use Rattle.libyaml_composer.specs.Standing.{IsChild, IsNode, IsPart, PutsNode, Standing, TakesOneMore}
+use Rattle.libyaml_composer.specs.Standing.{IsNode, IsPart, PutsNode, Standing, TakesOneMore}
 use Rattle.libyaml_composer.proofs.lent.Follows.{Follows, Puts, fails, follows, full, goes}
 use Rattle.libyaml_loader.specs.declared.context.loader_ctx.{loader_ctx}
 use Rattle.libyaml_graphs.specs.graphs.ComposerFaults.{repeated_anchor}

@@ -1,5 +1,5 @@
 -- What is decided is done.
-use Rattle.std.proofs.Common.{◌≡◌, ◌++◌, List, ℕ, suc, ℤ, length, refl, sym, ap, subst, ◌∙◌, Option, Some, None, Bool, true, false, Result, Ok, Err, IfErr, IfOk, OnOk, append-nil}
+use Rattle.std.proofs.Common.{◌≡◌, ◌++◌, List, ℕ, suc, ℤ, length, refl, sym, ap, subst, ◌∙◌, Option, Some, None, Bool, true, false, Result, Ok, Err, IfErr, OnOk, append-nil}
 use Rattle.libyaml_types.specs.declared.mark.yaml_mark_t.{yaml_mark_t}
 use Rattle.libyaml_documents.specs.declared.node.yaml_node_t.{yaml_node_t}
 use Rattle.libyaml_graphs.specs.graphs.GraphParts.{Part, alias_part, end_part, leaf_part, start_part}
@@ -12,13 +12,9 @@ use Rattle.libyaml_composer.specs.Held.{Held, anchored_by, applied_part, nodes_m
 use Rattle.libyaml_composer.specs.Numbers.{is_id}
 use Rattle.libyaml_composer.specs.Standing.{FitsParent, IsChild, IsNode, PutsNode, Standing}
 use Rattle.libyaml_loader.specs.declared.context.loader_ctx.{loader_ctx}
-use Rattle.libyaml_loader.specs.document.Context.{Composed, Decided, ComposerMatches, held_of, loader_of, opening_of_document, with_nodes}
+use Rattle.libyaml_loader.specs.document.Context.{Composed, Decided, ComposerMatches, held_of, opening_of_document, with_nodes}
 
 -- the outcome of a call, by that of another
-pub if_ok : {A E : Type 0} (r : Result A E) (P : A → Type 0) (Q : A → Type 0) → ((x : A) → P x → Q x) → IfOk r P → IfOk r Q
-if_ok (Ok x) P Q f h = f x h
-if_ok (Err x) P Q f h = tt
-
 pub on_ok : {A E : Type 0} (r : Result A E) (P Q : Type 0) → (P → Q) → OnOk r P → OnOk r Q
 on_ok (Ok x) P Q f h = f h
 on_ok (Err x) P Q f h = tt

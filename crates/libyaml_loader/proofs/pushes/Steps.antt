@@ -21,7 +21,7 @@ use Rattle.libyaml_loader.specs.declared.composer.Composer as loader
 use Rattle.libyaml_loader.specs.declared.context.loader_ctx.{loader_ctx}
 use Rattle.libyaml_loader.specs.declared.refusal.Refusal.{Refusal}
 use Rattle.libyaml_loader.specs.declared.refusal.Refusal.TheVariants.{Memory}
-use Rattle.libyaml_loader.specs.document.Context.{Composed, Refuses, ComposerMatches, loader_of, opening_of_document}
+use Rattle.libyaml_loader.specs.document.Context.{Refuses, ComposerMatches, loader_of, opening_of_document}
 use Rattle.libyaml_loader.specs.document.Refusals.{fault_by}
 use Rattle.libyaml_loader.specs.loads.LoadGrowth.{load_may_grow}
 use Rattle.libyaml_loader.specs.declared.composer.Closing.{Closing}

@@ -1,5 +1,5 @@
 -- Anchored nodes, as the loader's machine has them.
-use Rattle.std.specs.Prelude.{ℕ, zero, ℤ, pos, negsuc, Option, Some, None}
+use Rattle.std.specs.Prelude.{ℕ, zero, ℤ, pos, negsuc}
 use Rattle.libyaml_graphs.specs.graphs.Graphs as graphs
 use Rattle.libyaml_loader.specs.declared.ids.Carrier.{Carrier}
 

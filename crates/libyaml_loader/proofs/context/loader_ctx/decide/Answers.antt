@@ -1,7 +1,6 @@
-use Rattle.std.proofs.Common.{◌≡◌, Err, IfErr, refl, rules, sym, subst, w32}
+use Rattle.std.proofs.Common.{◌≡◌, Err, rules, w32}
 use Rattle.std.proofs.lemmas.Int.{to_z-of_z}
 use mir.Val.{SFits}
-use Rattle.libyaml_types.specs.declared.enums.yaml_event_type_t.{yaml_event_type_t}
 use Rattle.libyaml_loader.proofs.document.Deciding.{node_decided, node_refused}
 use Rattle.libyaml_loader.proofs.context.loader_ctx.decide.Goals as goal
 

@@ -1,9 +1,9 @@
-use Rattle.std.proofs.Common.{◌≡◌, ◌∙◌, Err, Option, ap, pos, refl, rules, w32}
+use Rattle.std.proofs.Common.{◌∙◌, Option, ap, pos, refl, rules, w32}
 use Rattle.std.proofs.lemmas.Int.{to_z-of_z}
 use mir.Val.{SFits}
 use Rattle.libyaml_types.specs.declared.event.unnamed_yaml_event_t_data.TheVariants as ev
 use Rattle.libyaml_graphs.specs.graphs.Graphs.{Carrier, id_or}
-use Rattle.libyaml_loader.proofs.document.Deciding.{decided, refused_at}
+use Rattle.libyaml_loader.proofs.document.Deciding.{decided}
 use Rattle.libyaml_loader.proofs.context.loader_ctx.decide_alias.Goals as goal
 
 pub returns-clause-ok : goal.returns-clause-ok

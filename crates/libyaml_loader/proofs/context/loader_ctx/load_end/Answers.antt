@@ -1,12 +1,10 @@
-use Rattle.std.proofs.Common.{◌≡◌, Some, refl, rules, sym, subst, w32}
+use Rattle.std.proofs.Common.{Some, refl, rules, sym, subst, w32}
 use Rattle.std.proofs.lemmas.Int.{to_z-of_z}
 use mir.Val.{SFits}
 use Rattle.libyaml_types.specs.declared.event.unnamed_yaml_event_t_data.TheVariants as ev
 use Rattle.libyaml_documents.specs.Documents.{Document}
-use Rattle.libyaml_composer.specs.declared.deed.Deed.{Deed}
 use Rattle.libyaml_composer.specs.declared.deed.Deed.TheVariants as deed
 use Rattle.libyaml_composer.specs.Standing.{Standing}
-use Rattle.libyaml_loader.specs.declared.context.loader_ctx.{loader_ctx}
 use Rattle.libyaml_loader.specs.document.Context.{opening_of_document}
 use Rattle.libyaml_loader.proofs.document.Deciding.{decided}
 use Rattle.libyaml_loader.proofs.context.loader_ctx.load_end.Goals as goal
