@@ -66,8 +66,8 @@ typedef struct {
     uint32_t children, is_mapping;
 } pokhvizi_open_t;
 
-/* Where a node or an alias goes, or what ends. What a deed has no use for is 0; one that neither puts nor ends anything leaves
- * all as it was. */
+/* Where a node or an alias goes, or what ends. What a deed has no use for is 0; one that puts nothing and ends
+ * no collection leaves all as it was. */
 typedef struct {
     int32_t node;   /* the id of the node to be put; 0 of an alias */
     int32_t child;  /* the id that goes to the parent */
