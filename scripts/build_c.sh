@@ -54,7 +54,7 @@ build_door() {
         cp "crates/$crate/out/lib$crate.a" "$archive"
     else
         # `rt lib` would prove the crates below again in a fresh checkout.
-        sh scripts/over_kept.sh "$crate" "$archive" "$kit/toolchain" $for_machine >> "$dir/rt_lib.log" 2>&1 || { tail -n 5 "$dir/rt_lib.log" >&2; exit 1; }
+        sh scripts/parts/over_kept.sh "$crate" "$archive" "$kit/toolchain" $for_machine >> "$dir/rt_lib.log" 2>&1 || { tail -n 5 "$dir/rt_lib.log" >&2; exit 1; }
     fi
     (cd "$dir" && "${tools}ar" x "$archive" && mv "$crate.o" "${door}_module.o")
     rm -f "$archive"

@@ -34,19 +34,19 @@ layout() {
     diff -r -U 1 --exclude=out crates "$work/copy/crates" && [ ! -s "$work/fmt" ]
 }
 
-check python3 scripts/links.py
-check python3 scripts/layers.py
-check python3 scripts/words.py
-check python3 scripts/figures.py
-check python3 scripts/surface.py
-check python3 scripts/definitions.py --check
-check python3 scripts/unused_dependencies.py
-check python3 scripts/proofs_between_crates.py
-check python3 scripts/reexports.py
-check python3 scripts/imports.py --check
-check python3 scripts/dead_and_duplicate.py
+check python3 scripts/gate/links.py
+check python3 scripts/gate/layers.py
+check python3 scripts/gate/words.py
+check python3 scripts/gate/figures.py
+check python3 scripts/gate/surface.py
+check python3 scripts/gate/definitions.py --check
+check python3 scripts/gate/unused_dependencies.py
+check python3 scripts/gate/proofs_between_crates.py
+check python3 scripts/gate/reexports.py
+check python3 scripts/gate/imports.py --check
+check python3 scripts/gate/dead_and_duplicate.py
 check python3 scripts/doors/abi.py
-check sh scripts/wrong_words.sh
+check sh scripts/gate/wrong_words.sh
 check layout
 echo "$passed passed, $failed failed"
 [ "$failed" -eq 0 ]

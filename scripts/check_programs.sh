@@ -98,27 +98,27 @@ front="python3 examples/yaml_lines.py"
 lists=2000
 [ -z "$all" ] || lists=100000
 
-check vendor sha256sum -- sh scripts/vendor_checks.sh
-check calling rt -- sh scripts/calling_steps.sh
-check statuses $yamltokens -- sh scripts/statuses.sh $yamltokens
-check slow_pipe python3 $yamltokens -- python3 scripts/slow_pipe.py $yamltokens
-check inlined nm $yamltokens crates/bench_lists/out/bench_lists -- sh scripts/inlined.sh $yamltokens crates/bench_lists/out/bench_lists
-check faults_of_yaml_lines.py PyYAML $yamltokens -- python3 scripts/compare_errors.py $front
+check vendor sha256sum -- sh scripts/gate/vendor_checks.sh
+check calling rt -- sh scripts/gate/calling_steps.sh
+check statuses $yamltokens -- sh scripts/gate/statuses.sh $yamltokens
+check slow_pipe python3 $yamltokens -- python3 scripts/gate/slow_pipe.py $yamltokens
+check inlined nm $yamltokens crates/bench_lists/out/bench_lists -- sh scripts/gate/inlined.sh $yamltokens crates/bench_lists/out/bench_lists
+check faults_of_yaml_lines.py PyYAML $yamltokens -- python3 scripts/gate/compare_errors.py $front
 for rows in rows_hostile rows_lines rows_yaml; do
-    check "allocations_of_$rows" cc timeout crates/$rows/out/$rows -- sh scripts/allocation_failures.sh $rows
+    check "allocations_of_$rows" cc timeout crates/$rows/out/$rows -- sh scripts/gate/allocation_failures.sh $rows
 done
-check flat_memory /usr/bin/time crates/rows_hostile/out/rows_hostile -- sh scripts/flat_memory.sh
+check flat_memory /usr/bin/time crates/rows_hostile/out/rows_hostile -- sh scripts/gate/flat_memory.sh
 check differential python3 cc yaml.h $yamltokens -- env JOBS=4 sh scripts/differential/run.sh $lists
 
 check libraries_for_c rt cc ld objcopy ar nm yaml.h -- sh scripts/build_c.sh "$libraries" $ci
-check faults_of_yaml.c PyYAML "$yaml" -- python3 scripts/compare_errors.py "$yaml"
-check fronts PyYAML $yamltokens "$yaml" -- python3 scripts/compare_fronts.py "$yaml"
+check faults_of_yaml.c PyYAML "$yaml" -- python3 scripts/gate/compare_errors.py "$yaml"
+check fronts PyYAML $yamltokens "$yaml" -- python3 scripts/gate/compare_fronts.py "$yaml"
 check python PyYAML timeout truncate $yamltokens -- sh scripts/doors/python_checks.sh $yamltokens
 for door in steps compose yaml; do
     check $door cc c++ python3 readelf valgrind yaml.h "$libraries/libpokhvizi.a" -- sh scripts/doors/door_checks.sh $door "$libraries"
 done
 check extension cc nm strip PyYAML Python.h yaml.h "$libraries/libpokhvizi.a" -- sh scripts/doors/extension_checks.sh "$libraries" $all
-check release cc c++ make pkg-config readelf python3 yaml.h "$libraries/libpokhvizi.a" -- sh scripts/release_checks.sh "$libraries" $all
+check release cc c++ make pkg-config readelf python3 yaml.h "$libraries/libpokhvizi.a" -- sh scripts/gate/release_checks.sh "$libraries" $all
 check any_processor qemu-x86_64 cc yaml.h "$libraries/libpokhvizi.a" -- sh scripts/doors/any_processor.sh "$libraries"
 if [ -n "$all" ]; then
     check_clients

@@ -175,7 +175,7 @@ crate() {
 modules() {
     tree=$work/pokhvizi-$version-llvm
     mkdir -p "$tree/include"
-    sh scripts/llvm_source.sh "$tree" > "$work/said" 2>&1 || { cat "$work/said" >&2; exit 1; }
+    sh scripts/parts/llvm_source.sh "$tree" > "$work/said" 2>&1 || { cat "$work/said" >&2; exit 1; }
     for door in steps compose; do
         cmp "$tree/${door}_module.o" "$built/${door}_module.o"
         rm "$tree/${door}_module.o"

@@ -35,7 +35,7 @@ $cc -O2 -mssse3 -static -o "$work/later" "$work/later.c" || exit 2
 "$work/later" > "$work/plain" && ! qemu-x86_64 -cpu qemu64 "$work/later" > "$work/said" 2>&1 ||
     { echo "wrong: later instructions are not seen"; wrong=$((wrong + 1)); }
 
-set -- examples/*.yaml scripts/broken/*.yaml scripts/whole/*.yaml
+set -- examples/*.yaml scripts/parts/broken/*.yaml scripts/parts/whole/*.yaml
 $cc -O2 -static -Ibindings/c/include -o "$work/steps" scripts/doors/steps_driver.c "$dir/libpokhvizi.a" -lyaml -lpthread || exit 2
 check "libpokhvizi.a, steps" "$work/steps" "$@"
 $cc -O2 -static -Ibindings/c/include -o "$work/compose" scripts/doors/compose_driver.c "$dir/libpokhvizi.a" -lyaml -lpthread || exit 2

@@ -210,7 +210,7 @@ differing_files() {
 events() {
     name_files > "$work/files"
     (cd "$suite" && find . -name in.yaml | sort) > "$work/cases"
-    find "$top/scripts/broken" "$top/scripts/whole" "$top/examples" -name '*.yaml' | sort > "$work/texts"
+    find "$top/scripts/parts/broken" "$top/scripts/parts/whole" "$top/examples" -name '*.yaml' | sort > "$work/texts"
     : > "$work/differ"
     for what in files nodes; do
         for list in files cases texts; do
@@ -302,9 +302,9 @@ pyyaml_pure() {
 }
 
 loaders() {
-    set -- "$suite" "$tests/data" scripts/broken scripts/whole
+    set -- "$suite" "$tests/data" scripts/parts/broken scripts/parts/whole
     PYTHONPATH=$work/python "$python" "$lists/loaders.py" "$@" > "$work/made" 2> "$work/count" || { cat "$work/count"; return 1; }
-    PYTHONPATH=$work/python "$python" "$lists/loaders.py" --turned scripts/broken > "$work/turned" 2>&1
+    PYTHONPATH=$work/python "$python" "$lists/loaders.py" --turned scripts/parts/broken > "$work/turned" 2>&1
     [ "$(grep -c documents "$work/turned")" -gt 0 ] || { echo "what is turned doesn't differ"; return 1; }
     cut -f 1 "$work/made" > "$work/differ"
     as_listed "$work/differ" loaders "$(cat "$work/count")"
@@ -327,7 +327,7 @@ pyyaml_ext() {
 cloaders() {
     name_files > "$work/files"
     (cd "$suite" && find . -name in.yaml | sort) > "$work/cases"
-    find "$tests/data" "$top/scripts/broken" "$top/scripts/whole" "$top/examples" -type f ! -name '*.py' | sort > "$work/texts"
+    find "$tests/data" "$top/scripts/parts/broken" "$top/scripts/parts/whole" "$top/examples" -type f ! -name '*.py' | sort > "$work/texts"
     : > "$work/differ"
     for list in files cases texts; do
         (cd "$suite" && PYTHONPATH=$work/python "$python" "$lists/cloaders.py" < "$work/$list") > "$work/made" 2> "$work/count" ||

@@ -176,11 +176,11 @@ check_texts() {
     done
     expect_message 1 "$@" events examples/fault.yaml
     cmp -s "$work/out" examples/fault.events || complain "$what: events of fault"
-    for text in scripts/broken/*.yaml; do
+    for text in scripts/parts/broken/*.yaml; do
         expect_message 1 "$@" nodes "$text"
         grep -A 1 '^FAULT' "$work/out" | cmp -s - "${text%.yaml}.fault" || complain "$what: ${text##*/}"
     done
-    echo "$what: $runs runs, over samples and $(ls scripts/broken/*.yaml | wc -l) broken texts"
+    echo "$what: $runs runs, over samples and $(ls scripts/parts/broken/*.yaml | wc -l) broken texts"
 }
 
 # Outputs that fail, words that are wrong, files that aren't there.
@@ -244,11 +244,11 @@ check_yaml() {
     check_failures
     for mode in events nodes; do
         check_refused $mode examples/compose.yaml
-        check_refused $mode scripts/broken/scanner_quote_never_closed.yaml
+        check_refused $mode scripts/parts/broken/scanner_quote_never_closed.yaml
     done
     check_refused tokens examples/compose.yaml
 }
 
-check_$door examples/*.yaml scripts/broken/*.yaml scripts/whole/*.yaml
+check_$door examples/*.yaml scripts/parts/broken/*.yaml scripts/parts/whole/*.yaml
 echo "$wrong wrong"
 [ $wrong -eq 0 ]

@@ -7,13 +7,13 @@
 # The programs have to be built (`rt ci`, or `rt run` in their folders); a C compiler, the GNU C library and GNU's timeout
 # are needed.
 #
-#     sh scripts/allocation_failures.sh [CRATE..]
+#     sh scripts/gate/allocation_failures.sh [CRATE..]
 #
 # Without words: rows_hostile rows_lines rows_yaml.
 #
 # Run by check_programs.sh.
 set -u
-cd "$(dirname "$0")/.." || exit 2
+cd "$(dirname "$0")/../.." || exit 2
 root=$PWD
 wrong=0
 

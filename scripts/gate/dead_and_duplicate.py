@@ -1,11 +1,11 @@
 #!/usr/bin/env python3
 """Counts what a reader of specs and proofs meets twice or in vain:
 
-    python3 scripts/dead_and_duplicate.py [--write] [names|dead|twice]
+    python3 scripts/gate/dead_and_duplicate.py [--write] [names|dead|twice]
 
 names: names of specs/ that stand for more than one definition. dead: definitions of specs/ and proofs/ that no
 code, contract or proof reaches, by the names that are mentioned. twice: lemmas whose statements are equal but for
-the names of their variables. scripts/dead_and_duplicate.txt has the three figures, which may only fall: the exit
+the names of their variables. scripts/gate/dead_and_duplicate.txt has the three figures, which may only fall: the exit
 status is 1 where one is another, and with --write it is written. A word prints what is counted.
 
 Run by check.sh.
@@ -15,8 +15,8 @@ import sys
 from collections import defaultdict
 from pathlib import Path
 
-TOP = Path(__file__).resolve().parent.parent
-LIMITS = TOP / "scripts" / "dead_and_duplicate.txt"
+TOP = Path(__file__).resolve().parents[2]
+LIMITS = TOP / "scripts" / "gate" / "dead_and_duplicate.txt"
 NAME = r"[^\s(){}.,;:=→λ]+"
 HEAD = re.compile(rf"^(?:abbrev )?(?:pub )?(?:(record|data) ({NAME})(?: |$)|({NAME}|\S*◌\S*) :(?: |$))")
 WORD = re.compile(rf"{NAME}(?:\.{NAME})*")
@@ -155,7 +155,7 @@ def main():
         if count > limits[word]:
             print(f"{word}: {count}, and not {limits[word]}: `dead_and_duplicate.py {word}` prints them")
         elif count < limits[word]:
-            print(f"{word}: {count}, fewer than the {limits[word]} of scripts/dead_and_duplicate.txt: `dead_and_duplicate.py --write` writes it")
+            print(f"{word}: {count}, fewer than the {limits[word]} of scripts/gate/dead_and_duplicate.txt: `dead_and_duplicate.py --write` writes it")
     print(", ".join(f"{word} {count}" for word, count in figures.items()))
     sys.exit(figures != limits)
 

@@ -2,7 +2,7 @@
 # Writes into DIR the LLVM modules that the prover's compiler makes of the libraries for C, as steps.ll and compose.ll,
 # and beside them the objects that its clang makes of these, as NAME_module.o:
 #
-#     sh scripts/llvm_source.sh DIR
+#     sh scripts/parts/llvm_source.sh DIR
 #
 # The kit has no word for a module. So its compiler is run with a folder of tools whose clang first copies what it is given. This
 # rests on how the kit calls clang: with the module as the file module.bc in the folder that it is run in. Where that is no longer
@@ -10,10 +10,10 @@
 #
 # Run by release.sh.
 set -eu
-[ $# -eq 1 ] && case $1 in '' | -*) false ;; esac || { echo "usage: sh scripts/llvm_source.sh DIR" >&2; exit 2; }
+[ $# -eq 1 ] && case $1 in '' | -*) false ;; esac || { echo "usage: sh scripts/parts/llvm_source.sh DIR" >&2; exit 2; }
 mkdir -p "$1"
 dir=$(cd "$1" && pwd)
-cd "$(dirname "$0")/.."
+cd "$(dirname "$0")/../.."
 kit=$(dirname "$(rt doc)")
 work=$(mktemp -d)
 trap 'rm -rf "$work"' EXIT
@@ -31,7 +31,7 @@ chmod 755 "$work/toolchain/bin/clang"
 module() {
     door=$1 name=$2
     rm -f "$work/module.bc"
-    sh scripts/over_kept.sh "$name" "$work/lib.a" "$work/toolchain" --cpu x86-64 > "$work/said" 2>&1 || { tail -n 5 "$work/said" >&2; exit 1; }
+    sh scripts/parts/over_kept.sh "$name" "$work/lib.a" "$work/toolchain" --cpu x86-64 > "$work/said" 2>&1 || { tail -n 5 "$work/said" >&2; exit 1; }
     [ -s "$work/module.bc" ] || { echo "llvm_source.sh: no module of $name was found" >&2; exit 1; }
     # In its folder, as clang writes the name that it is given into the module.
     (cd "$work" && "$kit/toolchain/bin/clang" --target=x86_64-unknown-linux-gnu --no-default-config -S -emit-llvm -O0 \

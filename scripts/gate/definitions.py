@@ -1,9 +1,9 @@
 #!/usr/bin/env python3
 """Counts the lines of definitions that the headline's clauses of the two whole runs cite, directly or through one another.
 
-    python3 scripts/definitions.py            prints the table of docs/HEADLINE.md
-    python3 scripts/definitions.py --check    fails where the page says something else, or a page names what is not there
-    python3 scripts/definitions.py --write    puts the table into the page
+    python3 scripts/gate/definitions.py            prints the table of docs/HEADLINE.md
+    python3 scripts/gate/definitions.py --check    fails where the page says something else, or a page names what is not there
+    python3 scripts/gate/definitions.py --write    puts the table into the page
 
 A definition is what stands in a file of `specs/` from one name at the left edge to the next, with the comment above it.
 A name in backticks in a heading of docs/DEFINITIONS.md has to be a definition, a file of `specs/` or a module; one on any
@@ -15,7 +15,7 @@ import re
 import sys
 from pathlib import Path
 
-ROOT = Path(__file__).resolve().parent.parent
+ROOT = Path(__file__).resolve().parents[2]
 PAGE = ROOT / "docs" / "HEADLINE.md"
 RUNS = [("parse_all", "yaml_parser_parse_all"), ("load_all", "yaml_parser_load_all")]
 PAGES = [*ROOT.glob("docs/*.md"), ROOT / "README.md", ROOT / "CONTRIBUTING.md", *ROOT.glob("crates/*/README.md"), *ROOT.glob("bindings/*/README.md"), *ROOT.glob("scripts/**/README.md")]
@@ -153,7 +153,7 @@ def main():
     if "--write" in sys.argv:
         PAGE.write_text(page[: shown.start()] + counted + "\n" + page[shown.end() :])
     elif "--check" in sys.argv and shown.group().strip() != counted.strip():
-        sys.exit("docs/HEADLINE.md is stale: run python3 scripts/definitions.py --write")
+        sys.exit("docs/HEADLINE.md is stale: run python3 scripts/gate/definitions.py --write")
     elif "--check" in sys.argv:
         if unknown := list(unknown_names()):
             sys.exit("\n".join(unknown))

@@ -1,16 +1,16 @@
 #!/bin/sh
 # Builds the static library of a crate over the libraries that proofs left in crates/*/out/rlib, without any proof:
 #
-#     sh scripts/over_kept.sh CRATE ARCHIVE TOOLCHAIN WORD..
+#     sh scripts/parts/over_kept.sh CRATE ARCHIVE TOOLCHAIN WORD..
 #
 # TOOLCHAIN has the tools of the kit's compiler, or others in their place; the words are the compiler's, for another machine.
 #
 # Run by build_c.sh and llvm_source.sh.
 set -eu
-[ $# -ge 3 ] || { echo "usage: sh scripts/over_kept.sh CRATE ARCHIVE TOOLCHAIN WORD.." >&2; exit 2; }
+[ $# -ge 3 ] || { echo "usage: sh scripts/parts/over_kept.sh CRATE ARCHIVE TOOLCHAIN WORD.." >&2; exit 2; }
 crate=$1 archive=$2 toolchain=$3
 shift 3
-cd "$(dirname "$0")/.."
+cd "$(dirname "$0")/../.."
 top=$PWD
 kit=$(dirname "$(rt doc)")
 set -- "$@" --extern "std=$kit/rlibs/std.rlib" -L "dependency=$kit/rlibs"

@@ -1,7 +1,7 @@
 #!/usr/bin/env python3
 """Feeds `yamltokens` a line at a time: what a token determines has to be in the output before the next token is sent.
 
-    python3 scripts/slow_pipe.py PROGRAM
+    python3 scripts/gate/slow_pipe.py PROGRAM
 
 The exit status is 1 where a line of events or nodes comes late (after ten seconds), is another, or comes too soon, and where
 the program does not end with status 0.

@@ -2,13 +2,13 @@
 # Gives each script that takes words wrong ones, and those that need a word none: it has to say its usage in one line on standard
 # error, and nothing else, to end with status 2 at once, and to leave the folder that it is run in empty.
 #
-#     sh scripts/wrong_words.sh
+#     sh scripts/gate/wrong_words.sh
 #
 # vendor_checks.sh has more wrong words of vendor.sh. The exit status is 1 where a script does something else.
 #
 # Run by check.sh.
 set -u
-top=$(cd "$(dirname "$0")/.." && pwd) || exit 2
+top=$(cd "$(dirname "$0")/../.." && pwd) || exit 2
 work=$(mktemp -d) || exit 2
 trap 'rm -rf "$work"' EXIT
 mkdir "$work/empty" && cd "$work/empty" || exit 2
@@ -34,8 +34,8 @@ refuses() {
 }
 
 for script in bench/clients.sh scripts/build_c.sh scripts/doors/any_processor.sh scripts/doors/clients.sh \
-    scripts/doors/door_checks.sh scripts/doors/extension_checks.sh scripts/inlined.sh scripts/llvm_source.sh scripts/release.sh \
-    scripts/release_checks.sh scripts/release_trees.sh scripts/vectors.sh scripts/statuses.sh scripts/vendor.sh; do
+    scripts/doors/door_checks.sh scripts/doors/extension_checks.sh scripts/gate/inlined.sh scripts/parts/llvm_source.sh scripts/release.sh \
+    scripts/gate/release_checks.sh scripts/release_trees.sh scripts/vectors.sh scripts/gate/statuses.sh scripts/vendor.sh; do
     refuses $script
     refuses $script --help
 done
@@ -46,8 +46,8 @@ done
 refuses scripts/build_c.sh ''
 refuses scripts/build_c.sh "$work/built" no_such_word
 refuses scripts/doors/door_checks.sh no_such_door
-refuses scripts/llvm_source.sh ''
-refuses scripts/llvm_source.sh one two
+refuses scripts/parts/llvm_source.sh ''
+refuses scripts/parts/llvm_source.sh one two
 refuses scripts/vectors.sh no_such_rows
 refuses bench/run.sh clock no_such_word
 echo "$runs runs, $wrong wrong"

@@ -1,7 +1,7 @@
 #!/usr/bin/env python3
 """Names each crate that a line of crates.txt lists and no file of that line's crate uses; fails where there is one.
 
-    python3 scripts/unused_dependencies.py
+    python3 scripts/gate/unused_dependencies.py
 
 Run by check.sh.
 """
@@ -9,7 +9,7 @@ import re
 import sys
 from pathlib import Path
 
-TOP = Path(__file__).resolve().parent.parent
+TOP = Path(__file__).resolve().parents[2]
 
 
 def lines():

@@ -1,7 +1,7 @@
 #!/usr/bin/env python3
 """Fails where a page, a comment or the name of a mutant has a word that is given up, and says what stands in its place: the tables below.
 
-    python3 scripts/words.py [CRATE..]     pages, examples, and the comments of these crates, or of all where none is named
+    python3 scripts/gate/words.py [CRATE..]     pages, examples, and the comments of these crates, or of all where none is named
 
 The lines of a paragraph or of a comment are read as one text, so that a phrase over two of them is found; the first is named.
 Names of code, in backticks, in blocks or as the target of a link, are not words. SURFACE, which is made of comments, is left out.
@@ -15,7 +15,7 @@ import sys
 from itertools import groupby
 from pathlib import Path
 
-TOP = Path(__file__).resolve().parent.parent
+TOP = Path(__file__).resolve().parents[2]
 INSTEAD = {
     r"want of memory": "out of memory",
     r"refused growth|growths? (?:is|was|are|were|that is) refused|growth refused": "an allocation fails, a failed allocation",

@@ -2,7 +2,7 @@
 """Fails where a crate names a proof of another crate of the repository that isn't in its `proofs/lent`, where a definition in
 `specs/` names a proof of the repository, or where what stands in `proofs/lent` is named by no other crate.
 
-    python3 scripts/proofs_between_crates.py
+    python3 scripts/gate/proofs_between_crates.py
 
 Run by check.sh.
 """

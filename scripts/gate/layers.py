@@ -1,8 +1,8 @@
 #!/usr/bin/env python3
 """Draws the layers of crates.txt at the head of docs/ARCHITECTURE.md.
 
-    python3 scripts/layers.py           fails where the picture is not as crates.txt has it, or a crate has no README.md
-    python3 scripts/layers.py --write   writes the picture
+    python3 scripts/gate/layers.py           fails where the picture is not as crates.txt has it, or a crate has no README.md
+    python3 scripts/gate/layers.py --write   writes the picture
 
 It has what a crate needs directly: crates that one of these needs itself are left out, and so are the kit's crates, and
 examples, tests and the bench, which are the last two layers.
@@ -13,7 +13,7 @@ import re
 import sys
 from pathlib import Path
 
-TOP = Path(__file__).resolve().parent.parent
+TOP = Path(__file__).resolve().parents[2]
 PAGE = TOP / "docs" / "ARCHITECTURE.md"
 PICTURE = re.compile(r"^```mermaid\nflowchart BT\n.*?^```\n", re.MULTILINE | re.DOTALL)
 
@@ -56,7 +56,7 @@ def main():
     if "--write" in sys.argv[1:]:
         PAGE.write_text(made)
     elif made != text:
-        wrong.append(f"{PAGE.name}: the layers are not as crates.txt has them; run python3 scripts/layers.py --write")
+        wrong.append(f"{PAGE.name}: the layers are not as crates.txt has them; run python3 scripts/gate/layers.py --write")
     print("\n".join(wrong), end="\n" if wrong else "")
     return 1 if wrong else 0
 

@@ -1,7 +1,7 @@
 #!/bin/sh
 # Makes a release of built libraries twice, compares the two, and installs and uses each archive in an empty place:
 #
-#     sh scripts/release_checks.sh BUILT [all]
+#     sh scripts/gate/release_checks.sh BUILT [all]
 #
 # BUILT is what build_c.sh made. The archives are those of release.sh for x86-64, with the modules where the word `all` is given,
 # and for aarch64 too where BUILT/aarch64 is there. What is installed is used with a path of the system's alone and no variables:
@@ -13,9 +13,9 @@
 # Run by check_programs.sh.
 set -u
 [ $# -ge 1 ] && [ -f "$1/libpokhvizi.a" ] && case ${2:-all} in all) ;; *) false ;; esac ||
-    { echo "usage: sh scripts/release_checks.sh BUILT [all], where build_c.sh made BUILT" >&2; exit 2; }
+    { echo "usage: sh scripts/gate/release_checks.sh BUILT [all], where build_c.sh made BUILT" >&2; exit 2; }
 built=$(cd "$1" && pwd)
-cd "$(dirname "$0")/.." || exit 2
+cd "$(dirname "$0")/../.." || exit 2
 top=$PWD
 work=$(mktemp -d) || exit 2
 trap 'rm -rf "$work"' EXIT

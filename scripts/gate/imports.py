@@ -1,8 +1,8 @@
 #!/usr/bin/env python3
 """Imports of .antt files: one line a module, which goes on in a further line where it is wider than 300, and none without a name.
 
-    python3 scripts/imports.py --check        names the files where that isn't so, and fails where there is one
-    python3 scripts/imports.py --write        writes them so; a module stays where its first line was
+    python3 scripts/gate/imports.py --check        names the files where that isn't so, and fails where there is one
+    python3 scripts/gate/imports.py --write        writes them so; a module stays where its first line was
 
 Run by check.sh.
 """
@@ -10,7 +10,7 @@ import re
 import sys
 from pathlib import Path
 
-TOP = Path(__file__).resolve().parent.parent
+TOP = Path(__file__).resolve().parents[2]
 WIDTH = 300
 USE = re.compile(r"((?:pub )?use [\w.]+)\.\{(.*)\}$")
 
@@ -54,7 +54,7 @@ def main():
             path.write_text(text)
         print(f"{len(others)} files written")
     elif others:
-        sys.exit("imports not as scripts/imports.py --write leaves them:\n" + "\n".join(str(path.relative_to(TOP)) for path, _ in others))
+        sys.exit("imports not as scripts/gate/imports.py --write leaves them:\n" + "\n".join(str(path.relative_to(TOP)) for path, _ in others))
 
 
 if __name__ == "__main__":

@@ -1,8 +1,8 @@
 #!/usr/bin/env python3
 """Fails where a page says another number of crates, mutants, test vectors or texts than the repository has.
 
-    python3 scripts/figures.py            by check.sh
-    python3 scripts/figures.py --write    writes the numbers into the pages
+    python3 scripts/gate/figures.py            by check.sh
+    python3 scripts/gate/figures.py --write    writes the numbers into the pages
 
 FIGURES has each number that stands in a page: the page, the words around it with N in its place, and how it is counted. A number
 before one of the words of COUNTED that has no line there fails too, on every page but those of OTHERS.
@@ -11,7 +11,7 @@ import re
 import sys
 from pathlib import Path
 
-TOP = Path(__file__).resolve().parent.parent
+TOP = Path(__file__).resolve().parents[2]
 WORDS = "none one two three four five six seven eight nine ten eleven twelve".split()
 NUMBER = rf"(\d[\d,]*|{'|'.join(WORDS)})"
 COUNTED = re.compile(rf"\b(\d[\d,]*|{'|'.join(WORDS[4:])}) (?:crates|mutants|equivalent mutants|edits|test vectors|rows|broken texts)\b", re.IGNORECASE)
@@ -46,7 +46,7 @@ def most_mutants():
 
 
 def texts_of(side):
-    return lines(rf"^\S+ +{side}\b", "scripts/broken/differences")
+    return lines(rf"^\S+ +{side}\b", "scripts/parts/broken/differences")
 
 
 FIGURES = [
@@ -56,7 +56,7 @@ FIGURES = [
     ("docs/GATE.md", "today's N mutants", mutants),
     ("docs/GATE.md", "now N in one crate", most_mutants),
     ("docs/CALLING.md", "without the other N crates below `unsafe_libyaml`", lambda: crates_below("unsafe_libyaml") - 2),
-    ("docs/CALLING.md", "N broken texts", lambda: files("scripts/broken/*.yaml")),
+    ("docs/CALLING.md", "N broken texts", lambda: files("scripts/parts/broken/*.yaml")),
     ("docs/CALLING.md", "of which N differs from libyaml's", lambda: texts_of("libyaml")),
     ("docs/CALLING.md", "and N from PyYAML's", lambda: texts_of("pyyaml")),
     ("docs/CALLING.md", "N ghost members", lambda: lines(r"^    ghost \w+:", "crates/libyaml_types/src/source.rt")),
@@ -103,7 +103,7 @@ def unknown_figures():
                  for match in re.finditer(re.escape(words).replace("N", NUMBER, 1), text, flags=re.IGNORECASE)]
         for match in [] if page.name in OTHERS else COUNTED.finditer(text):
             if not any(begin < match.end() and match.start() < end for begin, end in known):
-                yield f'{name}: scripts/figures.py has no line of "{match[0]}"'
+                yield f'{name}: scripts/gate/figures.py has no line of "{match[0]}"'
 
 
 def main():

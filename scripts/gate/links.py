@@ -9,7 +9,7 @@
 - a script that scripts/README.md doesn't list;
 - another version than that of the file VERSION, in CHANGELOG's first entry the macro of pokhvizi/version.h, or the Python package.
 
-    python3 scripts/links.py
+    python3 scripts/gate/links.py
 
 Run by check.sh.
 """
@@ -17,7 +17,7 @@ import re
 import sys
 from pathlib import Path
 
-TOP = Path(__file__).resolve().parent.parent
+TOP = Path(__file__).resolve().parents[2]
 PAGES = [*TOP.glob("*.md"), *TOP.glob("docs/*.md"), *TOP.glob("crates/*/README.md"), *TOP.glob("bindings/*/README.md"),
          *TOP.glob("scripts/README.md"), *TOP.glob("scripts/*/README.md")]
 MADE = re.compile(r"(^|/)(out|build|my_project)(/|$)|^(list\.tokens|vendored\.txt)$|\b(NAME|FILE|DEST)\b")
@@ -107,8 +107,9 @@ def wrong_edits():
 
 def unlisted_scripts():
     text = (TOP / "scripts" / "README.md").read_text()
-    for path in [*TOP.glob("scripts/*.sh"), *TOP.glob("scripts/*.py"), *TOP.glob("scripts/*/run.sh"), *TOP.glob("scripts/doors/*.sh"), *TOP.glob("scripts/doors/*.py")]:
-        name = str(path.relative_to(TOP / "scripts"))
+    for path in [*TOP.glob("scripts/*.sh"), *TOP.glob("scripts/*.py"), *TOP.glob("scripts/*/run.sh"), *TOP.glob("scripts/doors/*.sh"), *TOP.glob("scripts/doors/*.py"),
+                 *TOP.glob("scripts/gate/*"), *TOP.glob("scripts/parts/*.sh")]:
+        name = str(path.relative_to(TOP / "scripts")).removeprefix("gate/").removeprefix("parts/")
         if not re.search(rf"(`|/){re.escape(name)}`", text):
             yield f"scripts/README.md: {name} is not listed"
 

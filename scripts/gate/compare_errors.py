@@ -1,11 +1,11 @@
 #!/usr/bin/env python3
 """Compares the errors of broken texts: what a front tells, what was written down, libyaml's own words and PyYAML's.
 
-    python3 scripts/compare_errors.py [--write] FRONT..
+    python3 scripts/gate/compare_errors.py [--write] FRONT..
 
 FRONT is the command of a front, as `python3 examples/yaml_lines.py` or a built `examples/yaml.c`; it is called with `nodes` and
-each file of `scripts/broken`. What stands in `NAME.fault` is expected of it. libyaml (through PyYAML's CLoader) and PyYAML
-itself parse the same text; where one of them says something else, `scripts/broken/differences` names that with the reason,
+each file of `scripts/parts/broken`. What stands in `NAME.fault` is expected of it. libyaml (through PyYAML's CLoader) and PyYAML
+itself parse the same text; where one of them says something else, `scripts/parts/broken/differences` names that with the reason,
 one line each: NAME SIDE REASON. The exit status is 1 where an error is another than expected, a difference is not named, a
 named one is none or of no text, or a text or its error stands alone. With --write, `NAME.fault` is written from the front.
 
@@ -18,7 +18,7 @@ from pathlib import Path
 
 import yaml
 
-BROKEN = Path(__file__).resolve().parent / "broken"
+BROKEN = Path(__file__).resolve().parents[1] / "parts" / "broken"
 FAULT = re.compile(r"^FAULT .*\n(?:CONTEXT .*\n)?\Z", re.MULTILINE)
 SIDES = {"libyaml": yaml.CLoader, "pyyaml": yaml.Loader}
 KINDS = [

@@ -3,9 +3,9 @@
 what the doc of each says first where that has more than a few words and no public field or variant shows it; then the others,
 by their crates; each with its signature, its fields or its variants.
 
-    python3 scripts/surface.py           fails where the page is stale, an item has no doc, one is `pub` for its crate alone, or
+    python3 scripts/gate/surface.py           fails where the page is stale, an item has no doc, one is `pub` for its crate alone, or
                                          docs/PROVED.md doesn't name a law (those of `rows` and `productions` by their module)
-    python3 scripts/surface.py --write   writes the page
+    python3 scripts/gate/surface.py --write   writes the page
 
 The examples and the programs of test vectors are left out.
 
@@ -16,7 +16,7 @@ import sys
 import textwrap
 from pathlib import Path
 
-TOP = Path(__file__).resolve().parent.parent
+TOP = Path(__file__).resolve().parents[2]
 PAGE = TOP / "docs" / "SURFACE.md"
 ITEM = re.compile(r"pub (?:extern \"C\" )?(fn|struct|enum|trait|type|const) (\w+)")
 METHOD = re.compile(r"    (pub )?fn (\w+)")
@@ -33,7 +33,7 @@ WIDTH = 110
 
 HEAD = """# Every public item
 
-`python3 scripts/surface.py --write` makes this page. You name `unsafe_libyaml`, which re-exports the crates of events, documents and loads, and `token_lines`, which re-exports those of lines. `fn T::f` is a method or a function of the type `T`; a struct that is shown without fields has private ones. What each is, returns and asks for is in the comment and the contract beside it, and [CALLING.md](CALLING.md) shows their use. [PROVED.md](PROVED.md) has the laws; what only crates above use is left out.
+`python3 scripts/gate/surface.py --write` makes this page. You name `unsafe_libyaml`, which re-exports the crates of events, documents and loads, and `token_lines`, which re-exports those of lines. `fn T::f` is a method or a function of the type `T`; a struct that is shown without fields has private ones. What each is, returns and asks for is in the comment and the contract beside it, and [CALLING.md](CALLING.md) shows their use. [PROVED.md](PROVED.md) has the laws; what only crates above use is left out.
 """
 
 FIRST = [
@@ -343,7 +343,7 @@ def main():
     if sys.argv[1:] == ["--write"]:
         PAGE.write_text(text)
     elif not PAGE.exists() or PAGE.read_text() != text:
-        sys.exit("docs/SURFACE.md is stale: python3 scripts/surface.py --write")
+        sys.exit("docs/SURFACE.md is stale: python3 scripts/gate/surface.py --write")
 
 
 if __name__ == "__main__":

@@ -1,10 +1,10 @@
 #!/usr/bin/env python3
 """Compares the two programs of examples: what they write of each text, byte for byte, and their exit statuses.
 
-    python3 scripts/compare_fronts.py YAML [WORD..]
+    python3 scripts/gate/compare_fronts.py YAML [WORD..]
 
 YAML is a built `examples/yaml.c`; the words go to `examples/yaml_lines.py` where it writes events or nodes (`--program PATH`). The
-texts are those of `scripts/broken`, of `scripts/whole`, none of which ends with a line feed, and the examples; each is written
+texts are those of `scripts/parts/broken`, of `scripts/parts/whole`, none of which ends with a line feed, and the examples; each is written
 as tokens, as events and as nodes. The exit status is 1 where the two differ.
 
 Run by check_programs.sh.
@@ -15,8 +15,8 @@ from concurrent.futures import ThreadPoolExecutor
 from itertools import product
 from pathlib import Path
 
-TOP = Path(__file__).resolve().parent.parent
-FOLDERS = ["scripts/broken", "scripts/whole", "examples"]
+TOP = Path(__file__).resolve().parents[2]
+FOLDERS = ["scripts/parts/broken", "scripts/parts/whole", "examples"]
 MODES = ["tokens", "events", "nodes"]
 
 

@@ -2,11 +2,11 @@
 # Follows the steps that docs/CALLING.md shows for a project of one's own, in order, in a new folder, without any proof
 # (`rt try`). The programs have to print what the page says, and then `vendor.sh` has nothing to update.
 #
-#     sh scripts/calling_steps.sh
+#     sh scripts/gate/calling_steps.sh
 #
 # Run by check_programs.sh.
 set -u
-cd "$(dirname "$0")/.." || exit 2
+cd "$(dirname "$0")/../.." || exit 2
 work=$(mktemp -d) || exit 2
 trap 'rm -rf "$work"' EXIT
 page=docs/CALLING.md

@@ -5,12 +5,12 @@
 # in the code, and where a program has no symbols of the crates. `bench_lists` has two loops `for event in parser.by_ref()`:
 # the kit's `next` by reference, which has no mark, is inlined into them, or is named.
 #
-#     sh scripts/inlined.sh crates/yamltokens/out/yamltokens crates/bench_lists/out/bench_lists
+#     sh scripts/gate/inlined.sh crates/yamltokens/out/yamltokens crates/bench_lists/out/bench_lists
 #
 # Run by check_programs.sh.
 set -eu
 case ${1-} in '' | -*) echo "usage: inlined.sh PROGRAM.." >&2; exit 2 ;; esac
-top=$(CDPATH='' cd -- "$(dirname -- "$0")/.." && pwd)
+top=$(CDPATH='' cd -- "$(dirname -- "$0")/../.." && pwd)
 work=$(mktemp -d)
 trap 'rm -rf "$work"' EXIT
 

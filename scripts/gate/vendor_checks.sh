@@ -2,11 +2,11 @@
 # Tries scripts/vendor.sh on a project of its own: crates added, added to, updated, and what it refuses. The exit status is 1
 # where one does something else than vendor.sh says.
 #
-#     sh scripts/vendor_checks.sh
+#     sh scripts/gate/vendor_checks.sh
 #
 # Run by check_programs.sh.
 set -u
-cd "$(dirname "$0")/.." || exit 2
+cd "$(dirname "$0")/../.." || exit 2
 work=$(mktemp -d) || exit 2
 trap 'rm -rf "$work"' EXIT
 project=$work/project

@@ -2,7 +2,7 @@
 # Runs a built `yamltokens` once for each exit status that docs/DEFINITIONS.md gives ("The program"), and fails where one
 # is another. The contract of `run_words` says its status; that `main` passes that on is seen here alone.
 #
-#     scripts/statuses.sh crates/yamltokens/out/yamltokens
+#     scripts/gate/statuses.sh crates/yamltokens/out/yamltokens
 #
 # Run by check_programs.sh.
 set -u

@@ -3,11 +3,11 @@
 # writes what it counted and the largest resident size of the run in KB. The second may be 512 KB more at most: a body that
 # never frees passes every proof. The program has to be built (`rt run` in crates/rows_hostile) and GNU time be there.
 #
-#     scripts/flat_memory.sh
+#     scripts/gate/flat_memory.sh
 #
 # Run by check_programs.sh.
 set -u
-cd "$(dirname "$0")/../crates/rows_hostile/out" || exit 2
+cd "$(dirname "$0")/../../crates/rows_hostile/out" || exit 2
 
 # The largest resident size of a work, done so many times.
 size() {
