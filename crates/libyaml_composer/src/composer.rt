@@ -193,7 +193,7 @@ impl composer_t {
     /// Hands a child to the innermost open collection, unless that has no room for it, and puts where it
     /// goes.
     #[inline(always)]
-    #[tactic(auto, using(crate::proofs::Tops::none_open, crate::proofs::Tops::top_below, crate::proofs::Tops::top_set))]
+    #[tactic(auto, using(crate::proofs::Tops::none_open, crate::proofs::Tops::top_below))]
     fn hand(&self, stack: &mut [open_t], node: i32, child: i32, place: &mut place_t) -> Deed
         requires within { self.now.depth ≤ length stack.old }
         ensures full { (result ≡ Deed.FullList)
