@@ -1,4 +1,3 @@
 pub mod HandleLemmas
 pub mod SourceErrors
-pub mod LookaheadLemmas
 pub mod TextLemmas

@@ -1,11 +1,11 @@
 //! One call of the parser.
 ghost use Rattle.std.specs.Prelude.{◌≡◌, ℤ, Ok, Err, true, false, IfErr, MatchResult};
 ghost use Rattle.libyaml_types.specs.Events.{empty_event};
-ghost use Rattle.libyaml_events.specs.machine.Config.{ended_or_failed, is_fault, parser};
+ghost use Rattle.libyaml_events.specs.machine.Config.{ended_or_failed, is_fault, parser, with_lookahead};
 ghost use Rattle.libyaml_events.specs.parsers.Left.{Left};
 ghost use Rattle.libyaml_events.specs.sources.Calls.{Call, answered};
 ghost use Rattle.libyaml_events.specs.automaton.View.{Ready};
-ghost use Rattle.libyaml_events.specs.machine.Answers.{answer, wanted};
+ghost use Rattle.libyaml_events.specs.machine.Answers.{answer, standing_by, wanted};
 ghost use Rattle.libyaml_events.specs.sources.History.{Remembers, has_failed};
 ghost use Rattle.libyaml_events.specs.sources.ParsesNext.{ParsesNext};
 ghost use Rattle.libyaml_events.specs.machine.Machine.{step};
@@ -13,6 +13,7 @@ ghost use Rattle.libyaml_events.specs.machine.Steps.{Steps};
 ghost use Rattle.libyaml_events.specs.machine.Growth.{may_grow};
 
 use crate::event_kinds::no_event;
+use crate::lookahead::Lookahead;
 use crate::parser::{Machine, yaml_parser_t};
 use crate::pending::Pending;
 use crate::step::Step;
@@ -32,7 +33,7 @@ impl Machine {
     ) -> Step
         requires ready { Ready pending.old self.old }
         ensures steps { Steps (step (wanted pending.old) self.old token.old) self.old
-            (answer result pending.new event.new self.new) self.new }
+            (answer result pending.new event.new self.new) (standing_by result token.new self.new) }
         ensures ready { result ≡ Step.Wants → Ready pending.new self.new }
         ensures grows { result ≡ Step.Failed → self.new.fault.error ≡ yaml_error_type_t.YAML_MEMORY_ERROR
             → may_grow (wanted pending.old) self.old token.old.content ≡ true }
@@ -44,22 +45,30 @@ impl Machine {
     fn fill<S: yaml_token_source_t>(
         &mut self,
         source: &mut S,
-        token: &mut yaml_token_t,
+        lookahead: &mut Lookahead,
         pending: &mut Pending,
         event: &mut yaml_event_t,
     ) -> Result<(), yaml_error_type_t>
         requires { ended_or_failed self.old ≡ false }
         ensures kept { IfErr result (λ e. (e ≡ self.new.fault.error) × (ended_or_failed self.new ≡ true)) }
         ensures failed { IfErr result (λ _. is_fault self.new.fault.error ≡ true) }
-        ensures call { (max : ℤ) → Call S.gives (parser max source.old self.old) (answered result event.new)
-            (parser max source.new self.new) }
-        ensures left { IfErr result (λ e. Left self.old e self.new) }
+        ensures call { (max : ℤ) → Call S.gives (parser max source.old (with_lookahead lookahead.old self.old))
+            (answered result event.new) (parser max source.new (with_lookahead lookahead.new self.new)) }
+        ensures left { IfErr result (λ e. Left (with_lookahead lookahead.old self.old) e
+            (with_lookahead lookahead.new self.new)) }
     {
         self.begin(pending);
         loop {
-            self.next_token(source, token)?;
-            match self.take_token(source, token, pending, event) {
-                Step::Given => return Ok(()),
+            self.next_token(source, lookahead)?;
+            match self.take_token(source, &mut lookahead.token, pending, event) {
+                Step::Given => {
+                    self.has_no_lookahead();
+                    return Ok(());
+                }
+                Step::GivenBefore => {
+                    lookahead.stays = true;
+                    return Ok(());
+                }
                 Step::Wants => {}
                 Step::Failed => return Err(self.fail()),
             }
@@ -70,23 +79,25 @@ impl Machine {
     fn put_event<S: yaml_token_source_t>(
         &mut self,
         source: &mut S,
-        token: &mut yaml_token_t,
+        lookahead: &mut Lookahead,
         pending: &mut Pending,
         event: &mut yaml_event_t,
     ) -> Result<(), yaml_error_type_t>
         ensures kept { IfErr (answered result event.new) (λ e. (e ≡ self.new.fault.error)
             × (ended_or_failed self.new ≡ true)) }
         ensures failed { IfErr (answered result event.new) (λ _. is_fault self.new.fault.error ≡ true) }
-        ensures over { ended_or_failed self.old ≡ true → (self.new ≡ self.old) × (source.new ≡ source.old) }
-        ensures call { (max : ℤ) → Call S.gives (parser max source.old self.old) (answered result event.new)
-            (parser max source.new self.new) }
-        ensures left { IfErr (answered result event.new) (λ e. Left self.old e self.new) }
+        ensures over { ended_or_failed self.old ≡ true → (self.new ≡ self.old) × (source.new ≡ source.old)
+            × (lookahead.new ≡ lookahead.old) }
+        ensures call { (max : ℤ) → Call S.gives (parser max source.old (with_lookahead lookahead.old self.old))
+            (answered result event.new) (parser max source.new (with_lookahead lookahead.new self.new)) }
+        ensures left { IfErr (answered result event.new) (λ e. Left (with_lookahead lookahead.old self.old) e
+            (with_lookahead lookahead.new self.new)) }
     {
         if self.is_over() {
             clear(event);
             return Ok(());
         }
-        self.fill(source, token, pending, event)
+        self.fill(source, lookahead, pending, event)
     }
 }
 
@@ -101,7 +112,12 @@ impl<S: yaml_token_source_t> yaml_parser_t<S> {
         ensures left { IfErr (answered result event.new) (λ e. Left self.old.config e self.new.config) }
         ensures remembers { Remembers self.old }
     {
-        self.machine.put_event(&mut self.source, &mut self.token, &mut self.pending, event)
+        self.machine.put_event(
+            &mut self.source,
+            &mut self.lookahead,
+            &mut self.pending,
+            event,
+        )
     }
 
     /// The next event, as the machine gives it.

@@ -22,7 +22,6 @@ mod tokens;
 use crate::automaton::Automaton;
 use crate::entries::MaxEntries;
 use crate::lookahead::Lookahead;
-use crate::parser::tokens::no_token;
 use crate::pending::Pending;
 use libyaml_types::{
     NO_FAULT, yaml_error_type_t, yaml_parser_state_t, yaml_parser_t_prefix, yaml_token_source_t,
@@ -43,13 +42,12 @@ pub struct yaml_parser_t<S> {
     /// What a call has read of a node or of directives. It is a field so that no call has to make it.
     /// Between calls its value has no meaning.
     pub(crate) pending: Pending,
-    /// The variable into which the source puts each token. Between calls its value has no meaning.
-    pub(crate) token: yaml_token_t,
+    pub(crate) lookahead: Lookahead,
 }
 
 impl<S> Model for yaml_parser_t<S> {
     ghost use Rattle.std.specs.Coded.{codes};
-    ghost use Rattle.libyaml_events.specs.machine.Config.{Parser, handles_code};
+    ghost use Rattle.libyaml_events.specs.machine.Config.{Parser, handles_code, with_lookahead};
     ghost use Rattle.libyaml_events.specs.sources.History.{Remembers};
 
     ghost Value = { Parser S };
@@ -58,23 +56,20 @@ impl<S> Model for yaml_parser_t<S> {
 
     ghost view = { λ p. record {
       source = p.source;
-      config = p.machine;
+      config = with_lookahead p.lookahead p.machine;
       max_entries = p.max_entries.number;
     } };
 
     ghost invariant = { λ p. Remembers (record {
       source = p.source;
-      config = p.machine;
+      config = with_lookahead p.lookahead p.machine;
       max_entries = p.max_entries.number;
     }) };
 }
 
-/// What a parser keeps from one call to the next, beside its source.
+/// What a parser keeps from one call to the next, beside its source and the lookahead.
 #[derive(Drop)]
 pub(crate) struct Machine {
-    /// Which token of lookahead is in `lookahead_token`. Where there is none, its value has no meaning.
-    lookahead: Lookahead,
-    lookahead_token: yaml_token_t,
     pub(crate) automaton: Automaton,
     handles: BTreeMap<String, String>,
     /// A text of an earlier event, whose memory a later token's text or tag in full may take. Its value has
@@ -86,16 +81,15 @@ pub(crate) struct Machine {
 
 impl Model for Machine {
     ghost use Rattle.std.specs.Coded.{codes};
+    ghost use Rattle.std.specs.Prelude.{None};
     ghost use Rattle.libyaml_types.specs.Fault.{fault_of};
-    ghost use Rattle.libyaml_events.specs.machine.Config.{Config, handles_code, handles_of};
-    ghost use Rattle.libyaml_events.specs.machine.Config.{config_with, token_ahead};
+    ghost use Rattle.libyaml_events.specs.machine.Config.{Config, handles_code, handles_of, config_with};
 
     ghost Value = { Config };
 
     ghost coded = { Prim.hlevel (codes, handles_code) };
 
-    ghost view = { λ p. config_with p.automaton (handles_of p.handles.entries) (fault_of p.prefix)
-        (token_ahead p.lookahead p.lookahead_token) };
+    ghost view = { λ p. config_with p.automaton (handles_of p.handles.entries) (fault_of p.prefix) None };
 }
 
 /// Returns a parser at the start of this source's stream, without an allocation.
@@ -119,7 +113,7 @@ pub fn yaml_parser_initialize<S>(alloc: Global, source: S) -> yaml_parser_t<S>
         machine: Machine::new(alloc),
         max_entries: MaxEntries::all(),
         pending: Pending::new(alloc),
-        token: no_token(),
+        lookahead: Lookahead::new(),
     }
 }
 
@@ -230,8 +224,6 @@ impl Machine {
         ensures { result ≡ start }
     {
         Machine {
-            lookahead: Lookahead::Nothing,
-            lookahead_token: no_token(),
             automaton: Automaton::new(alloc),
             handles: BTreeMap::new(alloc),
             spare: String::new(alloc),

@@ -114,7 +114,7 @@ impl yaml_push_parser_t {
 }
 
 impl Machine {
-    /// Takes the token in its variable, and then the lookahead, until a further one is wanted.
+    /// Takes the token in its variable, as long as it stays.
     fn feed(
         &mut self,
         token: &mut yaml_token_t,
@@ -135,11 +135,15 @@ impl Machine {
         loop {
             match self.step_onto(token, pending, events) {
                 Step::Wants => return Ok(()),
-                Step::Given => {}
+                Step::Given => {
+                    self.begin(pending);
+                    return Ok(());
+                }
+                Step::GivenBefore => {}
                 Step::Failed => return Err(self.fail()),
             }
             self.begin(pending);
-            if !self.take_lookahead(token) || self.is_over() {
+            if self.is_over() {
                 return Ok(());
             }
         }
@@ -155,7 +159,7 @@ impl Machine {
     ) -> Step
         requires { Ready pending.old self.old }
         ensures steps { StepsOnto (vec_capacity events.old ≤ vec_len events.new) (wanted pending.old) self.old
-            token.old events.old.items result (wanted pending.new) self.new events.new.items }
+            token.old events.old.items result token.new (wanted pending.new) self.new events.new.items }
         ensures capacity { vec_capacity events.old ≤ vec_capacity events.new }
         ensures ready { result ≡ Step.Wants → Ready pending.new self.new }
     {
@@ -176,7 +180,7 @@ impl Machine {
         requires ready { Ready pending.old self.old }
         requires room { vec_len events.old < vec_capacity events.old }
         ensures steps { StepsOnto (vec_capacity events.old ≤ vec_len events.new) (wanted pending.old) self.old
-            token.old events.old.items result (wanted pending.new) self.new events.new.items }
+            token.old events.old.items result token.new (wanted pending.new) self.new events.new.items }
         ensures capacity { vec_capacity events.new ≡ vec_capacity events.old }
         ensures ready { result ≡ Step.Wants → Ready pending.new self.new }
     {
@@ -184,6 +188,7 @@ impl Machine {
         events.push_reserved(no_event());
         match self.step(token, pending, &mut events[place]) {
             Step::Given => Step::Given,
+            Step::GivenBefore => Step::GivenBefore,
             Step::Wants => {
                 let _ = events.pop();
                 Step::Wants
@@ -206,19 +211,20 @@ impl Machine {
     ) -> Step
         requires { Ready pending.old self.old }
         ensures steps { StepsOnto (vec_capacity events.old ≤ vec_len events.new) (wanted pending.old) self.old
-            token.old events.old.items result (wanted pending.new) self.new events.new.items }
+            token.old events.old.items result token.new (wanted pending.new) self.new events.new.items }
         ensures capacity { vec_capacity events.old ≤ vec_capacity events.new }
         ensures ready { result ≡ Step.Wants → Ready pending.new self.new }
     {
         let mut event = no_event();
-        match self.step(token, pending, &mut event) {
+        let step = self.step(token, pending, &mut event);
+        match step {
             Step::Wants => return Step::Wants,
             Step::Failed => return Step::Failed,
-            Step::Given => {}
+            Step::Given | Step::GivenBefore => {}
         }
         if events.push(event).is_err() {
             return self.fail_out_of_memory();
         }
-        Step::Given
+        step
     }
 }

@@ -15,7 +15,7 @@ ghost use Rattle.libyaml_automaton.specs.Growth.{stack_part_of};
 ghost use Rattle.libyaml_events.specs.machine.Config.{with_fault};
 ghost use Rattle.libyaml_events.specs.machine.Machine.{fault_with, step};
 ghost use Rattle.libyaml_events.specs.machine.Steps.{Steps};
-ghost use Rattle.libyaml_events.specs.machine.Answers.{answer, wanted};
+ghost use Rattle.libyaml_events.specs.machine.Answers.{answer, standing_by, wanted};
 ghost use Rattle.libyaml_events.specs.machine.Growth.{may_grow};
 ghost use Rattle.libyaml_events.specs.automaton.Led.{GrowsBehind, IsPut, Led, Puts};
 ghost use Rattle.libyaml_events.specs.automaton.View.{Ready};
@@ -72,7 +72,7 @@ impl Machine {
     ) -> Step
         requires ready { Ready pending.old self.old }
         ensures steps { Steps (step (wanted pending.old) self.old token.old) self.old
-            (answer result pending.new out.new self.new) self.new }
+            (answer result pending.new out.new self.new) (standing_by result token.new self.new) }
         ensures ready { result ≡ Step.Wants → Ready pending.new self.new }
         ensures grows { result ≡ Step.Failed → self.new.fault.error ≡ yaml_error_type_t.YAML_MEMORY_ERROR
             → may_grow (wanted pending.old) self.old token.old.content ≡ true }
@@ -98,7 +98,7 @@ impl Machine {
         requires ready { Ready pending.old self.old }
         requires grows { may_grow (wanted pending.old) self.old token.old.content ≡ true }
         ensures steps { Steps (step (wanted pending.old) self.old token.old) self.old
-            (answer result pending.new out.new self.new) self.new }
+            (answer result pending.new out.new self.new) (standing_by result token.new self.new) }
         ensures ready { result ≡ Step.Wants → Ready pending.new self.new }
     {
         if !self.automaton.grow(full) {
@@ -149,7 +149,7 @@ impl Machine {
         requires none { self.old.lookahead ≡ None }
         requires put { IsPut answer }
         requires fits { FitsStep answer (token_type token.old.content) pending.old.reading self.old.state }
-        ensures puts { Puts answer token.old pending.old self.old result pending.new out.new self.new }
+        ensures puts { Puts answer token.old pending.old self.old result token.new pending.new out.new self.new }
         ensures grows { result ≡ Step.Failed → self.new.fault.error ≡ yaml_error_type_t.YAML_MEMORY_ERROR
             → (answer ≡ Answer.AsksContent) × GrowsBehind pending.old self.old token.old }
     {
@@ -166,16 +166,14 @@ impl Machine {
             Answer::Empty => {
                 out.start_mark = token.start_mark;
                 out.end_mark = token.start_mark;
-                self.keep(token);
                 put_empty_scalar(&mut self.spare, &mut out.content);
-                Step::Given
+                Step::GivenBefore
             }
             Answer::EmptyBehind => {
                 out.start_mark = pending.reading.mark;
                 out.end_mark = pending.reading.mark;
-                self.keep(token);
                 put_empty_scalar(&mut self.spare, &mut out.content);
-                Step::Given
+                Step::GivenBefore
             }
             Answer::SequenceEnd => {
                 out.start_mark = token.start_mark;
@@ -192,16 +190,14 @@ impl Machine {
             Answer::IndentlessEnd => {
                 out.start_mark = token.start_mark;
                 out.end_mark = token.start_mark;
-                self.keep(token);
                 put_sequence_end(&mut self.spare, &mut out.content);
-                Step::Given
+                Step::GivenBefore
             }
             Answer::PairEnd => {
                 out.start_mark = token.start_mark;
                 out.end_mark = token.start_mark;
-                self.keep(token);
                 put_mapping_end(&mut self.spare, &mut out.content);
-                Step::Given
+                Step::GivenBefore
             }
             Answer::Alias => {
                 out.start_mark = token.start_mark;
@@ -224,13 +220,12 @@ impl Machine {
             Answer::IndentlessSequence => {
                 out.start_mark = token.start_mark;
                 out.end_mark = token.end_mark;
-                self.keep(token);
                 put_sequence_start(
                     yaml_sequence_style_t::YAML_BLOCK_SEQUENCE_STYLE,
                     &mut self.spare,
                     &mut out.content,
                 );
-                Step::Given
+                Step::GivenBefore
             }
             Answer::BlockSequence => {
                 out.start_mark = token.start_mark;

@@ -1,14 +1,21 @@
 -- What is pending agrees with where the parser stands, also once a token was taken.
-use Rattle.std.proofs.Common.{◌≡◌, Option, Some, None, Ok, Err, true, refl, sym, ap, subst}
+use Rattle.std.proofs.Common.{◌≡◌, ◌∙◌, Bool, Option, Some, None, Ok, Err, true, false, refl, sym, ap, subst}
 use Rattle.libyaml_types.specs.declared.token.yaml_token_t.{yaml_token_t}
 use Rattle.libyaml_automaton.specs.Numbers.{next_of}
 use Rattle.libyaml_automaton.specs.Wanted.{IsAt}
 use Rattle.libyaml_types.specs.Fault.{Answer}
 use Rattle.libyaml_types.specs.declared.enums.yaml_error_type_t.{yaml_error_type_t}
+use Rattle.libyaml_events.specs.declared.lookahead.Lookahead.{Lookahead}
 use Rattle.libyaml_events.specs.declared.pending.Pending.{Pending}
-use Rattle.libyaml_events.specs.machine.Config.{Config, Parser, ended_or_failed, is_fault}
+use Rattle.libyaml_events.specs.machine.Config.{Config, Parser, ended_or_failed, is_fault, token_if, with_lookahead}
 use Rattle.libyaml_events.specs.sources.Calls.{Fetches, FetchesFrom}
 use Rattle.libyaml_events.specs.automaton.View.{InStep, Ready}
+use Rattle.libyaml_events.proofs.calls.CallLemmas.{taken_same}
+
+-- a variable in which no token stays adds none
+pub without_lookahead : (l : Lookahead) (c : Config) → l.stays ≡ false → c.lookahead ≡ None → with_lookahead l c ≡ c
+without_lookahead l c s n
+    = ap (λ (b : Bool). let x : Config = record c { lookahead = token_if b l.token } in x) s ∙ taken_same c n
 
 fetched_at : {S : Type 0} (gives : S → Answer → S → Type 0) (o : Option yaml_token_t) (old now : Parser S)
     (t : yaml_token_t) (p : Pending)

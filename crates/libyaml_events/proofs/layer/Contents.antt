@@ -23,7 +23,7 @@ use Rattle.libyaml_automaton.specs.Wanted.{properties}
 use Rattle.libyaml_events.specs.declared.pending.Pending.{Pending}
 use Rattle.libyaml_events.specs.declared.step.Step.{Step}
 use Rattle.libyaml_events.specs.declared.step.Step.TheVariants as led
-use Rattle.libyaml_events.specs.machine.Answers.{answer, only_if}
+use Rattle.libyaml_events.specs.machine.Answers.{answer, only_if, standing_by}
 use Rattle.libyaml_events.specs.machine.Config.{Config, config_of}
 use Rattle.libyaml_events.specs.machine.Machine.{Progressed, content_behind, mapping_start_with, put, seen, sequence_start_with}
 use Rattle.libyaml_events.specs.machine.Steps.{Steps}
@@ -31,11 +31,13 @@ use Rattle.libyaml_events.specs.machine.Want.{Given, Texts}
 use Rattle.libyaml_events.specs.automaton.Led.{IsContent, IsOpening, Led, PutsContent, ReadsTag, SaysContent, collection_start}
 
 -- what a step leads to that wants no token hangs on the parser that it leaves alone
-pub steps_from : (out : Progressed) (old old' : Config) (s : Step) (q : Pending) (e : yaml_event_t) (new : Config)
-    → (s ≡ led.Wants → ⊥) → Steps out old (answer s q e new) new → Steps out old' (answer s q e new) new
-steps_from out old old' led.Given q e new n h = h
-steps_from out old old' led.Wants q e new n h = absurd (n refl)
-steps_from out old old' led.Failed q e new n h = h
+pub steps_from : (out : Progressed) (old old' : Config) (s : Step) (t : yaml_token_t) (q : Pending) (e : yaml_event_t)
+    (new : Config) → (s ≡ led.Wants → ⊥) → Steps out old (answer s q e new) (standing_by s t new)
+    → Steps out old' (answer s q e new) (standing_by s t new)
+steps_from out old old' led.Given t q e new n h = h
+steps_from out old old' led.GivenBefore t q e new n h = h
+steps_from out old old' led.Wants t q e new n h = absurd (n refl)
+steps_from out old old' led.Failed t q e new n h = h
 
 -- the start of the collection that a token of this kind opens
 block_sequence : (k : unnamed_yaml_token_t_data) (a g : Option (List ℕ))
@@ -95,21 +97,23 @@ asked_content out h t q c g e l =
     (properties q.reading) (config_of c) _ c t t.content e)
 
 module _ (o : Progressed) (h : Texts) (g : Option (List ℕ)) (t : yaml_token_t) (old was mid : Config) (r0 r : Reading)
-    (a0 a : Option (List ℕ)) (s : Step) (q : Pending) (e : yaml_event_t) (new : Config) (same : was ≡ old) (ea : a ≡ a0)
+    (a0 a : Option (List ℕ)) (s : Step) (t' : yaml_token_t) (q : Pending) (e : yaml_event_t) (new : Config) (same : was ≡ old)
+    (ea : a ≡ a0)
     (er : r ≡ r0) where
   -- a content is put from the parser that its step left
   pub content_put : (x : Answer) (r' : Reading) (a' : Option (List ℕ)) (start end : yaml_mark_t) → a' ≡ a
       → r.start_mark ≡ start → r.end_mark ≡ end → (IsContent o h a g t r was → SaysContent o h a g t x r r' mid)
-      → PutsContent a' g start end x t r' mid s q e new → IsContent o h a0 g t r0 old
-      → Steps o old (answer s q e new) new × (s ≡ led.Wants → ⊥)
+      → PutsContent a' g start end x t r' mid s t' q e new → IsContent o h a0 g t r0 old
+      → Steps o old (answer s q e new) (standing_by s t' new) × (s ≡ led.Wants → ⊥)
   content_put x r' a' start end ea' es ee leads puts i =
       let j : IsContent o h a g t r was = rw (ea, er, same) i in
       let w = puts o h r es ee (rw ea' (leads j)) in
-      (steps_from o mid old s q e new w.1 w.0, w.1)
+      (steps_from o mid old s t' q e new w.1 w.0, w.1)
 
   -- or from the parser as it was, where nothing was done
-  pub content_again : (IsContent o h a g t r was → Steps o was (answer s q e new) new × (s ≡ led.Wants → ⊥))
-      → IsContent o h a0 g t r0 old → Steps o old (answer s q e new) new × (s ≡ led.Wants → ⊥)
+  pub content_again : (IsContent o h a g t r was
+      → Steps o was (answer s q e new) (standing_by s t' new) × (s ≡ led.Wants → ⊥))
+      → IsContent o h a0 g t r0 old → Steps o old (answer s q e new) (standing_by s t' new) × (s ≡ led.Wants → ⊥)
   content_again puts i =
       let w = puts (rw (ea, er, same) i) in
-      (steps_from o was old s q e new w.1 w.0, w.1)
+      (steps_from o was old s t' q e new w.1 w.0, w.1)

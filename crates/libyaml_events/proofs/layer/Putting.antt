@@ -1,5 +1,5 @@
 -- A result that is put.
-use Rattle.std.proofs.Common.{◌≡◌, ◌∙◌, ◌∷◌, ◌++◌, [], Option, None, true, Result, Ok, Err, refl, sym, ap, subst}
+use Rattle.std.proofs.Common.{◌≡◌, ◌⊎◌, inl, inr, ◌∙◌, ◌∷◌, ◌++◌, [], Option, None, true, Result, Ok, Err, refl, sym, ap, subst}
 use Rattle.libyaml_types.specs.Events.{zero_mark}
 use Rattle.libyaml_types.specs.Fault.{Fault, memory_fault}
 use Rattle.libyaml_types.specs.Types.{token_type}
@@ -26,7 +26,7 @@ use Rattle.libyaml_automaton.specs.Wanted as automaton_want
 use Rattle.libyaml_events.specs.declared.pending.Pending.{Pending}
 use Rattle.libyaml_events.specs.declared.step.Step.{Step}
 use Rattle.libyaml_events.specs.declared.step.Step.TheVariants as led
-use Rattle.libyaml_events.specs.machine.Answers.{answer, directive_texts, texts_for, wanted}
+use Rattle.libyaml_events.specs.machine.Answers.{answer, directive_texts, standing_by, texts_for, wanted}
 use Rattle.libyaml_events.specs.machine.Config.{Config, Handles, config_with}
 use Rattle.libyaml_events.specs.machine.Machine.{Progressed, declared_by, fault_with, handles_behind, put, seen, step}
 use Rattle.libyaml_events.specs.machine.Growth.{may_grow}
@@ -41,6 +41,17 @@ pub from_before : (out : Progressed) (old mid : Config) (r : Result Progress yam
 from_before out old mid (Ok (Given e)) new o m h = h
 from_before out old mid (Ok (Wants w)) new o m h = (h.0, h.1 ∙ (m ∙ sym o))
 from_before out old mid (Err e) new o m h = h
+
+-- an event is given, before the token or not
+pub given_by : (out : Progressed) (old : Config) (s : Step) (t : yaml_token_t) (q : Pending) (e : yaml_event_t)
+    (new : Config) → (s ≡ led.Given) ⊎ (s ≡ led.GivenBefore) → Steps out old (answer s q e new) (standing_by s t new)
+    → Steps out old (Ok (Given e)) (standing_by s t new)
+given_by out old led.Given t q e new i h = h
+given_by out old led.GivenBefore t q e new i h = h
+given_by out old led.Wants t q e new (inl i) h = absurd cc
+given_by out old led.Wants t q e new (inr i) h = absurd cc
+given_by out old led.Failed t q e new (inl i) h = absurd cc
+given_by out old led.Failed t q e new (inr i) h = absurd cc
 
 -- an error is kept
 pub fails_as : (out : Progressed) (new : Config) (f : Fault) → new.fault.error ≡ YAML_PARSER_ERROR → new.fault ≡ f
@@ -95,12 +106,15 @@ handle_of (tok.TagDirective g) e = (g, refl)
 handle_of _ e = absurd cc
 
 -- the directive is kept, or there was no memory for it
-pub wants_or_fails : (out : Progressed) (old : Config) (s : Step) (q : Pending) (e : yaml_event_t) (new : Config)
-    → (s ≡ led.Given → ⊥) → (s ≡ led.Wants → Steps out old (Ok (Wants (wanted q))) new × Ready q new)
-    → (s ≡ led.Failed → new.fault ≡ memory_fault) → Steps out old (answer s q e new) new × (s ≡ led.Wants → Ready q new)
-wants_or_fails out old led.Given q e new g w f = absurd (g refl)
-wants_or_fails out old led.Wants q e new g w f = let y = w refl in (y.0, λ i. y.1)
-wants_or_fails out old led.Failed q e new g w f =
+pub wants_or_fails : (out : Progressed) (old : Config) (s : Step) (t : yaml_token_t) (q : Pending) (e : yaml_event_t)
+    (new : Config) → (s ≡ led.Given → ⊥) → (s ≡ led.GivenBefore → ⊥)
+    → (s ≡ led.Wants → Steps out old (Ok (Wants (wanted q))) new × Ready q new)
+    → (s ≡ led.Failed → new.fault ≡ memory_fault)
+    → Steps out old (answer s q e new) (standing_by s t new) × (s ≡ led.Wants → Ready q new)
+wants_or_fails out old led.Given t q e new g b w f = absurd (g refl)
+wants_or_fails out old led.GivenBefore t q e new g b w f = absurd (b refl)
+wants_or_fails out old led.Wants t q e new g b w f = let y = w refl in (y.0, λ i. y.1)
+wants_or_fails out old led.Failed t q e new g b w f =
     let m = f refl in (
       subst (λ (x : yaml_error_type_t). FailsAs new out x) (sym (ap (λ (x : Fault). x.error) m)) m,
       λ i. absurd cc,

@@ -18,7 +18,7 @@ use Rattle.libyaml_events.specs.parsers.Left.{let_go}
 use Rattle.libyaml_events.specs.sources.Pushed.{Fed, standing}
 use Rattle.libyaml_events.proofs.pushes.Steps.{gives_on, takes, wants}
 use Rattle.libyaml_events.specs.sources.Pushes.{Stops, Takes, by_grammar, by_memory, for_event, for_step}
-use Rattle.libyaml_events.proofs.calls.CallLemmas.{begun_alive}
+use Rattle.libyaml_events.proofs.calls.CallLemmas.{begun_alive, taken_same}
 use Rattle.libyaml_events.proofs.calls.Measure.{FallsBelow, falls_on, weight}
 use Rattle.libyaml_events.proofs.calls.Parsed.{has_failed}
 use Rattle.libyaml_events.proofs.machine.StepKinds.{room}
@@ -33,12 +33,9 @@ pub step_falls : (w : Want) (c : Config) (u : Token) (e : Event) (d : Config) (v
     → d.lookahead ≡ Some v → length d.states + rank d.state v.content < length c.states + room w c u.content
 step_falls w c u e d v n h i = go d.lookahead i fell
   where
-    same : taken c ≡ c
-    same = ap (λ (o : Option Token). let x : Config = record c { lookahead = o } in x) (sym n)
-
     fell : weight d < length c.states + room w c u.content
     fell = subst (λ (o : Progressed). FallsBelow o (length c.states + room w c u.content)) h
-        (subst (λ (x : Config). FallsBelow (step w x u) (length c.states + room w x u.content)) same (falls_on w c u))
+        (subst (λ (x : Config). FallsBelow (step w x u) (length c.states + room w x u.content)) (taken_same c n) (falls_on w c u))
 
     go : (o : Option Token) → o ≡ Some v → length d.states + held_rank d.state o < length c.states + room w c u.content
         → length d.states + rank d.state v.content < length c.states + room w c u.content

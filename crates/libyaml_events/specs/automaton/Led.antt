@@ -30,7 +30,7 @@ use Rattle.libyaml_events.specs.machine.Config.{Config, config_of, with_fault}
 use Rattle.libyaml_events.specs.machine.Want.{Texts}
 use Rattle.libyaml_events.specs.machine.Machine.{Progressed, put, resolve, seen, sequence_start_with, mapping_start_with, with_texts}
 use Rattle.libyaml_events.specs.machine.Growth.{joins}
-use Rattle.libyaml_events.specs.machine.Answers.{answer, directive_texts, property_texts, texts_for}
+use Rattle.libyaml_events.specs.machine.Answers.{answer, directive_texts, property_texts, standing_by, texts_for}
 use Rattle.libyaml_events.specs.machine.Steps.{Steps}
 use Rattle.libyaml_events.specs.automaton.View.{Ready}
 
@@ -73,9 +73,9 @@ abbrev pub Led : Progressed → Texts → yaml_token_t → Answer → Pending �
 Led out h t a q d = IsHeld a h q × IsWithTexts out h t a q.reading d
 
 -- so each step of the parser that the result says is done
-abbrev pub Puts : Answer → yaml_token_t → Pending → Config → Step → Pending → yaml_event_t → Config → Type 0
-Puts a t q old s q' e new = (out : Progressed) (h : Texts) → Led out h t a q old
-    → Steps out old (answer s q' e new) new × (s ≡ led.Wants → Ready q' new)
+abbrev pub Puts : Answer → yaml_token_t → Pending → Config → Step → yaml_token_t → Pending → yaml_event_t → Config → Type 0
+Puts a t q old s t' q' e new = (out : Progressed) (h : Texts) → Led out h t a q old
+    → Steps out old (answer s q' e new) (standing_by s t' new) × (s ≡ led.Wants → Ready q' new)
 
 -- the result is put
 abbrev pub IsPut : Answer → Type 0
@@ -88,9 +88,10 @@ IsPut _ = Unit {0}
 abbrev pub LedDocument : Progressed → Texts → yaml_token_t → Answer → Pending → Config → Type 0
 LedDocument out h t a q d = (h ≡ directive_texts q.directives) × IsWithTexts out h t a q.reading d
 
-abbrev pub PutsDocument : Answer → yaml_token_t → Pending → Config → Step → Pending → yaml_event_t → Config → Type 0
-PutsDocument a t q old s q' e new = (out : Progressed) (h : Texts) → LedDocument out h t a q old
-    → Steps out old (answer s q' e new) new × (s ≡ led.Wants → Ready q' new)
+abbrev pub PutsDocument : Answer → yaml_token_t → Pending → Config → Step → yaml_token_t → Pending → yaml_event_t → Config
+    → Type 0
+PutsDocument a t q old s t' q' e new = (out : Progressed) (h : Texts) → LedDocument out h t a q old
+    → Steps out old (answer s q' e new) (standing_by s t' new) × (s ≡ led.Wants → Ready q' new)
 
 abbrev pub IsPutDocument : Answer → Type 0
 IsPutDocument did.FullStates = ⊥
@@ -119,10 +120,10 @@ SaysContent out h a g t x r r' d = PutIn out h a g d t (outcome x (properties r)
 
 -- so the content is put, of a node with this anchor and this tag in full, whose properties have these marks
 abbrev pub PutsContent : (anchor tag : Option (List ℕ)) → (start end : yaml_mark_t) → Answer → yaml_token_t → Reading
-    → Config → Step → Pending → yaml_event_t → Config → Type 0
-PutsContent a g start end x t r' old s q e new = (out : Progressed) (h : Texts) (r : Reading) → r.start_mark ≡ start
+    → Config → Step → yaml_token_t → Pending → yaml_event_t → Config → Type 0
+PutsContent a g start end x t r' old s t' q e new = (out : Progressed) (h : Texts) (r : Reading) → r.start_mark ≡ start
     → r.end_mark ≡ end → SaysContent out h a g t x r r' old
-    → Steps out old (answer s q e new) new × (s ≡ led.Wants → ⊥)
+    → Steps out old (answer s q e new) (standing_by s t' new) × (s ≡ led.Wants → ⊥)
 
 -- a collection whose start is kept
 abbrev pub IsOpening : Answer → Type 0

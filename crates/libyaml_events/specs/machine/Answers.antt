@@ -8,7 +8,8 @@ use Rattle.libyaml_automaton.specs.Wanted as automaton_want
 use Rattle.libyaml_events.specs.declared.step.Step.{Step}
 use Rattle.libyaml_events.specs.declared.step.Step.TheVariants as led
 use Rattle.libyaml_events.specs.declared.pending.Pending.{Pending}
-use Rattle.libyaml_events.specs.machine.Config.{Config}
+use Rattle.libyaml_types.specs.declared.token.yaml_token_t.{yaml_token_t}
+use Rattle.libyaml_events.specs.machine.Config.{Config, keep}
 use Rattle.libyaml_events.specs.machine.Read.{PropertyTexts, DirectiveTexts}
 use Rattle.libyaml_events.specs.machine.Want.{Texts, no_texts, Want, Progress, Given, Wants}
 
@@ -41,5 +42,11 @@ wanted p = record {
 -- a step that failed has the kind of the error that is kept
 abbrev pub answer : Step → Pending → yaml_event_t → Config → Result Progress yaml_error_type_t
 answer led.Given p e c = Ok (Given e)
+answer led.GivenBefore p e c = Ok (Given e)
 answer led.Wants p e c = Ok (Wants (wanted p))
 answer led.Failed p e c = Err c.fault.error
+
+-- where the parser then stands: the token t stays where the event comes before it
+abbrev pub standing_by : Step → (t : yaml_token_t) → Config → Config
+standing_by led.GivenBefore t c = keep t c
+standing_by _ t c = c

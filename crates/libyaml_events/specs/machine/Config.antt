@@ -10,13 +10,9 @@ use Rattle.libyaml_types.specs.declared.enums.yaml_error_type_t.{yaml_error_type
 use Rattle.libyaml_types.specs.declared.enums.yaml_error_type_t.TheVariants.{YAML_NO_ERROR, YAML_MEMORY_ERROR, YAML_READER_ERROR, YAML_SCANNER_ERROR, YAML_PARSER_ERROR, YAML_COMPOSER_ERROR, YAML_WRITER_ERROR, YAML_EMITTER_ERROR}
 use Rattle.libyaml_types.specs.declared.enums.yaml_parser_state_t.{yaml_parser_state_t}
 use Rattle.libyaml_types.specs.declared.enums.yaml_parser_state_t.TheVariants as st
-use Rattle.libyaml_types.specs.declared.token.unnamed_yaml_token_t_data.{unnamed_yaml_token_t_data}
-use Rattle.libyaml_types.specs.declared.token.unnamed_yaml_token_t_data.TheVariants as content_of
 use Rattle.libyaml_automaton.specs.Config as automaton
 use Rattle.libyaml_events.specs.declared.lookahead.Lookahead.{Lookahead}
-use Rattle.libyaml_events.specs.declared.lookahead.Lookahead.TheVariants as ahead
 use Rattle.libyaml_types.specs.Fault.{Fault, no_fault}
-use Rattle.libyaml_types.specs.Events.{zero_mark}
 
 -- the prefix of each handle that the document declares
 abbrev pub Handles : Type 0
@@ -85,47 +81,9 @@ abbrev pub token_if : Bool → yaml_token_t → Option yaml_token_t
 token_if true t = Some t
 token_if false t = None
 
--- a token of this content with the marks of another
-abbrev pub token_at : unnamed_yaml_token_t_data → yaml_token_t → yaml_token_t
-token_at content t = record t { content = content }
-
--- The token of lookahead, where there is one. Of a token without fields the parser keeps the marks alone.
-abbrev pub token_ahead : Lookahead → yaml_token_t → Option yaml_token_t
-token_ahead ahead.Nothing t = None
-token_ahead ahead.Token t = Some t
-token_ahead ahead.BlockSequence t = Some (token_at content_of.BlockSequenceStart t)
-token_ahead ahead.BlockMapping t = Some (token_at content_of.BlockMappingStart t)
-token_ahead ahead.FlowSequence t = Some (token_at content_of.FlowSequenceStart t)
-token_ahead ahead.FlowMapping t = Some (token_at content_of.FlowMappingStart t)
-token_ahead ahead.StreamEnd t = Some (token_at content_of.StreamEnd t)
-token_ahead ahead.DocumentStart t = Some (token_at content_of.DocumentStart t)
-token_ahead ahead.DocumentEnd t = Some (token_at content_of.DocumentEnd t)
-token_ahead ahead.BlockEnd t = Some (token_at content_of.BlockEnd t)
-token_ahead ahead.FlowSequenceEnd t = Some (token_at content_of.FlowSequenceEnd t)
-token_ahead ahead.FlowMappingEnd t = Some (token_at content_of.FlowMappingEnd t)
-token_ahead ahead.BlockEntry t = Some (token_at content_of.BlockEntry t)
-token_ahead ahead.FlowEntry t = Some (token_at content_of.FlowEntry t)
-token_ahead ahead.Key t = Some (token_at content_of.Key t)
-token_ahead ahead.Value t = Some (token_at content_of.Value t)
-
--- which token without fields stays, where one does
-abbrev pub lookahead_content : Lookahead → Option unnamed_yaml_token_t_data
-lookahead_content ahead.Nothing = None
-lookahead_content ahead.Token = None
-lookahead_content ahead.BlockSequence = Some content_of.BlockSequenceStart
-lookahead_content ahead.BlockMapping = Some content_of.BlockMappingStart
-lookahead_content ahead.FlowSequence = Some content_of.FlowSequenceStart
-lookahead_content ahead.FlowMapping = Some content_of.FlowMappingStart
-lookahead_content ahead.StreamEnd = Some content_of.StreamEnd
-lookahead_content ahead.DocumentStart = Some content_of.DocumentStart
-lookahead_content ahead.DocumentEnd = Some content_of.DocumentEnd
-lookahead_content ahead.BlockEnd = Some content_of.BlockEnd
-lookahead_content ahead.FlowSequenceEnd = Some content_of.FlowSequenceEnd
-lookahead_content ahead.FlowMappingEnd = Some content_of.FlowMappingEnd
-lookahead_content ahead.BlockEntry = Some content_of.BlockEntry
-lookahead_content ahead.FlowEntry = Some content_of.FlowEntry
-lookahead_content ahead.Key = Some content_of.Key
-lookahead_content ahead.Value = Some content_of.Value
+-- the token in this variable stays, or there is no lookahead
+abbrev pub with_lookahead : Lookahead → Config → Config
+with_lookahead l c = record c { lookahead = token_if l.stays l.token }
 
 abbrev pub taken : Config → Config
 taken c = record c { lookahead = None }

@@ -1,11 +1,10 @@
 //! Where a call begins, and what one that failed leaves.
-ghost use Rattle.std.specs.Prelude.{◌≡◌};
+ghost use Rattle.std.specs.Prelude.{◌≡◌, None};
 ghost use Rattle.libyaml_events.specs.machine.Answers.{wanted};
 ghost use Rattle.libyaml_events.specs.machine.Want.{AtState};
-ghost use Rattle.libyaml_events.specs.automaton.View.{InStep};
+ghost use Rattle.libyaml_events.specs.automaton.View.{Ready};
 ghost use Rattle.libyaml_events.specs.parsers.Left.{let_go};
 
-use crate::lookahead::Lookahead;
 use crate::parser::Machine;
 use crate::pending::Pending;
 use libyaml_types::yaml_error_type_t;
@@ -15,20 +14,26 @@ impl Machine {
     #[inline(always)]
     pub(crate) fn begin(&self, pending: &mut Pending)
         ensures wanted { wanted pending.new ≡ AtState }
-        ensures agrees { InStep pending.new self.now }
+        ensures ready { Ready pending.new self.now }
     {
         self.automaton.begin(&mut pending.reading);
     }
 
-    /// Drops the stacks and the lookahead, since after an error nothing asks for them. Returns the kind of
-    /// the error.
+    /// Does nothing. The lookahead is not in the machine.
+    #[inline(always)]
+    pub(crate) fn has_no_lookahead(&self)
+        ensures { self.now.lookahead ≡ None }
+    {
+        let _ = &self.alloc;
+    }
+
+    /// Drops the stacks, since after an error nothing asks for them. Returns the kind of the error.
     #[cold]
     #[inline(never)]
     pub(crate) fn fail(&mut self) -> yaml_error_type_t
         ensures error { result ≡ self.old.fault.error }
         ensures left { self.new ≡ let_go self.old }
     {
-        self.lookahead = Lookahead::Nothing;
         self.automaton.clear();
         self.kept_prefix().error
     }

@@ -6,7 +6,7 @@ ghost use Rattle.libyaml_grammar.specs.sentences.Events.{event};
 ghost use Rattle.libyaml_types.specs.declared.enums.yaml_token_type_t.TheVariants.{YAML_SCALAR_TOKEN};
 ghost use Rattle.libyaml_automaton.specs.Numbers.{flag, place_of};
 ghost use Rattle.libyaml_automaton.specs.Fits.{FitsContent, IsFull, opens_at};
-ghost use Rattle.libyaml_events.specs.machine.Answers.{answer, only_if};
+ghost use Rattle.libyaml_events.specs.machine.Answers.{answer, only_if, standing_by};
 ghost use Rattle.libyaml_events.specs.machine.Growth.{joins};
 ghost use Rattle.libyaml_events.specs.machine.Machine.{Progressed};
 ghost use Rattle.libyaml_events.specs.machine.Steps.{Steps};
@@ -36,8 +36,8 @@ impl Machine {
         out: &mut yaml_event_t,
     ) -> Step
         requires none { self.old.lookahead ≡ None }
-        ensures puts { Puts Answer.AsksContent token.old pending.old self.old result pending.new out.new
-            self.new }
+        ensures puts { Puts Answer.AsksContent token.old pending.old self.old result token.new pending.new
+            out.new self.new }
         ensures grows { result ≡ Step.Failed → self.new.fault.error ≡ yaml_error_type_t.YAML_MEMORY_ERROR
             → GrowsBehind pending.old self.old token.old }
     {
@@ -58,8 +58,8 @@ impl Machine {
     ) -> Step
         requires none { self.old.lookahead ≡ None }
         requires untagged { pending.old.reading.has_tag ≡ 0 }
-        ensures puts { Puts Answer.AsksContent token.old pending.old self.old result pending.new out.new
-            self.new }
+        ensures puts { Puts Answer.AsksContent token.old pending.old self.old result token.new pending.new
+            out.new self.new }
         ensures grows { result ≡ Step.Failed → self.new.fault.error ≡ yaml_error_type_t.YAML_MEMORY_ERROR
             → GrowsBehind pending.old self.old token.old }
     {
@@ -79,7 +79,8 @@ impl Machine {
         ensures puts { (o : Progressed) (h : Texts) → IsContent o h
             (only_if (flag pending.old.reading.has_anchor) pending.old.properties.anchor)
             (option_map string_bytes tag) token.old pending.old.reading self.old
-            → Steps o self.old (answer result pending.new out.new self.new) self.new
+            → Steps o self.old (answer result pending.new out.new self.new)
+            (standing_by result token.new self.new)
             × (result ≡ Step.Wants → ⊥) }
         ensures grows { result ≡ Step.Failed → self.new.fault.error ≡ yaml_error_type_t.YAML_MEMORY_ERROR
             → opens_at (place_of pending.old.reading.place) (token_type token.old.content) ≡ true }
@@ -117,7 +118,8 @@ impl Machine {
         requires end { end_mark.now ≡ pending.old.reading.end_mark }
         ensures puts { (o : Progressed) (h : Texts) → IsContent o h pending.old.properties.anchor
             (option_map string_bytes tag) token.old pending.old.reading self.old
-            → Steps o self.old (answer result pending.new out.new self.new) self.new
+            → Steps o self.old (answer result pending.new out.new self.new)
+            (standing_by result token.new self.new)
             × (result ≡ Step.Wants → ⊥) }
     {
         if !self.automaton.grow(Answer::FullMarks) {
@@ -191,29 +193,33 @@ impl Machine {
         requires fits { FitsContent answer (token_type token.old.content) pending.old.reading }
         requires done { IsFull answer → ⊥ }
         ensures puts { PutsContent pending.old.properties.anchor (option_map string_bytes tag) start_mark.now
-            end_mark.now answer token.old pending.old.reading self.old result pending.new out.new self.new }
+            end_mark.now answer token.old pending.old.reading self.old result token.new pending.new out.new
+            self.new }
         ensures error { result ≡ Step.Failed → self.new.fault.error ≡ yaml_error_type_t.YAML_PARSER_ERROR }
     {
         match answer {
-            Answer::Scalar => self.put_scalar_behind(
-                tag, start_mark, end_mark, token, pending, out,
-            ),
-            Answer::EmptyHead => self.put_empty_behind(
-                tag, start_mark, end_mark, token, pending, out,
-            ),
-            Answer::IndentlessSequence => self.put_indentless(
-                tag, start_mark, end_mark, token, pending, out,
-            ),
-            Answer::Failed => {
-                return self.set_problem(
-                    pending.reading.problem,
-                    &token.start_mark,
-                    &token.start_mark,
-                );
+            Answer::Scalar => {
+                self.put_scalar_behind(tag, start_mark, end_mark, token, pending, out);
+                Step::Given
             }
-            _ => self.put_opening(answer, tag, start_mark, end_mark, token, pending, out),
+            Answer::EmptyHead => {
+                self.put_empty_behind(tag, start_mark, end_mark, token, pending, out);
+                Step::GivenBefore
+            }
+            Answer::IndentlessSequence => {
+                self.put_indentless(tag, start_mark, end_mark, token, pending, out);
+                Step::GivenBefore
+            }
+            Answer::Failed => self.set_problem(
+                pending.reading.problem,
+                &token.start_mark,
+                &token.start_mark,
+            ),
+            _ => {
+                self.put_opening(answer, tag, start_mark, end_mark, token, pending, out);
+                Step::Given
+            }
         }
-        Step::Given
     }
 
     /// Puts a scalar after properties.
@@ -230,8 +236,8 @@ impl Machine {
         requires none { self.old.lookahead ≡ None }
         requires scalar { token_type token.old.content ≡ YAML_SCALAR_TOKEN }
         ensures puts { PutsContent pending.old.properties.anchor (option_map string_bytes tag) start_mark.now
-            end_mark.now Answer.Scalar token.old pending.old.reading self.old Step.Given pending.new
-            out.new self.new }
+            end_mark.now Answer.Scalar token.old pending.old.reading self.old Step.Given token.new
+            pending.new out.new self.new }
     {
         out.start_mark = *start_mark;
         out.end_mark = token.end_mark;
@@ -270,21 +276,20 @@ impl Machine {
         tag: Option<String>,
         start_mark: &yaml_mark_t,
         end_mark: &yaml_mark_t,
-        token: &mut yaml_token_t,
+        token: &yaml_token_t,
         pending: &mut Pending,
         out: &mut yaml_event_t,
     )
         requires none { self.old.lookahead ≡ None }
         ensures puts { PutsContent pending.old.properties.anchor (option_map string_bytes tag) start_mark.now
-            end_mark.now Answer.EmptyHead token.old pending.old.reading self.old Step.Given pending.new
-            out.new self.new }
+            end_mark.now Answer.EmptyHead token.now pending.old.reading self.old Step.GivenBefore token.now
+            pending.new out.new self.new }
     {
         let implicit = is_missing(&tag);
         let text = String::new(self.allocator());
         let anchor = take_anchor(pending);
         let content = plain_scalar(anchor, tag, text, implicit);
         self.put_node(content, start_mark, end_mark, out);
-        self.keep(token);
     }
 
     /// Puts the start of an indentless sequence after properties.
@@ -294,20 +299,19 @@ impl Machine {
         tag: Option<String>,
         start_mark: &yaml_mark_t,
         end_mark: &yaml_mark_t,
-        token: &mut yaml_token_t,
+        token: &yaml_token_t,
         pending: &mut Pending,
         out: &mut yaml_event_t,
     )
         requires none { self.old.lookahead ≡ None }
         ensures puts { PutsContent pending.old.properties.anchor (option_map string_bytes tag) start_mark.now
-            end_mark.now Answer.IndentlessSequence token.old pending.old.reading self.old Step.Given
-            pending.new out.new self.new }
+            end_mark.now Answer.IndentlessSequence token.now pending.old.reading self.old Step.GivenBefore
+            token.now pending.new out.new self.new }
     {
         let style = yaml_sequence_style_t::YAML_BLOCK_SEQUENCE_STYLE;
         let anchor = take_anchor(pending);
         let content = sequence_start(anchor, tag, style);
         self.put_node(content, start_mark, &token.end_mark, out);
-        self.keep(token);
     }
 
     /// Puts the start of a collection after properties.
@@ -326,8 +330,8 @@ impl Machine {
         requires fits { FitsContent answer (token_type token.now.content) pending.old.reading }
         requires opening { IsOpening answer }
         ensures puts { PutsContent pending.old.properties.anchor (option_map string_bytes tag) start_mark.now
-            end_mark.now answer token.now pending.old.reading self.old Step.Given pending.new out.new
-            self.new }
+            end_mark.now answer token.now pending.old.reading self.old Step.Given token.now pending.new
+            out.new self.new }
     {
         let anchor = take_anchor(pending);
         let content = collection_start(anchor, tag, &token.content);

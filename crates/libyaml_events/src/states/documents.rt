@@ -15,7 +15,7 @@ ghost use Rattle.libyaml_events.specs.machine.Config.{with_fault};
 ghost use Rattle.libyaml_events.specs.machine.Machine.{declared_by, document_end, document_start, fault_with};
 ghost use Rattle.libyaml_events.specs.machine.Machine.{is_accepted_in, step, was_declared};
 ghost use Rattle.libyaml_events.specs.machine.Steps.{Steps};
-ghost use Rattle.libyaml_events.specs.machine.Answers.{answer, directive_texts, wanted};
+ghost use Rattle.libyaml_events.specs.machine.Answers.{answer, directive_texts, standing_by, wanted};
 ghost use Rattle.libyaml_events.specs.machine.Growth.{may_grow};
 ghost use Rattle.libyaml_events.specs.automaton.Led.{IsPutDocument, LedDocument, PutsDocument};
 ghost use Rattle.libyaml_events.specs.automaton.View.{Ready};
@@ -163,7 +163,7 @@ impl Machine {
         requires ready { Ready pending.old self.old }
         requires documents { stack_part_of (next_of pending.old.reading.next) ≡ Documents }
         ensures steps { Steps (step (wanted pending.old) self.old token.old) self.old
-            (answer result pending.new out.new self.new) self.new }
+            (answer result pending.new out.new self.new) (standing_by result token.new self.new) }
         ensures ready { result ≡ Step.Wants → Ready pending.new self.new }
         ensures grows { result ≡ Step.Failed → self.new.fault.error ≡ yaml_error_type_t.YAML_MEMORY_ERROR
             → may_grow (wanted pending.old) self.old token.old.content ≡ true }
@@ -189,7 +189,7 @@ impl Machine {
         requires declared { (wanted pending.old).texts ≡ directive_texts pending.old.directives }
         requires grows { may_grow (wanted pending.old) self.old token.old.content ≡ true }
         ensures steps { Steps (step (wanted pending.old) self.old token.old) self.old
-            (answer result pending.new out.new self.new) self.new }
+            (answer result pending.new out.new self.new) (standing_by result token.new self.new) }
         ensures ready { result ≡ Step.Wants → Ready pending.new self.new }
     {
         if !self.automaton.grow(Answer::FullStates) {
@@ -257,7 +257,7 @@ impl Machine {
         requires put { IsPutDocument answer }
         requires fits { FitsDocument answer (token_type token.old.content) pending.old.reading
             self.old.state }
-        ensures puts { PutsDocument answer token.old pending.old self.old result pending.new out.new
+        ensures puts { PutsDocument answer token.old pending.old self.old result token.new pending.new out.new
             self.new }
         ensures grows { result ≡ Step.Failed → self.new.fault.error ≡ yaml_error_type_t.YAML_MEMORY_ERROR
             → answer ≡ Answer.AsksHandle }
@@ -275,9 +275,8 @@ impl Machine {
             Answer::ImplicitDocument => {
                 out.start_mark = token.start_mark;
                 out.end_mark = token.start_mark;
-                self.keep(token);
                 put_document_start(self.allocator(), &mut out.content);
-                Step::Given
+                Step::GivenBefore
             }
             Answer::ExplicitDocument => {
                 self.put_explicit_document(token, pending, out);
@@ -294,9 +293,8 @@ impl Machine {
                 self.forget_handles();
                 out.start_mark = token.start_mark;
                 out.end_mark = token.start_mark;
-                self.keep(token);
                 put_document_end(true, &mut out.content);
-                Step::Given
+                Step::GivenBefore
             }
             Answer::AsksVersion => self.take_version(token, pending),
             Answer::AsksHandle => self.take_handle(token, pending),
@@ -350,7 +348,7 @@ impl Machine {
         requires none { self.old.lookahead ≡ None }
         requires version { token_type token.now.content ≡ yaml_token_type_t.YAML_VERSION_DIRECTIVE_TOKEN }
         ensures puts { (out : yaml_event_t) → PutsDocument Answer.AsksVersion token.now pending.old
-            self.old result pending.new out self.new }
+            self.old result token.now pending.new out self.new }
         ensures error { result ≡ Step.Failed → self.new.fault.error ≡ yaml_error_type_t.YAML_PARSER_ERROR }
     {
         let is_accepted = hold_version(token, pending);
@@ -369,7 +367,7 @@ impl Machine {
         requires none { self.old.lookahead ≡ None }
         requires directive { token_type token.old.content ≡ yaml_token_type_t.YAML_TAG_DIRECTIVE_TOKEN }
         ensures puts { (out : yaml_event_t) → PutsDocument Answer.AsksHandle token.old pending.old
-            self.old result pending.new out self.new }
+            self.old result token.new pending.new out self.new }
     {
         let was_declared = match self.declare_handle(token) {
             Ok(was_declared) => was_declared,
@@ -404,6 +402,7 @@ impl Machine {
     /// Holds the texts of a TAG-DIRECTIVE.
     fn hold_directive(&mut self, token: &mut yaml_token_t, pending: &mut Pending) -> Step
         ensures given { result ≡ Step.Given → ⊥ }
+        ensures before { result ≡ Step.GivenBefore → ⊥ }
         ensures same { result ≡ Step.Wants → self.new ≡ self.old }
         ensures held { (g : unnamed_yaml_token_t_data_tag_directive) → token.old.content ≡ tok.TagDirective g
             → result ≡ Step.Wants → pending.new ≡ record pending.old {

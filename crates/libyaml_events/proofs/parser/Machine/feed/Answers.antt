@@ -1,10 +1,12 @@
-use Rattle.std.proofs.Common.{◌≤◌, ap, arith, rules, sym}
-use Rattle.std.specs.Vec.{vec_capacity}
-use Rattle.std.proofs.lemmas.Bool.{both_ways}
-use Rattle.libyaml_events.proofs.pushes.PushLoop.{taking_begins, wants_next, fails_onto, goes_on, is_done, step_falls}
+use Rattle.std.proofs.Common.{◌≤◌, Ok, true, false, ap, arith, refl, rules, subst, sym}
+use Rattle.std.specs.Vec.{vec_capacity, vec_len}
+use Rattle.libyaml_events.specs.machine.Config.{Config, keep}
+use Rattle.libyaml_events.specs.sources.Pushed.{standing}
+use Rattle.libyaml_events.specs.sources.Pushes.{Takes}
+use Rattle.libyaml_events.proofs.calls.CallLemmas.{taken_same}
+use Rattle.libyaml_events.proofs.pushes.PushLoop.{Taking, taking_begins, wants_next, fails_onto, goes_on, is_done, step_falls}
 use Rattle.libyaml_events.specs.machine.Answers.{wanted}
-use Rattle.libyaml_events.specs.machine.Want.{Want}
-use Rattle.libyaml_events.proofs.parser.Machine.feed.Goals.{then-not-take_lookahead-via-then-not-take_lookahead, then-not-take_lookahead-via-else-not-take_lookahead+then-is_over}
+use Rattle.libyaml_events.specs.machine.Want.{Want, AtState}
 use Rattle.libyaml_events.proofs.parser.Machine.feed.Goals as goal
 
 pub loop-self-init : goal.loop-self-init
@@ -22,37 +24,45 @@ returns-in-Failed-clause-takes c =
     rw (c.fail.ensures.error, c.fail.ensures.left)
     (fails_onto _ _ _ _ _ _ _ _ _ c.loop-self.invariant.1 _ (λ full. omega (arith, room, full)) _ _ _ _ s.0 s.1)
 
-pub returns-then-not-take_lookahead-clause-takes : goal.returns-then-not-take_lookahead-clause-takes
-returns-then-not-take_lookahead-clause-takes c =
+pub returns-in-Given-clause-takes : goal.returns-in-Given-clause-takes
+returns-in-Given-clause-takes c =
     let s = rw c.in-Given.is at c.step_onto.ensures.steps in
-    rw (c.take_lookahead.ensures.taken, c.begin.ensures.wanted)
-    (is_done _ _ _ _ _ _ _ _ _ c.loop-self.invariant.1 _ c.step_onto.new.self s.1 _ s.2 _ _
-    c.take_lookahead.ensures.token
-    (λ h. elim c.then-not-take_lookahead.branch [
-      | then-not-take_lookahead-via-then-not-take_lookahead w ↦ absurd (both_ways _ w.if-not-take_lookahead.true h)
-      | then-not-take_lookahead-via-else-not-take_lookahead+then-is_over w ↦
-          rw c.take_lookahead.ensures.taken at (sym w.if-is_over.ensures)
-    ]))
+    let none = c.begin.ensures.ready.none in
+    rw c.begin.ensures.wanted (subst (λ (x : Config). Takes (vec_capacity c.args.events.now ≤ vec_len c.step_onto.new.events)
+    (standing (wanted c.args.pending.now) c.args.self.now)
+    c.args.token.now c.args.events.now.items (Ok tt) (standing AtState x) c.step_onto.new.events.items)
+    (taken_same c.step_onto.new.self none)
+    (is_done _ _ _ _ _ _ _ _ _ c.loop-self.invariant.1 _ c.step_onto.new.self s.1 _ s.2 false c.step_onto.new.token none
+    (λ h. absurd cc)))
 
-pub returns-then-not-take_lookahead-clause-agrees : goal.returns-then-not-take_lookahead-clause-agrees
-returns-then-not-take_lookahead-clause-agrees c =
-    λ h. rw c.take_lookahead.ensures.taken c.begin.ensures.agrees
+pub returns-then-is_over-clause-takes : goal.returns-then-is_over-clause-takes
+returns-then-is_over-clause-takes c =
+    let s = rw c.in-GivenBefore.is at c.step_onto.ensures.steps in
+    rw c.begin-in-loop-self.ensures.wanted (subst (λ (x : Config). Takes (vec_capacity c.args.events.now ≤ vec_len c.step_onto.new.events)
+    (standing (wanted c.args.pending.now) c.args.self.now) c.args.token.now c.args.events.now.items (Ok tt)
+    (standing AtState x) c.step_onto.new.events.items)
+    (taken_same c.step_onto.new.self c.begin-in-loop-self.ensures.ready.none)
+    (is_done _ _ _ _ _ _ _ _ _ c.loop-self.invariant.1 _ (keep c.step_onto.new.token c.step_onto.new.self) s.1 _ s.2 true
+    c.step_onto.new.token refl (λ h. sym c.if-is_over.ensures)))
 
 pub loop-self-smaller : goal.loop-self-smaller
 loop-self-smaller c =
-    let s = rw c.in-Given.is at c.step_onto.ensures.steps in
-    rw (c.take_lookahead.ensures.taken, ap (λ (w : Want). w.next) c.begin.ensures.wanted)
-    (step_falls (wanted c.loop-self.pending) c.loop-self.self c.loop-self.token s.0 c.step_onto.new.self
-    c.take_lookahead.new.token c.loop-self.invariant.1.none s.1 c.if-not-take_lookahead.ensures.token)
+    let s = rw c.in-GivenBefore.is at c.step_onto.ensures.steps in
+    rw (ap (λ (w : Want). w.next) c.begin-in-loop-self.ensures.wanted)
+    (step_falls (wanted c.loop-self.pending) c.loop-self.self c.loop-self.token s.0
+    (keep c.step_onto.new.token c.step_onto.new.self) c.step_onto.new.token c.loop-self.invariant.1.none s.1 refl)
 
 pub loop-self-preserved : goal.loop-self-preserved
 loop-self-preserved c =
-    let s = rw c.in-Given.is at c.step_onto.ensures.steps in
+    let s = rw c.in-GivenBefore.is at c.step_onto.ensures.steps in
     let room : vec_capacity c.args.events.now ≤ vec_capacity c.step_onto.new.events = search rules in
-    rw (c.take_lookahead.ensures.taken, c.begin.ensures.wanted) (
+    rw c.begin-in-loop-self.ensures.wanted (
       room,
-      goes_on (Unit {0}) _ _ _ _ _ _ _ _ c.loop-self.invariant.1 _ c.step_onto.new.self s.1 _ s.2 _
-          c.if-not-take_lookahead.ensures.token
-          (rw c.take_lookahead.ensures.taken at (sym c.if-is_over.ensures)),
-      c.begin.ensures.agrees,
+      subst (λ (x : Config). Taking (wanted c.args.pending.now) c.args.self.now c.args.token.now
+          c.args.events.now.items AtState x c.step_onto.new.token c.step_onto.new.events.items)
+          (taken_same c.step_onto.new.self c.begin-in-loop-self.ensures.ready.none)
+          (goes_on (Unit {0}) _ _ _ _ _ _ _ _ c.loop-self.invariant.1 _
+          (keep c.step_onto.new.token c.step_onto.new.self) s.1 _ s.2 c.step_onto.new.token refl
+          (sym c.if-is_over.ensures)),
+      c.begin-in-loop-self.ensures.ready.agrees,
     )

@@ -1,13 +1,14 @@
+use Rattle.std.proofs.Common.{None}
 use Rattle.libyaml_types.specs.Fault.{fault_of}
 use Rattle.libyaml_automaton.specs.Growth.{opens, pushes}
 use Rattle.libyaml_automaton.specs.Numbers.{next_of}
-use Rattle.libyaml_events.specs.machine.Config.{handles_of, token_ahead}
+use Rattle.libyaml_events.specs.machine.Config.{handles_of}
 use Rattle.libyaml_events.proofs.layer.StepWithTexts.{grows_asked, grows_full, leads, pushes_full, still_ready}
 use Rattle.libyaml_events.proofs.parser.Machine.lead.Goals as goal
 
 pub returns-clause-led : goal.returns-clause-led
 returns-clause-led c = leads (handles_of c.self.inside.handles.entries) (fault_of c.self.inside.prefix)
-    (token_ahead c.self.inside.lookahead c.self.inside.lookahead_token) c.self.inside.automaton c.step.new.self
+    None c.self.inside.automaton c.step.new.self
     c.args.self.now c.args.token.now c.args.pending.now c.step.new.read c.step.result c.type_.result c.self.view_is
     c.type_.ensures c.step.ensures.fits c.step.ensures.asked c.step.ensures.steps
 
@@ -18,7 +19,7 @@ returns-clause-undone c = λ h.
 
 pub returns-clause-content : goal.returns-clause-content
 returns-clause-content c = grows_asked (handles_of c.self.inside.handles.entries) (fault_of c.self.inside.prefix)
-    (token_ahead c.self.inside.lookahead c.self.inside.lookahead_token) c.self.inside.automaton c.step.new.self
+    None c.self.inside.automaton c.step.new.self
     c.args.self.now c.args.token.now c.args.pending.now c.step.new.read c.step.result c.type_.result c.self.view_is
     c.type_.ensures c.step.ensures.fits c.step.ensures.asked c.step.ensures.steps
 

@@ -1,15 +1,15 @@
-use Rattle.std.proofs.Common.{◌≡◌, Bool, ap, subst, true}
+use Rattle.std.proofs.Common.{None, ◌≡◌, Bool, ap, subst, true}
 use Rattle.libyaml_types.specs.Fault.{fault_of}
 use Rattle.libyaml_automaton.specs.Growth.{pushes_in_documents}
 use Rattle.libyaml_automaton.specs.Numbers.{next_of}
-use Rattle.libyaml_events.specs.machine.Config.{Config, handles_of, token_ahead}
+use Rattle.libyaml_events.specs.machine.Config.{Config, handles_of}
 use Rattle.libyaml_events.proofs.layer.StepWithTexts.{still_ready}
 use Rattle.libyaml_events.proofs.layer.Directives.{document_grows, document_leads, handle_grows}
 use Rattle.libyaml_events.proofs.parser.Machine.lead_document.Goals as goal
 
 pub returns-clause-led : goal.returns-clause-led
 returns-clause-led c = document_leads (handles_of c.self.inside.handles.entries) (fault_of c.self.inside.prefix)
-    (token_ahead c.self.inside.lookahead c.self.inside.lookahead_token) c.self.inside.automaton c.document_step.new.self
+    None c.self.inside.automaton c.document_step.new.self
     c.args.self.now c.args.token.now c.args.pending.now c.document_step.new.read c.document_step.result c.type_.result
     c.self.view_is c.type_.ensures c.requires.declared (c.document_step.ensures.steps c.args.token.now.end_mark)
 
@@ -28,7 +28,7 @@ returns-clause-grows c = λ h. document_grows c.args.pending.now c.args.self.now
 
 pub returns-clause-handle : goal.returns-clause-handle
 returns-clause-handle c = handle_grows (handles_of c.self.inside.handles.entries) (fault_of c.self.inside.prefix)
-    (token_ahead c.self.inside.lookahead c.self.inside.lookahead_token) c.self.inside.automaton c.document_step.new.self
+    None c.self.inside.automaton c.document_step.new.self
     c.args.self.now c.args.token.now c.args.pending.now c.document_step.new.read c.document_step.result c.type_.result
     c.self.view_is c.requires.ready c.type_.ensures c.document_step.ensures.fits c.requires.documents
     (c.document_step.ensures.steps c.args.token.now.end_mark)

@@ -4,7 +4,7 @@ use Rattle.libyaml_automaton.specs.Automaton as automaton
 use Rattle.libyaml_automaton.specs.Wanted.{purpose_of}
 use Rattle.libyaml_events.specs.declared.pending.Pending.{Pending}
 use Rattle.libyaml_events.specs.machine.Answers.{directive_texts}
-use Rattle.libyaml_events.specs.machine.Config.{Config, config_of, config_with, handles_of, token_ahead}
+use Rattle.libyaml_events.specs.machine.Config.{Config, config_of, config_with, handles_of}
 use Rattle.libyaml_events.specs.machine.Machine.{put, seen}
 use Rattle.libyaml_events.proofs.layer.Putting.{directive_held, directive_wants, fails_as, handle_of, refused, wants_or_fails}
 use Rattle.libyaml_events.proofs.parser.Machine.take_handle.Goals as goal
@@ -21,11 +21,11 @@ returns-in-Wants c = record {
         ap config_of c.self.view_is,
         ap config_of c.in-Ok.ensures.ok,
       ) at s in
-      wants_or_fails out c.args.self.now c.hold_directive.result c.hold_directive.new.pending e c.hold_directive.new.self
-      c.hold_directive.ensures.given (λ w.
+      wants_or_fails out c.args.self.now c.hold_directive.result c.hold_directive.new.token c.hold_directive.new.pending e
+      c.hold_directive.new.self c.hold_directive.ensures.given c.hold_directive.ensures.before (λ w.
       let held = c.hold_directive.ensures.held g.0 g.1 w in
       let made : config_with c.tag_directive.new.self (handles_of c.self.inside.handles.entries)
-      (fault_of c.self.inside.prefix) (token_ahead c.self.inside.lookahead c.self.inside.lookahead_token)
+      (fault_of c.self.inside.prefix) None
       ≡ c.declare_handle.new.self = rw c.tag_directive.ensures.kept c.self.view_is in
       directive_wants out c.args.self.now c.args.token.now c.hold_directive.new.pending h (config_of c.args.self.now)
       c.hold_directive.new.self (rw held (rw c.in-Wants.is at c.tag_directive.ensures.fits))
