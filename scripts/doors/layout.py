@@ -21,12 +21,12 @@ HEADERS = (
       "anchor_t": "pokhvizi_anchor_t"},
      ()),
     ("pokhvizi/steps.h",
-     ("libyaml_types/src/mark.rt", "libyaml_automaton/src/machine.rt", "libyaml_automaton/src/reading.rt",
+     ("libyaml_types/src/mark.rt", "libyaml_automaton/src/automaton.rt", "libyaml_automaton/src/reading.rt",
       "token_steps/src/records.rt", "token_steps/src/steps.rt", "token_steps/src/tags/handles.rt"),
      {"yaml_mark_t": "pokhvizi_mark_t", "step_span_t": "pokhvizi_span_t", "step_event_t": "pokhvizi_event_t",
       "step_fault_t": "pokhvizi_fault_t", "steps_t": "pokhvizi_steps_t", "text_t": "pokhvizi_text_t",
       "handle_t": "pokhvizi_handle_t"},
-     ("Machine", "Reading")),
+     ("Automaton", "Reading")),
 )
 STRUCT = re.compile(r"#\[repr\(C\)\]\n(?:#\[[^\n]*\]\n)*pub struct (\w+) \{\n(.*?)^\}", re.M | re.S)
 FIELD = re.compile(r"^    pub (\w+): (\w+),$", re.M)

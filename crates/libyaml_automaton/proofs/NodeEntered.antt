@@ -2,9 +2,9 @@
 use Rattle.std.proofs.Common.{◌≡◌, ◌⊎◌, inl, inr, ◌↔◌, ◌∙◌, ℕ, List, true, Some, refl, sym}
 use Rattle.libyaml_types.specs.declared.mark.yaml_mark_t.{yaml_mark_t}
 use Rattle.libyaml_types.specs.declared.enums.yaml_token_type_t.{yaml_token_type_t}
-use Rattle.libyaml_automaton.specs.declared.answer.Answer.{Answer}
-use Rattle.libyaml_automaton.specs.declared.answer.Answer.TheVariants as did
-use Rattle.libyaml_automaton.specs.declared.machine.Machine.{Machine}
+use Rattle.libyaml_automaton.specs.declared.action.Action.{Action}
+use Rattle.libyaml_automaton.specs.declared.action.Action.TheVariants as did
+use Rattle.libyaml_automaton.specs.declared.automaton.Automaton.{Automaton}
 use Rattle.libyaml_automaton.specs.declared.reading.Reading.{Reading}
 use Rattle.libyaml_automaton.specs.declared.next.Next.{Next}
 use Rattle.libyaml_automaton.specs.declared.next.Next.TheVariants as next
@@ -15,14 +15,14 @@ use Rattle.libyaml_automaton.specs.Fits.{FitsBare, IsFull, IsNothingDone, Stays,
 use Rattle.libyaml_automaton.specs.Growth.{pushes, begun_place, opens, HasNoRoom}
 
 -- it is full where a stack that it pushes on is
-pub full_states_where : (n : Next) (k : yaml_token_type_t) (p : NodePlace) (a : Answer) (m d : Machine)
+pub full_states_where : (n : Next) (k : yaml_token_type_t) (p : NodePlace) (a : Action) (m d : Automaton)
     (states : List ℕ) (marks : List yaml_mark_t) → pushes n k ≡ true → begun_place n k ≡ Some p → d ≡ m
     → (a ≡ did.FullStates) ↔ (HasNoRoom true states d.states_count × (HasNoRoom (opens_at p k) marks d.marks_count → ⊥))
     → (a ≡ did.FullStates) ↔ (HasNoRoom (pushes n k) states m.states_count
     × (HasNoRoom (opens n k) marks m.marks_count → ⊥))
 full_states_where n k p a m d states marks e b s f = rw (e, b, sym s) f
 
-pub full_marks_where : (n : Next) (k : yaml_token_type_t) (p : NodePlace) (a : Answer) (m d : Machine)
+pub full_marks_where : (n : Next) (k : yaml_token_type_t) (p : NodePlace) (a : Action) (m d : Automaton)
     (marks : List yaml_mark_t) → begun_place n k ≡ Some p → d ≡ m
     → (a ≡ did.FullMarks) ↔ HasNoRoom (opens_at p k) marks d.marks_count
     → (a ≡ did.FullMarks) ↔ HasNoRoom (opens n k) marks m.marks_count
@@ -39,7 +39,7 @@ pub stays : (k : yaml_token_type_t) (p : NodePlace) (r d : Reading) (entering pl
 stays k p r d e q b s = rw s (refl, wanted_still (next_of r.next) k p r e q b)
 
 -- nothing else is undone
-pub full_of : (a : Answer) (k : yaml_token_type_t) (r : Reading) → FitsBare a k r ⊎ IsFull a → IsNothingDone a → IsFull a
+pub full_of : (a : Action) (k : yaml_token_type_t) (r : Reading) → FitsBare a k r ⊎ IsFull a → IsNothingDone a → IsFull a
 full_of did.FullStates k r f u = tt
 full_of did.FullMarks k r f u = tt
 full_of _ k r (inr e) u = e
@@ -48,17 +48,17 @@ full_of did.AsksContent k r (inl f) u = absurd f
 full_of _ k r (inl f) u = absurd u
 
 -- a node without a state to push lacks room for its mark alone
-pub bare_full : (a : Answer) (k : yaml_token_type_t) (r : Reading) → FitsBare a k r → IsFull a → a ≡ did.FullMarks
+pub bare_full : (a : Action) (k : yaml_token_type_t) (r : Reading) → FitsBare a k r → IsFull a → a ≡ did.FullMarks
 bare_full did.FullStates k r f u = absurd f
 bare_full did.FullMarks k r f u = refl
 bare_full _ k r f u = absurd u
 
-full_stays : (a : Answer) (r r' : Reading) → IsFull a → SameReading r r' → Stays a r r'
+full_stays : (a : Action) (r r' : Reading) → IsFull a → SameReading r r' → Stays a r r'
 full_stays did.AsksContent r r' f s = absurd f
 full_stays _ r r' f s = s
 
 -- a node that was begun, where its function did nothing
-pub undone_at : (k : yaml_token_type_t) (p : NodePlace) (a : Answer) (m d m' : Machine) (r s r' : Reading)
+pub undone_at : (k : yaml_token_type_t) (p : NodePlace) (a : Action) (m d m' : Automaton) (r s r' : Reading)
     (states states' : List ℕ) (marks marks' : List yaml_mark_t) (entering place : ℕ)
     → begun_place (next_of r.next) k ≡ Some p → d ≡ m → s ≡ record r { entering = entering; place = place } → IsFull a
     → (IsFull a → (m' ≡ d) × ((states' ≡ states) × ((marks' ≡ marks) × (r' ≡ s))))

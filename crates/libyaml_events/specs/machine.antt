@@ -5,4 +5,4 @@ pub mod Machine
 pub mod Growth
 pub mod Steps
 pub mod StepsOnto
-pub mod Answers
+pub mod Outcomes

@@ -4,37 +4,37 @@ ghost use Rattle.libyaml_types.specs.declared.mark.yaml_mark_t.{yaml_mark_t};
 ghost use Rattle.libyaml_automaton.specs.Config.{first_stacks};
 ghost use Rattle.libyaml_automaton.specs.Numbers.{next_of, place_of, flag, IsBackByte};
 ghost use Rattle.libyaml_automaton.specs.Wanted.{purpose_of, properties, kind_and_marks, IsAt};
-ghost use Rattle.libyaml_automaton.specs.Fits.{FitsStep, FitsContent, FitsDocument, AnswersDirective};
+ghost use Rattle.libyaml_automaton.specs.Fits.{FitsStep, FitsContent, FitsDocument, FitsAtDirective};
 ghost use Rattle.libyaml_automaton.specs.Fits.{SameReading, IsFull, IsNothingDone, Documents, opens_at};
 ghost use Rattle.libyaml_automaton.specs.Growth.{opens, pushes, stack_part_of, pushes_in_documents};
 ghost use Rattle.libyaml_automaton.specs.Automaton.{AtState, KindAndMarks};
 ghost use Rattle.libyaml_automaton.specs.Automaton as automaton;
-ghost use Rattle.libyaml_automaton.specs.Answers.{IsOutcome, outcome};
+ghost use Rattle.libyaml_automaton.specs.Outcomes.{IsOutcome, outcome};
 
-use libyaml_automaton::{Answer, Machine, Reading, state_of_number};
+use libyaml_automaton::{Action, Automaton, Reading, state_of_number};
 use libyaml_types::{ZERO_MARK, yaml_mark_t, yaml_parser_state_t, yaml_token_type_t};
 use std::alloc::Global;
 use std::marker::Model;
 
 /// The parser without texts, with its stacks.
 #[derive(Drop)]
-pub(crate) struct Automaton {
-    record: Machine,
+pub(crate) struct AutomatonWithStacks {
+    automaton: Automaton,
     states: Vec<u8>,
     marks: Vec<yaml_mark_t>,
 }
 
-impl Model for Automaton {
+impl Model for AutomatonWithStacks {
     ghost use Rattle.std.specs.Prelude.{All};
     ghost use Rattle.libyaml_automaton.specs.Config.{Stacks, stacks_of, Within};
     ghost use Rattle.libyaml_automaton.specs.Numbers.{IsBackByte};
 
     ghost Value = { Stacks };
 
-    ghost view = { λ a. stacks_of a.record a.states.items a.marks.items };
+    ghost view = { λ a. stacks_of a.automaton a.states.items a.marks.items };
 
     // each byte on the stack is the number of a state to which the parser goes back after a node
-    ghost invariant = { λ a. Within a.record a.states.items a.marks.items × All IsBackByte a.states.items };
+    ghost invariant = { λ a. Within a.automaton a.states.items a.marks.items × All IsBackByte a.states.items };
 }
 
 /// What lies where no state was put yet: the number of the state after a document's root.
@@ -63,14 +63,14 @@ fn lengthen_marks(marks: &mut Vec<yaml_mark_t>) -> bool
     true
 }
 
-impl Automaton {
+impl AutomatonWithStacks {
     /// Returns an automaton at a stream's start, without an allocation.
     #[inline(always)]
     pub(crate) fn new(alloc: Global) -> Self
         ensures { result ≡ first_stacks }
     {
-        Automaton {
-            record: Machine::new(),
+        AutomatonWithStacks {
+            automaton: Automaton::new(),
             states: Vec::new(alloc),
             marks: Vec::new(alloc),
         }
@@ -84,19 +84,19 @@ impl Automaton {
         kind: yaml_token_type_t,
         start: &yaml_mark_t,
         end: &yaml_mark_t,
-    ) -> Answer
+    ) -> Action
         requires at { IsAt (next_of read.old.next) self.old.state }
         ensures steps { IsOutcome (automaton.step (purpose_of read.old) self.old (kind_and_marks kind
             start.now end.now) kind) (outcome result (automaton.no_properties (kind_and_marks kind
             start.now end.now)) (kind_and_marks kind start.now end.now) read.new self.new) }
         ensures fits { FitsStep result kind read.new self.new.state }
-        ensures full_states { result ≡ Answer.FullStates → pushes (next_of read.old.next) kind ≡ true }
-        ensures full_marks { result ≡ Answer.FullMarks → opens (next_of read.old.next) kind ≡ true }
-        ensures documents { result ≡ Answer.Document → stack_part_of (next_of read.old.next) ≡ Documents }
+        ensures full_states { result ≡ Action.FullStates → pushes (next_of read.old.next) kind ≡ true }
+        ensures full_marks { result ≡ Action.FullMarks → opens (next_of read.old.next) kind ≡ true }
+        ensures documents { result ≡ Action.Document → stack_part_of (next_of read.old.next) ≡ Documents }
         ensures undone { IsNothingDone result → (self.new ≡ self.old) × SameReading read.old read.new }
-        ensures asked { result ≡ Answer.AsksContent → read.new ≡ read.old }
+        ensures asked { result ≡ Action.AsksContent → read.new ≡ read.old }
     {
-        self.record.step(
+        self.automaton.step(
             read,
             self.states.as_mut_slice(),
             self.marks.as_mut_slice(),
@@ -114,42 +114,42 @@ impl Automaton {
         read: &mut Reading,
         kind: yaml_token_type_t,
         start: &yaml_mark_t,
-    ) -> Answer
+    ) -> Action
         requires at { IsAt (next_of read.old.next) self.old.state }
         requires documents { stack_part_of (next_of read.old.next) ≡ Documents }
         ensures steps { (end : yaml_mark_t) → IsOutcome (automaton.step (purpose_of read.old) self.old
             (kind_and_marks kind start.now end) kind) (outcome result (automaton.no_properties
             (kind_and_marks kind start.now end)) (kind_and_marks kind start.now end) read.new self.new) }
         ensures fits { FitsDocument result kind read.new self.new.state }
-        ensures full { result ≡ Answer.FullStates
+        ensures full { result ≡ Action.FullStates
             → pushes_in_documents (next_of read.old.next) self.old.behind_document_end kind ≡ true }
-        ensures undone { result ≡ Answer.FullStates → (self.new ≡ self.old) × SameReading read.old read.new }
+        ensures undone { result ≡ Action.FullStates → (self.new ≡ self.old) × SameReading read.old read.new }
     {
-        self.record
+        self.automaton
             .document_step(read, self.states.as_mut_slice(), kind, start)
     }
 
     /// Goes on where `document_step` returned `AsksVersion`.
     #[inline(always)]
-    pub(crate) fn version_directive(&mut self, read: &mut Reading, is_accepted: bool) -> Answer
+    pub(crate) fn version_directive(&mut self, read: &mut Reading, is_accepted: bool) -> Action
         ensures steps { (t : KindAndMarks) → IsOutcome (automaton.first_version is_accepted
             read.old.start_mark self.old t) (outcome result (automaton.no_properties t) t read.new self.new) }
-        ensures fits { AnswersDirective result read.new }
+        ensures fits { FitsAtDirective result read.new }
         ensures kept { self.new ≡ self.old }
     {
-        self.record.version_directive(read, is_accepted)
+        self.automaton.version_directive(read, is_accepted)
     }
 
     /// Goes on where `document_step` returned `AsksHandle`.
     #[inline(always)]
-    pub(crate) fn tag_directive(&mut self, read: &mut Reading, was_declared: bool) -> Answer
+    pub(crate) fn tag_directive(&mut self, read: &mut Reading, was_declared: bool) -> Action
         ensures steps { (t : KindAndMarks) → IsOutcome (automaton.tag_directive was_declared
             read.old.start_mark (flag read.old.has_version) self.old t) (outcome result
             (automaton.no_properties t) t read.new self.new) }
-        ensures fits { AnswersDirective result read.new }
+        ensures fits { FitsAtDirective result read.new }
         ensures kept { self.new ≡ self.old }
     {
-        self.record.tag_directive(read, was_declared)
+        self.automaton.tag_directive(read, was_declared)
     }
 
     /// The content after properties, where `step` returned `AsksContent` and the tag's handle is defined.
@@ -161,15 +161,15 @@ impl Automaton {
         kind: yaml_token_type_t,
         start: &yaml_mark_t,
         end: &yaml_mark_t,
-    ) -> Answer
+    ) -> Action
         ensures steps { IsOutcome (automaton.node_content (place_of read.old.place) (properties read.old)
             self.old (kind_and_marks kind start.now end.now) kind) (outcome result (properties read.old)
             (kind_and_marks kind start.now end.now) read.new self.new) }
         ensures fits { FitsContent result kind read.new }
-        ensures full { result ≡ Answer.FullMarks → opens_at (place_of read.old.place) kind ≡ true }
-        ensures undone { result ≡ Answer.FullMarks → (self.new ≡ self.old) × (read.new ≡ read.old) }
+        ensures full { result ≡ Action.FullMarks → opens_at (place_of read.old.place) kind ≡ true }
+        ensures undone { result ≡ Action.FullMarks → (self.new ≡ self.old) × (read.new ≡ read.old) }
     {
-        self.record.content_behind(
+        self.automaton.content_behind(
             read,
             self.states.as_slice(),
             self.marks.as_mut_slice(),
@@ -184,7 +184,7 @@ impl Automaton {
     pub(crate) fn state(&self) -> yaml_parser_state_t
         ensures { result ≡ self.now.state }
     {
-        state_of_number(self.record.state)
+        state_of_number(self.automaton.state)
     }
 
     /// Has the function of the state take the next token.
@@ -194,7 +194,7 @@ impl Automaton {
         ensures at { IsAt (next_of read.new.next) self.now.state }
         ensures kept { read.new ≡ record read.old { next = read.new.next } }
     {
-        read.at_state_of(&self.record);
+        read.at_state_of(&self.automaton);
     }
 
     /// Makes room where a step returned this, and returns whether there was memory. A step that pushes a mark
@@ -202,13 +202,13 @@ impl Automaton {
     #[cold]
     #[inline(never)]
     #[tactic(auto, using(crate::proofs::layer::Stacks::grown))]
-    pub(crate) fn grow(&mut self, full: Answer) -> bool
+    pub(crate) fn grow(&mut self, full: Action) -> bool
         ensures { self.new ≡ self.old }
     {
         match full {
-            Answer::FullMarks => {
+            Action::FullMarks => {
                 lengthen_marks(&mut self.marks)
-                    && (self.record.states_count < self.states.len()
+                    && (self.automaton.states_count < self.states.len()
                         || lengthen_states(&mut self.states))
             }
             _ => lengthen_states(&mut self.states),
@@ -222,7 +222,7 @@ impl Automaton {
     pub(crate) fn clear(&mut self)
         ensures { self.new ≡ record self.old { states = []; marks = [] } }
     {
-        self.record.states_count = 0;
-        self.record.marks_count = 0;
+        self.automaton.states_count = 0;
+        self.automaton.marks_count = 0;
     }
 }

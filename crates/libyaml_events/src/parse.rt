@@ -5,7 +5,7 @@ ghost use Rattle.libyaml_events.specs.machine.Config.{ended_or_failed, is_fault,
 ghost use Rattle.libyaml_events.specs.parsers.Left.{Left};
 ghost use Rattle.libyaml_events.specs.sources.Calls.{Call, answered};
 ghost use Rattle.libyaml_events.specs.automaton.View.{Ready};
-ghost use Rattle.libyaml_events.specs.machine.Answers.{answer, standing_by, wanted};
+ghost use Rattle.libyaml_events.specs.machine.Outcomes.{result_of, standing_by, wanted};
 ghost use Rattle.libyaml_events.specs.sources.History.{Remembers, has_failed};
 ghost use Rattle.libyaml_events.specs.sources.ParsesNext.{ParsesNext};
 ghost use Rattle.libyaml_events.specs.machine.Machine.{step};
@@ -33,7 +33,7 @@ impl Machine {
     ) -> Step
         requires ready { Ready pending.old self.old }
         ensures steps { Steps (step (wanted pending.old) self.old token.old) self.old
-            (answer result pending.new event.new self.new) (standing_by result token.new self.new) }
+            (result_of result pending.new event.new self.new) (standing_by result token.new self.new) }
         ensures ready { result ≡ Step.Wants → Ready pending.new self.new }
         ensures grows { result ≡ Step.Failed → self.new.fault.error ≡ yaml_error_type_t.YAML_MEMORY_ERROR
             → may_grow (wanted pending.old) self.old token.old.content ≡ true }
@@ -131,22 +131,22 @@ impl<S: yaml_token_source_t> yaml_parser_t<S> {
         ensures left { IfErr result (λ e. Left self.old.config e self.new.config) }
         ensures remembers { Remembers self.old }
     {
-        let mut answer = Ok(no_event());
-        if let Ok(event) = &mut answer {
+        let mut led = Ok(no_event());
+        if let Ok(event) = &mut led {
             if let Err(error) = self.next_event_into(event) {
-                fail(error, &mut answer);
+                fail(error, &mut led);
             }
         }
-        answer
+        led
     }
 }
 
 /// Puts an error in the place of an event.
 #[cold]
-fn fail(error: yaml_error_type_t, answer: &mut Result<yaml_event_t, yaml_error_type_t>)
-    ensures { answer.new ≡ Err error }
+fn fail(error: yaml_error_type_t, led: &mut Result<yaml_event_t, yaml_error_type_t>)
+    ensures { led.new ≡ Err error }
 {
-    *answer = Err(error);
+    *led = Err(error);
 }
 
 /// Puts the empty event into `event`.

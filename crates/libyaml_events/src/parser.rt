@@ -19,7 +19,7 @@ mod faults;
 mod handles;
 mod tokens;
 
-use crate::automaton::Automaton;
+use crate::automaton::AutomatonWithStacks;
 use crate::entries::MaxEntries;
 use crate::lookahead::Lookahead;
 use crate::pending::Pending;
@@ -70,7 +70,7 @@ impl<S> Model for yaml_parser_t<S> {
 /// What a parser keeps from one call to the next, beside its source and the lookahead.
 #[derive(Drop)]
 pub(crate) struct Machine {
-    pub(crate) automaton: Automaton,
+    pub(crate) automaton: AutomatonWithStacks,
     handles: BTreeMap<String, String>,
     /// A text of an earlier event, whose memory a later token's text or tag in full may take. Its value has
     /// no meaning.
@@ -224,7 +224,7 @@ impl Machine {
         ensures { result ≡ start }
     {
         Machine {
-            automaton: Automaton::new(alloc),
+            automaton: AutomatonWithStacks::new(alloc),
             handles: BTreeMap::new(alloc),
             spare: String::new(alloc),
             prefix: NO_FAULT,

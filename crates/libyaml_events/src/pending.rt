@@ -1,6 +1,6 @@
 //! What the parser has of a document or node within a call.
 ghost use Rattle.std.specs.Prelude.{◌≡◌};
-ghost use Rattle.libyaml_events.specs.machine.Answers.{wanted};
+ghost use Rattle.libyaml_events.specs.machine.Outcomes.{wanted};
 ghost use Rattle.libyaml_events.specs.machine.Config.{start};
 ghost use Rattle.libyaml_events.specs.machine.Want.{AtState};
 ghost use Rattle.libyaml_events.specs.automaton.View.{InStep};

@@ -2,7 +2,7 @@
 ghost use Rattle.std.specs.Prelude.{◌≡◌, ◌≤◌, ◌<◌, [], None, IfErr, IfOk, true, false};
 ghost use Rattle.std.specs.Vec.{vec_capacity, vec_len};
 ghost use Rattle.libyaml_types.specs.Fault.{fault_of, no_fault};
-ghost use Rattle.libyaml_events.specs.machine.Answers.{wanted};
+ghost use Rattle.libyaml_events.specs.machine.Outcomes.{wanted};
 ghost use Rattle.libyaml_events.specs.machine.Config.{ended_or_failed, is_fault};
 ghost use Rattle.libyaml_events.specs.machine.StepsOnto.{StepsOnto};
 ghost use Rattle.libyaml_events.specs.automaton.View.{InStep, Ready};
@@ -29,7 +29,7 @@ pub struct yaml_push_parser_t {
 impl Model for yaml_push_parser_t {
     ghost use Rattle.std.specs.Prelude.{◌≡◌, None, false};
     ghost use Rattle.std.specs.Coded.{codes};
-    ghost use Rattle.libyaml_events.specs.machine.Answers.{wanted};
+    ghost use Rattle.libyaml_events.specs.machine.Outcomes.{wanted};
     ghost use Rattle.libyaml_events.specs.machine.Config.{handles_code, ended_or_failed};
     ghost use Rattle.libyaml_events.specs.automaton.View.{InStep};
     ghost use Rattle.libyaml_events.specs.sources.Pushed.{PushParser, RemembersPushes, standing};

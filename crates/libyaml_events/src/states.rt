@@ -15,7 +15,7 @@ ghost use Rattle.libyaml_automaton.specs.Growth.{stack_part_of};
 ghost use Rattle.libyaml_events.specs.machine.Config.{with_fault};
 ghost use Rattle.libyaml_events.specs.machine.Machine.{fault_with, step};
 ghost use Rattle.libyaml_events.specs.machine.Steps.{Steps};
-ghost use Rattle.libyaml_events.specs.machine.Answers.{answer, standing_by, wanted};
+ghost use Rattle.libyaml_events.specs.machine.Outcomes.{result_of, standing_by, wanted};
 ghost use Rattle.libyaml_events.specs.machine.Growth.{may_grow};
 ghost use Rattle.libyaml_events.specs.automaton.Led.{GrowsBehind, IsPut, Led, Puts};
 ghost use Rattle.libyaml_events.specs.automaton.View.{Ready};
@@ -34,7 +34,7 @@ use crate::states::contents::{
 };
 use crate::step::Step;
 use libyaml_automaton::{
-    Answer, DUPLICATE_TAG, DUPLICATE_VERSION, INCOMPATIBLE_VERSION, NO_BLOCK_CONTENT,
+    Action, DUPLICATE_TAG, DUPLICATE_VERSION, INCOMPATIBLE_VERSION, NO_BLOCK_CONTENT,
     NO_DOCUMENT_START, NO_FLOW_CONTENT, NO_ITEM, NO_KEY, NO_SEQUENCE_SEPARATOR, NO_STREAM_START,
     UNDEFINED_HANDLE,
 };
@@ -72,16 +72,16 @@ impl Machine {
     ) -> Step
         requires ready { Ready pending.old self.old }
         ensures steps { Steps (step (wanted pending.old) self.old token.old) self.old
-            (answer result pending.new out.new self.new) (standing_by result token.new self.new) }
+            (result_of result pending.new out.new self.new) (standing_by result token.new self.new) }
         ensures ready { result ≡ Step.Wants → Ready pending.new self.new }
         ensures grows { result ≡ Step.Failed → self.new.fault.error ≡ yaml_error_type_t.YAML_MEMORY_ERROR
             → may_grow (wanted pending.old) self.old token.old.content ≡ true }
     {
         match self.lead(token, pending) {
-            Answer::FullStates => self.step_again(Answer::FullStates, token, pending, out),
-            Answer::FullMarks => self.step_again(Answer::FullMarks, token, pending, out),
-            Answer::Document => self.step_document(token, pending, out),
-            answer => self.put(answer, token, pending, out),
+            Action::FullStates => self.step_again(Action::FullStates, token, pending, out),
+            Action::FullMarks => self.step_again(Action::FullMarks, token, pending, out),
+            Action::Document => self.step_document(token, pending, out),
+            led => self.put(led, token, pending, out),
         }
     }
 
@@ -90,7 +90,7 @@ impl Machine {
     #[inline(never)]
     fn step_again(
         &mut self,
-        full: Answer,
+        full: Action,
         token: &mut yaml_token_t,
         pending: &mut Pending,
         out: &mut yaml_event_t,
@@ -98,23 +98,23 @@ impl Machine {
         requires ready { Ready pending.old self.old }
         requires grows { may_grow (wanted pending.old) self.old token.old.content ≡ true }
         ensures steps { Steps (step (wanted pending.old) self.old token.old) self.old
-            (answer result pending.new out.new self.new) (standing_by result token.new self.new) }
+            (result_of result pending.new out.new self.new) (standing_by result token.new self.new) }
         ensures ready { result ≡ Step.Wants → Ready pending.new self.new }
     {
         if !self.automaton.grow(full) {
             return self.fail_out_of_memory();
         }
         match self.lead(token, pending) {
-            Answer::FullStates => self.fail_out_of_memory(),
-            Answer::FullMarks => self.fail_out_of_memory(),
-            Answer::Document => self.step_document(token, pending, out),
-            answer => self.put(answer, token, pending, out),
+            Action::FullStates => self.fail_out_of_memory(),
+            Action::FullMarks => self.fail_out_of_memory(),
+            Action::Document => self.step_document(token, pending, out),
+            led => self.put(led, token, pending, out),
         }
     }
 
     /// Does a step of the parser without texts.
     #[inline(always)]
-    fn lead(&mut self, token: &yaml_token_t, pending: &mut Pending) -> Answer
+    fn lead(&mut self, token: &yaml_token_t, pending: &mut Pending) -> Action
         requires { Ready pending.old self.old }
         ensures led { Led (step (wanted pending.old) self.old token.now) (wanted pending.old).texts token.now
             result pending.new self.new }
@@ -123,10 +123,10 @@ impl Machine {
         ensures texts { pending.new ≡ record pending.old { reading = pending.new.reading } }
         ensures undone { IsNothingDone result → Ready pending.new self.new
             × (wanted pending.new ≡ wanted pending.old) × (self.new ≡ self.old) }
-        ensures documents { result ≡ Answer.Document
+        ensures documents { result ≡ Action.Document
             → stack_part_of (next_of pending.new.reading.next) ≡ Documents }
         ensures grows { IsFull result → may_grow (wanted pending.old) self.old token.now.content ≡ true }
-        ensures content { result ≡ Answer.AsksContent → GrowsBehind pending.new self.new token.now
+        ensures content { result ≡ Action.AsksContent → GrowsBehind pending.new self.new token.now
             → may_grow (wanted pending.old) self.old token.now.content ≡ true }
     {
         self.automaton.step(
@@ -141,21 +141,21 @@ impl Machine {
     #[inline(always)]
     fn put(
         &mut self,
-        answer: Answer,
+        led: Action,
         token: &mut yaml_token_t,
         pending: &mut Pending,
         out: &mut yaml_event_t,
     ) -> Step
         requires none { self.old.lookahead ≡ None }
-        requires put { IsPut answer }
-        requires fits { FitsStep answer (token_type token.old.content) pending.old.reading self.old.state }
-        ensures puts { Puts answer token.old pending.old self.old result token.new pending.new out.new self.new }
+        requires put { IsPut led }
+        requires fits { FitsStep led (token_type token.old.content) pending.old.reading self.old.state }
+        ensures puts { Puts led token.old pending.old self.old result token.new pending.new out.new self.new }
         ensures grows { result ≡ Step.Failed → self.new.fault.error ≡ yaml_error_type_t.YAML_MEMORY_ERROR
-            → (answer ≡ Answer.AsksContent) × GrowsBehind pending.old self.old token.old }
+            → (led ≡ Action.AsksContent) × GrowsBehind pending.old self.old token.old }
     {
-        match answer {
-            Answer::Wants => Step::Wants,
-            Answer::Scalar => {
+        match led {
+            Action::Wants => Step::Wants,
+            Action::Scalar => {
                 out.start_mark = token.start_mark;
                 out.end_mark = token.end_mark;
                 if let unnamed_yaml_token_t_data::Scalar(scalar) = &mut token.content {
@@ -163,43 +163,43 @@ impl Machine {
                 }
                 Step::Given
             }
-            Answer::Empty => {
+            Action::Empty => {
                 out.start_mark = token.start_mark;
                 out.end_mark = token.start_mark;
                 put_empty_scalar(&mut self.spare, &mut out.content);
                 Step::GivenBefore
             }
-            Answer::EmptyBehind => {
+            Action::EmptyBehind => {
                 out.start_mark = pending.reading.mark;
                 out.end_mark = pending.reading.mark;
                 put_empty_scalar(&mut self.spare, &mut out.content);
                 Step::GivenBefore
             }
-            Answer::SequenceEnd => {
+            Action::SequenceEnd => {
                 out.start_mark = token.start_mark;
                 out.end_mark = token.end_mark;
                 put_sequence_end(&mut self.spare, &mut out.content);
                 Step::Given
             }
-            Answer::MappingEnd => {
+            Action::MappingEnd => {
                 out.start_mark = token.start_mark;
                 out.end_mark = token.end_mark;
                 put_mapping_end(&mut self.spare, &mut out.content);
                 Step::Given
             }
-            Answer::IndentlessEnd => {
+            Action::IndentlessEnd => {
                 out.start_mark = token.start_mark;
                 out.end_mark = token.start_mark;
                 put_sequence_end(&mut self.spare, &mut out.content);
                 Step::GivenBefore
             }
-            Answer::PairEnd => {
+            Action::PairEnd => {
                 out.start_mark = token.start_mark;
                 out.end_mark = token.start_mark;
                 put_mapping_end(&mut self.spare, &mut out.content);
                 Step::GivenBefore
             }
-            Answer::Alias => {
+            Action::Alias => {
                 out.start_mark = token.start_mark;
                 out.end_mark = token.end_mark;
                 if let unnamed_yaml_token_t_data::Alias(alias) = &mut token.content {
@@ -207,7 +207,7 @@ impl Machine {
                 }
                 Step::Given
             }
-            Answer::Pair => {
+            Action::Pair => {
                 out.start_mark = token.start_mark;
                 out.end_mark = token.end_mark;
                 put_mapping_start(
@@ -217,7 +217,7 @@ impl Machine {
                 );
                 Step::Given
             }
-            Answer::IndentlessSequence => {
+            Action::IndentlessSequence => {
                 out.start_mark = token.start_mark;
                 out.end_mark = token.end_mark;
                 put_sequence_start(
@@ -227,7 +227,7 @@ impl Machine {
                 );
                 Step::GivenBefore
             }
-            Answer::BlockSequence => {
+            Action::BlockSequence => {
                 out.start_mark = token.start_mark;
                 out.end_mark = token.end_mark;
                 put_sequence_start(
@@ -237,7 +237,7 @@ impl Machine {
                 );
                 Step::Given
             }
-            Answer::BlockMapping => {
+            Action::BlockMapping => {
                 out.start_mark = token.start_mark;
                 out.end_mark = token.end_mark;
                 put_mapping_start(
@@ -247,7 +247,7 @@ impl Machine {
                 );
                 Step::Given
             }
-            Answer::FlowSequence => {
+            Action::FlowSequence => {
                 out.start_mark = token.start_mark;
                 out.end_mark = token.end_mark;
                 put_sequence_start(
@@ -257,7 +257,7 @@ impl Machine {
                 );
                 Step::Given
             }
-            Answer::FlowMapping => {
+            Action::FlowMapping => {
                 out.start_mark = token.start_mark;
                 out.end_mark = token.end_mark;
                 put_mapping_start(
@@ -267,28 +267,28 @@ impl Machine {
                 );
                 Step::Given
             }
-            Answer::AsksContent => {
+            Action::AsksContent => {
                 if pending.reading.has_tag == 0 {
                     return self.put_content_behind_anchor(token, pending, out);
                 }
                 self.put_content_behind(token, pending, out)
             }
-            Answer::WantsAnchor => {
+            Action::WantsAnchor => {
                 self.hold_anchor(token, pending);
                 Step::Wants
             }
-            Answer::WantsTag => {
+            Action::WantsTag => {
                 self.hold_tag(token, pending);
                 Step::Wants
             }
-            Answer::Failed => {
+            Action::Failed => {
                 self.set_problem(
                     pending.reading.problem,
                     &token.start_mark,
                     &token.start_mark,
                 )
             }
-            Answer::FailedWithin => {
+            Action::FailedWithin => {
                 self.set_problem(
                     pending.reading.problem,
                     &pending.reading.mark,

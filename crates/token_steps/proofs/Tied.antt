@@ -30,7 +30,7 @@ use Rattle.token_steps.specs.Facts.{Given, StepResult, TagRead, NoTag, StepWant,
 use Rattle.token_steps.specs.Facts as told
 use Rattle.token_steps.specs.Records.{is_undefined}
 use Rattle.token_steps.specs.Texts.{bit, content_of_shape, event_with, fact_of, handles_past, kept_behind, tag_fact, resolved_tag, tag_read_of, token_of, token_with}
-use Rattle.libyaml_events.specs.machine.Answers.{only_if}
+use Rattle.libyaml_events.specs.machine.Outcomes.{only_if}
 use Rattle.token_steps.proofs.Follows.{no, Keeping, properties, keeping, Content, Follows, GivesWith, follows, node_content}
 use Rattle.token_steps.proofs.Kept.{Holds, declares, keeps, tag_by, tag_for_by, tags}
 use Rattle.token_steps.proofs.Told.{defined}

@@ -5,14 +5,14 @@ use Rattle.libyaml_types.specs.declared.mark.yaml_mark_t.{yaml_mark_t}
 use Rattle.libyaml_types.specs.declared.enums.yaml_token_type_t.{yaml_token_type_t}
 use Rattle.libyaml_types.specs.declared.enums.yaml_token_type_t.TheVariants as tok
 use Rattle.libyaml_types.specs.declared.enums.yaml_parser_state_t.{yaml_parser_state_t}
-use Rattle.libyaml_automaton.specs.declared.answer.Answer.{Answer}
-use Rattle.libyaml_automaton.specs.declared.answer.Answer.TheVariants as answer
+use Rattle.libyaml_automaton.specs.declared.action.Action.{Action}
+use Rattle.libyaml_automaton.specs.declared.action.Action.TheVariants as led
 use Rattle.libyaml_automaton.specs.declared.next.Next.{Next}
 use Rattle.libyaml_automaton.specs.declared.next.Next.TheVariants as next
-use Rattle.libyaml_automaton.specs.declared.machine.Machine.{Machine}
+use Rattle.libyaml_automaton.specs.declared.automaton.Automaton.{Automaton}
 use Rattle.libyaml_automaton.specs.declared.node_place.NodePlace.{NodePlace}
 use Rattle.libyaml_automaton.specs.declared.reading.Reading.{Reading}
-use Rattle.libyaml_automaton.specs.Answers.{IsOutcome, outcome}
+use Rattle.libyaml_automaton.specs.Outcomes.{IsOutcome, outcome}
 use Rattle.libyaml_automaton.specs.Automaton as automaton
 use Rattle.libyaml_automaton.specs.Automaton.{AsksContent, PropertiesRead, Step}
 use Rattle.libyaml_automaton.specs.Config.{Stacks, stacks_of}
@@ -31,41 +31,41 @@ use Rattle.token_steps.specs.declared.records.step_event_t.{step_event_t}
 use Rattle.token_steps.specs.declared.records.step_fault_t.{step_fault_t}
 use Rattle.token_steps.specs.Tells.{FitsTold, IsTold, IsDone, IsUntold, IsGiven, Tells}
 
-pub told_in_step : (a : Answer) (k : yaml_token_type_t) (r : Reading) (s : yaml_parser_state_t) → FitsStep a k r s
-    → (a ≡ answer.FullStates → ⊥) → (a ≡ answer.FullMarks → ⊥) → (a ≡ answer.Document → ⊥)
-    → (a ≡ answer.AsksContent → ⊥) → IsTold a
-told_in_step answer.FullStates k r s f n m d c = n refl
-told_in_step answer.FullMarks k r s f n m d c = m refl
-told_in_step answer.Document k r s f n m d c = d refl
-told_in_step answer.AsksContent k r s f n m d c = c refl
-told_in_step answer.AsksVersion k r s f n m d c = f
-told_in_step answer.AsksHandle k r s f n m d c = f
-told_in_step answer.Enter k r s f n m d c = f
-told_in_step answer.Node k r s f n m d c = f
+pub told_in_step : (a : Action) (k : yaml_token_type_t) (r : Reading) (s : yaml_parser_state_t) → FitsStep a k r s
+    → (a ≡ led.FullStates → ⊥) → (a ≡ led.FullMarks → ⊥) → (a ≡ led.Document → ⊥)
+    → (a ≡ led.AsksContent → ⊥) → IsTold a
+told_in_step led.FullStates k r s f n m d c = n refl
+told_in_step led.FullMarks k r s f n m d c = m refl
+told_in_step led.Document k r s f n m d c = d refl
+told_in_step led.AsksContent k r s f n m d c = c refl
+told_in_step led.AsksVersion k r s f n m d c = f
+told_in_step led.AsksHandle k r s f n m d c = f
+told_in_step led.Enter k r s f n m d c = f
+told_in_step led.Node k r s f n m d c = f
 told_in_step _ k r s f n m d c = tt
 
-pub told_in_document : (a : Answer) (k : yaml_token_type_t) (r : Reading) (s : yaml_parser_state_t) → FitsDocument a k r s
-    → (a ≡ answer.FullStates → ⊥) → (a ≡ answer.AsksVersion → ⊥) → (a ≡ answer.AsksHandle → ⊥) → IsTold a
-told_in_document answer.FullStates k r s f n d c = n refl
-told_in_document answer.AsksVersion k r s f n d c = d refl
-told_in_document answer.AsksHandle k r s f n d c = c refl
-told_in_document answer.FullMarks k r s f n d c = f
-told_in_document answer.Document k r s f n d c = f
-told_in_document answer.AsksContent k r s f n d c = f
-told_in_document answer.Enter k r s f n d c = f
-told_in_document answer.Node k r s f n d c = f
+pub told_in_document : (a : Action) (k : yaml_token_type_t) (r : Reading) (s : yaml_parser_state_t) → FitsDocument a k r s
+    → (a ≡ led.FullStates → ⊥) → (a ≡ led.AsksVersion → ⊥) → (a ≡ led.AsksHandle → ⊥) → IsTold a
+told_in_document led.FullStates k r s f n d c = n refl
+told_in_document led.AsksVersion k r s f n d c = d refl
+told_in_document led.AsksHandle k r s f n d c = c refl
+told_in_document led.FullMarks k r s f n d c = f
+told_in_document led.Document k r s f n d c = f
+told_in_document led.AsksContent k r s f n d c = f
+told_in_document led.Enter k r s f n d c = f
+told_in_document led.Node k r s f n d c = f
 told_in_document _ k r s f n d c = tt
 
-pub told_content : (a : Answer) (k : yaml_token_type_t) (r : Reading) → FitsContent a k r → (a ≡ answer.FullMarks → ⊥)
+pub told_content : (a : Action) (k : yaml_token_type_t) (r : Reading) → FitsContent a k r → (a ≡ led.FullMarks → ⊥)
     → IsTold a
-told_content answer.FullMarks k r f n = n refl
-told_content answer.Document k r f n = f
-told_content answer.AsksVersion k r f n = f
-told_content answer.AsksHandle k r f n = f
-told_content answer.AsksContent k r f n = f
-told_content answer.FullStates k r f n = f
-told_content answer.Enter k r f n = f
-told_content answer.Node k r f n = f
+told_content led.FullMarks k r f n = n refl
+told_content led.Document k r f n = f
+told_content led.AsksVersion k r f n = f
+told_content led.AsksHandle k r f n = f
+told_content led.AsksContent k r f n = f
+told_content led.FullStates k r f n = f
+told_content led.Enter k r f n = f
+told_content led.Node k r f n = f
 told_content _ k r f n = tt
 
 -- what is wanted
@@ -73,24 +73,24 @@ told_content _ k r f n = tt
 simple : (n : Next) → is_simple n ≡ true → n ≡ next.BehindProperties → ⊥
 simple n s e = true≢false (sym s ∙ ap is_simple e)
 
-pub fits_in_step : (a : Answer) (k : yaml_token_type_t) (r : Reading) (s : yaml_parser_state_t) → FitsStep a k r s
+pub fits_in_step : (a : Action) (k : yaml_token_type_t) (r : Reading) (s : yaml_parser_state_t) → FitsStep a k r s
     → FitsTold a k r NoTag
-fits_in_step answer.Wants k r s f = simple (next_of r.next) f.0
-fits_in_step answer.WantsAnchor k r s f = f.0
-fits_in_step answer.WantsTag k r s f = f
-fits_in_step answer.Empty k r s f = refl
-fits_in_step answer.EmptyBehind k r s f = refl
-fits_in_step answer.Pair k r s f = refl
+fits_in_step led.Wants k r s f = simple (next_of r.next) f.0
+fits_in_step led.WantsAnchor k r s f = f.0
+fits_in_step led.WantsTag k r s f = f
+fits_in_step led.Empty k r s f = refl
+fits_in_step led.EmptyBehind k r s f = refl
+fits_in_step led.Pair k r s f = refl
 fits_in_step _ k r s f = tt
 
-pub fits_in_document : (a : Answer) (k : yaml_token_type_t) (r : Reading) (s : yaml_parser_state_t) → FitsDocument a k r s
+pub fits_in_document : (a : Action) (k : yaml_token_type_t) (r : Reading) (s : yaml_parser_state_t) → FitsDocument a k r s
     → FitsTold a k r NoTag
-fits_in_document answer.Wants k r s f = simple (next_of r.next) f.0
-fits_in_document answer.WantsAnchor k r s f = absurd f
-fits_in_document answer.WantsTag k r s f = absurd f
-fits_in_document answer.Empty k r s f = refl
-fits_in_document answer.EmptyBehind k r s f = refl
-fits_in_document answer.Pair k r s f = refl
+fits_in_document led.Wants k r s f = simple (next_of r.next) f.0
+fits_in_document led.WantsAnchor k r s f = absurd f
+fits_in_document led.WantsTag k r s f = absurd f
+fits_in_document led.Empty k r s f = refl
+fits_in_document led.EmptyBehind k r s f = refl
+fits_in_document led.Pair k r s f = refl
 fits_in_document _ k r s f = tt
 
 -- a handle
@@ -174,7 +174,7 @@ pub full_in_marks : (n n' : Next) (g : TagRead) (q : NodePlace) (k : yaml_token_
     → n' ≡ n → HasNoRoom (opens n' k) ms j → HasNoRoom (pushes_mark n g q k) ms j
 full_in_marks n n' g q k ms j e = rw e (λ h. (mark_elsewhere n g q k (opens_elsewhere n k h.0) ∙ h.0, h.1))
 
-pub document_out : (n n' : Next) (m m' : Machine) (g : TagRead) (q : NodePlace) (k : yaml_token_type_t) (ss ss' : List ℕ)
+pub document_out : (n n' : Next) (m m' : Automaton) (g : TagRead) (q : NodePlace) (k : yaml_token_type_t) (ss ss' : List ℕ)
     (ms : List yaml_mark_t) (j : ℕ) → n' ≡ n → m' ≡ m → ss' ≡ ss → stack_part_of n ≡ Documents
     → HasNoRoom (pushes_in_documents n' (flag m'.behind_document_end) k) ss' m'.states_count
     → HasNoRoom (pushes_state n (flag m.behind_document_end) k) ss m.states_count
@@ -184,7 +184,7 @@ document_out n n' m m' g q k ss ss' ms j e f x d = rw (e, f, x) (λ h. (
   λ y. true≢false (sym y.0 ∙ no_mark n g q k d),
 ))
 
-pub document_in : (n n' : Next) (m m' : Machine) (k : yaml_token_type_t) (ss ss' : List ℕ) → n' ≡ n → m' ≡ m → ss' ≡ ss
+pub document_in : (n n' : Next) (m m' : Automaton) (k : yaml_token_type_t) (ss ss' : List ℕ) → n' ≡ n → m' ≡ m → ss' ≡ ss
     → stack_part_of n ≡ Documents → HasNoRoom (pushes_state n (flag m.behind_document_end) k) ss m.states_count
     → HasNoRoom (pushes_in_documents n' (flag m'.behind_document_end) k) ss' m'.states_count
 document_in n n' m m' k ss ss' e f x d = rw (e, f, x) (λ h. (
@@ -213,7 +213,7 @@ room_for_states n n' b g q k ss ms i j e d f h =
       ),
     )
 
-pub same_step : (w w' : automaton.Purpose) (tag : ℕ) (m m' : Machine) (ss ss' : List ℕ) (ms ms' : List yaml_mark_t) (t : StepToken)
+pub same_step : (w w' : automaton.Purpose) (tag : ℕ) (m m' : Automaton) (ss ss' : List ℕ) (ms ms' : List yaml_mark_t) (t : StepToken)
     → w' ≡ w → m' ≡ m → ss' ≡ ss → ms' ≡ ms
     → step_by_fact (record { next = w'; tag = tag }) (stacks_of m' ss' ms') t
     ≡ step_by_fact (record { next = w; tag = tag }) (stacks_of m ss ms) t
@@ -280,16 +280,16 @@ content_asks EmptyTag q p r c t k e = opening_asks q p r c t k e
 content_asks Bang q p r c t k e = opening_asks q p r c t k e
 content_asks OtherTag q p r c t k e = opening_asks q p r c t k e
 
-asks_nothing : (s : Step) (a : Answer) (h : PropertiesRead) (t : automaton.KindAndMarks) (r : Reading) (c : Stacks)
+asks_nothing : (s : Step) (a : Action) (h : PropertiesRead) (t : automaton.KindAndMarks) (r : Reading) (c : Stacks)
     → IsOutcome s (outcome a h t r c) → IsTold a → is_asking s ≡ false
-asks_nothing s answer.Document h t r c e x = absurd x
-asks_nothing s answer.AsksVersion h t r c e x = absurd x
-asks_nothing s answer.AsksHandle h t r c e x = absurd x
-asks_nothing s answer.AsksContent h t r c e x = absurd x
-asks_nothing s answer.FullStates h t r c e x = absurd x
-asks_nothing s answer.FullMarks h t r c e x = absurd x
-asks_nothing s answer.Enter h t r c e x = absurd x
-asks_nothing s answer.Node h t r c e x = absurd x
+asks_nothing s led.Document h t r c e x = absurd x
+asks_nothing s led.AsksVersion h t r c e x = absurd x
+asks_nothing s led.AsksHandle h t r c e x = absurd x
+asks_nothing s led.AsksContent h t r c e x = absurd x
+asks_nothing s led.FullStates h t r c e x = absurd x
+asks_nothing s led.FullMarks h t r c e x = absurd x
+asks_nothing s led.Enter h t r c e x = absurd x
+asks_nothing s led.Node h t r c e x = absurd x
 asks_nothing s _ h t r c e x = ap is_asking e
 
 plainly : (tag : ℕ) (t : StepToken) (s : Step) → is_asking s ≡ false → with_facts tag t s ≡ put_by_fact NoTag tag t s
@@ -301,11 +301,11 @@ plainly tag t (automaton.AsksHandle m h c) n = no (sym n)
 plainly tag t (AsksContent p r c) n = no (sym n)
 
 -- such a result is what the automaton does
-pub put_plainly : (tag : ℕ) (t : StepToken) (s : Step) (a : Answer) (h : PropertiesRead) (u : automaton.KindAndMarks) (r : Reading)
+pub put_plainly : (tag : ℕ) (t : StepToken) (s : Step) (a : Action) (h : PropertiesRead) (u : automaton.KindAndMarks) (r : Reading)
     (c : Stacks) → IsOutcome s (outcome a h u r c) → IsTold a → with_facts tag t s ≡ put_by_fact NoTag tag t s
 put_plainly tag t s a h u r c e x = plainly tag t s (asks_nothing s a h u r c e x)
 
-pub told_step : (w w' : automaton.Purpose) (tag : ℕ) (c : Stacks) (t : StepToken) (a : Answer) (h : PropertiesRead)
+pub told_step : (w w' : automaton.Purpose) (tag : ℕ) (c : Stacks) (t : StepToken) (a : Action) (h : PropertiesRead)
     (u : automaton.KindAndMarks) (r : Reading) (d : Stacks) → w' ≡ w
     → IsOutcome (automaton.step w' c (without_fact t) t.kind) (outcome a h u r d) → IsTold a
     → step_by_fact (record { next = w; tag = tag }) c t ≡ put_by_fact NoTag tag t (automaton.step w' c (without_fact t) t.kind)
@@ -314,7 +314,7 @@ told_step w w' tag c t a h u r d e s x = ap (λ (y : automaton.Purpose). with_fa
 
 -- and leaves no mark unput after properties
 pub told_opens_none : (n : Next) (g : TagRead) (q : NodePlace) (m : Reading) (c : Stacks) (t : automaton.KindAndMarks)
-    (k : yaml_token_type_t) (a : Answer) (h : PropertiesRead) (r : Reading) (d : Stacks)
+    (k : yaml_token_type_t) (a : Action) (h : PropertiesRead) (r : Reading) (d : Stacks)
     → IsOutcome (automaton.step (wanted_by n m) c t k) (outcome a h t r d) → IsTold a → n ≡ next.BehindProperties
     → pushes_mark n g q k ≡ true → ⊥
 told_opens_none n g q m c t k a h r d e x b o =
@@ -332,7 +332,7 @@ by_next next.BehindProperties = inl refl
 by_next _ = inr (λ e. true≢false (sym (ap is_behind e)))
 
 pub room_for_marks : (n n' : Next) (g : TagRead) (q : NodePlace) (m : Reading) (c : Stacks) (t : automaton.KindAndMarks)
-    (k : yaml_token_type_t) (a : Answer) (h : PropertiesRead) (r : Reading) (d : Stacks) (ms : List yaml_mark_t) (j : ℕ)
+    (k : yaml_token_type_t) (a : Action) (h : PropertiesRead) (r : Reading) (d : Stacks) (ms : List yaml_mark_t) (j : ℕ)
     → n' ≡ n → n' ≡ next_of m.next → IsOutcome (automaton.step (purpose_of m) c t k) (outcome a h t r d) → IsTold a
     → (HasNoRoom (opens n' k) ms j → ⊥) → HasNoRoom (pushes_mark n g q k) ms j → ⊥
 room_for_marks n n' g q m c t k a h r d ms j e v s x f y = by_place (by_next n) where

@@ -2,8 +2,8 @@
 use Rattle.std.specs.Prelude.{◌≡◌, ℕ, true, false, Ok, Err}
 use Rattle.libyaml_types.specs.declared.enums.yaml_token_type_t.{yaml_token_type_t}
 use Rattle.libyaml_types.specs.declared.enums.yaml_token_type_t.TheVariants as tok
-use Rattle.libyaml_automaton.specs.declared.answer.Answer.{Answer}
-use Rattle.libyaml_automaton.specs.declared.answer.Answer.TheVariants as answer
+use Rattle.libyaml_automaton.specs.declared.action.Action.{Action}
+use Rattle.libyaml_automaton.specs.declared.action.Action.TheVariants as led
 use Rattle.libyaml_automaton.specs.declared.next.Next.TheVariants as next
 use Rattle.libyaml_automaton.specs.declared.reading.Reading.{Reading}
 use Rattle.libyaml_automaton.specs.Automaton.{AtState}
@@ -59,25 +59,25 @@ IsDone did.Bad = ⊥
 IsDone _ = Unit {0}
 
 -- a result that asks nothing further
-abbrev pub IsTold : Answer → Type 0
-IsTold answer.Document = ⊥
-IsTold answer.AsksVersion = ⊥
-IsTold answer.AsksHandle = ⊥
-IsTold answer.AsksContent = ⊥
-IsTold answer.FullStates = ⊥
-IsTold answer.FullMarks = ⊥
-IsTold answer.Enter = ⊥
-IsTold answer.Node = ⊥
+abbrev pub IsTold : Action → Type 0
+IsTold led.Document = ⊥
+IsTold led.AsksVersion = ⊥
+IsTold led.AsksHandle = ⊥
+IsTold led.AsksContent = ⊥
+IsTold led.FullStates = ⊥
+IsTold led.FullMarks = ⊥
+IsTold led.Enter = ⊥
+IsTold led.Node = ⊥
 IsTold _ = Unit {0}
 
 -- a property alone has the next token wanted after properties, and g is the tag of the node that the event is of
-abbrev pub FitsTold : Answer → yaml_token_type_t → Reading → (g : TagRead) → Type 0
-FitsTold answer.Wants k r g = next_of r.next ≡ next.BehindProperties → ⊥
-FitsTold answer.WantsAnchor k r g = k ≡ tok.YAML_ANCHOR_TOKEN
-FitsTold answer.WantsTag k r g = (k ≡ tok.YAML_TAG_TOKEN) × (next_of r.next ≡ next.BehindProperties)
-FitsTold answer.Empty k r g = g ≡ NoTag
-FitsTold answer.EmptyBehind k r g = g ≡ NoTag
-FitsTold answer.Pair k r g = g ≡ NoTag
+abbrev pub FitsTold : Action → yaml_token_type_t → Reading → (g : TagRead) → Type 0
+FitsTold led.Wants k r g = next_of r.next ≡ next.BehindProperties → ⊥
+FitsTold led.WantsAnchor k r g = k ≡ tok.YAML_ANCHOR_TOKEN
+FitsTold led.WantsTag k r g = (k ≡ tok.YAML_TAG_TOKEN) × (next_of r.next ≡ next.BehindProperties)
+FitsTold led.Empty k r g = g ≡ NoTag
+FitsTold led.EmptyBehind k r g = g ≡ NoTag
+FitsTold led.Pair k r g = g ≡ NoTag
 FitsTold _ k r g = Unit {0}
 
 -- the same by the number that C sees

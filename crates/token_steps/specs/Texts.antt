@@ -13,7 +13,7 @@ use Rattle.libyaml_types.specs.declared.event.unnamed_yaml_event_t_data.TheVaria
 use Rattle.libyaml_grammar.specs.sentences.Events as grammar
 use Rattle.libyaml_grammar.specs.sentences.Events.{event, is_plain}
 use Rattle.libyaml_grammar.specs.sentences.Order.{is_accepted}
-use Rattle.libyaml_events.specs.machine.Answers.{only_if}
+use Rattle.libyaml_events.specs.machine.Outcomes.{only_if}
 use Rattle.libyaml_events.specs.machine.Config.{Handles, no_handles}
 use Rattle.libyaml_events.specs.machine.Machine.{resolve, text_in, style_in, encoding_in, sequence_style_by, mapping_style_by, document_with, document_end}
 use Rattle.libyaml_events.specs.machine.Want.{Texts}

@@ -17,7 +17,7 @@ use crate::did::Did;
 use crate::head::{Head, NO_HEAD};
 use crate::records::{step_event_t, step_fault_t, step_span_t};
 use crate::steps::steps_t;
-use libyaml_automaton::{Answer, UNDEFINED_HANDLE};
+use libyaml_automaton::{Action, UNDEFINED_HANDLE};
 use libyaml_types::{yaml_mark_t, yaml_token_type_t};
 
 impl steps_t {
@@ -55,11 +55,11 @@ impl steps_t {
             .machine
             .document_step(&mut self.read, states, kind, &at.start_mark)
         {
-            Answer::FullStates => Did::FullStates,
-            Answer::AsksVersion => {
-                let answer = self.machine.version_directive(&mut self.read, fact != 0);
+            Action::FullStates => Did::FullStates,
+            Action::AsksVersion => {
+                let led = self.machine.version_directive(&mut self.read, fact != 0);
                 self.tell(
-                    answer,
+                    led,
                     &NO_HEAD,
                     &at.start_mark,
                     &at.end_mark,
@@ -70,10 +70,10 @@ impl steps_t {
                     fault,
                 )
             }
-            Answer::AsksHandle => {
-                let answer = self.machine.tag_directive(&mut self.read, fact != 0);
+            Action::AsksHandle => {
+                let led = self.machine.tag_directive(&mut self.read, fact != 0);
                 self.tell(
-                    answer,
+                    led,
                     &NO_HEAD,
                     &at.start_mark,
                     &at.end_mark,
@@ -84,8 +84,8 @@ impl steps_t {
                     fault,
                 )
             }
-            answer => self.tell(
-                answer,
+            led => self.tell(
+                led,
                 &NO_HEAD,
                 &at.start_mark,
                 &at.end_mark,
@@ -145,8 +145,8 @@ impl steps_t {
             &at.start_mark,
             &at.end_mark,
         ) {
-            Answer::FullMarks => Did::FullMarks,
-            answer => self.tell(answer, &head, &start, &end, kind, fact, at, event, fault),
+            Action::FullMarks => Did::FullMarks,
+            led => self.tell(led, &head, &start, &end, kind, fact, at, event, fault),
         }
     }
 }

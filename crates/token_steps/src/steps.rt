@@ -14,7 +14,7 @@ ghost use Rattle.token_steps.specs.Tells.{Tells, want_in, IsGiven, IsUntold};
 use crate::did::Did;
 use crate::head::NO_HEAD;
 use crate::records::{step_event_t, step_fault_t, step_span_t};
-use libyaml_automaton::{Answer, Machine, Reading};
+use libyaml_automaton::{Action, Automaton, Reading};
 use libyaml_types::{yaml_mark_t, yaml_token_type_t};
 
 /// What is kept between two calls, beside the two stacks: plain numbers, each of which may be any.
@@ -24,7 +24,7 @@ use libyaml_types::{yaml_mark_t, yaml_token_type_t};
 #[derive(Copy, Clone)]
 pub struct steps_t {
     /// What is kept between two events.
-    pub machine: Machine,
+    pub machine: Automaton,
     /// What was read since the last event.
     pub read: Reading,
     /// The fact of the tag that was read.
@@ -71,7 +71,7 @@ impl steps_t {
         ensures within { (states : List ℕ) (marks : List yaml_mark_t) → Within result.machine states marks }
     {
         steps_t {
-            machine: Machine::new(),
+            machine: Automaton::new(),
             read: Reading::new(),
             tag: 0,
         }
@@ -130,12 +130,12 @@ impl steps_t {
             &at.start_mark,
             &at.end_mark,
         ) {
-            Answer::FullStates => Did::FullStates,
-            Answer::FullMarks => Did::FullMarks,
-            Answer::Document => self.document(states, kind, fact, at, event, fault),
-            Answer::AsksContent => self.content(states, marks, kind, fact, at, event, fault),
-            answer => self.tell(
-                answer,
+            Action::FullStates => Did::FullStates,
+            Action::FullMarks => Did::FullMarks,
+            Action::Document => self.document(states, kind, fact, at, event, fault),
+            Action::AsksContent => self.content(states, marks, kind, fact, at, event, fault),
+            led => self.tell(
+                led,
                 &NO_HEAD,
                 &at.start_mark,
                 &at.end_mark,

@@ -1,7 +1,7 @@
 //! How what a step led to is told to the caller.
 ghost use Rattle.std.specs.Prelude.{◌≡◌, ◌≤◌, ℕ, List, Bool, true, false};
 ghost use Rattle.libyaml_types.specs.declared.mark.yaml_mark_t.{yaml_mark_t};
-ghost use Rattle.libyaml_automaton.specs.Answers.{IsOutcome, outcome};
+ghost use Rattle.libyaml_automaton.specs.Outcomes.{IsOutcome, outcome};
 ghost use Rattle.libyaml_automaton.specs.Automaton.{AtState, Step};
 ghost use Rattle.libyaml_automaton.specs.Config.{stacks_of};
 ghost use Rattle.libyaml_automaton.specs.Numbers.{flag};
@@ -15,7 +15,7 @@ use crate::did::Did;
 use crate::head::{Head, NO_HEAD};
 use crate::records::{step_event_t, step_fault_t, step_span_t};
 use crate::steps::steps_t;
-use libyaml_automaton::Answer;
+use libyaml_automaton::Action;
 use libyaml_types::{ZERO_MARK, yaml_mark_t, yaml_token_type_t};
 
 /// Returns 1 where this is set, and else 0.
@@ -153,7 +153,7 @@ impl steps_t {
     #[inline(always)]
     pub(crate) fn tell(
         &mut self,
-        answer: Answer,
+        led: Action,
         head: &Head,
         start: &yaml_mark_t,
         end: &yaml_mark_t,
@@ -163,41 +163,41 @@ impl steps_t {
         event: &mut step_event_t,
         fault: &mut step_fault_t,
     ) -> Did
-        requires fits { FitsTold answer kind self.old.read (head_tag head.now) }
+        requires fits { FitsTold led kind self.old.read (head_tag head.now) }
         ensures tells { (p : Step) (g : yaml_mark_t) (states : List ℕ) (marks : List yaml_mark_t)
-            → IsOutcome p (outcome answer (head_of head.now start.now end.now g)
+            → IsOutcome p (outcome led (head_of head.now start.now end.now g)
             (kind_and_marks kind at.now.start_mark at.now.end_mark) self.old.read (stacks_of
             self.old.machine states marks)) → Tells result (facts.put_by_fact (head_tag head.now)
             self.old.tag (span_token kind fact at.now) p) self.new event.new fault.new (stacks_of
             self.new.machine states marks) }
         ensures machine { self.new.machine ≡ self.old.machine }
-        ensures done { IsTold answer → IsDone result }
+        ensures done { IsTold led → IsDone result }
         ensures event_number { IsGiven result → IsEventNumber event.new.kind }
         ensures event_flags { IsGiven result → AreFlags event.new }
         ensures event_unused { IsGiven result → AreUnused event.new }
         ensures event_kept { (IsGiven result → ⊥) → event.new ≡ event.old }
         ensures fault_kept { (result ≡ Did.Failed → ⊥) → fault.new ≡ fault.old }
     {
-        match answer {
-            Answer::Wants => Did::Wants,
-            Answer::WantsAnchor => Did::Wants,
-            Answer::WantsTag => {
+        match led {
+            Action::Wants => Did::Wants,
+            Action::WantsAnchor => Did::Wants,
+            Action::WantsTag => {
                 self.tag = fact;
                 Did::Wants
             }
-            Answer::StreamStart => {
+            Action::StreamStart => {
                 put_event(event, STREAM_START, false, &at.start_mark, &at.start_mark);
                 self.rest(Did::Gave)
             }
-            Answer::StreamEnd => {
+            Action::StreamEnd => {
                 put_event(event, STREAM_END, false, &at.start_mark, &at.end_mark);
                 self.rest(Did::Gave)
             }
-            Answer::ImplicitDocument => {
+            Action::ImplicitDocument => {
                 put_event(event, DOCUMENT_START, true, &at.start_mark, &at.start_mark);
                 self.rest(Did::Stays)
             }
-            Answer::ExplicitDocument => {
+            Action::ExplicitDocument => {
                 put_event(
                     event,
                     DOCUMENT_START,
@@ -207,19 +207,19 @@ impl steps_t {
                 );
                 self.rest(Did::Gave)
             }
-            Answer::DocumentEnd => {
+            Action::DocumentEnd => {
                 put_event(event, DOCUMENT_END, false, &at.start_mark, &at.end_mark);
                 self.rest(Did::Gave)
             }
-            Answer::ImplicitDocumentEnd => {
+            Action::ImplicitDocumentEnd => {
                 put_event(event, DOCUMENT_END, true, &at.start_mark, &at.start_mark);
                 self.rest(Did::Stays)
             }
-            Answer::Alias => {
+            Action::Alias => {
                 put_event(event, ALIAS, false, &at.start_mark, &at.end_mark);
                 self.rest(Did::Gave)
             }
-            Answer::Scalar => {
+            Action::Scalar => {
                 let is_plain = fact != 0;
                 let is_implicit = head.plain_flag(is_plain);
                 let is_quoted_implicit = head.quoted_flag(is_plain);
@@ -235,20 +235,20 @@ impl steps_t {
                 );
                 self.rest(Did::Gave)
             }
-            Answer::Empty => {
+            Action::Empty => {
                 put_event(event, SCALAR, true, &at.start_mark, &at.start_mark);
                 self.rest(Did::Stays)
             }
-            Answer::EmptyBehind => {
+            Action::EmptyBehind => {
                 put_event(event, SCALAR, true, &self.read.mark, &self.read.mark);
                 self.rest(Did::Stays)
             }
-            Answer::EmptyHead => {
+            Action::EmptyHead => {
                 let is_missing = head.is_missing();
                 put_node(event, SCALAR, head, is_missing, false, false, start, end);
                 self.rest(Did::Stays)
             }
-            Answer::BlockSequence => {
+            Action::BlockSequence => {
                 let is_missing = head.is_missing();
                 put_node(
                     event,
@@ -262,7 +262,7 @@ impl steps_t {
                 );
                 self.rest(Did::Gave)
             }
-            Answer::BlockMapping => {
+            Action::BlockMapping => {
                 let is_missing = head.is_missing();
                 put_node(
                     event,
@@ -276,7 +276,7 @@ impl steps_t {
                 );
                 self.rest(Did::Gave)
             }
-            Answer::FlowSequence => {
+            Action::FlowSequence => {
                 let is_missing = head.is_missing();
                 put_node(
                     event,
@@ -290,7 +290,7 @@ impl steps_t {
                 );
                 self.rest(Did::Gave)
             }
-            Answer::FlowMapping => {
+            Action::FlowMapping => {
                 let is_missing = head.is_missing();
                 put_node(
                     event,
@@ -304,7 +304,7 @@ impl steps_t {
                 );
                 self.rest(Did::Gave)
             }
-            Answer::IndentlessSequence => {
+            Action::IndentlessSequence => {
                 let is_missing = head.is_missing();
                 put_node(
                     event,
@@ -318,7 +318,7 @@ impl steps_t {
                 );
                 self.rest(Did::Stays)
             }
-            Answer::Pair => {
+            Action::Pair => {
                 put_node(
                     event,
                     MAPPING_START,
@@ -331,30 +331,30 @@ impl steps_t {
                 );
                 self.rest(Did::Gave)
             }
-            Answer::SequenceEnd => {
+            Action::SequenceEnd => {
                 put_event(event, SEQUENCE_END, false, &at.start_mark, &at.end_mark);
                 self.rest(Did::Gave)
             }
-            Answer::IndentlessEnd => {
+            Action::IndentlessEnd => {
                 put_event(event, SEQUENCE_END, false, &at.start_mark, &at.start_mark);
                 self.rest(Did::Stays)
             }
-            Answer::MappingEnd => {
+            Action::MappingEnd => {
                 put_event(event, MAPPING_END, false, &at.start_mark, &at.end_mark);
                 self.rest(Did::Gave)
             }
-            Answer::PairEnd => {
+            Action::PairEnd => {
                 put_event(event, MAPPING_END, false, &at.start_mark, &at.start_mark);
                 self.rest(Did::Stays)
             }
-            Answer::Failed => self.fail(&at.start_mark, &at.start_mark, self.read.problem, fault),
-            Answer::FailedDocument => self.fail(
+            Action::Failed => self.fail(&at.start_mark, &at.start_mark, self.read.problem, fault),
+            Action::FailedDocument => self.fail(
                 &ZERO_MARK,
                 &at.start_mark,
                 self.read.problem,
                 fault,
             ),
-            Answer::FailedWithin => self.fail(
+            Action::FailedWithin => self.fail(
                 &self.read.mark,
                 &at.start_mark,
                 self.read.problem,

@@ -41,7 +41,7 @@ pub use Rattle.libyaml_automaton.specs.Problems
 pub use Rattle.libyaml_automaton.specs.Slots
 pub use Rattle.libyaml_automaton.specs.Wanted as AutomatonWanted
 pub use Rattle.libyaml_events.specs.automaton.View
-pub use Rattle.libyaml_events.specs.machine.Answers
+pub use Rattle.libyaml_events.specs.machine.Outcomes
 pub use Rattle.libyaml_events.specs.machine.Config
 pub use Rattle.libyaml_events.specs.machine.Growth
 pub use Rattle.libyaml_events.specs.machine.Machine

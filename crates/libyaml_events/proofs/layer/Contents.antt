@@ -11,8 +11,8 @@ use Rattle.libyaml_types.specs.declared.token.unnamed_yaml_token_t_data_tag.{unn
 use Rattle.libyaml_types.specs.declared.enums.yaml_sequence_style_t.TheVariants.{YAML_BLOCK_SEQUENCE_STYLE, YAML_FLOW_SEQUENCE_STYLE}
 use Rattle.libyaml_types.specs.declared.enums.yaml_mapping_style_t.TheVariants.{YAML_BLOCK_MAPPING_STYLE, YAML_FLOW_MAPPING_STYLE}
 use Rattle.libyaml_grammar.specs.sentences.Events.{event}
-use Rattle.libyaml_automaton.specs.declared.answer.Answer.{Answer}
-use Rattle.libyaml_automaton.specs.declared.answer.Answer.TheVariants as did
+use Rattle.libyaml_automaton.specs.declared.action.Action.{Action}
+use Rattle.libyaml_automaton.specs.declared.action.Action.TheVariants as did
 use Rattle.libyaml_automaton.specs.declared.node_place.NodePlace.{NodePlace}
 use Rattle.libyaml_automaton.specs.declared.reading.Reading.{Reading}
 use Rattle.libyaml_automaton.specs.Automaton as automaton
@@ -23,7 +23,7 @@ use Rattle.libyaml_automaton.specs.Wanted.{properties}
 use Rattle.libyaml_events.specs.declared.pending.Pending.{Pending}
 use Rattle.libyaml_events.specs.declared.step.Step.{Step}
 use Rattle.libyaml_events.specs.declared.step.Step.TheVariants as led
-use Rattle.libyaml_events.specs.machine.Answers.{answer, only_if, standing_by}
+use Rattle.libyaml_events.specs.machine.Outcomes.{result_of, only_if, standing_by}
 use Rattle.libyaml_events.specs.machine.Config.{Config, config_of}
 use Rattle.libyaml_events.specs.machine.Machine.{Progressed, content_behind, mapping_start_with, put, seen, sequence_start_with}
 use Rattle.libyaml_events.specs.machine.Steps.{Steps}
@@ -32,8 +32,8 @@ use Rattle.libyaml_events.specs.automaton.Led.{IsContent, IsOpening, Led, PutsCo
 
 -- what a step leads to that wants no token hangs on the parser that it leaves alone
 pub steps_from : (out : Progressed) (old old' : Config) (s : Step) (t : yaml_token_t) (q : Pending) (e : yaml_event_t)
-    (new : Config) → (s ≡ led.Wants → ⊥) → Steps out old (answer s q e new) (standing_by s t new)
-    → Steps out old' (answer s q e new) (standing_by s t new)
+    (new : Config) → (s ≡ led.Wants → ⊥) → Steps out old (result_of s q e new) (standing_by s t new)
+    → Steps out old' (result_of s q e new) (standing_by s t new)
 steps_from out old old' led.Given t q e new n h = h
 steps_from out old old' led.GivenBefore t q e new n h = h
 steps_from out old old' led.Wants t q e new n h = absurd (n refl)
@@ -61,7 +61,7 @@ flow_mapping tok.FlowMappingStart a g e = refl
 flow_mapping _ a g e = absurd cc
 
 -- so such a result gives that start
-pub opening_put : (out : Progressed) (h : Texts) (a g : Option (List ℕ)) (t : yaml_token_t) (x : Answer) (r r' : Reading)
+pub opening_put : (out : Progressed) (h : Texts) (a g : Option (List ℕ)) (t : yaml_token_t) (x : Action) (r r' : Reading)
     (d : Config) (start : yaml_mark_t) → IsOpening x → FitsContent x (token_type t.content) r' → r.start_mark ≡ start
     → SaysContent out h a g t x r r' d → out ≡ Ok (Given (event (collection_start a g t.content) start t.end_mark), d)
 opening_put out h a g t did.BlockSequence r r' d start o f e s
@@ -101,10 +101,10 @@ module _ (o : Progressed) (h : Texts) (g : Option (List ℕ)) (t : yaml_token_t)
     (ea : a ≡ a0)
     (er : r ≡ r0) where
   -- a content is put from the parser that its step left
-  pub content_put : (x : Answer) (r' : Reading) (a' : Option (List ℕ)) (start end : yaml_mark_t) → a' ≡ a
+  pub content_put : (x : Action) (r' : Reading) (a' : Option (List ℕ)) (start end : yaml_mark_t) → a' ≡ a
       → r.start_mark ≡ start → r.end_mark ≡ end → (IsContent o h a g t r was → SaysContent o h a g t x r r' mid)
       → PutsContent a' g start end x t r' mid s t' q e new → IsContent o h a0 g t r0 old
-      → Steps o old (answer s q e new) (standing_by s t' new) × (s ≡ led.Wants → ⊥)
+      → Steps o old (result_of s q e new) (standing_by s t' new) × (s ≡ led.Wants → ⊥)
   content_put x r' a' start end ea' es ee leads puts i =
       let j : IsContent o h a g t r was = rw (ea, er, same) i in
       let w = puts o h r es ee (rw ea' (leads j)) in
@@ -112,8 +112,8 @@ module _ (o : Progressed) (h : Texts) (g : Option (List ℕ)) (t : yaml_token_t)
 
   -- or from the parser as it was, where nothing was done
   pub content_again : (IsContent o h a g t r was
-      → Steps o was (answer s q e new) (standing_by s t' new) × (s ≡ led.Wants → ⊥))
-      → IsContent o h a0 g t r0 old → Steps o old (answer s q e new) (standing_by s t' new) × (s ≡ led.Wants → ⊥)
+      → Steps o was (result_of s q e new) (standing_by s t' new) × (s ≡ led.Wants → ⊥))
+      → IsContent o h a0 g t r0 old → Steps o old (result_of s q e new) (standing_by s t' new) × (s ≡ led.Wants → ⊥)
   content_again puts i =
       let w = puts (rw (ea, er, same) i) in
       (steps_from o was old s t' q e new w.1 w.0, w.1)

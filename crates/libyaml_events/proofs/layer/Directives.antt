@@ -8,12 +8,12 @@ use Rattle.libyaml_types.specs.declared.mark.yaml_mark_t.{yaml_mark_t}
 use Rattle.libyaml_types.specs.declared.token.yaml_token_t.{yaml_token_t}
 use Rattle.libyaml_types.specs.declared.token.unnamed_yaml_token_t_data.{unnamed_yaml_token_t_data}
 use Rattle.libyaml_types.specs.declared.token.unnamed_yaml_token_t_data.TheVariants as tok
-use Rattle.libyaml_automaton.specs.declared.answer.Answer.{Answer}
-use Rattle.libyaml_automaton.specs.declared.answer.Answer.TheVariants as did
+use Rattle.libyaml_automaton.specs.declared.action.Action.{Action}
+use Rattle.libyaml_automaton.specs.declared.action.Action.TheVariants as did
 use Rattle.libyaml_automaton.specs.declared.next.Next.{Next}
 use Rattle.libyaml_automaton.specs.declared.next.Next.TheVariants as next
 use Rattle.libyaml_automaton.specs.declared.reading.Reading.{Reading}
-use Rattle.libyaml_automaton.specs.Answers.{IsOutcome, outcome}
+use Rattle.libyaml_automaton.specs.Outcomes.{IsOutcome, outcome}
 use Rattle.libyaml_automaton.specs.Automaton as automaton
 use Rattle.libyaml_automaton.specs.Config as automaton_config
 use Rattle.libyaml_automaton.specs.Fits.{FitsDocument, Documents}
@@ -22,7 +22,7 @@ use Rattle.libyaml_automaton.specs.Numbers.{next_of}
 use Rattle.libyaml_automaton.specs.Wanted.{IsAt, kind_and_marks, wanted_by}
 use Rattle.libyaml_automaton.specs.Wanted as automaton_want
 use Rattle.libyaml_events.specs.declared.pending.Pending.{Pending}
-use Rattle.libyaml_events.specs.machine.Answers.{directive_texts, wanted}
+use Rattle.libyaml_events.specs.machine.Outcomes.{directive_texts, wanted}
 use Rattle.libyaml_events.specs.machine.Config.{Config, Handles, config_of, config_with}
 use Rattle.libyaml_events.specs.machine.Growth.{grows_at_directive, grows_at_document, grows_for, may_grow}
 use Rattle.libyaml_events.specs.machine.Machine.{step}
@@ -32,7 +32,7 @@ use Rattle.libyaml_events.specs.automaton.View.{Ready}
 use Rattle.libyaml_events.proofs.layer.StepWithTexts.{says_texts}
 
 pub document_leads : (hs : Handles) (f : Fault) (o : Option yaml_token_t) (a b : automaton_config.Stacks) (c : Config)
-    (t : yaml_token_t) (q : Pending) (r' : Reading) (x : Answer) (k : yaml_token_type_t) → config_with a hs f o ≡ c
+    (t : yaml_token_t) (q : Pending) (r' : Reading) (x : Action) (k : yaml_token_type_t) → config_with a hs f o ≡ c
     → k ≡ token_type t.content → (wanted q).texts ≡ directive_texts q.directives
     → IsOutcome (automaton.step (automaton_want.purpose_of q.reading) a (kind_and_marks k t.start_mark t.end_mark) k)
     (outcome x (automaton.no_properties (kind_and_marks k t.start_mark t.end_mark)) (kind_and_marks k t.start_mark t.end_mark) r' b)
@@ -95,7 +95,7 @@ handle_there next.AtEnd r h c t k start v x d i e s = let f = rw i at s in absur
 handle_there _ r h c t k start v x d i e s = absurd cc
 
 pub handle_grows : (hs : Handles) (f : Fault) (o : Option yaml_token_t) (a b : automaton_config.Stacks) (c : Config)
-    (t : yaml_token_t) (q : Pending) (r' : Reading) (x : Answer) (k : yaml_token_type_t) → config_with a hs f o ≡ c
+    (t : yaml_token_t) (q : Pending) (r' : Reading) (x : Action) (k : yaml_token_type_t) → config_with a hs f o ≡ c
     → Ready q c → k ≡ token_type t.content → FitsDocument x k r' b.state
     → stack_part_of (next_of q.reading.next) ≡ Documents
     → IsOutcome (automaton.step (automaton_want.purpose_of q.reading) a (kind_and_marks k t.start_mark t.end_mark) k)

@@ -11,22 +11,22 @@ use Rattle.libyaml_types.specs.declared.token.yaml_token_t.{yaml_token_t}
 use Rattle.libyaml_types.specs.declared.token.unnamed_yaml_token_t_data.{unnamed_yaml_token_t_data}
 use Rattle.libyaml_types.specs.declared.token.unnamed_yaml_token_t_data.TheVariants as tok
 use Rattle.libyaml_types.specs.declared.token.unnamed_yaml_token_t_data_tag_directive.{unnamed_yaml_token_t_data_tag_directive}
-use Rattle.libyaml_automaton.specs.declared.answer.Answer.{Answer}
-use Rattle.libyaml_automaton.specs.declared.answer.Answer.TheVariants as did
+use Rattle.libyaml_automaton.specs.declared.action.Action.{Action}
+use Rattle.libyaml_automaton.specs.declared.action.Action.TheVariants as did
 use Rattle.libyaml_automaton.specs.declared.next.Next.{Next}
 use Rattle.libyaml_automaton.specs.declared.next.Next.TheVariants as next
 use Rattle.libyaml_automaton.specs.declared.reading.Reading.{Reading}
-use Rattle.libyaml_automaton.specs.Answers.{IsOutcome, outcome}
+use Rattle.libyaml_automaton.specs.Outcomes.{IsOutcome, outcome}
 use Rattle.libyaml_automaton.specs.Automaton as automaton
 use Rattle.libyaml_automaton.specs.Config as automaton_config
-use Rattle.libyaml_automaton.specs.Fits.{AnswersDirective}
+use Rattle.libyaml_automaton.specs.Fits.{FitsAtDirective}
 use Rattle.libyaml_automaton.specs.Numbers.{next_of}
 use Rattle.libyaml_automaton.specs.Wanted.{wanted_by}
 use Rattle.libyaml_automaton.specs.Wanted as automaton_want
 use Rattle.libyaml_events.specs.declared.pending.Pending.{Pending}
 use Rattle.libyaml_events.specs.declared.step.Step.{Step}
 use Rattle.libyaml_events.specs.declared.step.Step.TheVariants as led
-use Rattle.libyaml_events.specs.machine.Answers.{answer, directive_texts, standing_by, texts_for, wanted}
+use Rattle.libyaml_events.specs.machine.Outcomes.{result_of, directive_texts, standing_by, texts_for, wanted}
 use Rattle.libyaml_events.specs.machine.Config.{Config, Handles, config_with}
 use Rattle.libyaml_events.specs.machine.Machine.{Progressed, declared_by, fault_with, handles_behind, put, seen, step}
 use Rattle.libyaml_events.specs.machine.Growth.{may_grow}
@@ -44,7 +44,7 @@ from_before out old mid (Err e) new o m h = h
 
 -- an event is given, before the token or not
 pub given_by : (out : Progressed) (old : Config) (s : Step) (t : yaml_token_t) (q : Pending) (e : yaml_event_t)
-    (new : Config) → (s ≡ led.Given) ⊎ (s ≡ led.GivenBefore) → Steps out old (answer s q e new) (standing_by s t new)
+    (new : Config) → (s ≡ led.Given) ⊎ (s ≡ led.GivenBefore) → Steps out old (result_of s q e new) (standing_by s t new)
     → Steps out old (Ok (Given e)) (standing_by s t new)
 given_by out old led.Given t q e new i h = h
 given_by out old led.GivenBefore t q e new i h = h
@@ -59,8 +59,8 @@ pub fails_as : (out : Progressed) (new : Config) (f : Fault) → new.fault.error
 fails_as out new f e k o = subst (λ (x : yaml_error_type_t). FailsAs new out x) (sym e) (o ∙ ap Err (sym k), e)
 
 -- a directive that is refused
-pub refused : (x : Answer) (d : Config) (t : yaml_token_t) (r' : Reading) (out : Progressed) (h : Texts)
-    (y : automaton.Step) (a' : automaton_config.Stacks) → AnswersDirective x r' → (x ≡ did.Wants → ⊥)
+pub refused : (x : Action) (d : Config) (t : yaml_token_t) (r' : Reading) (out : Progressed) (h : Texts)
+    (y : automaton.Step) (a' : automaton_config.Stacks) → FitsAtDirective x r' → (x ≡ did.Wants → ⊥)
     → out ≡ put h None None d t t.content y
     → IsOutcome y (outcome x (automaton.no_properties (seen t t.content)) (seen t t.content) r' a')
     → out ≡ Err (fault_with (record { problem = r'.problem; context_mark = zero_mark; mark = t.start_mark }))
@@ -110,7 +110,7 @@ pub wants_or_fails : (out : Progressed) (old : Config) (s : Step) (t : yaml_toke
     (new : Config) → (s ≡ led.Given → ⊥) → (s ≡ led.GivenBefore → ⊥)
     → (s ≡ led.Wants → Steps out old (Ok (Wants (wanted q))) new × Ready q new)
     → (s ≡ led.Failed → new.fault ≡ memory_fault)
-    → Steps out old (answer s q e new) (standing_by s t new) × (s ≡ led.Wants → Ready q new)
+    → Steps out old (result_of s q e new) (standing_by s t new) × (s ≡ led.Wants → Ready q new)
 wants_or_fails out old led.Given t q e new g b w f = absurd (g refl)
 wants_or_fails out old led.GivenBefore t q e new g b w f = absurd (b refl)
 wants_or_fails out old led.Wants t q e new g b w f = let y = w refl in (y.0, λ i. y.1)

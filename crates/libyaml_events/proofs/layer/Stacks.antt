@@ -5,8 +5,8 @@ use Rattle.libyaml_types.specs.declared.mark.yaml_mark_t.{yaml_mark_t}
 pub use Rattle.libyaml_automaton.proofs.lent.Stacks.{marks_none, state_of_number, states_none}
 use Rattle.libyaml_automaton.specs.Numbers.{state_of}
 use Rattle.libyaml_automaton.specs.Config.{states_of, marks_of}
-use Rattle.libyaml_automaton.specs.declared.answer.Answer.{Answer}
-use Rattle.libyaml_automaton.specs.declared.answer.Answer.TheVariants as did
+use Rattle.libyaml_automaton.specs.declared.action.Action.{Action}
+use Rattle.libyaml_automaton.specs.declared.action.Action.TheVariants as did
 use Rattle.libyaml_automaton.specs.declared.reading.Reading.{Reading}
 use Rattle.libyaml_automaton.specs.Fits.{SameReading, Stays}
 use Rattle.libyaml_automaton.specs.Wanted.{purpose_of}
@@ -25,6 +25,6 @@ pub ruleset grown = (grown_states, grown_marks)
 pub ruleset cleared = (states_none, marks_none)
 
 -- what a step that was undone leaves is read as before
-pub same_reading : (a : Answer) (r r' : Reading) → Stays a r r' → SameReading r r'
+pub same_reading : (a : Action) (r r' : Reading) → Stays a r r' → SameReading r r'
 same_reading did.AsksContent r r' e = (ap (λ (x : Reading). x.next) e, ap purpose_of e)
 same_reading _ r r' e = e

@@ -10,13 +10,13 @@ use Rattle.libyaml_types.specs.declared.enums.yaml_token_type_t.{yaml_token_type
 use Rattle.libyaml_types.specs.declared.enums.yaml_token_type_t.TheVariants as kinds
 use Rattle.libyaml_types.specs.declared.enums.yaml_parser_state_t.TheVariants as st
 use Rattle.libyaml_types.specs.declared.token.unnamed_yaml_token_t_data.TheVariants as tok
-use Rattle.libyaml_automaton.specs.declared.answer.Answer.{Answer}
-use Rattle.libyaml_automaton.specs.declared.answer.Answer.TheVariants as did
+use Rattle.libyaml_automaton.specs.declared.action.Action.{Action}
+use Rattle.libyaml_automaton.specs.declared.action.Action.TheVariants as did
 use Rattle.libyaml_automaton.specs.declared.next.Next.{Next}
 use Rattle.libyaml_automaton.specs.declared.next.Next.TheVariants as next
 use Rattle.libyaml_automaton.specs.declared.node_place.NodePlace.{NodePlace}
 use Rattle.libyaml_automaton.specs.declared.reading.Reading.{Reading}
-use Rattle.libyaml_automaton.specs.Answers.{Outcome, NothingDone, Does, IsOutcome, outcome}
+use Rattle.libyaml_automaton.specs.Outcomes.{Outcome, NothingDone, Does, IsOutcome, outcome}
 use Rattle.libyaml_automaton.specs.Automaton as automaton
 use Rattle.libyaml_automaton.specs.Config as automaton_config
 use Rattle.libyaml_automaton.specs.Fits.{FitsStep, IsFull, is_simple, SameReading, opens_at}
@@ -25,7 +25,7 @@ use Rattle.libyaml_automaton.specs.Numbers.{next_of, place_of}
 use Rattle.libyaml_automaton.specs.Wanted.{IsAt, next_at, next_for, properties, kind_and_marks, wanted_by}
 use Rattle.libyaml_automaton.specs.Wanted as automaton_want
 use Rattle.libyaml_events.specs.declared.pending.Pending.{Pending}
-use Rattle.libyaml_events.specs.machine.Answers.{property_texts, texts_for, wanted}
+use Rattle.libyaml_events.specs.machine.Outcomes.{property_texts, texts_for, wanted}
 use Rattle.libyaml_events.specs.machine.Config.{Config, Handles, config_of, config_with}
 use Rattle.libyaml_events.specs.machine.Growth.{grows_for, joins, joins_before, joins_behind_anchor, may_grow}
 use Rattle.libyaml_events.specs.machine.Machine.{content_behind, content_resolved, put, resolve, step, with_texts}
@@ -136,7 +136,7 @@ asked : (n : Next) (r : Reading) (p : PropertyTexts) (d : DirectiveTexts) → n 
 asked n r p d e = rw e refl
 
 -- what the texts that were held have to do with those that are held now
-held : (q : Pending) (r' : Reading) (a : Answer) (c : automaton_config.Stacks) (t : automaton.KindAndMarks)
+held : (q : Pending) (r' : Reading) (a : Action) (c : automaton_config.Stacks) (t : automaton.KindAndMarks)
     (k : yaml_token_type_t) (s : yaml_parser_state_t) (x : automaton_config.Stacks) → FitsStep a k r' s
     → (a ≡ did.AsksContent → r' ≡ q.reading)
     → IsOutcome (automaton.step (automaton_want.purpose_of q.reading) c t k) (outcome a (automaton.no_properties t) t r' x)
@@ -161,7 +161,7 @@ held q r' _ c t k s x f u e = tt
 
 -- a step of the automaton is a step of the parser
 pub leads : (hs : Handles) (f : Fault) (o : Option yaml_token_t) (a b : automaton_config.Stacks) (c : Config)
-    (t : yaml_token_t) (q : Pending) (r' : Reading) (x : Answer) (k : yaml_token_type_t) → config_with a hs f o ≡ c
+    (t : yaml_token_t) (q : Pending) (r' : Reading) (x : Action) (k : yaml_token_type_t) → config_with a hs f o ≡ c
     → k ≡ token_type t.content → FitsStep x k r' b.state → (x ≡ did.AsksContent → r' ≡ q.reading)
     → IsOutcome (automaton.step (automaton_want.purpose_of q.reading) a (kind_and_marks k t.start_mark t.end_mark) k)
     (outcome x (automaton.no_properties (kind_and_marks k t.start_mark t.end_mark)) (kind_and_marks k t.start_mark t.end_mark) r' b)
@@ -240,7 +240,7 @@ content_grows n r p d c t m r' x k i e (inl j) = rw i (either _ _ (inl (joins_as
 content_grows n r p d c t m r' x k i e (inr j) = rw i (either _ _ (inr j))
 
 pub grows_asked : (hs : Handles) (f : Fault) (o : Option yaml_token_t) (a b : automaton_config.Stacks) (c : Config)
-    (t : yaml_token_t) (q : Pending) (r' : Reading) (x : Answer) (k : yaml_token_type_t) → config_with a hs f o ≡ c
+    (t : yaml_token_t) (q : Pending) (r' : Reading) (x : Action) (k : yaml_token_type_t) → config_with a hs f o ≡ c
     → k ≡ token_type t.content → FitsStep x k r' b.state → (x ≡ did.AsksContent → r' ≡ q.reading)
     → IsOutcome (automaton.step (automaton_want.purpose_of q.reading) a (kind_and_marks k t.start_mark t.end_mark) k)
     (outcome x (automaton.no_properties (kind_and_marks k t.start_mark t.end_mark)) (kind_and_marks k t.start_mark t.end_mark) r' b)
@@ -253,7 +253,7 @@ grows_asked hs f o a b c t q r' x k ec ek fits u s i g =
     (kind_and_marks (token_type t.content) t.start_mark t.end_mark) (place_of r'.place) (properties r') b t.content
     (ap (λ (y : Reading). next_of y.next) (sym e) ∙ (rw i at fits)) (rw (i, ek) at s) (rw e at g))
 
-pub pushes_full : (x : Answer) (p o : Bool) → (x ≡ did.FullStates → p ≡ true) → (x ≡ did.FullMarks → o ≡ true) → IsFull x
+pub pushes_full : (x : Action) (p o : Bool) → (x ≡ did.FullStates → p ≡ true) → (x ≡ did.FullMarks → o ≡ true) → IsFull x
     → (p ≡ true) ⊎ (o ≡ true)
 pushes_full did.FullStates p o s m f = inl (s refl)
 pushes_full did.FullMarks p o s m f = inr (m refl)

@@ -14,14 +14,14 @@ use Rattle.libyaml_types.specs.declared.mark.yaml_mark_t.{yaml_mark_t}
 use Rattle.libyaml_types.specs.Fault.{memory_fault}
 use Rattle.libyaml_types.specs.Types.{token_type}
 use Rattle.libyaml_grammar.specs.cuts.FaultTexts.{tag_fault}
-use Rattle.libyaml_automaton.specs.declared.answer.Answer.{Answer}
-use Rattle.libyaml_automaton.specs.declared.answer.Answer.TheVariants as did
+use Rattle.libyaml_automaton.specs.declared.action.Action.{Action}
+use Rattle.libyaml_automaton.specs.declared.action.Action.TheVariants as did
 use Rattle.libyaml_automaton.specs.declared.reading.Reading.{Reading}
 use Rattle.libyaml_automaton.specs.Numbers.{place_of}
 use Rattle.libyaml_automaton.specs.Wanted as automaton_want
 use Rattle.libyaml_automaton.specs.Wanted.{properties}
 use Rattle.libyaml_automaton.specs.Automaton as automaton
-use Rattle.libyaml_automaton.specs.Answers.{Outcome, NothingDone, Does, outcome}
+use Rattle.libyaml_automaton.specs.Outcomes.{Outcome, NothingDone, Does, outcome}
 use Rattle.libyaml_automaton.specs.Fits.{opens_at}
 use Rattle.libyaml_events.specs.declared.step.Step.{Step}
 use Rattle.libyaml_events.specs.declared.step.Step.TheVariants as led
@@ -30,7 +30,7 @@ use Rattle.libyaml_events.specs.machine.Config.{Config, config_of, with_fault}
 use Rattle.libyaml_events.specs.machine.Want.{Texts}
 use Rattle.libyaml_events.specs.machine.Machine.{Progressed, put, resolve, seen, sequence_start_with, mapping_start_with, with_texts}
 use Rattle.libyaml_events.specs.machine.Growth.{joins}
-use Rattle.libyaml_events.specs.machine.Answers.{answer, directive_texts, property_texts, standing_by, texts_for}
+use Rattle.libyaml_events.specs.machine.Outcomes.{result_of, directive_texts, property_texts, standing_by, texts_for}
 use Rattle.libyaml_events.specs.machine.Steps.{Steps}
 use Rattle.libyaml_events.specs.automaton.View.{Ready}
 
@@ -39,7 +39,7 @@ abbrev pub SaysIn : Progressed → Texts → Config → yaml_token_t → Outcome
 SaysIn out h d t NothingDone = Unit {0}
 SaysIn out h d t (Does x) = out ≡ with_texts h d t t.content x
 
-abbrev pub IsWithTexts : Progressed → Texts → yaml_token_t → Answer → Reading → Config → Type 0
+abbrev pub IsWithTexts : Progressed → Texts → yaml_token_t → Action → Reading → Config → Type 0
 IsWithTexts out h t a r d
     = SaysIn out h d t (outcome a (automaton.no_properties (seen t t.content)) (seen t t.content) r (config_of d))
 
@@ -57,7 +57,7 @@ IsPlain (automaton.BehindProperties place r) = ⊥
 IsPlain _ = Unit {0}
 
 -- what the texts h that were held have to do with those that are held now
-abbrev pub IsHeld : Answer → Texts → Pending → Type 0
+abbrev pub IsHeld : Action → Texts → Pending → Type 0
 IsHeld did.Wants h q = IsPlain (automaton_want.purpose_of q.reading)
 IsHeld did.WantsAnchor h q = (anchor : List ℕ)
     → texts_for (automaton_want.purpose_of q.reading) (record q.properties { anchor = Some anchor }) q.directives
@@ -69,31 +69,31 @@ IsHeld did.AsksContent h q = h ≡ property_texts (properties q.reading) q.prope
 IsHeld _ h q = Unit {0}
 
 -- the result a of a step
-abbrev pub Led : Progressed → Texts → yaml_token_t → Answer → Pending → Config → Type 0
+abbrev pub Led : Progressed → Texts → yaml_token_t → Action → Pending → Config → Type 0
 Led out h t a q d = IsHeld a h q × IsWithTexts out h t a q.reading d
 
 -- so each step of the parser that the result says is done
-abbrev pub Puts : Answer → yaml_token_t → Pending → Config → Step → yaml_token_t → Pending → yaml_event_t → Config → Type 0
+abbrev pub Puts : Action → yaml_token_t → Pending → Config → Step → yaml_token_t → Pending → yaml_event_t → Config → Type 0
 Puts a t q old s t' q' e new = (out : Progressed) (h : Texts) → Led out h t a q old
-    → Steps out old (answer s q' e new) (standing_by s t' new) × (s ≡ led.Wants → Ready q' new)
+    → Steps out old (result_of s q' e new) (standing_by s t' new) × (s ≡ led.Wants → Ready q' new)
 
 -- the result is put
-abbrev pub IsPut : Answer → Type 0
+abbrev pub IsPut : Action → Type 0
 IsPut did.Document = ⊥
 IsPut did.FullStates = ⊥
 IsPut did.FullMarks = ⊥
 IsPut _ = Unit {0}
 
 -- directives: those that were held are those that are kept
-abbrev pub LedDocument : Progressed → Texts → yaml_token_t → Answer → Pending → Config → Type 0
+abbrev pub LedDocument : Progressed → Texts → yaml_token_t → Action → Pending → Config → Type 0
 LedDocument out h t a q d = (h ≡ directive_texts q.directives) × IsWithTexts out h t a q.reading d
 
-abbrev pub PutsDocument : Answer → yaml_token_t → Pending → Config → Step → yaml_token_t → Pending → yaml_event_t → Config
+abbrev pub PutsDocument : Action → yaml_token_t → Pending → Config → Step → yaml_token_t → Pending → yaml_event_t → Config
     → Type 0
 PutsDocument a t q old s t' q' e new = (out : Progressed) (h : Texts) → LedDocument out h t a q old
-    → Steps out old (answer s q' e new) (standing_by s t' new) × (s ≡ led.Wants → Ready q' new)
+    → Steps out old (result_of s q' e new) (standing_by s t' new) × (s ≡ led.Wants → Ready q' new)
 
-abbrev pub IsPutDocument : Answer → Type 0
+abbrev pub IsPutDocument : Action → Type 0
 IsPutDocument did.FullStates = ⊥
 IsPutDocument _ = Unit {0}
 
@@ -114,19 +114,19 @@ PutIn out h a g d t NothingDone = Unit {0}
 PutIn out h a g d t (Does x) = out ≡ put h a g d t t.content x
 
 -- what a result of `content_behind` says of it, where the properties are those of the reading r
-abbrev pub SaysContent : Progressed → Texts → (anchor tag : Option (List ℕ)) → yaml_token_t → Answer → (r r' : Reading)
+abbrev pub SaysContent : Progressed → Texts → (anchor tag : Option (List ℕ)) → yaml_token_t → Action → (r r' : Reading)
     → Config → Type 0
 SaysContent out h a g t x r r' d = PutIn out h a g d t (outcome x (properties r) (seen t t.content) r' (config_of d))
 
 -- so the content is put, of a node with this anchor and this tag in full, whose properties have these marks
-abbrev pub PutsContent : (anchor tag : Option (List ℕ)) → (start end : yaml_mark_t) → Answer → yaml_token_t → Reading
+abbrev pub PutsContent : (anchor tag : Option (List ℕ)) → (start end : yaml_mark_t) → Action → yaml_token_t → Reading
     → Config → Step → yaml_token_t → Pending → yaml_event_t → Config → Type 0
 PutsContent a g start end x t r' old s t' q e new = (out : Progressed) (h : Texts) (r : Reading) → r.start_mark ≡ start
     → r.end_mark ≡ end → SaysContent out h a g t x r r' old
-    → Steps out old (answer s q e new) (standing_by s t' new) × (s ≡ led.Wants → ⊥)
+    → Steps out old (result_of s q e new) (standing_by s t' new) × (s ≡ led.Wants → ⊥)
 
 -- a collection whose start is kept
-abbrev pub IsOpening : Answer → Type 0
+abbrev pub IsOpening : Action → Type 0
 IsOpening did.BlockSequence = Unit {0}
 IsOpening did.BlockMapping = Unit {0}
 IsOpening did.FlowSequence = Unit {0}

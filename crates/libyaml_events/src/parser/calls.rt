@@ -1,6 +1,6 @@
 //! Where a call begins, and what one that failed leaves.
 ghost use Rattle.std.specs.Prelude.{◌≡◌, None};
-ghost use Rattle.libyaml_events.specs.machine.Answers.{wanted};
+ghost use Rattle.libyaml_events.specs.machine.Outcomes.{wanted};
 ghost use Rattle.libyaml_events.specs.machine.Want.{AtState};
 ghost use Rattle.libyaml_events.specs.automaton.View.{Ready};
 ghost use Rattle.libyaml_events.specs.parsers.Left.{let_go};

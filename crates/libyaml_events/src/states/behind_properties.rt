@@ -6,7 +6,7 @@ ghost use Rattle.libyaml_grammar.specs.sentences.Events.{event};
 ghost use Rattle.libyaml_types.specs.declared.enums.yaml_token_type_t.TheVariants.{YAML_SCALAR_TOKEN};
 ghost use Rattle.libyaml_automaton.specs.Numbers.{flag, place_of};
 ghost use Rattle.libyaml_automaton.specs.Fits.{FitsContent, IsFull, opens_at};
-ghost use Rattle.libyaml_events.specs.machine.Answers.{answer, only_if, standing_by};
+ghost use Rattle.libyaml_events.specs.machine.Outcomes.{only_if, result_of, standing_by};
 ghost use Rattle.libyaml_events.specs.machine.Growth.{joins};
 ghost use Rattle.libyaml_events.specs.machine.Machine.{Progressed};
 ghost use Rattle.libyaml_events.specs.machine.Steps.{Steps};
@@ -20,7 +20,7 @@ use crate::states::contents::{make_light, put_anchored_scalar, put_over, put_sca
 use crate::states::node_events::{collection_start, is_missing, plain_scalar, sequence_start};
 use crate::states::properties::{forget_earlier, take_anchor};
 use crate::step::Step;
-use libyaml_automaton::Answer;
+use libyaml_automaton::Action;
 use libyaml_types::{
     unnamed_yaml_event_t_data, unnamed_yaml_token_t_data, yaml_error_type_t, yaml_event_t,
     yaml_mark_t, yaml_sequence_style_t, yaml_token_t,
@@ -36,7 +36,7 @@ impl Machine {
         out: &mut yaml_event_t,
     ) -> Step
         requires none { self.old.lookahead ≡ None }
-        ensures puts { Puts Answer.AsksContent token.old pending.old self.old result token.new pending.new
+        ensures puts { Puts Action.AsksContent token.old pending.old self.old result token.new pending.new
             out.new self.new }
         ensures grows { result ≡ Step.Failed → self.new.fault.error ≡ yaml_error_type_t.YAML_MEMORY_ERROR
             → GrowsBehind pending.old self.old token.old }
@@ -58,7 +58,7 @@ impl Machine {
     ) -> Step
         requires none { self.old.lookahead ≡ None }
         requires untagged { pending.old.reading.has_tag ≡ 0 }
-        ensures puts { Puts Answer.AsksContent token.old pending.old self.old result token.new pending.new
+        ensures puts { Puts Action.AsksContent token.old pending.old self.old result token.new pending.new
             out.new self.new }
         ensures grows { result ≡ Step.Failed → self.new.fault.error ≡ yaml_error_type_t.YAML_MEMORY_ERROR
             → GrowsBehind pending.old self.old token.old }
@@ -79,7 +79,7 @@ impl Machine {
         ensures puts { (o : Progressed) (h : Texts) → IsContent o h
             (only_if (flag pending.old.reading.has_anchor) pending.old.properties.anchor)
             (option_map string_bytes tag) token.old pending.old.reading self.old
-            → Steps o self.old (answer result pending.new out.new self.new)
+            → Steps o self.old (result_of result pending.new out.new self.new)
             (standing_by result token.new self.new)
             × (result ≡ Step.Wants → ⊥) }
         ensures grows { result ≡ Step.Failed → self.new.fault.error ≡ yaml_error_type_t.YAML_MEMORY_ERROR
@@ -89,7 +89,7 @@ impl Machine {
         let start_mark = pending.reading.start_mark;
         let end_mark = pending.reading.end_mark;
         match self.lead_content(token, pending) {
-            Answer::FullMarks => self.put_content_again(
+            Action::FullMarks => self.put_content_again(
                 tag,
                 &start_mark,
                 &end_mark,
@@ -97,7 +97,7 @@ impl Machine {
                 pending,
                 out,
             ),
-            answer => self.put_head(answer, tag, &start_mark, &end_mark, token, pending, out),
+            led => self.put_head(led, tag, &start_mark, &end_mark, token, pending, out),
         }
     }
 
@@ -118,16 +118,16 @@ impl Machine {
         requires end { end_mark.now ≡ pending.old.reading.end_mark }
         ensures puts { (o : Progressed) (h : Texts) → IsContent o h pending.old.properties.anchor
             (option_map string_bytes tag) token.old pending.old.reading self.old
-            → Steps o self.old (answer result pending.new out.new self.new)
+            → Steps o self.old (result_of result pending.new out.new self.new)
             (standing_by result token.new self.new)
             × (result ≡ Step.Wants → ⊥) }
     {
-        if !self.automaton.grow(Answer::FullMarks) {
+        if !self.automaton.grow(Action::FullMarks) {
             return self.fail_out_of_memory();
         }
         match self.lead_content(token, pending) {
-            Answer::FullMarks => self.fail_out_of_memory(),
-            answer => self.put_head(answer, tag, start_mark, end_mark, token, pending, out),
+            Action::FullMarks => self.fail_out_of_memory(),
+            led => self.put_head(led, tag, start_mark, end_mark, token, pending, out),
         }
     }
 
@@ -157,7 +157,7 @@ impl Machine {
 
     /// Does a step of the parser without texts, after a node's properties.
     #[inline(always)]
-    fn lead_content(&mut self, token: &yaml_token_t, pending: &mut Pending) -> Answer
+    fn lead_content(&mut self, token: &yaml_token_t, pending: &mut Pending) -> Action
         requires none { self.old.lookahead ≡ None }
         ensures led { (o : Progressed) (h : Texts) (a g : Option (List ℕ))
             → IsContent o h a g token.now pending.old.reading self.old
@@ -165,9 +165,9 @@ impl Machine {
         ensures fits { FitsContent result (token_type token.now.content) pending.new.reading }
         ensures none { self.new.lookahead ≡ None }
         ensures texts { pending.new ≡ record pending.old { reading = pending.new.reading } }
-        ensures full { result ≡ Answer.FullMarks
+        ensures full { result ≡ Action.FullMarks
             → opens_at (place_of pending.old.reading.place) (token_type token.now.content) ≡ true }
-        ensures undone { result ≡ Answer.FullMarks → (self.new ≡ self.old) × (pending.new ≡ pending.old) }
+        ensures undone { result ≡ Action.FullMarks → (self.new ≡ self.old) × (pending.new ≡ pending.old) }
     {
         self.automaton.content_behind(
             &mut pending.reading,
@@ -181,7 +181,7 @@ impl Machine {
     #[inline(always)]
     fn put_head(
         &mut self,
-        answer: Answer,
+        led: Action,
         tag: Option<String>,
         start_mark: &yaml_mark_t,
         end_mark: &yaml_mark_t,
@@ -190,33 +190,33 @@ impl Machine {
         out: &mut yaml_event_t,
     ) -> Step
         requires none { self.old.lookahead ≡ None }
-        requires fits { FitsContent answer (token_type token.old.content) pending.old.reading }
-        requires done { IsFull answer → ⊥ }
+        requires fits { FitsContent led (token_type token.old.content) pending.old.reading }
+        requires done { IsFull led → ⊥ }
         ensures puts { PutsContent pending.old.properties.anchor (option_map string_bytes tag) start_mark.now
-            end_mark.now answer token.old pending.old.reading self.old result token.new pending.new out.new
+            end_mark.now led token.old pending.old.reading self.old result token.new pending.new out.new
             self.new }
         ensures error { result ≡ Step.Failed → self.new.fault.error ≡ yaml_error_type_t.YAML_PARSER_ERROR }
     {
-        match answer {
-            Answer::Scalar => {
+        match led {
+            Action::Scalar => {
                 self.put_scalar_behind(tag, start_mark, end_mark, token, pending, out);
                 Step::Given
             }
-            Answer::EmptyHead => {
+            Action::EmptyHead => {
                 self.put_empty_behind(tag, start_mark, end_mark, token, pending, out);
                 Step::GivenBefore
             }
-            Answer::IndentlessSequence => {
+            Action::IndentlessSequence => {
                 self.put_indentless(tag, start_mark, end_mark, token, pending, out);
                 Step::GivenBefore
             }
-            Answer::Failed => self.set_problem(
+            Action::Failed => self.set_problem(
                 pending.reading.problem,
                 &token.start_mark,
                 &token.start_mark,
             ),
             _ => {
-                self.put_opening(answer, tag, start_mark, end_mark, token, pending, out);
+                self.put_opening(led, tag, start_mark, end_mark, token, pending, out);
                 Step::Given
             }
         }
@@ -236,7 +236,7 @@ impl Machine {
         requires none { self.old.lookahead ≡ None }
         requires scalar { token_type token.old.content ≡ YAML_SCALAR_TOKEN }
         ensures puts { PutsContent pending.old.properties.anchor (option_map string_bytes tag) start_mark.now
-            end_mark.now Answer.Scalar token.old pending.old.reading self.old Step.Given token.new
+            end_mark.now Action.Scalar token.old pending.old.reading self.old Step.Given token.new
             pending.new out.new self.new }
     {
         out.start_mark = *start_mark;
@@ -282,7 +282,7 @@ impl Machine {
     )
         requires none { self.old.lookahead ≡ None }
         ensures puts { PutsContent pending.old.properties.anchor (option_map string_bytes tag) start_mark.now
-            end_mark.now Answer.EmptyHead token.now pending.old.reading self.old Step.GivenBefore token.now
+            end_mark.now Action.EmptyHead token.now pending.old.reading self.old Step.GivenBefore token.now
             pending.new out.new self.new }
     {
         let implicit = is_missing(&tag);
@@ -305,7 +305,7 @@ impl Machine {
     )
         requires none { self.old.lookahead ≡ None }
         ensures puts { PutsContent pending.old.properties.anchor (option_map string_bytes tag) start_mark.now
-            end_mark.now Answer.IndentlessSequence token.now pending.old.reading self.old Step.GivenBefore
+            end_mark.now Action.IndentlessSequence token.now pending.old.reading self.old Step.GivenBefore
             token.now pending.new out.new self.new }
     {
         let style = yaml_sequence_style_t::YAML_BLOCK_SEQUENCE_STYLE;
@@ -318,7 +318,7 @@ impl Machine {
     #[inline(never)]
     fn put_opening(
         &mut self,
-        answer: Answer,
+        led: Action,
         tag: Option<String>,
         start_mark: &yaml_mark_t,
         end_mark: &yaml_mark_t,
@@ -327,10 +327,10 @@ impl Machine {
         out: &mut yaml_event_t,
     )
         requires none { self.old.lookahead ≡ None }
-        requires fits { FitsContent answer (token_type token.now.content) pending.old.reading }
-        requires opening { IsOpening answer }
+        requires fits { FitsContent led (token_type token.now.content) pending.old.reading }
+        requires opening { IsOpening led }
         ensures puts { PutsContent pending.old.properties.anchor (option_map string_bytes tag) start_mark.now
-            end_mark.now answer token.now pending.old.reading self.old Step.Given token.now pending.new
+            end_mark.now led token.now pending.old.reading self.old Step.Given token.now pending.new
             out.new self.new }
     {
         let anchor = take_anchor(pending);

@@ -15,7 +15,7 @@ ghost use Rattle.libyaml_events.specs.machine.Config.{with_fault};
 ghost use Rattle.libyaml_events.specs.machine.Machine.{declared_by, document_end, document_start, fault_with};
 ghost use Rattle.libyaml_events.specs.machine.Machine.{is_accepted_in, step, was_declared};
 ghost use Rattle.libyaml_events.specs.machine.Steps.{Steps};
-ghost use Rattle.libyaml_events.specs.machine.Answers.{answer, directive_texts, standing_by, wanted};
+ghost use Rattle.libyaml_events.specs.machine.Outcomes.{directive_texts, result_of, standing_by, wanted};
 ghost use Rattle.libyaml_events.specs.machine.Growth.{may_grow};
 ghost use Rattle.libyaml_events.specs.automaton.Led.{IsPutDocument, LedDocument, PutsDocument};
 ghost use Rattle.libyaml_events.specs.automaton.View.{Ready};
@@ -24,7 +24,7 @@ use crate::parser::Machine;
 use crate::pending::{DirectivesHeld, Pending};
 use crate::states::give;
 use crate::step::Step;
-use libyaml_automaton::{Answer, Next};
+use libyaml_automaton::{Action, Next};
 use libyaml_types::{
     ZERO_MARK, unnamed_yaml_event_t_data, unnamed_yaml_event_t_data_document_end,
     unnamed_yaml_event_t_data_document_start, unnamed_yaml_event_t_data_stream_start,
@@ -163,15 +163,15 @@ impl Machine {
         requires ready { Ready pending.old self.old }
         requires documents { stack_part_of (next_of pending.old.reading.next) ≡ Documents }
         ensures steps { Steps (step (wanted pending.old) self.old token.old) self.old
-            (answer result pending.new out.new self.new) (standing_by result token.new self.new) }
+            (result_of result pending.new out.new self.new) (standing_by result token.new self.new) }
         ensures ready { result ≡ Step.Wants → Ready pending.new self.new }
         ensures grows { result ≡ Step.Failed → self.new.fault.error ≡ yaml_error_type_t.YAML_MEMORY_ERROR
             → may_grow (wanted pending.old) self.old token.old.content ≡ true }
     {
         self.forget_directives(pending);
         match self.lead_document(token, pending) {
-            Answer::FullStates => self.step_document_again(token, pending, out),
-            answer => self.put_document(answer, token, pending, out),
+            Action::FullStates => self.step_document_again(token, pending, out),
+            led => self.put_document(led, token, pending, out),
         }
     }
 
@@ -189,15 +189,15 @@ impl Machine {
         requires declared { (wanted pending.old).texts ≡ directive_texts pending.old.directives }
         requires grows { may_grow (wanted pending.old) self.old token.old.content ≡ true }
         ensures steps { Steps (step (wanted pending.old) self.old token.old) self.old
-            (answer result pending.new out.new self.new) (standing_by result token.new self.new) }
+            (result_of result pending.new out.new self.new) (standing_by result token.new self.new) }
         ensures ready { result ≡ Step.Wants → Ready pending.new self.new }
     {
-        if !self.automaton.grow(Answer::FullStates) {
+        if !self.automaton.grow(Action::FullStates) {
             return self.fail_out_of_memory();
         }
         match self.lead_document(token, pending) {
-            Answer::FullStates => self.fail_out_of_memory(),
-            answer => self.put_document(answer, token, pending, out),
+            Action::FullStates => self.fail_out_of_memory(),
+            led => self.put_document(led, token, pending, out),
         }
     }
 
@@ -223,7 +223,7 @@ impl Machine {
 
     /// Does a step of the parser without texts.
     #[inline(always)]
-    fn lead_document(&mut self, token: &yaml_token_t, pending: &mut Pending) -> Answer
+    fn lead_document(&mut self, token: &yaml_token_t, pending: &mut Pending) -> Action
         requires ready { Ready pending.old self.old }
         requires documents { stack_part_of (next_of pending.old.reading.next) ≡ Documents }
         requires declared { (wanted pending.old).texts ≡ directive_texts pending.old.directives }
@@ -232,12 +232,12 @@ impl Machine {
         ensures fits { FitsDocument result (token_type token.now.content) pending.new.reading self.new.state }
         ensures none { self.new.lookahead ≡ None }
         ensures texts { pending.new ≡ record pending.old { reading = pending.new.reading } }
-        ensures undone { result ≡ Answer.FullStates → Ready pending.new self.new
+        ensures undone { result ≡ Action.FullStates → Ready pending.new self.new
             × (wanted pending.new ≡ wanted pending.old) × (self.new ≡ self.old)
             × (pending.new.reading.next ≡ pending.old.reading.next) }
-        ensures grows { result ≡ Answer.FullStates
+        ensures grows { result ≡ Action.FullStates
             → may_grow (wanted pending.old) self.old token.now.content ≡ true }
-        ensures handle { result ≡ Answer.AsksHandle
+        ensures handle { result ≡ Action.AsksHandle
             → may_grow (wanted pending.old) self.old token.now.content ≡ true }
     {
         self.automaton
@@ -248,57 +248,57 @@ impl Machine {
     #[inline(always)]
     fn put_document(
         &mut self,
-        answer: Answer,
+        led: Action,
         token: &mut yaml_token_t,
         pending: &mut Pending,
         out: &mut yaml_event_t,
     ) -> Step
         requires none { self.old.lookahead ≡ None }
-        requires put { IsPutDocument answer }
-        requires fits { FitsDocument answer (token_type token.old.content) pending.old.reading
+        requires put { IsPutDocument led }
+        requires fits { FitsDocument led (token_type token.old.content) pending.old.reading
             self.old.state }
-        ensures puts { PutsDocument answer token.old pending.old self.old result token.new pending.new out.new
+        ensures puts { PutsDocument led token.old pending.old self.old result token.new pending.new out.new
             self.new }
         ensures grows { result ≡ Step.Failed → self.new.fault.error ≡ yaml_error_type_t.YAML_MEMORY_ERROR
-            → answer ≡ Answer.AsksHandle }
+            → led ≡ Action.AsksHandle }
     {
-        match answer {
-            Answer::Wants => Step::Wants,
-            Answer::StreamStart => {
+        match led {
+            Action::Wants => Step::Wants,
+            Action::StreamStart => {
                 put_stream_start(token, out);
                 Step::Given
             }
-            Answer::StreamEnd => {
+            Action::StreamEnd => {
                 put_stream_end(token, out);
                 Step::Given
             }
-            Answer::ImplicitDocument => {
+            Action::ImplicitDocument => {
                 out.start_mark = token.start_mark;
                 out.end_mark = token.start_mark;
                 put_document_start(self.allocator(), &mut out.content);
                 Step::GivenBefore
             }
-            Answer::ExplicitDocument => {
+            Action::ExplicitDocument => {
                 self.put_explicit_document(token, pending, out);
                 Step::Given
             }
-            Answer::DocumentEnd => {
+            Action::DocumentEnd => {
                 self.forget_handles();
                 out.start_mark = token.start_mark;
                 out.end_mark = token.end_mark;
                 put_document_end(false, &mut out.content);
                 Step::Given
             }
-            Answer::ImplicitDocumentEnd => {
+            Action::ImplicitDocumentEnd => {
                 self.forget_handles();
                 out.start_mark = token.start_mark;
                 out.end_mark = token.start_mark;
                 put_document_end(true, &mut out.content);
                 Step::GivenBefore
             }
-            Answer::AsksVersion => self.take_version(token, pending),
-            Answer::AsksHandle => self.take_handle(token, pending),
-            Answer::FailedDocument => {
+            Action::AsksVersion => self.take_version(token, pending),
+            Action::AsksHandle => self.take_handle(token, pending),
+            Action::FailedDocument => {
                 self.set_document_problem(pending.reading.problem, &token.start_mark)
             }
             _ => unreachable!(),
@@ -347,7 +347,7 @@ impl Machine {
     fn take_version(&mut self, token: &yaml_token_t, pending: &mut Pending) -> Step
         requires none { self.old.lookahead ≡ None }
         requires version { token_type token.now.content ≡ yaml_token_type_t.YAML_VERSION_DIRECTIVE_TOKEN }
-        ensures puts { (out : yaml_event_t) → PutsDocument Answer.AsksVersion token.now pending.old
+        ensures puts { (out : yaml_event_t) → PutsDocument Action.AsksVersion token.now pending.old
             self.old result token.now pending.new out self.new }
         ensures error { result ≡ Step.Failed → self.new.fault.error ≡ yaml_error_type_t.YAML_PARSER_ERROR }
     {
@@ -356,7 +356,7 @@ impl Machine {
             .automaton
             .version_directive(&mut pending.reading, is_accepted)
         {
-            Answer::Wants => Step::Wants,
+            Action::Wants => Step::Wants,
             _ => self.set_document_problem(pending.reading.problem, &token.start_mark),
         }
     }
@@ -366,7 +366,7 @@ impl Machine {
     fn take_handle(&mut self, token: &mut yaml_token_t, pending: &mut Pending) -> Step
         requires none { self.old.lookahead ≡ None }
         requires directive { token_type token.old.content ≡ yaml_token_type_t.YAML_TAG_DIRECTIVE_TOKEN }
-        ensures puts { (out : yaml_event_t) → PutsDocument Answer.AsksHandle token.old pending.old
+        ensures puts { (out : yaml_event_t) → PutsDocument Action.AsksHandle token.old pending.old
             self.old result token.new pending.new out self.new }
     {
         let was_declared = match self.declare_handle(token) {
@@ -377,7 +377,7 @@ impl Machine {
             .automaton
             .tag_directive(&mut pending.reading, was_declared)
         {
-            Answer::Wants => self.hold_directive(token, pending),
+            Action::Wants => self.hold_directive(token, pending),
             _ => self.set_document_problem(pending.reading.problem, &token.start_mark),
         }
     }

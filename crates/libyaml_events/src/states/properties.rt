@@ -2,7 +2,7 @@
 ghost use Rattle.std.specs.Prelude.{◌≡◌, Some, None, option_map, string_bytes};
 ghost use Rattle.libyaml_types.specs.declared.token.unnamed_yaml_token_t_data.TheVariants as tok;
 ghost use Rattle.libyaml_automaton.specs.Numbers.{flag};
-ghost use Rattle.libyaml_events.specs.machine.Answers.{only_if};
+ghost use Rattle.libyaml_events.specs.machine.Outcomes.{only_if};
 ghost use Rattle.libyaml_events.specs.automaton.Led.{with_anchor, with_tag};
 
 use crate::parser::Machine;

@@ -5,7 +5,7 @@ use Rattle.libyaml_events.specs.sources.Pushed.{standing}
 use Rattle.libyaml_events.specs.sources.Pushes.{Takes}
 use Rattle.libyaml_events.proofs.calls.CallLemmas.{taken_same}
 use Rattle.libyaml_events.proofs.pushes.PushLoop.{Taking, taking_begins, wants_next, fails_onto, goes_on, is_done, step_falls}
-use Rattle.libyaml_events.specs.machine.Answers.{wanted}
+use Rattle.libyaml_events.specs.machine.Outcomes.{wanted}
 use Rattle.libyaml_events.specs.machine.Want.{Want, AtState}
 use Rattle.libyaml_events.proofs.parser.Machine.feed.Goals as goal
 

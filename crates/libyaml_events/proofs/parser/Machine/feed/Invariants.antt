@@ -1,6 +1,6 @@
 use Rattle.std.proofs.Common.{◌+◌, ◌≤◌, length}
 use Rattle.std.specs.Vec.{vec_capacity}
-use Rattle.libyaml_events.specs.machine.Answers.{wanted}
+use Rattle.libyaml_events.specs.machine.Outcomes.{wanted}
 use Rattle.libyaml_events.specs.automaton.View.{InStep}
 use Rattle.libyaml_events.proofs.machine.StepKinds.{room}
 use Rattle.libyaml_events.proofs.pushes.PushLoop.{Taking}

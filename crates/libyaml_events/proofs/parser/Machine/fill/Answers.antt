@@ -1,6 +1,6 @@
 use Rattle.std.proofs.Common.{◌+◌, ◌<◌, ◌≡◌, ◌∙◌, length, Ok, Err, ap, pos, refl, rules, subst, sym}
 use Rattle.libyaml_events.specs.machine.Config.{Config, is_fault, parser, with_lookahead}
-use Rattle.libyaml_events.specs.machine.Answers.{wanted}
+use Rattle.libyaml_events.specs.machine.Outcomes.{wanted}
 use Rattle.libyaml_events.specs.parsers.Left.{Left}
 use Rattle.libyaml_events.specs.sources.Calls.{Call, held}
 use Rattle.libyaml_events.proofs.calls.CallLemmas.{Reading, fetched, faulted, first_reading, gave_event, gave_fault, takes_one, wants_more}

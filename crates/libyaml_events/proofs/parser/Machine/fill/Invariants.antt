@@ -1,5 +1,5 @@
 use Rattle.std.proofs.Common.{◌+◌, ℤ, length}
-use Rattle.libyaml_events.specs.machine.Answers.{wanted}
+use Rattle.libyaml_events.specs.machine.Outcomes.{wanted}
 use Rattle.libyaml_events.specs.machine.Config.{parser, with_lookahead}
 use Rattle.libyaml_events.specs.sources.Calls.{held}
 use Rattle.libyaml_events.specs.automaton.View.{Ready}

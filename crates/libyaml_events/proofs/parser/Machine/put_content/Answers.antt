@@ -1,7 +1,7 @@
 use Rattle.std.proofs.Common.{◌∙◌, option_map, string_bytes, refl, ap}
 use Rattle.libyaml_events.proofs.layer.Contents.{content_put, content_again}
 use Rattle.libyaml_events.specs.declared.pending.Pending.{Pending}
-use Rattle.libyaml_events.specs.machine.Answers.{only_if}
+use Rattle.libyaml_events.specs.machine.Outcomes.{only_if}
 use Rattle.libyaml_automaton.specs.Numbers.{flag}
 use Rattle.libyaml_events.proofs.parser.Machine.put_content.Goals as goal
 

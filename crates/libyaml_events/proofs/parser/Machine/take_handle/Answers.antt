@@ -3,7 +3,7 @@ use Rattle.libyaml_types.specs.Fault.{fault_of}
 use Rattle.libyaml_automaton.specs.Automaton as automaton
 use Rattle.libyaml_automaton.specs.Wanted.{purpose_of}
 use Rattle.libyaml_events.specs.declared.pending.Pending.{Pending}
-use Rattle.libyaml_events.specs.machine.Answers.{directive_texts}
+use Rattle.libyaml_events.specs.machine.Outcomes.{directive_texts}
 use Rattle.libyaml_events.specs.machine.Config.{Config, config_of, config_with, handles_of}
 use Rattle.libyaml_events.specs.machine.Machine.{put, seen}
 use Rattle.libyaml_events.proofs.layer.Putting.{directive_held, directive_wants, fails_as, handle_of, refused, wants_or_fails}

@@ -11,14 +11,14 @@ pub returns-in-AsksVersion-clause-tells : goal.returns-in-AsksVersion-clause-tel
 returns-in-AsksVersion-clause-tells c = λ marks.
     rw (c.in-AsksVersion.ensures.steps marks c.args.at.now.end_mark)
     (c.tell.ensures.tells _ zero_mark c.document_step.new.states marks
-    (c.version_directive-answer.ensures.steps c.document_step.new.states marks
+    (c.version_directive-led.ensures.steps c.document_step.new.states marks
     (kind_and_marks c.args.kind c.args.at.now.start_mark c.args.at.now.end_mark)))
 
 pub returns-in-AsksHandle-clause-tells : goal.returns-in-AsksHandle-clause-tells
 returns-in-AsksHandle-clause-tells c = λ marks.
     rw (c.in-AsksHandle.ensures.steps marks c.args.at.now.end_mark)
     (c.tell-in-AsksHandle.ensures.tells _ zero_mark c.document_step.new.states marks
-    (c.tag_directive-answer.ensures.steps c.document_step.new.states marks
+    (c.tag_directive-led.ensures.steps c.document_step.new.states marks
     (kind_and_marks c.args.kind c.args.at.now.start_mark c.args.at.now.end_mark)))
 
 pub returns-in_default : goal.returns-in_default

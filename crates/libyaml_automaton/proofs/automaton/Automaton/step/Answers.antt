@@ -2,7 +2,7 @@ use Rattle.std.proofs.Common.{inl, refl}
 use Rattle.libyaml_types.specs.declared.enums.yaml_token_type_t.TheVariants as tok
 use Rattle.libyaml_automaton.specs.Numbers.{next_of}
 use Rattle.libyaml_automaton.proofs.NodeEntered.{bare_full, full_states_where, full_marks_where, full_of, undone_at}
-use Rattle.libyaml_automaton.proofs.machine.Machine.step.Goals as goal
+use Rattle.libyaml_automaton.proofs.automaton.Automaton.step.Goals as goal
 
 pub returns-in-YAML_ANCHOR_TOKEN-clause-undone : goal.returns-in-YAML_ANCHOR_TOKEN-clause-undone
 returns-in-YAML_ANCHOR_TOKEN-clause-undone c = λ u.

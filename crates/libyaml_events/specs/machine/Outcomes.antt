@@ -40,11 +40,11 @@ wanted p = record {
 }
 
 -- a step that failed has the kind of the error that is kept
-abbrev pub answer : Step → Pending → yaml_event_t → Config → Result Progress yaml_error_type_t
-answer led.Given p e c = Ok (Given e)
-answer led.GivenBefore p e c = Ok (Given e)
-answer led.Wants p e c = Ok (Wants (wanted p))
-answer led.Failed p e c = Err c.fault.error
+abbrev pub result_of : Step → Pending → yaml_event_t → Config → Result Progress yaml_error_type_t
+result_of led.Given p e c = Ok (Given e)
+result_of led.GivenBefore p e c = Ok (Given e)
+result_of led.Wants p e c = Ok (Wants (wanted p))
+result_of led.Failed p e c = Err c.fault.error
 
 -- where the parser then stands: the token t stays where the event comes before it
 abbrev pub standing_by : Step → (t : yaml_token_t) → Config → Config
