@@ -1,4 +1,5 @@
 pub mod Appended
 pub mod LinesLemmas
 pub mod Problems
+pub mod NextLines
 pub mod OneLines

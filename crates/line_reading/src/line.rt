@@ -1,42 +1,93 @@
-//! One line of a reader.
-ghost use Rattle.std.specs.Prelude.{◌≡◌, ◌≢◌, ◌≤◌, ◌<◌, ◌+◌, ◌++◌, ◌↔◌, [], All};
-ghost use Rattle.std.specs.Prelude.{length, IfOk, IfErr, IsErrOf, OnOk, OnErr, OnSome, Ok, IsOk, None, Some};
+//! The token of a reader's next line.
+ghost use Rattle.std.specs.Prelude.{◌≡◌, ◌≢◌, ◌≤◌, ◌<◌, ◌+◌, ◌++◌, ◌↔◌, ◌⊎◌, ℕ, List, Option, [], All};
+ghost use Rattle.std.specs.Prelude.{length, IfOk, IfErr, OnOk, OnErr, OnSome, Ok, IsOk, None, Some};
 ghost use Rattle.std.specs.Io.KnownBytes.{Consumes, Keeps, IsAtEnd};
-ghost use Rattle.line_reading.specs.sources.Line.{appended, line_feed};
+ghost use Rattle.line_reading.specs.sources.Line.{appended, line_feed, GoesOn, EndsBehind};
 ghost use Rattle.line_reading.specs.sources.ReadLines.{longest_line};
-ghost use Rattle.line_reading.specs.sources.NextLine.{TakesAtMost, TakesLine, TakesNoLine, IsReadProblem};
-ghost use Rattle.line_reading.specs.sources.NextLine.{IsWithinLine};
+ghost use Rattle.line_reading.specs.sources.NextLine.{ReadsNext, IsReadProblem};
 
 use crate::MAX_LINE;
 use crate::line_problem::LineProblem;
 use crate::search::len_before;
+use crate::token_line::read_token_line;
+use libyaml_types::yaml_token_t;
+use std::alloc::Global;
 use std::io::BufRead;
 
-/// Reads one line: the bytes before an LF, or the last bytes, where none follows them. Takes the line and
-/// its LF, and no byte after them. After an LF `left` is the number of bytes that are still in the reader's
-/// buffer.
+/// Reads the token of the next line: of the bytes before an LF, or of the last bytes, where none follows them.
+/// Takes the line and its LF, and no byte after them. After an LF `left` is the number of bytes that are still
+/// in the reader's buffer.
+///
+/// A line that lies whole in the buffer, with its LF, is read there; any other is copied into `line`.
 ///
 /// # Errors
 ///
-/// `NoMoreTokens` at the end, `LineTooLong`, `ReadFailed`, and `Memory`, where an allocation fails.
-pub(crate) fn read_line<R: BufRead>(
+/// `BadTokenLine`, where the line, which is taken too, is no token line; `NoMoreTokens` at the end;
+/// `LineTooLong`; `ReadFailed`; and `Memory`, where an allocation fails. Then the value of `token` is
+/// unspecified.
+#[inline(always)]
+pub(crate) fn read_next<R: BufRead>(
+    alloc: Global,
     reader: &mut R,
     line: &mut Vec<u8>,
     left: &mut usize,
+    token: &mut yaml_token_t,
 ) -> Result<(), LineProblem>
-    ensures whole { OnOk result (TakesLine (R.remaining reader.old) line.new.items (R.remaining reader.new)) }
-    ensures fits { OnOk result (length line.new.items ≤ longest_line) }
-    ensures none { IfErr result (λ problem. TakesNoLine (R.remaining reader.old) problem) }
-    ensures too_long { IsErrOf result LineProblem.LineTooLong
-        → IsWithinLine (longest_line + 1) (R.remaining reader.old) (R.remaining reader.new) }
-    ensures takes { TakesAtMost (longest_line + 1) (R.remaining reader.old) (R.remaining reader.new) }
+    ensures { ReadsNext (R.remaining reader.old) result token.new (R.remaining reader.new) }
 {
+    let available = reader.fill_buf()?;
+    let within = &available[..available.len().min(MAX_LINE + 1)];
+    let len = len_before(within, b'\n');
+    if len < within.len() {
+        let read = read_token_line(alloc, &within[..len], token);
+        let taken = len + 1;
+        *left = available.len() - taken;
+        reader.consume(taken);
+        return read;
+    }
+    begin_line(line, within)?;
+    reader.consume(len);
+    read_copied(alloc, reader, line, left, token)
+}
+
+/// Puts the first bytes of a line into `line`, and nothing else.
+///
+/// # Errors
+///
+/// `NoMoreTokens`, where there are none, and `Memory`, where an allocation fails.
+#[cold]
+fn begin_line(line: &mut Vec<u8>, first: &[u8]) -> Result<(), LineProblem>
+    ensures ok { OnOk result (line.new.items ≡ first.now) }
+    ensures some { OnOk result (0 < length first.now) }
+    ensures none { result ≡ Err LineProblem.NoMoreTokens → length first.now ≡ 0 }
+    ensures problem { IfErr result
+        (λ problem. (problem ≡ LineProblem.Memory) ⊎ (problem ≡ LineProblem.NoMoreTokens)) }
+{
+    if first.is_empty() {
+        return Err(LineProblem::NoMoreTokens);
+    }
     line.clear();
-    match take_line(reader, line, left)? {
+    append(line, first)
+}
+
+/// Reads the token of a line whose first bytes are in `line`, after the rest of it is there too.
+#[cold]
+fn read_copied<R: BufRead>(
+    alloc: Global,
+    reader: &mut R,
+    line: &mut Vec<u8>,
+    left: &mut usize,
+    token: &mut yaml_token_t,
+) -> Result<(), LineProblem>
+    requires some { 0 < length line.old.items }
+    requires clean { All (λ x. x ≢ 10) line.old.items }
+    requires fits { length line.old.items ≤ longest_line + 1 }
+    ensures { (before : Option (List ℕ)) → Consumes before (R.remaining reader.old) line.old.items
+        → ReadsNext before result token.new (R.remaining reader.new) }
+{
+    match take_rest(reader, line, left)? {
         None => Err(LineProblem::LineTooLong),
-        Some(LineEnd::End) if line.is_empty() => Err(LineProblem::NoMoreTokens),
-        Some(LineEnd::End) => Ok(()),
-        Some(LineEnd::LineFeed) => Ok(()),
+        Some(_) => read_token_line(alloc, line, token),
     }
 }
 
@@ -47,24 +98,26 @@ enum LineEnd {
     End,
 }
 
-/// Takes a line into an empty `line`: up to an LF, which is taken too, or to the end. Returns how it ended,
-/// or `None` after `MAX_LINE` + 1 bytes without a line end.
-fn take_line<R: BufRead>(
+/// Takes the rest of a line whose first bytes are in `line`: up to an LF, which is taken too, or to the end.
+/// Returns how it ended, or `None` after `MAX_LINE` + 1 bytes of it without a line end.
+fn take_rest<R: BufRead>(
     reader: &mut R,
     line: &mut Vec<u8>,
     left: &mut usize,
 ) -> Result<Option<LineEnd>, LineProblem>
-    requires { line.old.items ≡ [] }
-    ensures consumes { IfOk result
-        (λ end. Consumes (R.remaining reader.old) (R.remaining reader.new) (line.new.items
-        ++ line_feed end)) }
+    requires clean { All (λ x. x ≢ 10) line.old.items }
+    requires fits { length line.old.items ≤ longest_line + 1 }
+    ensures consumes { IfOk result (λ end. GoesOn (R.remaining reader.old) (R.remaining reader.new)
+        line.old.items (line.new.items ++ line_feed end)) }
     ensures clean { All (λ x. x ≢ 10) line.new.items }
+    ensures longer { length line.old.items ≤ length line.new.items }
     ensures fits { length line.new.items ≤ longest_line + 1 }
     ensures too_long { result ≡ Ok None ↔ ((length line.new.items ≡ longest_line + 1)
         × IsOk result) }
     ensures end { result ≡ Ok (Some LineEnd.End)
-        → OnSome (R.remaining reader.old) (IsAtEnd (R.remaining reader.new)) }
-    ensures err { OnErr result (Consumes (R.remaining reader.old) (R.remaining reader.new) line.new.items) }
+        → EndsBehind (R.remaining reader.old) (R.remaining reader.new) line.old.items }
+    ensures err { OnErr result (GoesOn (R.remaining reader.old) (R.remaining reader.new)
+        line.old.items line.new.items) }
     ensures problem { IfErr result IsReadProblem }
 {
     while line.len() <= MAX_LINE {

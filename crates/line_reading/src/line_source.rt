@@ -9,9 +9,8 @@ ghost use Rattle.line_reading.specs.sources.NextLine.{TakesAtMost, IsBehindLine,
 ghost use Rattle.line_reading.specs.sources.LineFault.{line_fault};
 ghost use Rattle.line_reading.specs.declared.line_problem.LineProblem.TheVariants.{BadTokenLine, LineTooLong};
 
-use crate::line::read_line;
+use crate::line::read_next;
 use crate::line_problem::LineProblem;
-use crate::token_line::read_token_line;
 use libyaml_types::{
     ZERO_MARK, unnamed_yaml_token_t_data, yaml_source_fault_t, yaml_token_source_t, yaml_token_t,
 };
@@ -147,10 +146,8 @@ impl<R: BufRead> yaml_token_source_t for yaml_line_source_t<R> {
         if self.given >= self.max_tokens {
             return Err(self.keep(LineProblem::TooManyTokens));
         }
-        if let Err(problem) = read_line(&mut self.reader, &mut self.line, &mut self.left) {
-            return Err(self.keep(problem));
-        }
-        if let Err(problem) = read_token_line(self.alloc, &self.line, token) {
+        let (reader, line, left) = (&mut self.reader, &mut self.line, &mut self.left);
+        if let Err(problem) = read_next(self.alloc, reader, line, left, token) {
             return Err(self.keep(problem));
         }
         self.given += 1;

@@ -1,11 +1,10 @@
 -- What a source that got no line returns.
-use Rattle.std.proofs.Common.{◌≡◌, ◌<◌, ℕ, List, [], ◌∷◌, length, Option, Some, None, Err, refl, ap, sym, ◌∙◌, inl, inr, arith}
+use Rattle.std.proofs.Common.{◌≡◌, ℕ, List, [], ◌∷◌, length, Option, Some, None, Err, refl, ap, sym, ◌∙◌, inl, inr}
 use Rattle.std.proofs.lemmas.Bool.{lt-ltb}
 use Rattle.libyaml_types.specs.Fault.{Fault}
 use Rattle.line_reading.specs.declared.line_problem.LineProblem.{LineProblem}
 use Rattle.line_reading.specs.declared.line_problem.LineProblem.TheVariants.{Memory, ReadFailed, LineTooLong, BadTokenLine, TooManyTokens, NoMoreTokens}
 use Rattle.line_reading.specs.sources.LineFault.{line_fault}
-use Rattle.line_reading.specs.sources.LineSource.{Gives, LineSource}
 use Rattle.line_reading.specs.sources.NextLine.{BeginsTooLong, HasNoLine, TakesNoLine, KnownAnswer, LineAnswer, first_answer}
 use Rattle.line_reading.specs.sources.ReadLines.{lines, longest_line}
 
@@ -23,29 +22,8 @@ known_answer bytes n BadTokenLine f after e h = absurd h
 known_answer bytes n TooManyTokens f after e h = absurd h
 known_answer bytes n NoMoreTokens f after e h = inl (ap (first_answer n) h ∙ ap Err (sym e))
 
-line_answer_of : (before : Option (List ℕ)) (n : ℕ) (problem : LineProblem) (f : Fault) (after : Option (List ℕ))
+pub line_answer_of : (before : Option (List ℕ)) (n : ℕ) (problem : LineProblem) (f : Fault) (after : Option (List ℕ))
     → f ≡ line_fault problem n
     → TakesNoLine before problem → LineAnswer before n (Err f) after
 line_answer_of None n problem f after e h = (problem, e)
 line_answer_of (Some bytes) n problem f after e h = known_answer bytes n problem f after e h
-
-pub gives_no_line : {R : Type 0} (remaining : R → Option (List ℕ)) (s : LineSource R) (r : R)
-    (problem : LineProblem) (f : Fault) → s.fault ≡ None
-    → s.given < s.max_tokens → f ≡ line_fault problem s.given → TakesNoLine (remaining s.reader) problem
-    → Gives remaining s (Err f)
-    (record {
-      reader = r;
-      given = s.given;
-      max_tokens = s.max_tokens;
-      fault =
-          Some (line_fault problem s.given);
-    })
-gives_no_line remaining s r problem f none below e h =
-    rw none (record {
-      below = λ _. line_answer_of (remaining s.reader) s.given problem f (remaining r) e h;
-      at_bound = λ bound. absurd (omega (arith, below, bound));
-      unread = λ bound. absurd (omega (arith, below, bound));
-      given = omega arith;
-      max_tokens = refl;
-      fault = ap Some (sym e);
-    })

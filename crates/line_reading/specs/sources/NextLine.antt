@@ -1,6 +1,7 @@
 -- What one line of a reader gives, where its bytes are known.
-use Rattle.std.specs.Prelude.{◌≡◌, ◌<◌, ◌≤◌, ◌⊎◌, ℕ, List, [], ◌∷◌, drop, length, Option, Some, None, Ok, Err}
+use Rattle.std.specs.Prelude.{◌≡◌, ◌<◌, ◌≤◌, ◌⊎◌, ◌+◌, ℕ, List, [], ◌∷◌, drop, length, Option, Some, None, Result, Ok, Err, IfOk}
 use Rattle.std.specs.Io.KnownBytes.{Consumes}
+use Rattle.libyaml_types.specs.declared.token.yaml_token_t.{yaml_token_t}
 use Rattle.libyaml_types.specs.Fault.{Fault, Answer}
 use Rattle.line_reading.specs.declared.line_problem.LineProblem.{LineProblem}
 use Rattle.line_reading.specs.declared.line_problem.LineProblem.TheVariants.{Memory, ReadFailed, LineTooLong, BadTokenLine, TooManyTokens, NoMoreTokens}
@@ -75,3 +76,17 @@ LineAnswer (Some bytes) n answer after = KnownAnswer bytes n answer after
 -- the problems of reading itself
 abbrev pub IsReadProblem : LineProblem → Type 0
 IsReadProblem problem = (problem ≡ Memory) ⊎ (problem ≡ ReadFailed)
+
+-- the answer that a result is where n tokens were given
+abbrev pub line_answer_in : ℕ → Result (Unit {0}) LineProblem → yaml_token_t → Answer
+line_answer_in n (Ok done) token = Ok token
+line_answer_in n (Err problem) token = Err (line_fault problem n)
+
+-- what a result says of a reader's next line, and what it leaves of the reader
+pub record ReadsNext (before : Option (List ℕ)) (result : Result (Unit {0}) LineProblem) (token : yaml_token_t)
+    (after : Option (List ℕ)) : Type 0 where
+  pub answers : (n : ℕ) → LineAnswer before n (line_answer_in n result token) after
+  pub leaves : IfOk result (λ done. IsBehindLine before after)
+  pub bad_line : result ≡ Err BadTokenLine → IsBehindLine before after
+  pub too_long : result ≡ Err LineTooLong → IsWithinLine (longest_line + 1) before after
+  pub takes : TakesAtMost (longest_line + 1) before after
