@@ -14,11 +14,11 @@ use libyaml_types::yaml_token_t;
 use std::alloc::Global;
 use std::io::BufRead;
 
-/// Reads the token of the next line: of the bytes before an LF, or of the last bytes, where none follows them.
-/// Takes the line and its LF, and no byte after them. After an LF `left` is the number of bytes that are still
-/// in the reader's buffer.
+/// Reads the token of the next line: of the bytes before an LF, or of the last bytes, where none follows
+/// them. Takes the line and its LF, and no byte after them. After an LF `left` is the number of bytes that
+/// are still in the reader's buffer.
 ///
-/// A line that lies whole in the buffer, with its LF, is read there; any other is copied into `line`.
+/// A line that lies whole in the buffer, with its LF, is read there; any other is copied into `line` first.
 ///
 /// # Errors
 ///

@@ -77,7 +77,7 @@ LineAnswer (Some bytes) n answer after = KnownAnswer bytes n answer after
 abbrev pub IsReadProblem : LineProblem → Type 0
 IsReadProblem problem = (problem ≡ Memory) ⊎ (problem ≡ ReadFailed)
 
--- the answer that a result is where n tokens were given
+-- what a result is of a source that has given n tokens
 abbrev pub line_answer_in : ℕ → Result (Unit {0}) LineProblem → yaml_token_t → Answer
 line_answer_in n (Ok done) token = Ok token
 line_answer_in n (Err problem) token = Err (line_fault problem n)

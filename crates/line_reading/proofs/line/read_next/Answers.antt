@@ -37,5 +37,5 @@ returns g c =
     let within : len.result ≤ length shown = omega (arith, all, length-take c.min.result shown) in
     let moved = Consumes_shown _ _ _ _ shown len.result within c.in_ok-available.ensures.front
     c.in_ok-available.ensures.end filled.0 filled.1 c.consume-2.ensures.bytes in
-    c.read_copied.ensures _ (subst (Consumes _ _) (shown_all shown c.min.result len.result all ∙ sym {A = List ℕ} c.in_ok-begin_line.ensures.ok)
-    moved.0)
+    c.read_copied.ensures _ (subst (Consumes _ _)
+    (shown_all shown c.min.result len.result all ∙ sym {A = List ℕ} c.in_ok-begin_line.ensures.ok) moved.0)
