@@ -1,8 +1,10 @@
 //! Runs over token lines in memory, which put as many bytes of the lines as a buffer has room for there.
-ghost use Rattle.std.specs.Prelude.{◌≡◌, ℕ, min, true};
+ghost use Rattle.std.specs.Prelude.{◌≡◌, ℕ, List, [], Some, true};
 ghost use Rattle.libyaml_types.specs.Fault.{fault_of};
+ghost use Rattle.libyaml_grammar.specs.runs.Runs.{Ending};
 ghost use Rattle.line_reading.specs.sources.NextLine.{BreaksOffAt};
-ghost use Rattle.token_lines.specs.lines.InMemory.{EndsAs, HandsOutBytes, handed_bytes};
+ghost use Rattle.token_lines.specs.lines.InMemory.{HandsOut, InMemory};
+ghost use Rattle.token_lines.specs.lines.LineRun.{Writes};
 
 mod events;
 mod nodes;
@@ -40,24 +42,16 @@ const MEMORY_TEXT: &[u8] = b"FAULT memory 0:0:0 -\n";
 
 /// Hands out what a run wrote: its bytes where it was whole, and else the text of a failed allocation.
 fn hand_out(end: &run_end_t, bytes: &[u8], out: &mut [u8]) -> memory_run_t
-    ensures outcome { EndsAs end.now result.outcome }
-    ensures bytes { HandsOutBytes (handed_bytes result.outcome bytes.now) out.old out.new result }
-{
-    let outcome = outcome_of(end);
-    match outcome {
-        memory_outcome_t::OutOfMemory => put(outcome, MEMORY_TEXT, out),
-        _ => put(outcome, bytes, out),
-    }
-}
-
-/// Returns how a run in memory ended.
-fn outcome_of(end: &run_end_t) -> memory_outcome_t
-    ensures { EndsAs end.now result }
+    ensures { (n : ℕ) (lines : List (List ℕ)) (ending : Ending)
+        → Writes (BreaksOffAt n) end.now (Some []) (Some bytes.now) lines ending
+        → InMemory lines ending out.old out.new result }
 {
     match end {
-        run_end_t::Ended => memory_outcome_t::Ended,
-        run_end_t::Faulted(fault) if !cuts_short(fault) => memory_outcome_t::Faulted,
-        _ => memory_outcome_t::OutOfMemory,
+        run_end_t::Ended => put(memory_outcome_t::Ended, bytes, out),
+        run_end_t::Faulted(fault) if !cuts_short(fault) => {
+            put(memory_outcome_t::Faulted, bytes, out)
+        }
+        _ => put(memory_outcome_t::OutOfMemory, MEMORY_TEXT, out),
     }
 }
 
@@ -73,8 +67,7 @@ fn cuts_short(fault: &yaml_parser_t_prefix) -> bool
 
 /// Puts the prefix of these bytes that `out` has room for into it.
 fn put(outcome: memory_outcome_t, bytes: &[u8], out: &mut [u8]) -> memory_run_t
-    ensures outcome { result.outcome ≡ outcome }
-    ensures bytes { HandsOutBytes bytes.now out.old out.new result }
+    ensures { HandsOut outcome bytes.now out.old out.new result }
 {
     let written = bytes.len().min(out.len());
     out[..written].copy_from_slice(&bytes[..written]);

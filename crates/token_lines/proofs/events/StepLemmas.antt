@@ -1,5 +1,5 @@
 -- What the steps of a run write of a run of events that was to come.
-use Rattle.std.proofs.Common.{◌≡◌, ◌++◌, ℕ, List, [], ◌∷◌, Option, Bool, Ok, true, false, sym, ap, ◌∙◌, subst, inl, inr}
+use Rattle.std.proofs.Common.{◌≡◌, ◌++◌, ℕ, List, [], ◌∷◌, Option, Some, Bool, Ok, true, false, sym, ap, ◌∙◌, subst, inl, inr}
 use Rattle.std.proofs.KnownBytes.{Appends-kept, Appends-trans}
 use Rattle.std.proofs.lemmas.List.{append-nil, map-append}
 use Rattle.std.specs.List.{concat}
@@ -13,7 +13,7 @@ use Rattle.libyaml_events.specs.sources.History.{is_over}
 use Rattle.libyaml_events.specs.sources.RunToCome.{FailsHere, RunToCome}
 use Rattle.libyaml_events.proofs.lent.CallsInTurn.{both_calls, one_call}
 use Rattle.libyaml_events.proofs.lent.KnownTokens.{fails_behind, further, nothing_behind_end}
-use Rattle.libyaml_grammar.specs.runs.Runs.{Ending, Ends}
+use Rattle.libyaml_grammar.specs.runs.Runs.{Ending, Ends, Fails}
 use Rattle.libyaml_types.specs.declared.fault.yaml_parser_t_prefix.{yaml_parser_t_prefix}
 use Rattle.libyaml_types.specs.Fault.{Answer, Fault, fault_of}
 use Rattle.libyaml_types.specs.Source.{Follows}
@@ -24,9 +24,10 @@ use Rattle.token_lines.specs.declared.run.RunStep.TheVariants as step
 use Rattle.token_lines.specs.events.EventRun.{event_lines}
 use Rattle.token_lines.specs.events.EventStep.{Turn}
 use Rattle.token_lines.specs.events.InTurn.{AllWritten, gave_event, failed}
-use Rattle.token_lines.specs.lines.LineRun.{WritesFault, whole, broken_off}
+use Rattle.token_lines.specs.declared.run.run_end_t.{run_end_t}
+use Rattle.token_lines.specs.lines.LineRun.{Writes, broken_off, ending_told}
 use Rattle.token_lines.proofs.events.InTurnLemmas.{texts_more}
-use Rattle.token_lines.proofs.lines.RunLemmas.{keeps_then}
+use Rattle.token_lines.proofs.lines.RunLemmas.{keeps_then, told_whole}
 
 -- Whether a parser had ended, by the event that it returned.
 module _ {S : Type 0} (old new : Parser S) (r : EventOrError) (e : yaml_event_t) where
@@ -71,34 +72,36 @@ module _ {S : Type 0} (g : Ghosts S)
         )
     all_lines (failed by wrote) kept = absurd wrote
 
-    fails_there : (f : Fault) (later : List yaml_event_t) → all ≡ w.events ++ later
-        → FailsHere (g.may_break q.source) f later ending
-        → Appends a d (concat (event_lines w.events) ++ fault_text f)
-        → WritesFault (g.may_break q.source) f a d (event_lines all) ending
-    fails_there f later split (inl e) wrote =
-        let same : w.events ≡ all = sym (split ∙ ap (λ (l : List yaml_event_t). w.events ++ l) e.0 ∙ append-nil w.events) in
-        whole e.1 (subst (λ (l : List yaml_event_t). Appends a d (concat (event_lines l) ++ fault_text f)) same wrote)
-    fails_there f later split (inr why) wrote
-        = broken_off (event_lines w.events) (event_lines later)
-        (ap event_lines split ∙ map-append event_line w.events later) why wrote
+    -- where the run tells this error
+    module _ (end : run_end_t) (f : yaml_parser_t_prefix) (is : ending_told end ≡ Some (Fails (fault_of f))) where
+      fails_there : (later : List yaml_event_t) → all ≡ w.events ++ later
+          → FailsHere (g.may_break q.source) (fault_of f) later ending
+          → Appends a d (concat (event_lines w.events) ++ fault_text (fault_of f))
+          → Writes (g.may_break q.source) end a d (event_lines all) ending
+      fails_there later split (inl e) wrote =
+          let same : w.events ≡ all = sym (split ∙ ap (λ (l : List yaml_event_t). w.events ++ l) e.0 ∙ append-nil w.events) in
+          told_whole end a d (event_lines all) (Fails (fault_of f)) ending is e.1
+          (subst (λ (l : List yaml_event_t). Appends a d (concat (event_lines l) ++ fault_text (fault_of f))) same wrote)
+      fails_there later split (inr why) wrote
+          = broken_off (fault_of f) is why (event_lines w.events) (event_lines later)
+          (ap event_lines split ∙ map-append event_line w.events later) wrote
 
-    pub lines_and_fault : (f : yaml_parser_t_prefix)
-        → Turn g.gives (step.Failed f) p q b c (r.asked ++ w.carried.more) (r.given ++ w.events)
-        → Appends c d (fault_text (fault_of f)) → WritesFault (g.may_break q.source) (fault_of f) a d
-        (event_lines all) ending
-    lines_and_fault f turn told = go turn
-      where
-        then_fault : Keeps b c → Appends a d (concat (event_lines w.events) ++ fault_text (fault_of f))
-        then_fault kept = Appends-trans a b d (concat (event_lines w.events)) (fault_text (fault_of f)) w.wrote
-            (keeps_then b c d (fault_text (fault_of f)) kept told)
+      pub lines_and_fault : Turn g.gives (step.Failed f) p q b c (r.asked ++ w.carried.more) (r.given ++ w.events)
+          → Appends c d (fault_text (fault_of f)) → Writes (g.may_break q.source) end a d (event_lines all) ending
+      lines_and_fault turn told = go turn
+        where
+          then_fault : Keeps b c → Appends a d (concat (event_lines w.events) ++ fault_text (fault_of f))
+          then_fault kept = Appends-trans a b d (concat (event_lines w.events)) (fault_text (fault_of f)) w.wrote
+              (keeps_then b c d (fault_text (fault_of f)) kept told)
 
-        go : Turn g.gives (step.Failed f) p q b c (r.asked ++ w.carried.more) (r.given ++ w.events)
-            → WritesFault (g.may_break q.source) (fault_of f) a d (event_lines all) ending
-        go (gave_event e on wrote) =
-            let rest = further g follows first p all ending r w.carried.more w.events w.carried.gave w.carried.history in
-            fails_there (fault_of f) rest.later rest.all (inr (inl wrote.0)) (then_fault wrote.1)
-        go (failed by wrote) =
-            let rest = fails_behind g follows first p q all ending r w.carried.more w.events w.carried.gave w.carried.history by in
-            fails_there (fault_of f) rest.0 rest.1
-            (subst (λ (v : Fault). FailsHere (g.may_break q.source) v rest.0 ending) (sym wrote.0) rest.2)
-            (then_fault wrote.1)
+          go : Turn g.gives (step.Failed f) p q b c (r.asked ++ w.carried.more) (r.given ++ w.events)
+              → Writes (g.may_break q.source) end a d (event_lines all) ending
+          go (gave_event e on wrote) =
+              let rest = further g follows first p all ending r w.carried.more w.events w.carried.gave w.carried.history in
+              fails_there rest.later rest.all (inr (inl wrote.0)) (then_fault wrote.1)
+          go (failed by wrote) =
+              let rest = fails_behind g follows first p q all ending r w.carried.more w.events w.carried.gave
+              w.carried.history by in
+              fails_there rest.0 rest.1
+              (subst (λ (v : Fault). FailsHere (g.may_break q.source) v rest.0 ending) (sym wrote.0) rest.2)
+              (then_fault wrote.1)

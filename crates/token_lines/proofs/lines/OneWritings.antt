@@ -1,7 +1,6 @@
 -- Two outcomes of one `write_events` over any source wrote the same.
-use Rattle.std.proofs.Common.{◌≡◌, ◌⊎◌, inl, inr, ℕ, List, [], ◌∷◌, ◌++◌, Option, None, Some, Ok, refl, sym, ap, ap₂, ◌∙◌, subst, append_assoc}
+use Rattle.std.proofs.Common.{◌≡◌, ◌⊎◌, inl, inr, ℕ, List, [], ◌∷◌, ◌++◌, Option, None, Some, Ok, refl, sym, ap, ap₂, ◌∙◌, subst}
 use Rattle.std.proofs.KnownBytes.{Appends-trans}
-use Rattle.std.proofs.lemmas.List.{append-nil}
 use Rattle.std.specs.List.{concat}
 use Rattle.std.specs.Io.KnownBytes.{Appends, Keeps}
 use Rattle.libyaml_types.specs.declared.event.yaml_event_t.{yaml_event_t}
@@ -16,7 +15,6 @@ use Rattle.libyaml_events.proofs.lent.OneOutcome.{front_same}
 use Rattle.libyaml_events.proofs.lent.RunStops.{RunStop, answers_both, ended_stop, grammar_stop, one_run_by_answers, source_stop}
 use Rattle.libyaml_events.proofs.lent.Histories as histories
 use Rattle.libyaml_grammar.specs.runs.Runs.{Ending, Ends, Fails}
-use Rattle.libyaml_grammar.proofs.lent.Same.{fault_same}
 use Rattle.libyaml_types.specs.Fault.{Answer, memory_fault}
 use Rattle.libyaml_types.specs.declared.fault.yaml_parser_t_prefix.{yaml_parser_t_prefix}
 use Rattle.line_writing.specs.EventText.{event_line}
@@ -28,9 +26,10 @@ use Rattle.token_lines.specs.declared.run.run_end_t.TheVariants.{Ended, Faulted,
 use Rattle.token_lines.specs.events.EventRun.{event_lines}
 use Rattle.token_lines.specs.events.InTurn.{CallSays, failed, gave_event}
 use Rattle.token_lines.specs.events.LastCall.{LastCall, NothingLeft, WroteForEvent}
-use Rattle.token_lines.specs.lines.LineRun.{WroteFault, outcome_of}
+use Rattle.token_lines.specs.lines.LineRun.{WroteFault, outcome_by, outcome_of, run_bytes}
 use Rattle.token_lines.specs.lines.OneOutput.{BrokeOff, OneOutput, alike, first_breaks, output_failed, second_breaks}
 use Rattle.token_lines.specs.lines.OneWriting.{BreaksOffByNone, results_in_call, writing_results_of}
+use Rattle.token_lines.proofs.events.InTurnLemmas.{texts_more}
 use Rattle.token_lines.proofs.lines.OneOutputs.{same_bytes}
 
 -- results that begin one another, after the same tokens
@@ -49,20 +48,13 @@ after_asked asked m n x y o
     (subst (OneBegins (answers asked (answers m x))) (answers_both asked n y)
     (both_after asked (answers m x) (answers n y) o))
 
-line_after : (events : List yaml_event_t) (e : yaml_event_t)
-    → concat (event_lines (events ++ e ∷ [])) ≡ concat (event_lines events) ++ event_line e
-line_after [] e = append-nil (event_line e)
-line_after (d ∷ events) e = ap (λ (l : List ℕ). event_line d ++ l) (line_after events e)
-    ∙ sym (append_assoc (event_line d) (concat (event_lines events)) (event_line e))
-
 pub nothing_needed : (l : List yaml_token_t) (g : List yaml_event_t) → EachNeeded l [] g
 nothing_needed l g [] x later e = absurd cc
 nothing_needed l g (t ∷ front) x later e = absurd cc
 
 -- what was written of these lines and an ending
 abbrev pub Wrote : Ending → Outcome → (lines : List (List ℕ)) → (before after : Option (List ℕ)) → Type 0
-Wrote Ends o lines before after = (o ≡ outcome.Ended) × Appends before after (concat lines)
-Wrote (Fails f) o lines before after = (o ≡ outcome.Faulted) × Appends before after (concat lines ++ fault_text f)
+Wrote x o lines before after = (o ≡ outcome_by (Some x)) × Appends before after (run_bytes lines x)
 
 module _ {S W : Type 0} (gives : S → Answer → S → Type 0) (contents : W → Option (List ℕ))
     (old : Parser S)
@@ -94,7 +86,7 @@ module _ {S W : Type 0} (gives : S → Answer → S → Type 0) (contents : W �
         (ended_stop (asked ++ k.more) [] (given ++ all) none
         (histories.whole last (c.ends ∙ w.0) (asked ++ k.more) (given ++ all) k.history)) (
           refl,
-          subst (Appends before after) (sym (line_after o.earlier.events e))
+          subst (Appends before after) (texts_more event_line gives o.earlier.events e)
               (Appends-trans before (contents o.writer) after (concat (event_lines o.earlier.events))
               (event_line e) o.earlier.wrote w.1),
         )
@@ -163,14 +155,9 @@ module _ {S W : Type 0} (gives : S → Answer → S → Type 0) (contents : W �
 pub both_wrote : (x y : Ending) (o u : Outcome) (d e : List (List ℕ)) (written : List ℕ)
     (after later : Option (List ℕ)) → x ≡ y → d ≡ e
     → Wrote x o d (Some written) after → Wrote y u e (Some written) later → (o ≡ u) × (after ≡ later)
-both_wrote Ends Ends o u d e written after later i j g h =
-    (g.0 ∙ sym h.0, same_bytes written after later (concat d) (concat e) (ap concat j) g.1 h.1)
-both_wrote Ends (Fails f) o u d e written after later i j g h = absurd cc
-both_wrote (Fails f) Ends o u d e written after later i j g h = absurd cc
-both_wrote (Fails f) (Fails k) o u d e written after later i j g h = (
-  g.0 ∙ sym h.0,
-  same_bytes written after later (concat d ++ fault_text f) (concat e ++ fault_text k)
-      (ap₂ (λ l z. concat l ++ fault_text z) j (fault_same f k i)) g.1 h.1,
+both_wrote x y o u d e written after later i j g h = (
+  g.0 ∙ ap (λ (z : Ending). outcome_by (Some z)) i ∙ sym h.0,
+  same_bytes written after later (run_bytes d x) (run_bytes e y) (ap₂ run_bytes j i) g.1 h.1,
 )
 
 pub one_writing_proof : {S W : Type 0} (gives : S → Answer → S → Type 0) (contents : W → Option (List ℕ))

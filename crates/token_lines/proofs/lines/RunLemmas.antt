@@ -2,12 +2,12 @@
 use Rattle.std.proofs.Common.{◌≡◌, ◌⊎◌, ◌++◌, ℕ, List, Option, Some, None, refl, sym, ap, ◌∙◌, subst, inl, inr}
 use Rattle.std.specs.List.{concat}
 use Rattle.std.specs.Io.KnownBytes.{Appends, Keeps}
-use Rattle.libyaml_grammar.specs.runs.Runs.{Ending, Ends}
+use Rattle.libyaml_grammar.specs.runs.Runs.{Ending, Ends, Fails}
 use Rattle.libyaml_types.specs.Fault.{Fault}
 use Rattle.line_writing.specs.FaultText.{fault_text}
 use Rattle.token_lines.specs.declared.run.run_end_t.{run_end_t}
 use Rattle.token_lines.specs.declared.run.run_end_t.TheVariants.{Ended, Faulted, OutputFailed}
-use Rattle.token_lines.specs.lines.LineRun.{Writes, WritesFault, WroteFault}
+use Rattle.token_lines.specs.lines.LineRun.{Writes, WroteFault, ending_told, output_failed, run_bytes, whole}
 
 pub keeps_then : (b c d : Option (List ℕ)) (bs : List ℕ) → Keeps b c → Appends c d bs → Appends b d bs
 keeps_then None c d bs k h = tt
@@ -15,22 +15,26 @@ keeps_then (Some x) None d bs k h = absurd k
 keeps_then (Some x) (Some y) None bs k h = absurd h
 keeps_then (Some x) (Some y) (Some z) bs k h = h ∙ ap (λ l. l ++ bs) k
 
+-- all was written, by a run that told this ending
+pub told_whole : {MayBreak : Fault → Type 0} (r : run_end_t) (a b : Option (List ℕ)) (lines : List (List ℕ))
+    (told ending : Ending) → ending_told r ≡ Some told → ending ≡ told → Appends a b (run_bytes lines told)
+    → Writes MayBreak r a b lines ending
+told_whole r a b lines told ending is e h =
+    whole (is ∙ ap Some (sym e)) (subst (λ (x : Ending). Appends a b (run_bytes lines x)) (sym e) h)
+
 pub writes_ended : (MayBreak : Fault → Type 0) (r : run_end_t) (a b : Option (List ℕ)) (lines : List (List ℕ))
     (ending : Ending) → (r ≡ Ended)
     ⊎ (r ≡ OutputFailed) → (ending ≡ Ends) × Appends a b (concat lines) → Writes MayBreak r a b lines ending
-writes_ended MayBreak Ended a b lines ending e h = h
-writes_ended MayBreak (Faulted f) a b lines ending (inl e) h = cc
-writes_ended MayBreak (Faulted f) a b lines ending (inr e) h = cc
-writes_ended MayBreak OutputFailed a b lines ending e h = tt
+writes_ended MayBreak r a b lines ending (inl e) h = told_whole r a b lines Ends ending (ap ending_told e) h.0 h.1
+writes_ended MayBreak r a b lines ending (inr e) h = output_failed e
 
 pub writes_faulted : (MayBreak : Fault → Type 0) (r : run_end_t) (f : Fault) (a b c : Option (List ℕ))
-    (lines : List (List ℕ)) (ending : Ending)
-    → WroteFault r f b c → (Appends b c (fault_text f) → WritesFault MayBreak f a c lines ending)
+    (lines : List (List ℕ)) (ending : Ending) → WroteFault r f b c
+    → (ending_told r ≡ Some (Fails f) → Appends b c (fault_text f) → Writes MayBreak r a c lines ending)
     → Writes MayBreak r a c lines ending
 writes_faulted MayBreak Ended f a b c lines ending wrote h = absurd wrote
-writes_faulted MayBreak (Faulted told) f a b c lines ending wrote h
-    = subst (λ (g : Fault). WritesFault MayBreak g a c lines ending) (sym wrote.0) (h wrote.1)
-writes_faulted MayBreak OutputFailed f a b c lines ending wrote h = tt
+writes_faulted MayBreak (Faulted told) f a b c lines ending wrote h = h (ap (λ (g : Fault). Some (Fails g)) wrote.0) wrote.1
+writes_faulted MayBreak OutputFailed f a b c lines ending wrote h = output_failed refl
 
 pub Keeps-same : (a : Option (List ℕ)) → Keeps a a
 Keeps-same None = tt

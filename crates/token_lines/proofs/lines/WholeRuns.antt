@@ -1,37 +1,41 @@
 -- That a run in memory which tells its end wrote all that belongs to it.
-use Rattle.std.proofs.Common.{◌≡◌, ◌⊎◌, ℕ, List, [], Some, refl, sym, subst, inl, inr}
-use Rattle.libyaml_types.specs.Fault.{Fault, fault_of, memory_fault}
-use Rattle.libyaml_grammar.specs.runs.Runs.{Ending}
+use Rattle.std.proofs.Common.{◌≡◌, ◌⊎◌, ℕ, List, [], Option, Some, None, sym, ap, ap₂, ◌∙◌, subst, inl, inr}
+use Rattle.libyaml_types.specs.Fault.{Fault, memory_fault}
+use Rattle.libyaml_grammar.specs.runs.Runs.{Ending, Fails}
 use Rattle.line_reading.specs.sources.NextLine.{BreaksOffAt}
 use Rattle.token_lines.specs.declared.memory.memory_outcome_t.{memory_outcome_t}
-use Rattle.token_lines.specs.declared.memory.memory_outcome_t.TheVariants as memory
+use Rattle.token_lines.specs.declared.memory.memory_run_t.{memory_run_t}
 use Rattle.token_lines.specs.declared.run.run_end_t.{run_end_t}
-use Rattle.token_lines.specs.declared.run.run_end_t.TheVariants.{Ended, Faulted, OutputFailed}
-use Rattle.token_lines.specs.lines.InMemory.{EndsAs, Has, handed_bytes}
-use Rattle.token_lines.specs.lines.LineRun.{Writes, whole, broken_off}
+use Rattle.token_lines.specs.lines.InMemory.{HandsOut, InMemory, filled, outcome_told, run_told}
+use Rattle.token_lines.specs.lines.LineRun.{Writes, broken_off, ending_told, output_failed, whole}
 
 breaks_off : (n : ℕ) (f : Fault) → (f ≡ memory_fault) ⊎ BreaksOffAt n f → BreaksOffAt n f
 breaks_off n f (inl is) = inl is
 breaks_off n f (inr breaks) = breaks
 
-has : (n : ℕ) (end : run_end_t) (outcome : memory_outcome_t) (bytes : List ℕ) (lines : List (List ℕ))
-    (ending : Ending) → EndsAs end outcome
-    → Writes (BreaksOffAt n) end (Some []) (Some bytes) lines ending → Has outcome lines ending (handed_bytes outcome bytes)
-has n end memory.OutOfMemory bytes lines ending e w = refl
-has n Ended memory.Ended bytes lines ending e w = w
-has n (Faulted f) memory.Faulted bytes lines ending e (whole is wrote) = (fault_of f, is, wrote)
-has n (Faulted f) memory.Faulted bytes lines ending e (broken_off start rest all why wrote) =
-    absurd (e n (breaks_off n (fault_of f) why))
-has n Ended memory.Faulted bytes lines ending e w = absurd e
-has n (Faulted f) memory.Ended bytes lines ending e w = absurd e
-has n OutputFailed memory.Ended bytes lines ending e w = absurd e
-has n OutputFailed memory.Faulted bytes lines ending e w = absurd e
+same : (x y : Ending) → ◌≡◌ {A = Option Ending} (Some x) (Some y) → x ≡ y
+same x y e = cc
 
--- the bytes of a run that began with nothing written, of which a slice has those that were written
-pub has_bytes : (n : ℕ) (end : run_end_t) (outcome : memory_outcome_t) (old written bytes : List ℕ)
-    (lines : List (List ℕ)) (ending : Ending) → old ≡ []
-    → bytes ≡ written → EndsAs end outcome → Writes (BreaksOffAt n) end (Some old) (Some written) lines ending
-    → Has outcome lines ending (handed_bytes outcome bytes)
-has_bytes n end outcome old written bytes lines ending none same e w = has n end outcome bytes lines ending e
-    (subst (λ (b : List ℕ). Writes (BreaksOffAt n) end (Some []) (Some b) lines ending) (sym same)
-    (subst (λ (b : List ℕ). Writes (BreaksOffAt n) end (Some b) (Some written) lines ending) none w))
+none : (x : Ending) → ◌≡◌ {A = Option Ending} (Some x) None → ⊥
+none x e = cc
+
+-- the bytes of a run that began with nothing written were handed out, and it told this ending
+pub in_memory : (n : ℕ) (end : run_end_t) (x : Ending) → ending_told end ≡ Some x
+    → ((f : Fault) → x ≡ Fails f → BreaksOffAt n f → ⊥) → (bytes old new : List ℕ) (run : memory_run_t)
+    → HandsOut (outcome_told x) bytes old new run → (lines : List (List ℕ)) (ending : Ending)
+    → Writes (BreaksOffAt n) end (Some []) (Some bytes) lines ending → InMemory lines ending old new run
+in_memory n end x is other bytes old new run h lines ending (whole e wrote) = inl (
+  h.0 ∙ ap₂ (λ (o : memory_outcome_t) (b : List ℕ). run_told o b old) (ap outcome_told (same x ending (sym is ∙ e))) wrote,
+  h.1 ∙ ap (λ (b : List ℕ). filled b old) wrote,
+)
+in_memory n end x is other bytes old new run h lines ending (broken_off f e why written rest all wrote) =
+    absurd (other f (same x (Fails f) (sym is ∙ e)) (breaks_off n f why))
+in_memory n end x is other bytes old new run h lines ending (output_failed e) = absurd (none x (sym is ∙ ap ending_told e))
+
+-- a slice has the bytes that were written
+pub as_slice : (MayBreak : Fault → Type 0) (end : run_end_t) (old written bytes : List ℕ) (lines : List (List ℕ))
+    (ending : Ending) → old ≡ [] → bytes ≡ written
+    → Writes MayBreak end (Some old) (Some written) lines ending → Writes MayBreak end (Some []) (Some bytes) lines ending
+as_slice MayBreak end old written bytes lines ending none same w =
+    subst (λ (b : List ℕ). Writes MayBreak end (Some []) (Some b) lines ending) (sym same)
+    (subst (λ (b : List ℕ). Writes MayBreak end (Some b) (Some written) lines ending) none w)

@@ -1,8 +1,9 @@
 -- How a run's steps write each document in its turn.
-use Rattle.std.proofs.Common.{◌≡◌, ◌≢◌, ◌⊎◌, ◌++◌, ◌∷◌, ◌==◌, ℕ, ℤ, List, [], length, Option, Some, None, Bool, true, false, Ok, Err, sym, ap, ◌∙◌, subst, inl, inr, append_assoc}
+use Rattle.std.proofs.Common.{◌≡◌, ◌≢◌, ◌⊎◌, ◌++◌, ◌∷◌, ◌==◌, ℕ, ℤ, List, [], length, Option, Some, None, Bool, true, false, Ok, Err, sym, ap, ◌∙◌, subst, inl, inr}
 use Rattle.std.proofs.KnownBytes.{Appends-nil, Appends-trans}
 use Rattle.std.proofs.lemmas.Bool.{eqb-true}
 use Rattle.std.proofs.lemmas.List.{append-nil, nil_from_length}
+use Rattle.std.proofs.lemmas.List.Concat.{flat_map-append}
 use Rattle.std.proofs.lemmas.List.Folds.{concat-append}
 use Rattle.std.specs.List.{concat, flat_map}
 use Rattle.std.specs.Io.KnownBytes.{Appends, Keeps}
@@ -73,12 +74,10 @@ module _ {S : Type 0} (g : Ghosts S) (n : ℕ) where
 
   texts_more : (ds : List Document) (d : Document)
       → concat (flat_map document_lines ds) ++ concat (document_lines d) ≡ concat (flat_map document_lines (ds ++ d ∷ []))
-  texts_more [] d = ap concat (sym (append-nil (document_lines d)))
-  texts_more (e ∷ ds) d =
-      ap (λ (l : List ℕ). l ++ concat (document_lines d)) (concat-append (document_lines e) (flat_map document_lines ds))
-      ∙ append_assoc (concat (document_lines e)) (concat (flat_map document_lines ds)) (concat (document_lines d))
-      ∙ ap (λ (l : List ℕ). concat (document_lines e) ++ l) (texts_more ds d)
-      ∙ sym (concat-append (document_lines e) (flat_map document_lines (ds ++ d ∷ [])))
+  texts_more ds d =
+      sym (ap concat (flat_map-append document_lines ds (d ∷ [])
+      ∙ ap (λ (l : List (List ℕ)). flat_map document_lines ds ++ l) (append-nil (document_lines d)))
+      ∙ concat-append (flat_map document_lines ds) (document_lines d))
 
   pub one_loaded : (first p q : Parser S) (a b c : Option (List ℕ)) (asked : List yaml_token_t)
       (given : List yaml_event_t) → AllLoaded g.gives n first p a b asked given

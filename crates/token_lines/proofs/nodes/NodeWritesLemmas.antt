@@ -1,5 +1,5 @@
 -- What a run over documents wrote, by its loads in their turn.
-use Rattle.std.proofs.Common.{◌≡◌, ◌≢◌, ◌⊎◌, ◌++◌, ◌∷◌, ℕ, List, [], All, map, Option, Ok, Err, refl, sym, ap, ◌∙◌, subst, inl, inr, append_assoc}
+use Rattle.std.proofs.Common.{◌≡◌, ◌≢◌, ◌⊎◌, ◌++◌, ◌∷◌, ℕ, List, [], All, map, Option, Some, Ok, Err, refl, sym, ap, ◌∙◌, subst, inl, inr, append_assoc}
 use Rattle.std.proofs.KnownBytes.{Appends-kept, Appends-trans}
 use Rattle.std.proofs.lemmas.List.{append-nil}
 use Rattle.std.proofs.lemmas.List.Elements.{All-head, All-tail}
@@ -14,7 +14,7 @@ use Rattle.libyaml_events.specs.sources.History.{kept_fault}
 use Rattle.libyaml_events.specs.sources.RunToCome.{RestOfRun, RunToCome}
 use Rattle.libyaml_events.proofs.lent.KnownTokens.{further}
 use Rattle.libyaml_grammar.proofs.lent.NestingSoFar.{run_nests_so_far}
-use Rattle.libyaml_grammar.specs.runs.Runs.{Ending}
+use Rattle.libyaml_grammar.specs.runs.Runs.{Ending, Ends, Fails}
 use Rattle.libyaml_types.specs.Fault.{Answer, Fault, memory_fault}
 use Rattle.libyaml_types.specs.Source.{Follows}
 use Rattle.libyaml_types.specs.declared.source.yaml_token_source_t.{Ghosts}
@@ -31,9 +31,10 @@ use Rattle.line_writing.specs.DocumentText.{document_lines}
 use Rattle.line_writing.specs.FaultText.{fault_text}
 use Rattle.token_lines.specs.declared.run.run_end_t.{run_end_t}
 use Rattle.token_lines.specs.declared.run.run_end_t.TheVariants.{Ended, Faulted, OutputFailed}
-use Rattle.token_lines.specs.lines.LineRun.{WritesFault, broken_off, whole}
+use Rattle.token_lines.specs.lines.LineRun.{broken_off, ending_told, output_failed}
 use Rattle.token_lines.specs.nodes.LastLoad.{LastLoad, WroteForLoad}
 use Rattle.token_lines.specs.nodes.NodeRun.{WritesLoads, lines_with, loads_ending, loads_lines}
+use Rattle.token_lines.proofs.lines.RunLemmas.{told_whole}
 
 lines_with_nodes : (ns : List yaml_node_t) (lines : List (List ℕ)) → ns ≢ [] → lines_with ns lines ≡ lines
 lines_with_nodes [] lines h = absurd (h refl)
@@ -62,7 +63,7 @@ lines_of (d ∷ ds) h l =
     ∙ ap (λ (x : List (List ℕ)). document_lines d ++ x) (lines_of ds (All-tail HasRoot d ds h) l)
     ∙ sym (append_assoc (document_lines d) (flat_map document_lines ds) (loads_lines l))
 
-ending_of : (ds : List Document) (l : List Load) → loads_ending (map Ok ds ++ l) ≡ loads_ending l
+pub ending_of : (ds : List Document) (l : List Load) → loads_ending (map Ok ds ++ l) ≡ loads_ending l
 ending_of [] l = refl
 ending_of (d ∷ ds) l = ending_of ds l
 
@@ -99,14 +100,17 @@ module _ {S W : Type 0} (g : Ghosts S)
       (sym (append_assoc (concat earlier) (concat ls) bs) ∙ ap (λ (x : List ℕ). x ++ bs) (sym (concat-append earlier ls)))
       (Appends-trans before (contents l.writer) after (concat earlier) (concat ls ++ bs) l.earlier.wrote h)
 
-  abbrev Told : Fault → Type 0
-  Told f = WritesFault (g.may_break last.source) f before after (loads_lines loads) (loads_ending loads)
+  abbrev tells : Fault → Option Ending
+  tells f = Some (Fails f)
 
-  cut : (f : Fault) → (f ≡ memory_fault) ⊎ g.may_break last.source f → (ls more : List (List ℕ))
-      → loads_lines later ≡ ls ++ more
-      → Appends (contents l.writer) after (concat ls ++ fault_text f) → Told f
-  cut f why ls more is wrote = broken_off (earlier ++ ls) more
-      (lines ∙ ap (λ (x : List (List ℕ)). earlier ++ x) is ∙ sym (append_assoc earlier ls more)) why
+  abbrev Wrote : run_end_t → Type 0
+  Wrote end = WritesLoads (g.may_break last.source) end before after loads
+
+  cut : (end : run_end_t) (f : Fault) → ending_told end ≡ Some (Fails f) → (f ≡ memory_fault) ⊎ g.may_break last.source f
+      → (ls more : List (List ℕ)) → loads_lines later ≡ ls ++ more
+      → Appends (contents l.writer) after (concat ls ++ fault_text f) → Wrote end
+  cut end f told why ls more is wrote = broken_off f told why (earlier ++ ls) more
+      (lines ∙ ap (λ (x : List (List ℕ)). earlier ++ x) is ∙ sym (append_assoc earlier ls more))
       (wrote_then ls (fault_text f) wrote)
 
   follow : RootsFollow rest.later
@@ -117,33 +121,31 @@ module _ {S W : Type 0} (g : Ghosts S)
       (run_nests_so_far (r.asked ++ r.rest) r.fault (r.given ++ rest.later) ending r.run))
 
   go : (end : run_end_t) (r : DocumentOrError) → LoadOfRun g (next_bounded n) left_over r last rest.later ending
-      → WroteForLoad end r (kept_fault last) (contents l.writer) after
-      → WritesLoads (g.may_break last.source) end before after loads
+      → WroteForLoad end r (kept_fault last) (contents l.writer) after → Wrote end
   go Ended (Ok d) load wrote =
       let only = last_of rest.later ending n d follow load.0 wrote.0 in
       let none = lines ∙ ap (λ (x : List (List ℕ)). earlier ++ x) (no_lines later d only.0 wrote.0)
-      ∙ append-nil earlier in (
-        ends ∙ ap loads_ending only.0,
-        subst (λ (x : List (List ℕ)). Appends before after (concat x)) (sym none)
-            (Appends-kept before (contents l.writer) after (concat earlier) l.earlier.wrote wrote.1),
-      )
+      ∙ append-nil earlier in
+      told_whole Ended before after (loads_lines loads) Ends (loads_ending loads) refl (ends ∙ ap loads_ending only.0)
+      (subst (λ (x : List (List ℕ)). Appends before after (concat x)) (sym none)
+      (Appends-kept before (contents l.writer) after (concat earlier) l.earlier.wrote wrote.1))
   go (Faulted f) (Ok d) load (memory, some, text) =
       let more = loads_lines (bounded_loads n (left_over rest.later) ending) in
       let is = first_lines later (bounded_loads n (left_over rest.later) ending) d
       (earlier_of rest.later ending n d load.0 some) some
       ∙ ap (λ (x : List (List ℕ)). x ++ more) text.all ∙ append_assoc text.written (text.line ∷ text.rest) more in
-      subst Told (sym memory) (cut memory_fault (inl refl) text.written ((text.line ∷ text.rest) ++ more) is text.wrote)
-  go OutputFailed (Ok d) load wrote = tt
+      cut (Faulted f) memory_fault (ap tells memory) (inl refl) text.written ((text.line ∷ text.rest) ++ more) is text.wrote
   go Ended (Err x) load wrote = absurd wrote
   go (Faulted f) (Err x) (inl is) wrote =
       let only = roots.fault_of rest.later ending n (kept_fault last) is in
       let none = lines ∙ ap (λ (x : List Load). earlier ++ loads_lines x) only in
-      subst Told (sym wrote.0) (whole (ends ∙ ap loads_ending only)
+      told_whole (Faulted f) before after (loads_lines loads) (Fails (kept_fault last)) (loads_ending loads)
+      (ap tells wrote.0) (ends ∙ ap loads_ending only)
       (subst (λ (x : List (List ℕ)). Appends before after (concat x ++ fault_text (kept_fault last))) (sym none)
-      (wrote_then [] (fault_text (kept_fault last)) wrote.1)))
+      (wrote_then [] (fault_text (kept_fault last)) wrote.1))
   go (Faulted f) (Err x) (inr why) wrote =
-      subst Told (sym wrote.0) (cut (kept_fault last) why [] (loads_lines later) refl wrote.1)
-  go OutputFailed (Err x) load wrote = tt
+      cut (Faulted f) (kept_fault last) (ap tells wrote.0) why [] (loads_lines later) refl wrote.1
+  go OutputFailed r load wrote = output_failed refl
 
   pub writes_loads_so : WritesLoads (g.may_break last.source) result before after loads
   writes_loads_so = go result l.loaded (load_of_run g (next_bounded n) left_over l.parser last l.loaded rest.later

@@ -10,7 +10,7 @@ ghost use Rattle.token_lines.specs.declared.run.Outcome.{Outcome};
 ghost use Rattle.token_lines.specs.declared.run.run_end_t.{run_end_t};
 ghost use Rattle.token_lines.specs.events.LastCall.{LastCall, NothingLeft, RunsOver};
 ghost use Rattle.token_lines.specs.declared.memory.memory_run_t.{memory_run_t};
-ghost use Rattle.token_lines.specs.lines.InMemory.{InMemory, has_events, has_nodes};
+ghost use Rattle.token_lines.specs.lines.InMemory.{EventsInMemory, NodesInMemory};
 ghost use Rattle.token_lines.specs.lines.LineRun.{outcome_of};
 ghost use Rattle.token_lines.specs.lines.OneInMemory.{OneInMemory};
 ghost use Rattle.token_lines.specs.lines.OneOutput.{OneOutput};
@@ -72,9 +72,9 @@ pub fn one_writing_of_nodes<S: yaml_token_source_t, W: Write>()
 /// what is told and the buffer are the same, unless memory ran out in one of them.
 pub fn one_run_in_memory()
     ensures events { (tokens old after later : List ℕ) (max : ℕ) (first second : memory_run_t)
-        → InMemory (has_events tokens max) old after first → InMemory (has_events tokens max) old later second
+        → EventsInMemory tokens max old after first → EventsInMemory tokens max old later second
         → OneInMemory first second after later }
     ensures nodes { (tokens old after later : List ℕ) (max : ℕ) (first second : memory_run_t)
-        → InMemory (has_nodes tokens max) old after first → InMemory (has_nodes tokens max) old later second
+        → NodesInMemory tokens max old after first → NodesInMemory tokens max old later second
         → OneInMemory first second after later }
 {}

@@ -1,5 +1,5 @@
 //! The lines of events, in memory.
-ghost use Rattle.token_lines.specs.lines.InMemory.{InMemory, has_events};
+ghost use Rattle.token_lines.specs.lines.InMemory.{EventsInMemory};
 
 use super::{hand_out, memory_run_t};
 use crate::run::write_events;
@@ -18,7 +18,7 @@ pub fn events_in_memory(
     out: &mut [u8],
     max_tokens: u64,
 ) -> memory_run_t
-    ensures { InMemory (has_events tokens.now max_tokens) out.old out.new result }
+    ensures { EventsInMemory tokens.now max_tokens out.old out.new result }
 {
     let source = yaml_line_source_t::new(alloc, tokens, max_tokens);
     let mut parser = yaml_parser_initialize(alloc, source);

@@ -1,5 +1,5 @@
 //! The lines of documents and their nodes, in memory.
-ghost use Rattle.token_lines.specs.lines.InMemory.{InMemory, has_nodes};
+ghost use Rattle.token_lines.specs.lines.InMemory.{NodesInMemory};
 
 use super::{hand_out, memory_run_t};
 use crate::run::write_nodes;
@@ -15,7 +15,7 @@ pub fn nodes_in_memory(
     out: &mut [u8],
     max_tokens: u64,
 ) -> memory_run_t
-    ensures { InMemory (has_nodes tokens.now max_tokens) out.old out.new result }
+    ensures { NodesInMemory tokens.now max_tokens out.old out.new result }
 {
     let source = yaml_line_source_t::new(alloc, tokens, max_tokens);
     let mut parser = yaml_parser_initialize(alloc, source);

@@ -1,9 +1,20 @@
-use Rattle.std.proofs.Common.{sym, ◌∙◌, subst}
-use Rattle.token_lines.specs.lines.InMemory.{HandsOutBytes, handed_bytes}
-use Rattle.token_lines.specs.declared.memory.memory_outcome_t.{memory_outcome_t}
+use Rattle.std.proofs.Common.{ap, sym, subst}
+use Rattle.libyaml_types.specs.Fault.{fault_of}
+use Rattle.libyaml_grammar.specs.runs.Runs.{Ends, Fails}
+use Rattle.libyaml_grammar.proofs.lent.Same.{fault_same}
+use Rattle.line_reading.specs.sources.NextLine.{BreaksOffAt}
+use Rattle.token_lines.specs.lines.LineRun.{ending_told}
+use Rattle.token_lines.proofs.lines.WholeRuns.{in_memory}
 use Rattle.token_lines.proofs.memory.hand_out.Goals as goal
 
-pub returns-in-OutOfMemory-clause-bytes : goal.returns-in-OutOfMemory-clause-bytes
-returns-in-OutOfMemory-clause-bytes c =
-    subst (λ (o : memory_outcome_t). HandsOutBytes (handed_bytes o c.args.bytes.now) c.args.out.now c.put.new.out c.put.result)
-    (sym (c.put.ensures.outcome ∙ c.in-OutOfMemory.is)) c.put.ensures.bytes
+pub returns-in-Ended : goal.returns-in-Ended
+returns-in-Ended c n = in_memory n c.args.end.now Ends (ap ending_told c.in-Ended.is) (λ f e. absurd cc)
+    c.args.bytes.now c.args.out.now c.put.new.out c.put.result c.put.ensures
+
+pub returns-in-Faulted : goal.returns-in-Faulted
+returns-in-Faulted c n = in_memory n c.args.end.now (Fails (fault_of c.in-Faulted.fault)) (ap ending_told c.in-Faulted.is)
+    (λ f e breaks. absurd (cc (
+      c.cuts_short.ensures n (subst (BreaksOffAt n) (sym (fault_same _ f e)) breaks),
+      c.if-not-cuts_short.true,
+    )))
+    c.args.bytes.now c.args.out.now c.put-in-Faulted.new.out c.put-in-Faulted.result c.put-in-Faulted.ensures

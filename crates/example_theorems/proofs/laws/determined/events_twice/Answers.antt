@@ -1,5 +1,5 @@
 use Rattle.std.proofs.Common.{subst}
-use Rattle.token_lines.specs.lines.InMemory.{InMemory, has_events}
+use Rattle.token_lines.specs.lines.InMemory.{EventsInMemory}
 use Rattle.example_theorems.proofs.laws.determined.events_twice.Goals as goal
 
 pub returns : goal.returns
@@ -10,4 +10,4 @@ returns c =
     let max = c.args.max_tokens in
     let first = c.args.first.now in
     c.one_run_in_memory.ensures.events tokens first one.new.out other.new.out max one.result other.result one.ensures
-    (subst (λ old. InMemory (has_events tokens max) old other.new.out other.result) c.requires other.ensures)
+    (subst (λ old. EventsInMemory tokens max old other.new.out other.result) c.requires other.ensures)

@@ -60,7 +60,7 @@ returns-in-Failed-clause-writes g c events ending run =
     let after = contents c.faulted.new.writer in
     writes_faulted may_break c.faulted.result (fault_of fault) before (contents c.write_next.new.writer) after
     (event_lines events) ending c.faulted.ensures
-    (λ told. either_way (is_over first)
+    (λ is told. either_way (is_over first)
     (λ (over : is_over first ≡ true). failed_no_end fault
     (c.in-Failed.ensures.ended (ap is_over (at.invariant.ended over).0 ∙ over)).0)
     (λ (running : is_over first ≡ false).
@@ -68,7 +68,7 @@ returns-in-Failed-clause-writes g c events ending run =
     lines_and_fault t g.met.S.yaml_token_source_t.follows first at.parser c.write_next.new.parser before
     (contents at.writer)
     (contents c.write_next.new.writer) after events
-    ending run w fault
+    ending run w c.faulted.result fault is
     (c.in-Failed.ensures.turn w.running (run.asked ++ w.carried.more) (run.given ++ w.events) w.carried.history) told))
 
 pub loop-writer-init : goal.loop-writer-init
