@@ -3,7 +3,7 @@ use Rattle.std.proofs.Common.{◌≡◌, ℕ, suc, List, [], ◌∷◌, Option, 
 use Rattle.std.proofs.lemmas.Bool.{and_parts}
 use Rattle.libyaml_events.specs.machine.Machine.{Progressed, content_behind, content_resolved, put, seen, with_texts}
 use Rattle.libyaml_events.specs.machine.Want.{Given, AtState, no_texts}
-use Rattle.libyaml_events.specs.machine.Config.{config_of as without_texts, Config, keep, no_handles, popped, taken}
+use Rattle.libyaml_events.specs.machine.Config.{config_of as without_texts, Config, staying, no_handles, popped, taken}
 use Rattle.libyaml_automaton.specs.Automaton as automaton
 use Rattle.libyaml_types.specs.Types.{token_type}
 use Rattle.libyaml_grammar.specs.cuts.CutTrees.{declared, open_collection, BlockPlace, Open, PartPlace, Place, block, entry, explicit_root, flow_entry, flow_key, flow_value, implicit_root, indentless_entry, part_place, root, slot}
@@ -65,7 +65,7 @@ flow_waits (flow_value (open_collection p o sequence m is) k y v) x = refl
 flow_waits _ x = refl
 
 popped_flow : (p : Place) (x : FlowNode) (k : Content) (m : Marks)
-    → taken (keep (tok k m) (popped (node_config p))) ≡ config_of (fill_flow p x)
+    → taken (staying (tok k m) (popped (node_config p))) ≡ config_of (fill_flow p x)
 popped_flow p x k m = let e = flow_waits p x in cc
 
 item_follows : (n : ℕ) (c : BlockPlace) (o : Option Properties) (s : Marks) (is : BlockItems) (k : Content)
@@ -253,7 +253,7 @@ resolved_as p ps k m o = content_resolved o (kind p) (properties_of ps) (without
     (node_config p) (tok k m) k
 
 abbrev alone_given : Place → Properties → Content → Marks → Progressed
-alone_given p ps k m = Ok (Given (alone_of (declared p) ps), keep (tok k m) (popped (node_config p)))
+alone_given p ps k m = Ok (Given (alone_of (declared p) ps), staying (tok k m) (popped (node_config p)))
 
 only_is : (p : Place) (ps : Properties) (k : Content) (m : Marks)
     → with_none p ps k m ≡ alone_given p ps k m

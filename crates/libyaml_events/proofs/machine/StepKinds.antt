@@ -29,7 +29,7 @@ use Rattle.libyaml_automaton.specs.Config as automaton_config
 use Rattle.libyaml_automaton.specs.Config.{top_mark}
 use Rattle.libyaml_automaton.specs.Automaton as automaton
 use Rattle.libyaml_automaton.specs.Automaton.{BehindBlockEntry, BehindDirective, BehindFlowMappingKey, BehindFlowMappingValue, BehindFlowSequenceValue, BehindIndentlessEntry, BehindKey, BehindProperties, BehindValue}
-use Rattle.libyaml_events.specs.machine.Config.{Config, state_set, config_of, config_with, keep, no_handles, popped, popped_mark, pushed, pushed_mark, with_handle}
+use Rattle.libyaml_events.specs.machine.Config.{Config, state_set, config_of, config_with, staying, no_handles, popped, popped_mark, pushed, pushed_mark, with_handle}
 use Rattle.libyaml_events.specs.machine.Machine.{Progressed, content_behind, content_resolved, empty_scalar, machine, put, is_accepted_in, resolve, seen, with_texts}
 use Rattle.libyaml_events.specs.machine.Want.{Want, Given, Texts, Wants}
 
@@ -95,9 +95,9 @@ abbrev pub give : unnamed_yaml_event_t_data → Mark → Mark → Config → Pro
 give content start end c = Ok (Given (event content start end), c)
 
 -- a token that is kept, or spent
-abbrev pub hold : Bool → Token → Config → Config
-hold true u c = keep u c
-hold false u c = c
+abbrev pub staying_if : Bool → Token → Config → Config
+staying_if true u c = staying u c
+staying_if false u c = c
 
 -- the end of a collection, at its closing token
 abbrev pub close_collection : unnamed_yaml_event_t_data → Token → Config → Progressed
@@ -189,13 +189,13 @@ module _ (ss : List yaml_parser_state_t) (ms : List Mark) (u : Token) where
     property : (w : Want) → kind_of w d ≡ node_due → 0 < n
         → NodeStep d n t (want w d) (want w (with_below ss ms d))
     whole : {e : unnamed_yaml_event_t_data} {a b : Mark} (kept : Bool) → IsLeaf e → back_rank kept < n
-        → NodeStep d n t (give e a b (hold kept u (popped d))) (give e a b (hold kept u (popped (with_below ss ms d))))
+        → NodeStep d n t (give e a b (staying_if kept u (popped d))) (give e a b (staying_if kept u (popped (with_below ss ms d))))
     opens : {e : unnamed_yaml_event_t_data} {a b m : Mark} (s : yaml_parser_state_t) → IsStart e → kind s ≡ inner → 0 < n
         → NodeStep d n t (give e a b (state_set s (pushed_mark m d))) (give e a b (state_set s (pushed_mark m (with_below ss ms d))))
     opens_indentless : {e : unnamed_yaml_event_t_data} {a b : Mark} → IsStart e
         → rank st.YAML_PARSE_INDENTLESS_SEQUENCE_ENTRY_STATE t < n
-        → NodeStep d n t (give e a b (keep u (state_set st.YAML_PARSE_INDENTLESS_SEQUENCE_ENTRY_STATE d)))
-        (give e a b (keep u (state_set st.YAML_PARSE_INDENTLESS_SEQUENCE_ENTRY_STATE (with_below ss ms d))))
+        → NodeStep d n t (give e a b (staying u (state_set st.YAML_PARSE_INDENTLESS_SEQUENCE_ENTRY_STATE d)))
+        (give e a b (staying u (state_set st.YAML_PARSE_INDENTLESS_SEQUENCE_ENTRY_STATE (with_below ss ms d))))
 
   pub data StepKind (c : Config) (n : ℕ) (t : Content) : Kind → Progressed → Progressed → Type 0 where
     fails : {k : Kind} {f : Fault} → StepKind c n t k (Err f) (Err f)
@@ -213,29 +213,29 @@ module _ (ss : List yaml_parser_state_t) (ms : List Mark) (u : Token) where
     begins_document : {a b : Mark} (d : unnamed_yaml_event_t_data_document_start) (s : yaml_parser_state_t)
         (kept : Bool) → kind s ≡ node_due
         → suc (kept_rank kept s t) < n
-        → StepKind c n t between (give (ev.DocumentStart d) a b (hold kept u (begin_document s c)))
-        (give (ev.DocumentStart d) a b (hold kept u (begin_document s (with_below ss ms c))))
+        → StepKind c n t between (give (ev.DocumentStart d) a b (staying_if kept u (begin_document s c)))
+        (give (ev.DocumentStart d) a b (staying_if kept u (begin_document s (with_below ss ms c))))
     ends_document : {a b : Mark} (d : unnamed_yaml_event_t_data_document_end) (s : yaml_parser_state_t)
         (e kept : Bool) → kind s ≡ between
         → kept_rank kept s t < n → StepKind c n t root_end (give (ev.DocumentEnd d) a b
-        (hold kept u (end_document s e c)))
-        (give (ev.DocumentEnd d) a b (hold kept u (end_document s e (with_below ss ms c))))
+        (staying_if kept u (end_document s e c)))
+        (give (ev.DocumentEnd d) a b (staying_if kept u (end_document s e (with_below ss ms c))))
     node : {o o' : Progressed} → NodeStep c n t o o' → StepKind c n t node_due o o'
     entry : {k : Kind} {o o' : Progressed} (s : yaml_parser_state_t) (m : ℕ) → n ≡ suc m → GoesOnWithin k (kind s)
         → NodeStep (pushed s c) m t o o'
         → StepKind c n t k o o'
     empty : {k : Kind} {m : Mark} (s : yaml_parser_state_t) → GoesOnWithin k (kind s) → rank s t < n
-        → StepKind c n t k (give empty_scalar m m (keep u (state_set s c))) (give empty_scalar m m (keep u (state_set s (with_below ss ms c))))
+        → StepKind c n t k (give empty_scalar m m (staying u (state_set s c))) (give empty_scalar m m (staying u (state_set s (with_below ss ms c))))
     begins_pair : {a b : Mark} (s : unnamed_yaml_event_t_data_mapping_start) → 0 < n
         → StepKind c n t inner (give (ev.MappingStart s) a b (state_set st.YAML_PARSE_FLOW_SEQUENCE_ENTRY_MAPPING_KEY_STATE c))
         (give (ev.MappingStart s) a b (state_set st.YAML_PARSE_FLOW_SEQUENCE_ENTRY_MAPPING_KEY_STATE (with_below ss ms c)))
     ends_pair : {a b : Mark} → 1 < n
-        → StepKind c n t pair (give ev.MappingEnd a b (keep u (state_set st.YAML_PARSE_FLOW_SEQUENCE_ENTRY_STATE c)))
-        (give ev.MappingEnd a b (keep u (state_set st.YAML_PARSE_FLOW_SEQUENCE_ENTRY_STATE (with_below ss ms c))))
+        → StepKind c n t pair (give ev.MappingEnd a b (staying u (state_set st.YAML_PARSE_FLOW_SEQUENCE_ENTRY_STATE c)))
+        (give ev.MappingEnd a b (staying u (state_set st.YAML_PARSE_FLOW_SEQUENCE_ENTRY_STATE (with_below ss ms c))))
     closes : {e : unnamed_yaml_event_t_data} → IsEnd e → 0 < n
         → StepKind c n t inner (close_collection e u c) (close_collection e u (with_below ss ms c))
-    ends_indentless : {a b : Mark} → 4 < n → StepKind c n t indentless (give ev.SequenceEnd a b (keep u (popped c)))
-        (give ev.SequenceEnd a b (keep u (popped (with_below ss ms c))))
+    ends_indentless : {a b : Mark} → 4 < n → StepKind c n t indentless (give ev.SequenceEnd a b (staying u (popped c)))
+        (give ev.SequenceEnd a b (staying u (popped (with_below ss ms c))))
 
   module _ (h : Texts) (c : Config) where
     -- nodes

@@ -72,9 +72,9 @@ with_fault c f = record c { fault = f }
 abbrev pub state_set : yaml_parser_state_t → Config → Config
 state_set state c = record c { state = state }
 
--- the token stays, to be looked at again
-abbrev pub keep : yaml_token_t → Config → Config
-keep token c = record c { lookahead = Some token }
+-- the token stays: it is looked at again
+abbrev pub staying : yaml_token_t → Config → Config
+staying token c = record c { lookahead = Some token }
 
 -- a token, where there is one
 abbrev pub token_if : Bool → yaml_token_t → Option yaml_token_t

@@ -9,7 +9,7 @@ use Rattle.libyaml_events.specs.declared.step.Step.{Step}
 use Rattle.libyaml_events.specs.declared.step.Step.TheVariants as led
 use Rattle.libyaml_events.specs.declared.pending.Pending.{Pending}
 use Rattle.libyaml_types.specs.declared.token.yaml_token_t.{yaml_token_t}
-use Rattle.libyaml_events.specs.machine.Config.{Config, keep}
+use Rattle.libyaml_events.specs.machine.Config.{Config, staying}
 use Rattle.libyaml_events.specs.machine.Read.{PropertyTexts, DirectiveTexts}
 use Rattle.libyaml_events.specs.machine.Want.{Texts, no_texts, Want, Progress, Given, Wants}
 
@@ -48,5 +48,5 @@ result_of led.Failed p e c = Err c.fault.error
 
 -- where the parser then stands: the token t stays where the event comes before it
 abbrev pub standing_by : Step → (t : yaml_token_t) → Config → Config
-standing_by led.GivenBefore t c = keep t c
+standing_by led.GivenBefore t c = staying t c
 standing_by _ t c = c

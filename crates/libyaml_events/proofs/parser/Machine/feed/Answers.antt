@@ -1,6 +1,6 @@
 use Rattle.std.proofs.Common.{◌≤◌, Ok, true, false, ap, arith, refl, rules, subst, sym}
 use Rattle.std.specs.Vec.{vec_capacity, vec_len}
-use Rattle.libyaml_events.specs.machine.Config.{Config, keep}
+use Rattle.libyaml_events.specs.machine.Config.{Config, staying}
 use Rattle.libyaml_events.specs.sources.Pushed.{standing}
 use Rattle.libyaml_events.specs.sources.Pushes.{Takes}
 use Rattle.libyaml_events.proofs.calls.CallLemmas.{taken_same}
@@ -42,7 +42,7 @@ returns-then-is_over-clause-takes c =
     (standing (wanted c.args.pending.now) c.args.self.now) c.args.token.now c.args.events.now.items (Ok tt)
     (standing AtState x) c.step_onto.new.events.items)
     (taken_same c.step_onto.new.self c.begin-in-loop-self.ensures.ready.none)
-    (is_done _ _ _ _ _ _ _ _ _ c.loop-self.invariant.1 _ (keep c.step_onto.new.token c.step_onto.new.self) s.1 _ s.2 true
+    (is_done _ _ _ _ _ _ _ _ _ c.loop-self.invariant.1 _ (staying c.step_onto.new.token c.step_onto.new.self) s.1 _ s.2 true
     c.step_onto.new.token refl (λ h. sym c.if-is_over.ensures)))
 
 pub loop-self-smaller : goal.loop-self-smaller
@@ -50,7 +50,7 @@ loop-self-smaller c =
     let s = rw c.in-GivenBefore.is at c.step_onto.ensures.steps in
     rw (ap (λ (w : Want). w.next) c.begin-in-loop-self.ensures.wanted)
     (step_falls (wanted c.loop-self.pending) c.loop-self.self c.loop-self.token s.0
-    (keep c.step_onto.new.token c.step_onto.new.self) c.step_onto.new.token c.loop-self.invariant.1.none s.1 refl)
+    (staying c.step_onto.new.token c.step_onto.new.self) c.step_onto.new.token c.loop-self.invariant.1.none s.1 refl)
 
 pub loop-self-preserved : goal.loop-self-preserved
 loop-self-preserved c =
@@ -62,7 +62,7 @@ loop-self-preserved c =
           c.args.events.now.items AtState x c.step_onto.new.token c.step_onto.new.events.items)
           (taken_same c.step_onto.new.self c.begin-in-loop-self.ensures.ready.none)
           (goes_on (Unit {0}) _ _ _ _ _ _ _ _ c.loop-self.invariant.1 _
-          (keep c.step_onto.new.token c.step_onto.new.self) s.1 _ s.2 c.step_onto.new.token refl
+          (staying c.step_onto.new.token c.step_onto.new.self) s.1 _ s.2 c.step_onto.new.token refl
           (sym c.if-is_over.ensures)),
       c.begin-in-loop-self.ensures.ready.agrees,
     )
