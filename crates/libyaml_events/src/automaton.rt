@@ -34,7 +34,8 @@ impl Model for AutomatonWithStacks {
     ghost view = { λ a. stacks_of a.automaton a.states.items a.marks.items };
 
     // each byte on the stack is the number of a state to which the parser goes back after a node
-    ghost invariant = { λ a. Within a.automaton a.states.items a.marks.items × All IsBackByte a.states.items };
+    ghost invariant = { λ a. Within a.automaton a.states.items a.marks.items
+        × All IsBackByte a.states.items };
 }
 
 /// What lies where no state was put yet: the number of the state after a document's root.

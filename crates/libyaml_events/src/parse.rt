@@ -52,8 +52,9 @@ impl Machine {
         requires { ended_or_failed self.old ≡ false }
         ensures kept { IfErr result (λ e. (e ≡ self.new.fault.error) × (ended_or_failed self.new ≡ true)) }
         ensures failed { IfErr result (λ _. is_fault self.new.fault.error ≡ true) }
-        ensures call { (max : ℤ) → Call S.gives (parser max source.old (with_lookahead lookahead.old self.old))
-            (answered result event.new) (parser max source.new (with_lookahead lookahead.new self.new)) }
+        ensures call { (max : ℤ) → Call S.gives
+            (parser max source.old (with_lookahead lookahead.old self.old)) (answered result event.new)
+            (parser max source.new (with_lookahead lookahead.new self.new)) }
         ensures left { IfErr result (λ e. Left (with_lookahead lookahead.old self.old) e
             (with_lookahead lookahead.new self.new)) }
     {
@@ -88,8 +89,9 @@ impl Machine {
         ensures failed { IfErr (answered result event.new) (λ _. is_fault self.new.fault.error ≡ true) }
         ensures over { ended_or_failed self.old ≡ true → (self.new ≡ self.old) × (source.new ≡ source.old)
             × (lookahead.new ≡ lookahead.old) }
-        ensures call { (max : ℤ) → Call S.gives (parser max source.old (with_lookahead lookahead.old self.old))
-            (answered result event.new) (parser max source.new (with_lookahead lookahead.new self.new)) }
+        ensures call { (max : ℤ) → Call S.gives
+            (parser max source.old (with_lookahead lookahead.old self.old)) (answered result event.new)
+            (parser max source.new (with_lookahead lookahead.new self.new)) }
         ensures left { IfErr (answered result event.new) (λ e. Left (with_lookahead lookahead.old self.old) e
             (with_lookahead lookahead.new self.new)) }
     {

@@ -174,7 +174,7 @@ impl OpenCollections {
     ///
     /// An allocation failed.
     #[inline(always)]
-    #[tactic(auto, using(libyaml_composer::proofs::lent::Stacks::stack_among, libyaml_composer::proofs::lent::Stacks::depth_within))]
+    #[tactic(auto, using(libyaml_composer::proofs::lent::Stacks::lengthened))]
     fn lengthen(&mut self) -> Result<(), AllocError>
         ensures roomy { OnOk result (self.new ≡ roomy (suc self.old.room) self.old) }
         ensures within { OnOk result (nat_le (suc self.old.room) (length self.old.stack) ≡ false) }

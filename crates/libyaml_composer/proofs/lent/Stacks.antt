@@ -13,3 +13,6 @@ stack_among entries l n h = ap reverse (take-append-le n entries l h)
 pub depth_within : (entries : List open_t) (n : ℕ) → n ≤ length entries
     → nat_le (suc (length entries)) (length (stack_of n entries)) ≡ false
 depth_within entries n h = let e = depth_is entries n h in grind arith
+
+-- for a stack that is made longer
+pub ruleset lengthened = (stack_among, depth_within)
