@@ -31,17 +31,20 @@ ghost use Rattle.libyaml_grammar.specs.sentences.Trees.{Free, Stream, explicit, 
 ghost use Rattle.libyaml_grammar.specs.sentences.Trees.{no_directives, tokens};
 
 /// Two stream trees with equal tokens are equal.
+#[tactic(auto, using(crate::proofs::lent::Completion::one_tree_proof))]
 pub fn one_tree()
     ensures { (s t : Stream) → tokens s ≡ tokens t → s ≡ t }
 {}
 
 /// At most one partial tree fits a list with the token after it.
+#[tactic(auto, using(crate::proofs::lent::OneCut::one_cut_proof))]
 pub fn one_cut()
     ensures { (l : List Token) (b : Token) (c d : Cut) → Fits l b c → Fits l b d → c ≡ d }
 {}
 
 /// A list whose only STREAM-END is its last token is valid, or a partial tree fits a prefix of it, and not
 /// both. A list without STREAM-END is a viable prefix, or has such a partial tree, and not both.
+#[tactic(auto, using(crate::proofs::trees::TreeOrCut::trees_and_cuts))]
 pub fn tree_or_cut()
     ensures with_end { (l : List Token) (m : Marks) → has_end l ≡ false
         → EitherNotBoth (IsSentence (l ++ tok StreamEnd m ∷ [])) (HasCut (l ++ tok StreamEnd m ∷ [])) }
@@ -50,6 +53,7 @@ pub fn tree_or_cut()
 
 /// The tokens of a partial tree in order, with its rest after them, are a valid list; so the token of a
 /// partial tree that fits is the first that no valid list has at its place.
+#[tactic(auto, using(crate::proofs::trees::TreeOrCut::cuts_begin))]
 pub fn cut_begins()
     ensures completed { (c : Cut) → cut_in_order c true ≡ true
         → IsSentence (cut_tokens c [] ++ rest zero_marks c) }
@@ -76,6 +80,7 @@ pub fn settled()
 
 /// After a viable prefix without STREAM-END the next event depends on tokens still to come: two valid
 /// lists begin with it whose events begin with those that it determines and differ in the next.
+#[tactic(auto, using(crate::proofs::lent::Settling::settled_open))]
 pub fn next_is_open()
     ensures { (l : List Token) (e : List Event) → IsBeginning l → has_end l ≡ false → IsSettled l e
         → IsOpen l e }
@@ -115,6 +120,7 @@ pub fn run_ends()
 
 /// The events of a tree nest: the starts and ends of documents and collections match, and each mapping has an
 /// even number of nodes between its start and its end.
+#[tactic(auto, using(crate::proofs::lent::Nesting::events_nest_proof))]
 pub fn events_nest()
     ensures { (t : Stream) → IsNested (events t) }
 {}
@@ -131,6 +137,7 @@ pub fn run_nests()
 
 /// The events of a document's content depend on its own directives alone, whatever stands before it, and on
 /// these only by the prefixes that they give.
+#[tactic(auto, using(crate::proofs::runs::OwnDirectives::own_directives))]
 pub fn own_directives()
     ensures explicit { (ds : Directives) (s : Marks) (x : BlockSlot) (m : Mark) → (e : List Event)
         × ((b : Before) (r : List Event)

@@ -122,3 +122,6 @@ module _ (ds es : Directives) (same : (h : List ℕ) → prefix_of ds h ≡ pref
     parts_alike no_parts m r = refl
     parts_alike (part ps k v x) m r = parts_alike ps v.start _
         ∙ ap (λ (l : List Event). parts_events es ps v.start (before_part ps k v.start l)) (slot_alike x v.end m r)
+
+-- what explicit and implicit documents give by their own directives alone
+pub ruleset own_directives = (explicit_own, implicit_own, block_slot_alike)

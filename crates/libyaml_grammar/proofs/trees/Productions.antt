@@ -140,3 +140,6 @@ place_law p q r e =
     goes_same (home p) (home q)
     (sym (place_reads p []) ∙ (ap (λ (l : List Token). feeds l unopened) f ∙ place_reads q [])) in
     sym (home_place p p) ∙ (ap (place_at p) g ∙ home_place p q)
+
+-- the laws of the productions, one each
+pub ruleset productions = (slot_law, block_node_law, flow_node_law, properties_law, items_law, parts_law, part_law, entries_law, entry_law, flow_slot_law, documents_law, directives_law, place_law)

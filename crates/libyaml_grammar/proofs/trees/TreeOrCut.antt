@@ -132,3 +132,8 @@ cut_is_bad l b c f = (
   },
   f.bad_token,
 )
+
+-- the two halves of each law, together
+pub ruleset trees_and_cuts = (sentence_or_cut, beginning_or_cut)
+
+pub ruleset cuts_begin = (cut_completes, cut_is_bad)

@@ -1,5 +1,6 @@
 //! One law for each production of the grammar: its tokens, with the same tokens after them, belong to one
 //! tree. A whole collection and a valid list need not even the same tokens after them.
+#![tactic(auto, using(crate::proofs::trees::Productions::productions))]
 
 ghost use Rattle.std.specs.Prelude.{◌≡◌, ◌++◌, List};
 ghost use Rattle.libyaml_grammar.specs.cuts.CutTrees.{Place, place_tokens};
@@ -75,6 +76,7 @@ pub fn one_list_of_documents()
 {}
 
 /// No collection with an opening and a closing token begins another, whatever follows the two.
+#[tactic(auto, using(crate::proofs::trees::WholeParts::collection_law))]
 pub fn one_collection()
     ensures { (s t : BlockNode) (a b : List Token) → IsCollection s → IsCollection t
         → block_node_tokens s a ≡ block_node_tokens t b → (s ≡ t) × (a ≡ b) }
