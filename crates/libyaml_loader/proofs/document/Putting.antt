@@ -1,8 +1,11 @@
 -- What is decided is done.
 use Rattle.std.proofs.Common.{◌≡◌, ◌++◌, List, ℕ, suc, ℤ, length, refl, sym, ap, subst, ◌∙◌, Option, Some, None, Bool, true, false, Result, Ok, Err, IfErr, OnOk, append-nil}
 use Rattle.libyaml_types.specs.declared.mark.yaml_mark_t.{yaml_mark_t}
+use Rattle.libyaml_types.specs.declared.event.unnamed_yaml_event_t_data.{unnamed_yaml_event_t_data}
+use Rattle.libyaml_types.specs.Types.{event_anchor, event_type}
+use Rattle.libyaml_grammar.specs.sentences.Events.{event}
 use Rattle.libyaml_documents.specs.declared.node.yaml_node_t.{yaml_node_t}
-use Rattle.libyaml_graphs.specs.graphs.GraphParts.{Part, alias_part, end_part, leaf_part, start_part}
+use Rattle.libyaml_graphs.specs.graphs.GraphParts.{Part, alias_part, closing_in, end_part, leaf_part, start_part}
 use Rattle.libyaml_graphs.specs.machine.Loader.{going}
 use Rattle.libyaml_composer.specs.declared.deed.Deed.{Deed}
 use Rattle.libyaml_composer.specs.declared.deed.Deed.TheVariants as deed
@@ -12,7 +15,7 @@ use Rattle.libyaml_composer.specs.Held.{Held, anchored_by, applied_part, nodes_m
 use Rattle.libyaml_composer.specs.Numbers.{is_id}
 use Rattle.libyaml_composer.specs.Standing.{FitsParent, IsChild, IsNode, PutsNode, Standing}
 use Rattle.libyaml_loader.specs.declared.context.loader_ctx.{loader_ctx}
-use Rattle.libyaml_loader.specs.document.Context.{Composed, Decided, ComposerMatches, held_of, opening_of_document, with_nodes}
+use Rattle.libyaml_loader.specs.document.Context.{Composed, Decided, ComposerMatches, IsEvent, held_of, opening_of_document, with_nodes}
 
 -- the outcome of a call, by that of another
 pub on_ok : {A E : Type 0} (r : Result A E) (P Q : Type 0) → (P → Q) → OnOk r P → OnOk r Q
@@ -22,6 +25,11 @@ on_ok (Err x) P Q f h = tt
 pub if_err : {A E : Type 0} (r : Result A E) (P : E → Type 0) (Q : E → Type 0) → ((x : E) → P x → Q x) → IfErr r P → IfErr r Q
 if_err (Ok x) P Q f h = tt
 if_err (Err x) P Q f h = f x h
+
+-- an event that doesn't end the document, as it is decided of by its kind, anchor and start
+pub is_event : (k : unnamed_yaml_event_t_data) (m n : yaml_mark_t) {a : Option (List ℕ)} → event_anchor k ≡ a
+    → closing_in k n ≡ None → IsEvent (event_type k) a m (event k m n)
+is_event k m n named without = record { kind_is = refl; anchor_is = named; mark_is = refl; not_end = without }
 
 child_applied : (d : Deed) → PutsNode d → (p : place_t) (q : Option Part) (m : yaml_mark_t) (h : Held)
     → with_child_placed d p q h ≡ applied_part d p q m h
