@@ -1,5 +1,5 @@
--- What a step of the machine does: its outcome, and beside it the outcome over further states and marks below the stacks.
-use Rattle.std.proofs.Common.{◌≡◌, ◌<◌, ◌≤◌, ◌⊎◌, if◌then◌else◌, ◌++◌, ℕ, suc, arith, inl, inr, List, Option, Some, None, Bool, true, false, Err, refl, is_some, ◌∷◌, Ok, subst}
+-- What a step of the machine does, as a function of its stacks.
+use Rattle.std.proofs.Common.{◌≡◌, ◌<◌, ◌≤◌, if◌then◌else◌, ℕ, suc, arith, List, Option, Some, None, Bool, true, false, Err, refl, is_some, ◌∷◌, Ok}
 use Rattle.libyaml_types.specs.declared.enums.yaml_parser_state_t.{yaml_parser_state_t}
 use Rattle.libyaml_types.specs.declared.enums.yaml_parser_state_t.TheVariants as st
 use Rattle.libyaml_types.specs.declared.event.unnamed_yaml_event_t_data.{unnamed_yaml_event_t_data}
@@ -16,7 +16,6 @@ use Rattle.libyaml_grammar.specs.sentences.Tokens.{Alias, Anchor, AnchorName, Bl
 use Rattle.libyaml_grammar.specs.sentences.Tokens.{Tag, TagDirective, TagName, Token, Value, VersionDirective}
 use Rattle.libyaml_automaton.specs.declared.node_place.NodePlace.{NodePlace}
 use Rattle.libyaml_events.specs.parsers.EventsLeft.{rank}
-use Rattle.libyaml_events.specs.parsers.Pops.{with_below}
 use Rattle.std.specs.FinMap.{get}
 use Rattle.libyaml_types.specs.declared.token.unnamed_yaml_token_t_data_tag_directive.{unnamed_yaml_token_t_data_tag_directive}
 use Rattle.libyaml_types.specs.Types.{token_type}
@@ -29,8 +28,8 @@ use Rattle.libyaml_automaton.specs.Config as automaton_config
 use Rattle.libyaml_automaton.specs.Config.{top_mark}
 use Rattle.libyaml_automaton.specs.Automaton as automaton
 use Rattle.libyaml_automaton.specs.Automaton.{BehindBlockEntry, BehindDirective, BehindFlowMappingKey, BehindFlowMappingValue, BehindFlowSequenceValue, BehindIndentlessEntry, BehindKey, BehindProperties, BehindValue}
-use Rattle.libyaml_events.specs.machine.Config.{Config, state_set, config_of, config_with, staying, no_handles, popped, popped_mark, pushed, pushed_mark, with_handle}
-use Rattle.libyaml_events.specs.machine.Machine.{Progressed, content_behind, content_resolved, empty_scalar, machine, put, is_accepted_in, resolve, seen, with_texts}
+use Rattle.libyaml_events.specs.machine.Config.{Config, state_set, config_of, staying, no_handles, popped, popped_mark, pushed_mark, with_handle}
+use Rattle.libyaml_events.specs.machine.Machine.{Progressed, content_behind, content_resolved, empty_scalar, put, is_accepted_in, resolve, seen, with_texts}
 use Rattle.libyaml_events.specs.machine.Want.{Want, Given, Texts, Wants}
 
 -- The kinds of places that states stand for: before the stream, between documents, where a node is due that the
@@ -140,267 +139,192 @@ rank_small st.YAML_PARSE_BLOCK_MAPPING_KEY_STATE Value = omega arith
 rank_small st.YAML_PARSE_BLOCK_MAPPING_VALUE_STATE Value = omega arith
 rank_small _ k = omega arith
 
--- the same parser, with the automaton's part changed
-abbrev with_automaton : Config → automaton_config.Stacks → Config
-with_automaton c x = config_with x c.handles c.fault c.lookahead
+-- what a step leads to, by the states and marks on the stacks
+abbrev pub OnStacks : Type 0
+OnStacks = List yaml_parser_state_t → List Mark → Progressed
 
--- it asks nothing
-abbrev IsAnswered : automaton.Step → Type 0
-IsAnswered (automaton.AsksVersion start x) = ⊥
-IsAnswered (automaton.AsksHandle start has_version x) = ⊥
-IsAnswered (automaton.AsksContent p r x) = ⊥
-IsAnswered _ = Unit {0}
+-- the same parser over these stacks
+abbrev pub over : Config → List yaml_parser_state_t → List Mark → Config
+over c ss ms = record c { states = ss; marks = ms }
 
-no_content_answered : (p : NodePlace) (a b : Bool) (r : automaton.PropertiesRead) (x : automaton_config.Stacks)
-    (t : automaton.KindAndMarks) → IsAnswered (automaton.no_content p a b r x t)
-no_content_answered p false false r x t = tt
-no_content_answered p true b r x t = tt
-no_content_answered p false true r x t = tt
-
-allowed_answered : (allowed : Bool) (s : automaton.Step) (p : NodePlace) (r : automaton.PropertiesRead)
-    (x : automaton_config.Stacks) (t : automaton.KindAndMarks) → IsAnswered s → IsAnswered (automaton.if_allowed allowed s p r x t)
-allowed_answered true s p r x t h = h
-allowed_answered false s p r x t h = no_content_answered p r.anchor r.tag r x t
-
-content_answered : (p : NodePlace) (r : automaton.PropertiesRead) (x : automaton_config.Stacks) (t : automaton.KindAndMarks)
-    (k : Content) → IsAnswered (automaton.node_content p r x t (token_type k))
-content_answered p r x t (Scalar s) = tt
-content_answered p r x t FlowSequenceStart = tt
-content_answered p r x t FlowMappingStart = tt
-content_answered p r x t BlockSequenceStart = allowed_answered (automaton.is_block_place p) _ p r x t tt
-content_answered p r x t BlockMappingStart = allowed_answered (automaton.is_block_place p) _ p r x t tt
-content_answered p r x t BlockEntry = allowed_answered (automaton.may_be_indentless p) _ p r x t tt
-content_answered p r x t k = no_content_answered p r.anchor r.tag r x t
-
-answered_put : (h : Texts) (c : Config) (u : Token) (k : Content) (s : automaton.Step) → IsAnswered s
-    → put h None None c u k s ≡ with_texts h c u k s
-answered_put h c u k (automaton.AsksVersion start x) i = absurd i
-answered_put h c u k (automaton.AsksHandle start has_version x) i = absurd i
-answered_put h c u k (automaton.AsksContent p r x) i = absurd i
-answered_put h c u k _ i = refl
-
-module _ (ss : List yaml_parser_state_t) (ms : List Mark) (u : Token) where
-  abbrev lower : automaton_config.Stacks → automaton_config.Stacks
-  lower x = record x { states = x.states ++ ss; marks = x.marks ++ ms }
-
+module _ (u : Token) (c : Config) where
   -- where a node is due: it fails, wants the token after a property, gives a whole node, or opens a collection
-  pub data NodeStep (d : Config) (n : ℕ) (t : Content) : Progressed → Progressed → Type 0 where
-    no_node : {f : Fault} → NodeStep d n t (Err f) (Err f)
-    property : (w : Want) → kind_of w d ≡ node_due → 0 < n
-        → NodeStep d n t (want w d) (want w (with_below ss ms d))
+  pub data NodeStep (n : ℕ) (t : Content) : OnStacks → Type 0 where
+    no_node : {f : Fault} → NodeStep n t (λ ss ms. Err f)
+    property : (w : Want) → kind_of w c ≡ node_due → 0 < n → NodeStep n t (λ ss ms. want w (over c ss ms))
     whole : {e : unnamed_yaml_event_t_data} {a b : Mark} (kept : Bool) → IsLeaf e → back_rank kept < n
-        → NodeStep d n t (give e a b (staying_if kept u (popped d))) (give e a b (staying_if kept u (popped (with_below ss ms d))))
+        → NodeStep n t (λ ss ms. give e a b (staying_if kept u (popped (over c ss ms))))
     opens : {e : unnamed_yaml_event_t_data} {a b m : Mark} (s : yaml_parser_state_t) → IsStart e → kind s ≡ inner → 0 < n
-        → NodeStep d n t (give e a b (state_set s (pushed_mark m d))) (give e a b (state_set s (pushed_mark m (with_below ss ms d))))
+        → NodeStep n t (λ ss ms. give e a b (state_set s (pushed_mark m (over c ss ms))))
     opens_indentless : {e : unnamed_yaml_event_t_data} {a b : Mark} → IsStart e
         → rank st.YAML_PARSE_INDENTLESS_SEQUENCE_ENTRY_STATE t < n
-        → NodeStep d n t (give e a b (staying u (state_set st.YAML_PARSE_INDENTLESS_SEQUENCE_ENTRY_STATE d)))
-        (give e a b (staying u (state_set st.YAML_PARSE_INDENTLESS_SEQUENCE_ENTRY_STATE (with_below ss ms d))))
+        → NodeStep n t (λ ss ms. give e a b (staying u (state_set st.YAML_PARSE_INDENTLESS_SEQUENCE_ENTRY_STATE (over c ss ms))))
 
-  pub data StepKind (c : Config) (n : ℕ) (t : Content) : Kind → Progressed → Progressed → Type 0 where
-    fails : {k : Kind} {f : Fault} → StepKind c n t k (Err f) (Err f)
-    fails_in : (f : Mark → Fault) → StepKind c n t inner (Err (f (top_mark c.marks))) (Err (f (top_mark (c.marks ++ ms))))
-    wants : {k : Kind} (w : Want) → kind_of w c ≡ k → 0 < n → StepKind c n t k (want w c) (want w (with_below ss ms c))
+  pub data StepKind (n : ℕ) (t : Content) : Kind → OnStacks → Type 0 where
+    fails : {k : Kind} {f : Fault} → StepKind n t k (λ ss ms. Err f)
+    fails_in : (f : Mark → Fault) → StepKind n t inner (λ ss ms. Err (f (top_mark ms)))
+    wants : {k : Kind} (w : Want) → kind_of w c ≡ k → 0 < n → StepKind n t k (λ ss ms. want w (over c ss ms))
     wants_entry : (w : Want) (s : yaml_parser_state_t) → kind s ≡ inner → kind_of w (state_set s c) ≡ inner → 0 < n
-        → StepKind c n t inner (want w (state_set s c)) (want w (state_set s (with_below ss ms c)))
+        → StepKind n t inner (λ ss ms. want w (state_set s (over c ss ms)))
     declares : (w : Want) (h p : List ℕ) → kind_of w c ≡ between → 0 < n
-        → StepKind c n t between (want w (with_handle h p c)) (want w (with_handle h p (with_below ss ms c)))
-    begins_stream : {a b : Mark} (s : unnamed_yaml_event_t_data_stream_start) → 0 < n
-        → StepKind c n t stream_start (give (ev.StreamStart s) a b (state_set st.YAML_PARSE_IMPLICIT_DOCUMENT_START_STATE c))
-        (give (ev.StreamStart s) a b (state_set st.YAML_PARSE_IMPLICIT_DOCUMENT_START_STATE (with_below ss ms c)))
-    ends_stream : {a b : Mark} → 0 < n → StepKind c n t between (give ev.StreamEnd a b (state_set st.YAML_PARSE_END_STATE c))
-        (give ev.StreamEnd a b (state_set st.YAML_PARSE_END_STATE (with_below ss ms c)))
+        → StepKind n t between (λ ss ms. want w (with_handle h p (over c ss ms)))
+    begins_stream : {a b : Mark} (s : unnamed_yaml_event_t_data_stream_start) → 0 < n → StepKind n t stream_start
+        (λ ss ms. give (ev.StreamStart s) a b (state_set st.YAML_PARSE_IMPLICIT_DOCUMENT_START_STATE (over c ss ms)))
+    ends_stream : {a b : Mark} → 0 < n
+        → StepKind n t between (λ ss ms. give ev.StreamEnd a b (state_set st.YAML_PARSE_END_STATE (over c ss ms)))
     begins_document : {a b : Mark} (d : unnamed_yaml_event_t_data_document_start) (s : yaml_parser_state_t)
-        (kept : Bool) → kind s ≡ node_due
-        → suc (kept_rank kept s t) < n
-        → StepKind c n t between (give (ev.DocumentStart d) a b (staying_if kept u (begin_document s c)))
-        (give (ev.DocumentStart d) a b (staying_if kept u (begin_document s (with_below ss ms c))))
+        (kept : Bool) → kind s ≡ node_due → suc (kept_rank kept s t) < n → StepKind n t between
+        (λ ss ms. give (ev.DocumentStart d) a b (staying_if kept u (begin_document s (over c ss ms))))
     ends_document : {a b : Mark} (d : unnamed_yaml_event_t_data_document_end) (s : yaml_parser_state_t)
-        (e kept : Bool) → kind s ≡ between
-        → kept_rank kept s t < n → StepKind c n t root_end (give (ev.DocumentEnd d) a b
-        (staying_if kept u (end_document s e c)))
-        (give (ev.DocumentEnd d) a b (staying_if kept u (end_document s e (with_below ss ms c))))
-    node : {o o' : Progressed} → NodeStep c n t o o' → StepKind c n t node_due o o'
-    entry : {k : Kind} {o o' : Progressed} (s : yaml_parser_state_t) (m : ℕ) → n ≡ suc m → GoesOnWithin k (kind s)
-        → NodeStep (pushed s c) m t o o'
-        → StepKind c n t k o o'
+        (e kept : Bool) → kind s ≡ between → kept_rank kept s t < n → StepKind n t root_end
+        (λ ss ms. give (ev.DocumentEnd d) a b (staying_if kept u (end_document s e (over c ss ms))))
+    node : {f : OnStacks} → NodeStep n t f → StepKind n t node_due f
+    entry : {k : Kind} {f : OnStacks} (s : yaml_parser_state_t) (m : ℕ) → n ≡ suc m → GoesOnWithin k (kind s)
+        → NodeStep m t f → StepKind n t k (λ ss ms. f (s ∷ ss) ms)
     empty : {k : Kind} {m : Mark} (s : yaml_parser_state_t) → GoesOnWithin k (kind s) → rank s t < n
-        → StepKind c n t k (give empty_scalar m m (staying u (state_set s c))) (give empty_scalar m m (staying u (state_set s (with_below ss ms c))))
-    begins_pair : {a b : Mark} (s : unnamed_yaml_event_t_data_mapping_start) → 0 < n
-        → StepKind c n t inner (give (ev.MappingStart s) a b (state_set st.YAML_PARSE_FLOW_SEQUENCE_ENTRY_MAPPING_KEY_STATE c))
-        (give (ev.MappingStart s) a b (state_set st.YAML_PARSE_FLOW_SEQUENCE_ENTRY_MAPPING_KEY_STATE (with_below ss ms c)))
-    ends_pair : {a b : Mark} → 1 < n
-        → StepKind c n t pair (give ev.MappingEnd a b (staying u (state_set st.YAML_PARSE_FLOW_SEQUENCE_ENTRY_STATE c)))
-        (give ev.MappingEnd a b (staying u (state_set st.YAML_PARSE_FLOW_SEQUENCE_ENTRY_STATE (with_below ss ms c))))
+        → StepKind n t k (λ ss ms. give empty_scalar m m (staying u (state_set s (over c ss ms))))
+    begins_pair : {a b : Mark} (s : unnamed_yaml_event_t_data_mapping_start) → 0 < n → StepKind n t inner
+        (λ ss ms. give (ev.MappingStart s) a b (state_set st.YAML_PARSE_FLOW_SEQUENCE_ENTRY_MAPPING_KEY_STATE (over c ss ms)))
+    ends_pair : {a b : Mark} → 1 < n → StepKind n t pair
+        (λ ss ms. give ev.MappingEnd a b (staying u (state_set st.YAML_PARSE_FLOW_SEQUENCE_ENTRY_STATE (over c ss ms))))
     closes : {e : unnamed_yaml_event_t_data} → IsEnd e → 0 < n
-        → StepKind c n t inner (close_collection e u c) (close_collection e u (with_below ss ms c))
-    ends_indentless : {a b : Mark} → 4 < n → StepKind c n t indentless (give ev.SequenceEnd a b (staying u (popped c)))
-        (give ev.SequenceEnd a b (staying u (popped (with_below ss ms c))))
+        → StepKind n t inner (λ ss ms. close_collection e u (over c ss ms))
+    ends_indentless : {a b : Mark} → 4 < n
+        → StepKind n t indentless (λ ss ms. give ev.SequenceEnd a b (staying u (popped (over c ss ms))))
 
-  module _ (h : Texts) (c : Config) where
+  -- the automaton's part of the parser, over these stacks
+  abbrev at : List yaml_parser_state_t → List Mark → automaton_config.Stacks
+  at ss ms = config_of (over c ss ms)
+
+  -- a collection opens, where it is allowed
+  opens_if : (allowed : Bool) (put : automaton.Step → Progressed) (opening : automaton_config.Stacks → automaton.Step) (p : NodePlace)
+      (r : automaton.PropertiesRead) (n : ℕ) (k : Content) → NodeStep n k (λ ss ms. put (opening (at ss ms)))
+      → NodeStep n k (λ ss ms. put (automaton.no_content p r.anchor r.tag r (at ss ms) (seen u k)))
+      → NodeStep n k (λ ss ms. put (automaton.if_allowed allowed (opening (at ss ms)) p r (at ss ms) (seen u k)))
+  opens_if true put opening p r n k a b = a
+  opens_if false put opening p r n k a b = b
+
+  module _ (h : Texts) where
+    -- texts put to a step of the automaton
+    abbrev texted : Content → (automaton_config.Stacks → automaton.Step) → OnStacks
+    texted k step ss ms = with_texts h c u k (step (at ss ms))
+
     -- nodes
     module _ (a g : Option (List ℕ)) where
-      none : (p : NodePlace) (b d : Bool) (r : automaton.PropertiesRead) (x : automaton_config.Stacks) (n : ℕ) (k : Content)
-          → ((b ≡ false) × (d ≡ false)) ⊎ (4 < n)
-          → NodeStep (with_automaton c x) n k (put h a g c u k (automaton.no_content p b d r x (seen u k)))
-          (put h a g (with_below ss ms c) u k (automaton.no_content p b d r (lower x) (seen u k)))
-      none p false false r x n k l = no_node
-      none p false true r x n k (inl l) = absurd cc
-      none p false true r x n k (inr l) = whole true (a_scalar _) l
-      none p true d r x n k (inl l) = absurd cc
-      none p true d r x n k (inr l) = whole true (a_scalar _) l
+      none : (p : NodePlace) (b d : Bool) (r : automaton.PropertiesRead) (n : ℕ) (k : Content) → 4 < n
+          → NodeStep n k (λ ss ms. put h a g c u k (automaton.no_content p b d r (at ss ms) (seen u k)))
+      none p false false r n k l = no_node
+      none p false true r n k l = whole true (a_scalar _) l
+      none p true d r n k l = whole true (a_scalar _) l
 
-      sequence_opened : (allowed : Bool) (p : NodePlace) (r : automaton.PropertiesRead) (x : automaton_config.Stacks) (n : ℕ)
-          (k : Content) → 0 < n → ((r.anchor ≡ false) × (r.tag ≡ false)) ⊎ (4 < n)
-          → NodeStep (with_automaton c x) n k
-          (put h a g c u k (automaton.if_allowed allowed (automaton.open_collection (automaton.sequence_start r false) st.YAML_PARSE_BLOCK_SEQUENCE_ENTRY_STATE r x (seen u k)) p r x (seen u k)))
-          (put h a g (with_below ss ms c) u k (automaton.if_allowed allowed (automaton.open_collection (automaton.sequence_start r false) st.YAML_PARSE_BLOCK_SEQUENCE_ENTRY_STATE r (lower x) (seen u k)) p r (lower x)
-          (seen u k)))
-      sequence_opened true p r x n k l m = opens _ (a_sequence _) refl l
-      sequence_opened false p r x n k l m = none p r.anchor r.tag r x n k m
+      content : (p : NodePlace) (r : automaton.PropertiesRead) (n : ℕ) (k : Content) → 4 < n
+          → NodeStep n k (λ ss ms. put h a g c u k (automaton.node_content p r (at ss ms) (seen u k) (token_type k)))
+      content p r n (Scalar s) l = whole false (a_scalar _) (omega arith)
+      content p r n FlowSequenceStart l = opens _ (a_sequence _) refl (omega arith)
+      content p r n FlowMappingStart l = opens _ (a_mapping _) refl (omega arith)
+      content p r n BlockSequenceStart l = opens_if (automaton.is_block_place p) (put h a g c u BlockSequenceStart)
+          (λ x. automaton.open_collection (automaton.sequence_start r false) st.YAML_PARSE_BLOCK_SEQUENCE_ENTRY_STATE r x (seen u BlockSequenceStart))
+          p r n _ (opens _ (a_sequence _) refl (omega arith)) (none p r.anchor r.tag r n _ l)
+      content p r n BlockMappingStart l = opens_if (automaton.is_block_place p) (put h a g c u BlockMappingStart)
+          (λ x. automaton.open_collection (automaton.mapping_start r false) st.YAML_PARSE_BLOCK_MAPPING_KEY_STATE r x (seen u BlockMappingStart))
+          p r n _ (opens _ (a_mapping _) refl (omega arith)) (none p r.anchor r.tag r n _ l)
+      content p r n BlockEntry l = opens_if (automaton.may_be_indentless p) (put h a g c u BlockEntry)
+          (λ x. automaton.open_indentless r x (seen u BlockEntry)) p r n _ (opens_indentless (a_sequence _) (omega arith))
+          (none p r.anchor r.tag r n _ l)
+      content p r n k l = none p r.anchor r.tag r n k l
 
-      mapping_opened : (allowed : Bool) (p : NodePlace) (r : automaton.PropertiesRead) (x : automaton_config.Stacks) (n : ℕ)
-          (k : Content) → 0 < n → ((r.anchor ≡ false) × (r.tag ≡ false)) ⊎ (4 < n)
-          → NodeStep (with_automaton c x) n k
-          (put h a g c u k (automaton.if_allowed allowed (automaton.open_collection (automaton.mapping_start r false) st.YAML_PARSE_BLOCK_MAPPING_KEY_STATE r x (seen u k)) p r x (seen u k)))
-          (put h a g (with_below ss ms c) u k (automaton.if_allowed allowed (automaton.open_collection (automaton.mapping_start r false) st.YAML_PARSE_BLOCK_MAPPING_KEY_STATE r (lower x) (seen u k)) p r (lower x)
-          (seen u k)))
-      mapping_opened true p r x n k l m = opens _ (a_mapping _) refl l
-      mapping_opened false p r x n k l m = none p r.anchor r.tag r x n k m
+    -- without properties
+    bare : (p : NodePlace) (n : ℕ) (k : Content) → 1 < n
+        → NodeStep n k (texted k (λ x. automaton.node_content p (automaton.no_properties (seen u k)) x (seen u k) (token_type k)))
+    bare p n (Scalar s) l = whole false (a_scalar _) (omega arith)
+    bare p n FlowSequenceStart l = opens _ (a_sequence _) refl (omega arith)
+    bare p n FlowMappingStart l = opens _ (a_mapping _) refl (omega arith)
+    bare p n BlockSequenceStart l =
+        let r = automaton.no_properties (seen u BlockSequenceStart) in
+        opens_if (automaton.is_block_place p) (with_texts h c u BlockSequenceStart)
+        (λ x. automaton.open_collection (automaton.sequence_start r false) st.YAML_PARSE_BLOCK_SEQUENCE_ENTRY_STATE r x (seen u BlockSequenceStart))
+        p r n _ (opens _ (a_sequence _) refl (omega arith)) no_node
+    bare p n BlockMappingStart l =
+        let r = automaton.no_properties (seen u BlockMappingStart) in
+        opens_if (automaton.is_block_place p) (with_texts h c u BlockMappingStart)
+        (λ x. automaton.open_collection (automaton.mapping_start r false) st.YAML_PARSE_BLOCK_MAPPING_KEY_STATE r x (seen u BlockMappingStart))
+        p r n _ (opens _ (a_mapping _) refl (omega arith)) no_node
+    bare p n BlockEntry l =
+        let r = automaton.no_properties (seen u BlockEntry) in
+        opens_if (automaton.may_be_indentless p) (with_texts h c u BlockEntry) (λ x. automaton.open_indentless r x (seen u BlockEntry)) p r n _
+        (opens_indentless (a_sequence _) l) no_node
+    bare p n k l = no_node
 
-      indentless_opened : (allowed : Bool) (p : NodePlace) (r : automaton.PropertiesRead) (x : automaton_config.Stacks) (n : ℕ)
-          (k : Content) → rank st.YAML_PARSE_INDENTLESS_SEQUENCE_ENTRY_STATE k < n → ((r.anchor ≡ false) × (r.tag ≡ false)) ⊎ (4 < n)
-          → NodeStep (with_automaton c x) n k
-          (put h a g c u k (automaton.if_allowed allowed (automaton.open_indentless r x (seen u k)) p r x (seen u k)))
-          (put h a g (with_below ss ms c) u k (automaton.if_allowed allowed (automaton.open_indentless r (lower x) (seen u k)) p r (lower x)
-          (seen u k)))
-      indentless_opened true p r x n k l m = opens_indentless (a_sequence _) l
-      indentless_opened false p r x n k l m = none p r.anchor r.tag r x n k m
+    parsed : (p : NodePlace) (n : ℕ) (k : Content) → 1 < n
+        → NodeStep n k (texted k (λ x. automaton.parse_node p x (seen u k) (token_type k)))
+    parsed p n (Alias a) l = whole false (an_alias _) (omega arith)
+    parsed p n (Anchor a) l = property _ refl (omega arith)
+    parsed p n (Tag g) l = property _ refl (omega arith)
+    parsed p n k l = bare p n k l
 
-      content : (p : NodePlace) (r : automaton.PropertiesRead) (x : automaton_config.Stacks) (n : ℕ) (k : Content) → 1 < n
-          → ((r.anchor ≡ false) × (r.tag ≡ false)) ⊎ (4 < n)
-          → NodeStep (with_automaton c x) n k (put h a g c u k (automaton.node_content p r x (seen u k) (token_type k)))
-          (put h a g (with_below ss ms c) u k (automaton.node_content p r (lower x) (seen u k) (token_type k)))
-      content p r x n (Scalar s) l m = whole false (a_scalar _) (omega arith)
-      content p r x n FlowSequenceStart l m = opens _ (a_sequence _) refl (omega arith)
-      content p r x n FlowMappingStart l m = opens _ (a_mapping _) refl (omega arith)
-      content p r x n BlockSequenceStart l m = sequence_opened (automaton.is_block_place p) p r x n _ (omega arith) m
-      content p r x n BlockMappingStart l m = mapping_opened (automaton.is_block_place p) p r x n _ (omega arith) m
-      content p r x n BlockEntry l m = indentless_opened (automaton.may_be_indentless p) p r x n _ l m
-      content p r x n k l m = none p r.anchor r.tag r x n k m
+    resolves : (p : NodePlace) (r : automaton.PropertiesRead) (o : Option (List ℕ)) (n : ℕ) (k : Content) → 4 < n
+        → NodeStep n k (λ ss ms. content_resolved o p r (at ss ms) h c u k)
+    resolves p r None n k l = no_node
+    resolves p r (Some g) n k l = content h.anchor (Some g) p r n k l
 
-    bare : (p : NodePlace) (x : automaton_config.Stacks) (n : ℕ) (k : Content) → 1 < n
-        → NodeStep (with_automaton c x) n k
-        (with_texts h c u k (automaton.node_content p (automaton.no_properties (seen u k)) x (seen u k) (token_type k)))
-        (with_texts h (with_below ss ms c) u k
-        (automaton.node_content p (automaton.no_properties (seen u k)) (lower x) (seen u k) (token_type k)))
-    bare p x n k l =
-        let r = automaton.no_properties (seen u k) in
-        subst (λ (o : Progressed). NodeStep (with_automaton c x) n k o (with_texts h (with_below ss ms c) u k
-        (automaton.node_content p r (lower x) (seen u k) (token_type k))))
-        (answered_put h c u k _ (content_answered p r x (seen u k) k))
-        (subst (λ (o : Progressed). NodeStep (with_automaton c x) n k
-        (put h None None c u k (automaton.node_content p r x (seen u k) (token_type k))) o)
-        (answered_put h (with_below ss ms c) u k _ (content_answered p r (lower x) (seen u k) k))
-        (content None None p r x n k l (inl (refl, refl))))
+    behind : (p : NodePlace) (r : automaton.PropertiesRead) (o : Option TagName) (n : ℕ) (k : Content) → 4 < n
+        → NodeStep n k (λ ss ms. content_behind o p r (at ss ms) h c u k)
+    behind p r None n k l = content h.anchor None p r n k l
+    behind p r (Some g) n k l = resolves p r (resolve c.handles g.handle g.suffix) n k l
 
-    parsed : (p : NodePlace) (x : automaton_config.Stacks) (n : ℕ) (k : Content) → 1 < n
-        → NodeStep (with_automaton c x) n k (with_texts h c u k (automaton.parse_node p x (seen u k) (token_type k)))
-        (with_texts h (with_below ss ms c) u k (automaton.parse_node p (lower x) (seen u k) (token_type k)))
-    parsed p x n (Alias a) l = whole false (an_alias _) (omega arith)
-    parsed p x n (Anchor a) l = property _ refl (omega arith)
-    parsed p x n (Tag g) l = property _ refl (omega arith)
-    parsed p x n k l = bare p x n k l
+    anchored : (b : Bool) (p : NodePlace) (r : automaton.PropertiesRead) (n : ℕ) (s : AnchorName) → 4 < n
+        → NodeStep n (Anchor s) (texted (Anchor s) (λ x. automaton.anchor_behind b p r x (seen u (Anchor s))))
+    anchored false p r n s l = property _ refl (omega arith)
+    anchored true p r n s l = behind p r h.tag n (Anchor s) l
 
-    resolves : (p : NodePlace) (r : automaton.PropertiesRead) (x : automaton_config.Stacks) (o : Option (List ℕ)) (n : ℕ)
-        (k : Content) → 4 < n
-        → NodeStep (with_automaton c x) n k (content_resolved o p r x h c u k)
-        (content_resolved o p r (lower x) h (with_below ss ms c) u k)
-    resolves p r x None n k l = no_node
-    resolves p r x (Some g) n k l = content h.anchor (Some g) p r x n k (omega arith) (inr l)
+    with_tag : (b : Bool) (p : NodePlace) (r : automaton.PropertiesRead) (n : ℕ) (s : TagName) → 4 < n
+        → NodeStep n (Tag s) (texted (Tag s) (λ x. automaton.tag_behind b p r x (seen u (Tag s))))
+    with_tag false p r n s l = property _ refl (omega arith)
+    with_tag true p r n s l = behind p r h.tag n (Tag s) l
 
-    behind : (p : NodePlace) (r : automaton.PropertiesRead) (x : automaton_config.Stacks)
-        (o : Option TagName) (n : ℕ) (k : Content) → 4 < n
-        → NodeStep (with_automaton c x) n k (content_behind o p r x h c u k)
-        (content_behind o p r (lower x) h (with_below ss ms c) u k)
-    behind p r x None n k l = content h.anchor None p r x n k (omega arith) (inr l)
-    behind p r x (Some g) n k l = resolves p r x (resolve c.handles g.handle g.suffix) n k l
-
-    anchored : (b : Bool) (p : NodePlace) (r : automaton.PropertiesRead) (x : automaton_config.Stacks) (n : ℕ)
-        (s : AnchorName) → 4 < n
-        → NodeStep (with_automaton c x) n (Anchor s)
-        (with_texts h c u (Anchor s) (automaton.anchor_behind b p r x (seen u (Anchor s))))
-        (with_texts h (with_below ss ms c) u (Anchor s) (automaton.anchor_behind b p r (lower x) (seen u (Anchor s))))
-    anchored false p r x n s l = property _ refl (omega arith)
-    anchored true p r x n s l = behind p r x h.tag n (Anchor s) l
-
-    with_tag : (b : Bool) (p : NodePlace) (r : automaton.PropertiesRead) (x : automaton_config.Stacks) (n : ℕ)
-        (s : TagName) → 4 < n
-        → NodeStep (with_automaton c x) n (Tag s)
-        (with_texts h c u (Tag s) (automaton.tag_behind b p r x (seen u (Tag s))))
-        (with_texts h (with_below ss ms c) u (Tag s) (automaton.tag_behind b p r (lower x) (seen u (Tag s))))
-    with_tag false p r x n s l = property _ refl (omega arith)
-    with_tag true p r x n s l = behind p r x h.tag n (Tag s) l
-
-    properties : (p : NodePlace) (r : automaton.PropertiesRead) (x : automaton_config.Stacks) (n : ℕ) (k : Content) → 4 < n
-        → NodeStep (with_automaton c x) n k
-        (with_texts h c u k (automaton.behind_properties p r x (seen u k) (token_type k)))
-        (with_texts h (with_below ss ms c) u k (automaton.behind_properties p r (lower x) (seen u k) (token_type k)))
-    properties p r x n (Anchor a) l = anchored r.anchor p r x n a l
-    properties p r x n (Tag g) l = with_tag r.tag p r x n g l
-    properties p r x n k l = behind p r x h.tag n k l
+    properties : (p : NodePlace) (r : automaton.PropertiesRead) (n : ℕ) (k : Content) → 4 < n
+        → NodeStep n k (texted k (λ x. automaton.behind_properties p r x (seen u k) (token_type k)))
+    properties p r n (Anchor a) l = anchored r.anchor p r n a l
+    properties p r n (Tag g) l = with_tag r.tag p r n g l
+    properties p r n k l = behind p r h.tag n k l
 
     -- documents
     versioned : (b : Bool) (start : Mark) (n : ℕ) (k : Content) → 0 < n
-        → StepKind c n k between (put h None None c u k (automaton.first_version b start (config_of c) (seen u k)))
-        (put h None None (with_below ss ms c) u k (automaton.first_version b start (config_of (with_below ss ms c)) (seen u k)))
+        → StepKind n k between (λ ss ms. put h None None c u k (automaton.first_version b start (at ss ms) (seen u k)))
     versioned true start n (VersionDirective v) l = wants _ refl l
     versioned true start n (TagDirective v) l = declares _ v.handle v.prefix refl l
     versioned true start n k l = wants _ refl l
     versioned false start n k l = fails
 
     version_read : (b : Bool) (start : Mark) (n : ℕ) (k : Content) → 0 < n
-        → StepKind c n k between (with_texts h c u k (automaton.version_directive b start (config_of c) (seen u k)))
-        (with_texts h (with_below ss ms c) u k (automaton.version_directive b start (config_of (with_below ss ms c)) (seen u k)))
+        → StepKind n k between (texted k (λ x. automaton.version_directive b start x (seen u k)))
     version_read true start n k l = fails
     version_read false start n k l = versioned (is_accepted_in k) start n k l
 
     tag_read : (b : Bool) (start : Mark) (has_version : Bool) (n : ℕ) (d : unnamed_yaml_token_t_data_tag_directive) → 0 < n
-        → StepKind c n (TagDirective d) between
-        (put h None None c u (TagDirective d)
-        (automaton.tag_directive b start has_version (config_of c) (seen u (TagDirective d))))
-        (put h None None (with_below ss ms c) u (TagDirective d)
-        (automaton.tag_directive b start has_version (config_of (with_below ss ms c)) (seen u (TagDirective d))))
+        → StepKind n (TagDirective d) between
+        (λ ss ms. put h None None c u (TagDirective d) (automaton.tag_directive b start has_version (at ss ms) (seen u (TagDirective d))))
     tag_read true start has_version n d l = fails
     tag_read false start has_version n d l = declares _ d.handle d.prefix refl l
 
     explicit : (start : Mark) (has_version : Bool) (n : ℕ) (k : Content) → 1 < n
-        → StepKind c n k between
-        (with_texts h c u k (automaton.explicit_document start has_version (config_of c) (seen u k) (token_type k)))
-        (with_texts h (with_below ss ms c) u k
-        (automaton.explicit_document start has_version (config_of (with_below ss ms c)) (seen u k) (token_type k)))
+        → StepKind n k between (texted k (λ x. automaton.explicit_document start has_version x (seen u k) (token_type k)))
     explicit start b n (VersionDirective v) l = version_read b start n (VersionDirective v) (omega arith)
     explicit start b n (TagDirective g) l = tag_read (is_some (get c.handles g.handle)) start b n g (omega arith)
     explicit start b n DocumentStart l = begins_document _ st.YAML_PARSE_DOCUMENT_CONTENT_STATE false refl l
     explicit start b n k l = fails
 
     implicit : (n : ℕ) (k : Content) → 3 < n
-        → StepKind c n k between (with_texts h c u k (automaton.implicit_document (config_of c) (seen u k)))
-        (with_texts h (with_below ss ms c) u k (automaton.implicit_document (config_of (with_below ss ms c)) (seen u k)))
+        → StepKind n k between (texted k (λ x. automaton.implicit_document x (seen u k)))
     implicit n k l = begins_document _ st.YAML_PARSE_BLOCK_NODE_STATE true refl l
 
     further : (b : Bool) (n : ℕ) (k : Content) → kind c.state ≡ between → 3 < n
-        → StepKind c n k between (with_texts h c u k (automaton.further_document_end b (config_of c) (seen u k)))
-        (with_texts h (with_below ss ms c) u k
-        (automaton.further_document_end b (config_of (with_below ss ms c)) (seen u k)))
+        → StepKind n k between (texted k (λ x. automaton.further_document_end b x (seen u k)))
     further true n k e l = wants _ e (omega arith)
     further false n k e l = implicit n k l
 
     implicit_start : (n : ℕ) (k : Content) → kind c.state ≡ between → 3 < n
-        → StepKind c n k between
-        (with_texts h c u k (automaton.parse_implicit_document_start (config_of c) (seen u k) (token_type k)))
-        (with_texts h (with_below ss ms c) u k
-        (automaton.parse_implicit_document_start (config_of (with_below ss ms c)) (seen u k) (token_type k)))
+        → StepKind n k between (texted k (λ x. automaton.parse_implicit_document_start x (seen u k) (token_type k)))
     implicit_start n StreamEnd e l = ends_stream (omega arith)
     implicit_start n (VersionDirective v) e l = explicit u.start_mark false n (VersionDirective v) (omega arith)
     implicit_start n (TagDirective g) e l = explicit u.start_mark false n (TagDirective g) (omega arith)
@@ -409,41 +333,28 @@ module _ (ss : List yaml_parser_state_t) (ms : List Mark) (u : Token) where
     implicit_start n k e l = implicit n k l
 
     explicit_start : (n : ℕ) (k : Content) → 1 < n
-        → StepKind c n k between
-        (with_texts h c u k (automaton.parse_document_start (config_of c) (seen u k) (token_type k)))
-        (with_texts h (with_below ss ms c) u k
-        (automaton.parse_document_start (config_of (with_below ss ms c)) (seen u k) (token_type k)))
+        → StepKind n k between (texted k (λ x. automaton.parse_document_start x (seen u k) (token_type k)))
     explicit_start n StreamEnd l = ends_stream (omega arith)
     explicit_start n k l = explicit u.start_mark false n k l
 
     -- where a node may be nothing: in a collection, and as a document's content
     slotted : (nothing : Bool) (s : yaml_parser_state_t) (p : NodePlace) (m : Mark) (n : ℕ) (k : Content) {i : Kind}
         → GoesOnWithin i (kind s) → rank s k ≤ n → 1 < n
-        → StepKind c (suc n) k i
-        (with_texts h c u k (if nothing then automaton.process_empty_scalar m (automaton_config.in_state s (config_of c))
-        else automaton.parse_node p (automaton_config.with_state s (config_of c)) (seen u k) (token_type k)))
-        (with_texts h (with_below ss ms c) u k (if nothing
-        then automaton.process_empty_scalar m (automaton_config.in_state s (config_of (with_below ss ms c)))
-        else automaton.parse_node p (automaton_config.with_state s (config_of (with_below ss ms c))) (seen u k) (token_type k)))
+        → StepKind (suc n) k i (texted k (λ x. if nothing then automaton.process_empty_scalar m (automaton_config.in_state s x)
+        else automaton.parse_node p (automaton_config.with_state s x) (seen u k) (token_type k)))
     slotted true s p m n k g l i = empty s g (omega arith)
-    slotted false s p m n k g l i = entry s n refl g (parsed p (automaton_config.with_state s (config_of c)) n k i)
+    slotted false s p m n k g l i = entry s n refl g (parsed p n k i)
 
     rooted : (nothing : Bool) (k : Content)
-        → StepKind c 5 k node_due
-        (with_texts h c u k (if nothing
-        then automaton.process_empty_scalar u.start_mark (automaton_config.without_state (config_of c))
-        else automaton.parse_node Block (config_of c) (seen u k) (token_type k)))
-        (with_texts h (with_below ss ms c) u k (if nothing
-        then automaton.process_empty_scalar u.start_mark (automaton_config.without_state (config_of (with_below ss ms c)))
-        else automaton.parse_node Block (config_of (with_below ss ms c)) (seen u k) (token_type k)))
+        → StepKind 5 k node_due (texted k (λ x. if nothing
+        then automaton.process_empty_scalar u.start_mark (automaton_config.without_state x)
+        else automaton.parse_node Block x (seen u k) (token_type k)))
     rooted true k = node (whole true (a_scalar _) (omega arith))
-    rooted false k = node (parsed Block (config_of c) _ k (omega arith))
+    rooted false k = node (parsed Block _ k (omega arith))
 
     -- after an event the state says what comes
     at_a_state : (s : yaml_parser_state_t) (k : Content) → kind c.state ≡ kind s
-        → StepKind c (rank s k) k (kind s)
-        (with_texts h c u k (automaton.at_state s (config_of c) (seen u k) (token_type k)))
-        (with_texts h (with_below ss ms c) u k (automaton.at_state s (config_of (with_below ss ms c)) (seen u k) (token_type k)))
+        → StepKind (rank s k) k (kind s) (texted k (λ x. automaton.at_state s x (seen u k) (token_type k)))
     at_a_state st.YAML_PARSE_STREAM_START_STATE (StreamStart x) e = begins_stream _ (omega arith)
     at_a_state st.YAML_PARSE_STREAM_START_STATE k e = fails
     at_a_state st.YAML_PARSE_IMPLICIT_DOCUMENT_START_STATE k e = implicit_start _ k e (omega arith)
@@ -451,10 +362,10 @@ module _ (ss : List yaml_parser_state_t) (ms : List Mark) (u : Token) where
     at_a_state st.YAML_PARSE_DOCUMENT_CONTENT_STATE k e = rooted (is_nothing_before slot.Document (token_type k)) k
     at_a_state st.YAML_PARSE_DOCUMENT_END_STATE DocumentEnd e = ends_document _ _ _ false refl (omega arith)
     at_a_state st.YAML_PARSE_DOCUMENT_END_STATE k e = ends_document _ _ _ true refl (omega arith)
-    at_a_state st.YAML_PARSE_BLOCK_NODE_STATE k e = node (parsed Block (config_of c) _ k (omega arith))
+    at_a_state st.YAML_PARSE_BLOCK_NODE_STATE k e = node (parsed Block _ k (omega arith))
     at_a_state st.YAML_PARSE_BLOCK_NODE_OR_INDENTLESS_SEQUENCE_STATE k e
-        = node (parsed BlockOrIndentlessSequence (config_of c) _ k (omega arith))
-    at_a_state st.YAML_PARSE_FLOW_NODE_STATE k e = node (parsed Flow (config_of c) _ k (omega arith))
+        = node (parsed BlockOrIndentlessSequence _ k (omega arith))
+    at_a_state st.YAML_PARSE_FLOW_NODE_STATE k e = node (parsed Flow _ k (omega arith))
     at_a_state st.YAML_PARSE_BLOCK_SEQUENCE_ENTRY_STATE BlockEntry e = wants _ refl (omega arith)
     at_a_state st.YAML_PARSE_BLOCK_SEQUENCE_ENTRY_STATE BlockEnd e = closes sequence_end (omega arith)
     at_a_state st.YAML_PARSE_BLOCK_SEQUENCE_ENTRY_STATE k e = fails_in (λ (m : Mark). item_fault m u.start_mark)
@@ -469,8 +380,7 @@ module _ (ss : List yaml_parser_state_t) (ms : List Mark) (u : Token) where
     at_a_state st.YAML_PARSE_FLOW_SEQUENCE_FIRST_ENTRY_STATE FlowSequenceEnd e = closes sequence_end (omega arith)
     at_a_state st.YAML_PARSE_FLOW_SEQUENCE_FIRST_ENTRY_STATE Key e = begins_pair _ (omega arith)
     at_a_state st.YAML_PARSE_FLOW_SEQUENCE_FIRST_ENTRY_STATE k e
-        = entry st.YAML_PARSE_FLOW_SEQUENCE_ENTRY_STATE 2 refl in_inner
-        (parsed Flow (automaton_config.with_state st.YAML_PARSE_FLOW_SEQUENCE_ENTRY_STATE (config_of c)) 2 k (omega arith))
+        = entry st.YAML_PARSE_FLOW_SEQUENCE_ENTRY_STATE 2 refl in_inner (parsed Flow 2 k (omega arith))
     at_a_state st.YAML_PARSE_FLOW_SEQUENCE_ENTRY_STATE FlowEntry e
         = wants_entry _ st.YAML_PARSE_FLOW_SEQUENCE_FIRST_ENTRY_STATE refl refl (omega arith)
     at_a_state st.YAML_PARSE_FLOW_SEQUENCE_ENTRY_STATE FlowSequenceEnd e = closes sequence_end (omega arith)
@@ -484,8 +394,7 @@ module _ (ss : List yaml_parser_state_t) (ms : List Mark) (u : Token) where
     at_a_state st.YAML_PARSE_FLOW_MAPPING_FIRST_KEY_STATE FlowMappingEnd e = closes mapping_end (omega arith)
     at_a_state st.YAML_PARSE_FLOW_MAPPING_FIRST_KEY_STATE Key e = wants _ refl (omega arith)
     at_a_state st.YAML_PARSE_FLOW_MAPPING_FIRST_KEY_STATE k e
-        = entry st.YAML_PARSE_FLOW_MAPPING_EMPTY_VALUE_STATE 2 refl in_inner
-        (parsed Flow (automaton_config.with_state st.YAML_PARSE_FLOW_MAPPING_EMPTY_VALUE_STATE (config_of c)) 2 k (omega arith))
+        = entry st.YAML_PARSE_FLOW_MAPPING_EMPTY_VALUE_STATE 2 refl in_inner (parsed Flow 2 k (omega arith))
     at_a_state st.YAML_PARSE_FLOW_MAPPING_KEY_STATE FlowEntry e
         = wants_entry _ st.YAML_PARSE_FLOW_MAPPING_FIRST_KEY_STATE refl refl (omega arith)
     at_a_state st.YAML_PARSE_FLOW_MAPPING_KEY_STATE FlowMappingEnd e = closes mapping_end (omega arith)
@@ -495,12 +404,11 @@ module _ (ss : List yaml_parser_state_t) (ms : List Mark) (u : Token) where
     at_a_state st.YAML_PARSE_FLOW_MAPPING_EMPTY_VALUE_STATE k e = empty _ in_inner (omega arith)
     at_a_state _ k e = fails
 
-    at_want : (w : automaton.Purpose) (k : Content) → StepKind c (room_for w c.state k) k (kind_for w c.state)
-        (with_texts h c u k (automaton.step w (config_of c) (seen u k) (token_type k)))
-        (with_texts h (with_below ss ms c) u k (automaton.step w (config_of (with_below ss ms c)) (seen u k) (token_type k)))
+    at_want : (w : automaton.Purpose) (k : Content) → StepKind (room_for w c.state k) k (kind_for w c.state)
+        (texted k (λ x. automaton.step w x (seen u k) (token_type k)))
     at_want automaton.AtState k = at_a_state c.state k refl
     at_want (BehindDirective start has_version) k = explicit start has_version _ k (omega arith)
-    at_want (BehindProperties p r) k = node (properties p r (config_of c) _ k (omega arith))
+    at_want (BehindProperties p r) k = node (properties p r _ k (omega arith))
     at_want (BehindBlockEntry m) k = slotted (is_nothing_before slot.BlockEntry (token_type k)) _ Block m 5 k in_inner
         (rank_small st.YAML_PARSE_BLOCK_SEQUENCE_ENTRY_STATE k) (omega arith)
     at_want (BehindIndentlessEntry m) k
@@ -522,7 +430,7 @@ module _ (ss : List yaml_parser_state_t) (ms : List Mark) (u : Token) where
         = slotted (is_nothing_before slot.FlowValue (token_type k)) _ Flow u.start_mark 5 k in_inner
         (rank_small st.YAML_PARSE_FLOW_MAPPING_KEY_STATE k) (omega arith)
 
-  -- a step of the machine
-  pub step_kind : (w : Want) (c : Config) (k : Content) → StepKind c (room w c k) k (kind_of w c) (machine w c u k)
-      (machine w (with_below ss ms c) u k)
-  step_kind w c k = at_want w.texts c w.next k
+  -- a step of the machine, over any stacks
+  pub step_kind : (w : Want) (k : Content) → StepKind (room w c k) k (kind_of w c)
+      (λ ss ms. with_texts w.texts c u k (automaton.step w.next (config_of (over c ss ms)) (seen u k) (token_type k)))
+  step_kind w k = at_want w.texts w.next k
