@@ -52,17 +52,18 @@ module _ (f : Fault) (x : Fault) (ss : List yaml_parser_state_t) (ms : List Mark
     abbrev next_there : Mark → Option yaml_version_directive_t → List yaml_tag_directive_t → OriginalParser → ParserResult
     next_there = orig.behind_directives
 
-    abbrev Follows : List Token → Type 0
-    Follows l = (a : Mark) (o : Option yaml_version_directive_t) (ts : List yaml_tag_directive_t)
-        (tags : List yaml_tag_directive_t) (hs : Handles) → Reads tags hs
-        → Matches f (directives_from o ts (next_there a) l (par s' flag tags l))
+    abbrev FollowsFrom : Mark → Option yaml_version_directive_t → (ts tags : List yaml_tag_directive_t) → Handles → List Token
+        → Type 0
+    FollowsFrom a o ts tags hs l = Matches f (directives_from o ts (next_there a) l (par s' flag tags l))
         (feed f (behind_directive a o ts) (here s be hs) l)
+
+    abbrev Follows : List Token → Type 0
+    Follows l = (a : Mark) (o : Option yaml_version_directive_t) (ts tags : List yaml_tag_directive_t) (hs : Handles)
+        → Reads tags hs → FollowsFrom a o ts tags hs l
 
     versions : (x y z : Bool) (a : Mark) (ts : List yaml_tag_directive_t) (v : VersionAsked) (m n : Mark) (l : List Token)
         (tags : List yaml_tag_directive_t) (hs : Handles)
-        → Matches f (directives_from (Some (record { major = v.major; minor = v.minor })) ts (next_there a) l
-        (par s' flag tags l))
-        (feed f (behind_directive a (Some (record { major = v.major; minor = v.minor })) ts) (here s be hs) l) → Matches f
+        → FollowsFrom a (Some (record { major = v.major; minor = v.minor })) ts tags hs l → Matches f
         (if not x || (not y && not z) then orig.yaml_parser_set_parser_error
         (codes "found incompatible YAML document") m
         else directives_from (Some (record { major = v.major; minor = v.minor })) ts (next_there a) l
@@ -77,10 +78,7 @@ module _ (f : Fault) (x : Fault) (ss : List yaml_parser_state_t) (ms : List Mark
 
     version_token : (a : Mark) (o : Option yaml_version_directive_t) (ts : List yaml_tag_directive_t) (v : VersionAsked)
         (m n : Mark) (l : List Token) (tags : List yaml_tag_directive_t) (hs : Handles) → Follows l → Reads tags hs
-        → Matches f
-        (directives_from o ts (next_there a) (tk (VersionDirective v) m n ∷ l)
-        (par s' flag tags (tk (VersionDirective v) m n ∷ l)))
-        (feed f (behind_directive a o ts) (here s be hs) (tk (VersionDirective v) m n ∷ l))
+        → FollowsFrom a o ts tags hs (tk (VersionDirective v) m n ∷ l)
     version_token a (Some e) ts v m n l tags hs ih r = refl
     version_token a None ts v m n l tags hs ih r
         = versions (int_eq v.major (pos 1)) (int_eq v.minor (pos 1)) (int_eq v.minor (pos 2)) a ts v m n l tags hs
@@ -88,10 +86,7 @@ module _ (f : Fault) (x : Fault) (ss : List yaml_parser_state_t) (ms : List Mark
 
     tag_token : (a : Mark) (o : Option yaml_version_directive_t) (ts : List yaml_tag_directive_t) (g : HandleDeclared)
         (m n : Mark) (l : List Token) (tags : List yaml_tag_directive_t) (hs : Handles) → Follows l → Reads tags hs
-        → Matches f
-        (directives_from o ts (next_there a) (tk (TagDirective g) m n ∷ l)
-        (par s' flag tags (tk (TagDirective g) m n ∷ l)))
-        (feed f (behind_directive a o ts) (here s be hs) (tk (TagDirective g) m n ∷ l))
+        → FollowsFrom a o ts tags hs (tk (TagDirective g) m n ∷ l)
     tag_token a o ts g m n l tags hs ih r = subst (λ (w : Option (List ℕ)). Matches f
         (directives_from o ts (next_there a) (tk (TagDirective g) m n ∷ l)
         (par s' flag tags (tk (TagDirective g) m n ∷ l))) (fed f (told w) l)) (r g.handle)
@@ -115,9 +110,7 @@ module _ (f : Fault) (x : Fault) (ss : List yaml_parser_state_t) (ms : List Mark
 
     directive_token : (a : Mark) (o : Option yaml_version_directive_t) (ts : List yaml_tag_directive_t) (k : Content)
         (m n : Mark) (l : List Token) (tags : List yaml_tag_directive_t) (hs : Handles) → Follows l → Reads tags hs
-        → Matches f
-        (directives_from o ts (next_there a) (tk k m n ∷ l) (par s' flag tags (tk k m n ∷ l)))
-        (feed f (behind_directive a o ts) (here s be hs) (tk k m n ∷ l))
+        → FollowsFrom a o ts tags hs (tk k m n ∷ l)
     directive_token a o ts (VersionDirective v) m n l tags hs ih r = version_token a o ts v m n l tags hs ih r
     directive_token a o ts (TagDirective g) m n l tags hs ih r = tag_token a o ts g m n l tags hs ih r
     directive_token a o ts DocumentStart m n l tags hs ih r
