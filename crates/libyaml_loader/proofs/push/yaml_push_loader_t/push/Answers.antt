@@ -13,22 +13,11 @@ returns-in_err-composed c =
     let pushed = c.push_from-pushed in
     let composed = c.compose_all-composed in
     let first = c.self.inside.composer in
-    let so = subst (λ y. Pushes (vec_capacity c.self.inside.events ≤ vec_len pushed.new.events) c.self.inside.parser
-    c.args.token y pushed.result pushed.new.self pushed.new.events.items)
-    c.self.invariant.0 pushed.ensures in
+    let so = rw c.self.invariant.0 at pushed.ensures in
     let none : done_by (fault_of first.fault) ≡ Ok tt = sym c.kept.ensures ∙ c.in_ok-kept.was in
     let same = on_ok (composed.new.self.fault ≡ first.fault) composed.result composed.ensures.fault in
     let err : c.from_residual-in_err-composed.result ≡ Err c.in_err-composed.field-0.0 = search rules in
-    subst (λ y. PushesLoads (vec_capacity c.args.documents.now ≤ vec_len composed.new.documents) y c.args.token
-    c.args.documents.now.items c.from_residual-in_err-composed.result
-    (standing_loader pushed.new.self (composer_state composed.new.self) (fault_of composed.new.self.fault)
-    composed.new.self.max_entries) composed.new.documents.items) c.self.view_is
-    (subst (λ z. PushesLoads (vec_capacity c.args.documents.now ≤ vec_len composed.new.documents)
-    (standing_loader c.self.inside.parser (composer_state first) (fault_of first.fault) first.max_entries) c.args.token
-    c.args.documents.now.items z
-    (standing_loader pushed.new.self (composer_state composed.new.self) (fault_of composed.new.self.fault)
-    composed.new.self.max_entries) composed.new.documents.items) (sym err)
-    (pushes_refused _ _ c.self.inside.parser pushed.new.self c.args.token pushed.new.events.items pushed.result
+    rw err (rw c.self.view_is at (pushes_refused _ _ c.self.inside.parser pushed.new.self c.args.token pushed.new.events.items pushed.result
     so first composed.new.self c.args.documents.now.items composed.new.documents.items
     composed.result composed.ensures.composes composed.ensures.none composed.ensures.bound composed.ensures.kept
     same none c.in_err-composed.field-0.0 c.in_err-composed.was))
@@ -38,42 +27,27 @@ returns-in-Err c =
     let pushed = c.push_from-pushed in
     let composed = c.compose_all-composed in
     let first = c.self.inside.composer in
-    let so = subst (λ y. Pushes (vec_capacity c.self.inside.events ≤ vec_len pushed.new.events) c.self.inside.parser
-    c.args.token y pushed.result pushed.new.self pushed.new.events.items)
-    c.self.invariant.0 pushed.ensures in
+    let so = rw c.self.invariant.0 at pushed.ensures in
     let none : done_by (fault_of first.fault) ≡ Ok tt = sym c.kept.ensures ∙ c.in_ok-kept.was in
     let same = on_ok (composed.new.self.fault ≡ first.fault) composed.result composed.ensures.fault in
     let now = c.keep.new.self in
     let is = kept_fault pushed.new.self now composed.new.self.max_entries _ c.keep.ensures.none_open
     (ap fault_of c.keep.ensures.fault ∙ c.prefix.ensures.kept) c.keep.ensures.bound in
-    subst (λ y. PushesLoads (vec_capacity c.args.documents.now ≤ vec_len composed.new.documents) y c.args.token
-    c.args.documents.now.items (Err c.in-Err.error)
-    (standing_loader pushed.new.self (composer_state now) (fault_of now.fault) now.max_entries)
-    composed.new.documents.items) c.self.view_is
-    (subst (λ z. PushesLoads (vec_capacity c.args.documents.now ≤ vec_len composed.new.documents)
-    (standing_loader c.self.inside.parser (composer_state first) (fault_of first.fault) first.max_entries) c.args.token
-    c.args.documents.now.items (Err c.in-Err.error) z composed.new.documents.items) is
-    (pushes_failed _ _ c.self.inside.parser pushed.new.self c.args.token pushed.new.events.items pushed.result
+    rw (c.self.view_is, is) at (pushes_failed _ _ c.self.inside.parser pushed.new.self c.args.token pushed.new.events.items pushed.result
     so first composed.new.self c.args.documents.now.items composed.new.documents.items
     composed.result composed.ensures.composes composed.ensures.none composed.ensures.bound composed.ensures.kept
     same none c.self.invariant.2 c.in_ok-composed.field-0 c.in-Err.error
-    c.in_ok-composed.was c.in-Err.is))
+    c.in_ok-composed.was c.in-Err.is)
 
 pub returns : goal.returns
 returns c =
     let pushed = c.push_from-pushed in
     let composed = c.compose_all-composed in
     let first = c.self.inside.composer in
-    let so = subst (λ y. Pushes (vec_capacity c.self.inside.events ≤ vec_len pushed.new.events) c.self.inside.parser
-    c.args.token y pushed.result pushed.new.self pushed.new.events.items)
-    c.self.invariant.0 pushed.ensures in
+    let so = rw c.self.invariant.0 at pushed.ensures in
     let none : done_by (fault_of first.fault) ≡ Ok tt = sym c.kept.ensures ∙ c.in_ok-kept.was in
     let same = on_ok (composed.new.self.fault ≡ first.fault) composed.result composed.ensures.fault in
-    subst (λ y. PushesLoads (vec_capacity c.args.documents.now ≤ vec_len composed.new.documents) y c.args.token
-    c.args.documents.now.items (Ok tt)
-    (standing_loader pushed.new.self (composer_state composed.new.self) (fault_of composed.new.self.fault)
-    composed.new.self.max_entries) composed.new.documents.items) c.self.view_is
-    (pushes_ok _ _ c.self.inside.parser pushed.new.self c.args.token pushed.new.events.items pushed.result so
+    rw c.self.view_is at (pushes_ok _ _ c.self.inside.parser pushed.new.self c.args.token pushed.new.events.items pushed.result so
     first composed.new.self c.args.documents.now.items composed.new.documents.items
     composed.result composed.ensures.composes composed.ensures.none composed.ensures.bound composed.ensures.kept
     same none c.in_ok-composed.field-0 c.in_default.field-0 c.in_ok-composed.was c.in_default.is)
@@ -83,9 +57,7 @@ invariant_of-self-in_default c =
     let pushed = c.push_from-pushed in
     let composed = c.compose_all-composed in
     let first = c.self.inside.composer in
-    let so = subst (λ y. Pushes (vec_capacity c.self.inside.events ≤ vec_len pushed.new.events) c.self.inside.parser
-    c.args.token y pushed.result pushed.new.self pushed.new.events.items)
-    c.self.invariant.0 pushed.ensures in
+    let so = rw c.self.invariant.0 at pushed.ensures in
     let none : done_by (fault_of first.fault) ≡ Ok tt = sym c.kept.ensures ∙ c.in_ok-kept.was in
     let same = on_ok (composed.new.self.fault ≡ first.fault) composed.result composed.ensures.fault in
     let p = pushes_ok _ _ c.self.inside.parser pushed.new.self c.args.token pushed.new.events.items
