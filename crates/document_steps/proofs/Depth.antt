@@ -108,9 +108,9 @@ fits d ss _ _ _ (begins _ _ is) = ap (λ (c : Composer). c.is_within) is
 fits d' ss' h es ds (moves d _ ss _ _ _ _ run is) =
     subst (Fits (open_from None es)) (sym is) (roomy (open_from None es) (composer_of d ss) (length ss') (fits d ss h es ds run))
 fits _ _ _ _ _ (takes d d' ss ss' h es ds a e p p' run calls taken) =
-    subst (λ (o : Option ℕ). Fits o (composer_of d' ss')) (sym (open_more None es e))
-    (subst (λ (t : Told). Fits (open_after (open_from None es) (event_type e.content)) t.composer) (sym calls)
-    (step_fits (open_from None es) (event_type e.content) (event_fact h e) p (composer_of d ss) (fits d ss h es ds run)))
+    rw (← (open_more None es e)) at (rw (← calls) at
+    (step_fits (open_from None es) (event_type e.content) (event_fact h e) p (composer_of d ss) (fits d ss h es ds
+    run)))
 
 pub stack_fits : StackFits
 stack_fits most d ss h es ds run inside within = go (open_from None es) (fits d ss h es ds run)

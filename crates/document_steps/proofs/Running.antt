@@ -121,9 +121,7 @@ module _ (c : Composer) (h : Held) (e : Event) (p : place_t) (inside : c.is_with
   closes : (k : Closing) → closing_of e ≡ Some k → Steps c h e (told deed.Ends p (record c { is_within = false }))
   closes k is = record {
     bound = refl;
-    leads = subst (λ (s : State). Leads c.most s (e ∷ []) (given deed.Ends e h) between) state_inside
-        (subst (λ (l : List Document). Leads c.most (within o (loader_by c h)) (e ∷ []) l between) gives
-        (closes_there c.most o (loader_by c h) e k is));
+    leads = rw state_inside at (rw gives at (closes_there c.most o (loader_by c h) e k is));
     standing = λ w. absurd (true≢false (sym w));
   }
     where
@@ -140,19 +138,15 @@ module _ (c : Composer) (h : Held) (e : Event) (p : place_t) (inside : c.is_with
       go t taken (goes part going there bound puts) =
           let same = part_applied t.deed part t.place e h in
           let there : Standing t.composer (applied t.deed t.place e h) o
-          = subst (λ (g : Held). Standing t.composer g o) same there in
+          = rw same at there in
           record {
             bound = bound;
-            leads = subst (λ (l : List Document). Leads c.most (loader_state c h) (e ∷ []) l
-                (loader_state t.composer (applied t.deed t.place e h))) (part_gives t.deed part e h)
-                (subst (λ (s : State). Leads c.most s (e ∷ []) [] (loader_state t.composer (applied t.deed t.place e h))) state_inside
-                (subst (λ (s : State). Leads c.most (within o (loader_by c h)) (e ∷ []) [] s)
-                (ap (λ (x : Option Opening). state_in true x (loader_by t.composer (applied t.deed t.place e h))) (sym there.opening)
-                ∙ ap (λ (b : Bool). state_in b (applied t.deed t.place e h).opening
-                (loader_by t.composer (applied t.deed t.place e h))) (sym there.is_within))
+            leads = rw (part_gives t.deed part e h) at (rw state_inside at
+                (rw (ap (λ (x : Option Opening). state_in true x (loader_by t.composer (applied t.deed t.place e h)))
+                (sym there.opening) ∙ ap (λ (b : Bool). state_in b (applied t.deed t.place e h).opening (loader_by
+                t.composer (applied t.deed t.place e h))) (sym there.is_within)) at
                 (goes_there c.most o (loader_by c h) (loader_by t.composer (applied t.deed t.place e h)) e without
-                (subst (λ (g : Held). bounded_option c.most (loader_by c h) (part_of e) ≡ machine.going (loader_by t.composer g))
-                same going))));
+                (rw same at going))));
             standing = λ w. (o, there);
           }
       go t taken (fails refused failed) = absurd (not_both t.deed taken refused)
@@ -209,12 +203,11 @@ module _ (most : ℕ) (c : Composer) (h : Held) (es : List Event) (ds : List Doc
   stands_on : (t : Told) → t ≡ composer_step (event_type e.content) (event_fact h e) p c → IsTaken t.deed
       → Stood most t.composer (applied t.deed t.place e h) (es ++ e ∷ []) (ds ++ given t.deed e h)
   stands_on t is taken =
-      let s : Steps c h e t = subst (Steps c h e) (sym is) (steps (subst (λ (u : Told). IsTaken u.deed) is taken)) in
+      let s : Steps c h e t = subst (Steps c h e) (sym is) (steps (rw is at taken)) in
       record {
         bound = s.bound ∙ stood.bound;
         leads = leads_both most between (loader_state c h) _ es (e ∷ []) ds (given t.deed e h) stood.leads
-            (subst (λ (n : ℕ). Leads n (loader_state c h) (e ∷ []) (given t.deed e h)
-            (loader_state t.composer (applied t.deed t.place e h))) stood.bound s.leads);
+            (rw stood.bound at s.leads);
         standing = s.standing;
       }
 
@@ -222,9 +215,7 @@ module _ (most : ℕ) (c : Composer) (h : Held) (es : List Event) (ds : List Doc
       → (rest : List Event) (x : Ending)
       → bounded_loads most (es ++ e ∷ rest) x ≡ as_loads ds ++ Err (deed_fault t.deed h e) ∷ []
   refuses t is r rest x = stood.leads.loads (e ∷ rest) x ∙ ap (λ (l : List Load). as_loads ds ++ l)
-      (subst (λ (n : ℕ). loads_from n (loader_state c h) (e ∷ rest) x ≡ Err (deed_fault t.deed h e) ∷ []) stood.bound
-      (subst (λ (u : Told). loads_from c.most (loader_state c h) (e ∷ rest) x ≡ Err (deed_fault u.deed h e) ∷ []) (sym is)
-      (by c.is_within refl (subst (λ (u : Told). IsRefused u.deed) is r))))
+      (rw stood.bound at (rw (← is) at (by c.is_within refl (rw is at r))))
     where
       none : (k : unnamed_yaml_event_t_data) → IsRefused (between_step (event_type k) p c).deed → ⊥
       none (ev.DocumentStart d) r = r

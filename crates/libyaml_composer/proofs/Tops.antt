@@ -1,5 +1,5 @@
 -- What lies on top of the stack.
-use Rattle.std.proofs.Common.{◌≡◌, ◌∷◌, ◌+◌, ◌-◌, ◌<◌, ◌≤◌, ℕ, List, [], length, refl, subst, get_or, set, arith}
+use Rattle.std.proofs.Common.{◌≡◌, ◌∷◌, ◌+◌, ◌-◌, ◌<◌, ◌≤◌, ℕ, List, [], length, refl, get_or, set, arith}
 use Rattle.std.proofs.lemmas.Grind.{common_steps, take-set_at}
 use Rattle.std.proofs.lemmas.List.{take_more}
 use Rattle.libyaml_composer.specs.declared.records.open_t.{open_t}
@@ -19,8 +19,7 @@ pub top_below : (entries : List open_t) (n : ℕ) (d : open_t) → 0 < n → n �
 top_below entries n d h l =
     let e : n - 1 + 1 ≡ n = omega (arith, h) in
     let m : n - 1 < length entries = omega (arith, h, l) in
-    subst (λ (k : ℕ). stack_of k entries ≡ get_or entries (n - 1) d ∷ stack_of (n - 1) entries) e
-    (top_at entries (n - 1) d m)
+    rw e at (top_at entries (n - 1) d m)
 
 pub top_set : (entries : List open_t) (n : ℕ) (o : open_t) → 0 < n → n ≤ length entries
     → stack_of n (set entries (n - 1) o) ≡ o ∷ stack_of (n - 1) entries

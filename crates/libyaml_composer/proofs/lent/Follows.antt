@@ -1,10 +1,9 @@
 -- A call follows the loader's machine at each event within a document.
-use Rattle.std.proofs.Common.{◌≡◌, ◌<◌, ◌≤◌, ◌++◌, ◌∷◌, List, [], ℕ, zero, suc, ℤ, pos, length, arith, refl, sym, ap, subst, ◌∙◌, true≢false, Option, Some, None, Bool, true, false, slice_get, map, nat_le, nat_lt, length-append, append-nil, cond, nat_cmp}
+use Rattle.std.proofs.Common.{◌≡◌, ◌<◌, ◌≤◌, ◌++◌, ◌∷◌, List, [], ℕ, zero, suc, ℤ, pos, length, arith, refl, sym, ap, subst, ◌∙◌, true≢false, Option, Some, None, Bool, true, false, map, nat_le, nat_lt, length-append, cond, nat_cmp}
 use Rattle.std.proofs.lemmas.Int.{ints}
 use Rattle.std.specs.Cmp.Lexicographic.{slice_cmp, nat_list_cmp_total}
 use Rattle.std.specs.FinMap.{get, get-insert, insert}
 use Rattle.std.specs.BTreeMap.{is_at}
-use Rattle.libyaml_types.specs.Fault.{memory_fault}
 use Rattle.libyaml_types.specs.Types.{event_type}
 use Rattle.libyaml_types.specs.declared.event.unnamed_yaml_event_t_data.TheVariants as ev
 use Rattle.libyaml_types.specs.declared.event.unnamed_yaml_event_t_data.{unnamed_yaml_event_t_data}
@@ -23,7 +22,7 @@ use Rattle.libyaml_composer.specs.declared.records.open_t.{open_t}
 use Rattle.libyaml_composer.specs.declared.records.place_t.{place_t}
 use Rattle.libyaml_composer.specs.Composing.{Composer, Told, adding, at_carrier, at_start, deed_for, deed_in, collection_ended, holding_top, if_placed, is_list_full, with_open_node, place_in, told, unless, within_step}
 use Rattle.libyaml_composer.specs.Numbers.{is_set, is_id}
-use Rattle.libyaml_composer.specs.Held.{Held, anchor_in, anchored, applied_part, carrier_named, fact_by, event_fact, fault_part, IsRefused, first_mark, loader_by, nodes_made, with_made_node, open_of, placed, with_child_placed, held_with_nodes}
+use Rattle.libyaml_composer.specs.Held.{Held, anchor_in, anchored, applied_part, carrier_named, fact_by, event_fact, fault_part, IsRefused, first_mark, loader_by, nodes_made, with_made_node, open_of, placed, with_child_placed}
 use Rattle.libyaml_composer.proofs.Children.{Handing, hands_child}
 use Rattle.libyaml_composer.proofs.Opens.{get_last, length_changed, opens_more, opens_other, opens_wider}
 use Rattle.libyaml_composer.specs.Standing.{FitsParent, IsAlike, IsCarried, IsChild, IsClosed, IsNode, IsOpenNode, IsPart, PutsNode, Opens, Standing, TakesOneMore}
@@ -135,8 +134,7 @@ follows_node most o h s q start end p c true anchor list r t bad good there = fa
 follows_node most o h s q start end p c false true list r t bad good there = fails tt (ap (if_child_fits list) (bad refl))
 follows_node most o h s q start end p c false false true r t bad good there = fails tt (ap (if_child_fits true) (good refl).1)
 follows_node most o h s q start end p c false false false r t bad good there =
-    subst (λ (x : Loading). Follows most o h s q start end x t) (sym (ap (if_child_fits false) (good refl).1 ∙ sym (good refl).1))
-    (there refl)
+    rw (← (ap (if_child_fits false) (good refl).1 ∙ sym (good refl).1)) at (there refl)
 
 id_of : (k : ℕ) → 0 < k → is_id (pos k) ≡ true
 id_of zero h = absurd (omega arith)

@@ -1,5 +1,5 @@
 -- The content after a node's properties, as it is put.
-use Rattle.std.proofs.Common.{◌≡◌, ◌∙◌, ℕ, List, Option, Some, None, Ok, refl, sym, subst}
+use Rattle.std.proofs.Common.{◌≡◌, ◌∙◌, ℕ, List, Option, Some, None, Ok, refl, sym}
 use Rattle.libyaml_types.specs.Types.{token_type}
 use Rattle.libyaml_types.specs.declared.enums.yaml_token_type_t.TheVariants as kinds
 use Rattle.libyaml_types.specs.declared.event.yaml_event_t.{yaml_event_t}
@@ -90,9 +90,7 @@ pub asked_content : (out : Progressed) (h : Texts) (t : yaml_token_t) (q : Pendi
 asked_content out h t q c g e l =
     let texts = l.0 in
     let does = l.1 in
-    subst (λ (y : Texts). out ≡ put y (only_if (flag q.reading.has_anchor) q.properties.anchor) g c t t.content
-    (automaton.node_content (place_of q.reading.place) (properties q.reading) (config_of c) (seen t t.content)
-    (token_type t.content))) (sym texts)
+    rw (← texts) at
     ((rw texts at does) ∙ tag_read (only_if (flag q.reading.has_tag) q.properties.tag) g (place_of q.reading.place)
     (properties q.reading) (config_of c) _ c t t.content e)
 

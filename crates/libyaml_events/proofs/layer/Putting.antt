@@ -128,10 +128,8 @@ directive_held h k g d e i = rw (e, i) refl
 -- the same step of the same parser
 pub again : (w w' : Want) (c c' : Config) (t : yaml_token_t) (d : Config) (r : Result Progress yaml_error_type_t)
     (new : Config) → w' ≡ w → c' ≡ c → Steps (step w' c' t) d r new → Steps (step w c t) d r new
-again w w' c c' t d r new i j h = subst (λ (x : Want). Steps (step x c t) d r new) i
-    (subst (λ (x : Config). Steps (step w' x t) d r new) j h)
+again w w' c c' t d r new i j h = rw i at (rw j at h)
 
 pub grows_again : (w w' : Want) (c c' : Config) (k : unnamed_yaml_token_t_data) → w' ≡ w → c' ≡ c
     → may_grow w' c' k ≡ true → may_grow w c k ≡ true
-grows_again w w' c c' k i j h = subst (λ (x : Want). may_grow x c k ≡ true) i
-    (subst (λ (x : Config). may_grow w' x k ≡ true) j h)
+grows_again w w' c c' k i j h = rw i at (rw j at h)

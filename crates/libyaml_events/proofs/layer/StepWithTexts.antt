@@ -22,7 +22,7 @@ use Rattle.libyaml_automaton.specs.Config as automaton_config
 use Rattle.libyaml_automaton.specs.Fits.{FitsStep, IsFull, is_simple, SameReading, opens_at}
 use Rattle.libyaml_automaton.specs.Growth.{opens, pushes}
 use Rattle.libyaml_automaton.specs.Numbers.{next_of, place_of}
-use Rattle.libyaml_automaton.specs.Wanted.{IsAt, next_at, next_for, properties, kind_and_marks, wanted_by}
+use Rattle.libyaml_automaton.specs.Wanted.{IsAt, properties, kind_and_marks, wanted_by}
 use Rattle.libyaml_automaton.specs.Wanted as automaton_want
 use Rattle.libyaml_events.specs.declared.pending.Pending.{Pending}
 use Rattle.libyaml_events.specs.machine.Outcomes.{property_texts, texts_for, wanted}
@@ -248,8 +248,7 @@ pub grows_asked : (hs : Handles) (f : Fault) (o : Option yaml_token_t) (a b : au
     → may_grow (wanted q) c t.content ≡ true
 grows_asked hs f o a b c t q r' x k ec ek fits u s i g =
     let e : r' ≡ q.reading = u i in
-    subst (λ (y : Config). may_grow (wanted q) y t.content ≡ true) ec
-    (content_grows (next_of q.reading.next) q.reading q.properties q.directives (config_with a hs f o)
+    rw ec at (content_grows (next_of q.reading.next) q.reading q.properties q.directives (config_with a hs f o)
     (kind_and_marks (token_type t.content) t.start_mark t.end_mark) (place_of r'.place) (properties r') b t.content
     (ap (λ (y : Reading). next_of y.next) (sym e) ∙ (rw i at fits)) (rw (i, ek) at s) (rw e at g))
 

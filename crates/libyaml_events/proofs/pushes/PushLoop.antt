@@ -19,7 +19,7 @@ use Rattle.libyaml_events.specs.sources.Pushed.{Fed, standing}
 use Rattle.libyaml_events.proofs.pushes.Steps.{gives_on, takes, wants}
 use Rattle.libyaml_events.specs.sources.Pushes.{Stops, Takes, by_grammar, by_memory, for_event, for_step}
 use Rattle.libyaml_events.proofs.calls.CallLemmas.{begun_alive, taken_same}
-use Rattle.libyaml_events.proofs.calls.Measure.{FallsBelow, falls_on, weight}
+use Rattle.libyaml_events.proofs.calls.Measure.{falls_on, weight}
 use Rattle.libyaml_events.proofs.calls.Parsed.{has_failed}
 use Rattle.libyaml_events.proofs.machine.StepKinds.{room}
 use Rattle.libyaml_events.proofs.machine.MachinePosition.{Leads, Links}
@@ -34,13 +34,11 @@ pub step_falls : (w : Want) (c : Config) (u : Token) (e : Event) (d : Config) (v
 step_falls w c u e d v n h i = go d.lookahead i fell
   where
     fell : weight d < length c.states + room w c u.content
-    fell = subst (λ (o : Progressed). FallsBelow o (length c.states + room w c u.content)) h
-        (subst (λ (x : Config). FallsBelow (step w x u) (length c.states + room w x u.content)) (taken_same c n) (falls_on w c u))
+    fell = rw h at (rw (taken_same c n) at (falls_on w c u))
 
     go : (o : Option Token) → o ≡ Some v → length d.states + held_rank d.state o < length c.states + room w c u.content
         → length d.states + rank d.state v.content < length c.states + room w c u.content
-    go o j k = subst (λ (x : Option Token). length d.states + held_rank d.state x < length c.states + room w c
-        u.content) j k
+    go o j k = rw j at k
 
 -- within a push, with the token u in hand: these events were added
 pub record Taking (w0 : Want) (c0 : Config) (t : Token) (before : List Event) (w : Want) (c : Config) (u : Token)
@@ -117,15 +115,12 @@ module _ (Full : Type 0) (w0 : Want) (c0 : Config) (t : Token) (before : List Ev
       → (x : yaml_error_type_t) (w' : Want) (new : Config) (more : List Event) → FailsOnto Room w old u x new
       → more ≡ now → Takes Full (standing w0 c0) t before (Err x) (standing w' (let_go new)) more
   fails_onto Room full x w' new more f m =
-      subst (λ (y : List Event). Takes Full (standing w0 c0) t before (Err x) (standing w' (let_go new)) y)
-      (sym m) (by f)
+      rw (← m) at (by f)
     where
       by : FailsOnto Room w old u x new → Takes Full (standing w0 c0) t before (Err x) (standing w' (let_go new)) now
       by (by_step h grows) = fails x w' new h grows
       by (by_list e mid h i j room) =
-          subst (λ (y : yaml_error_type_t). Takes Full (standing w0 c0) t before (Err y)
-          (standing w' (let_go new)) now) (sym i)
-          (no_room e mid h w' (let_go new) j (full room))
+          rw (← i) at (no_room e mid h w' (let_go new) j (full room))
 
   -- an event is given
   module _ (e : Event) (mid : Config) (h : Steps (step w old u) old (Ok (Given e)) mid) (more : List Event)
@@ -135,7 +130,7 @@ module _ (Full : Type 0) (w0 : Want) (c0 : Config) (t : Token) (before : List Ev
 
     pub given_fed : (o : Option Token) → mid.lookahead ≡ o → (l : List Token) (g : List Event) → Fed w0 c0 None l g
         → Fed AtState (taken mid) o (l ++ t ∷ []) (g ++ (k.added ++ e ∷ []))
-    given_fed o i l g f = subst (λ (x : Option Token). Fed AtState (taken mid) x (l ++ t ∷ []) (g ++ (k.added ++ e ∷ []))) i
+    given_fed o i l g f = rw i at
         (subst (Fed AtState (taken mid) mid.lookahead (l ++ t ∷ [])) (append_assoc g k.added (e ∷ []))
         (gives_on w old u (k.fed l g f) e mid h))
 

@@ -1,6 +1,6 @@
 -- Each viable prefix that is no valid list has one prefix tree: the partial tree at which a NO-TOKEN, bad everywhere,
 -- is bad.
-use Rattle.std.proofs.Common.{◌≡◌, List, [], ◌∷◌, ◌++◌, Option, Some, None, true, false, refl, sym, ap, ◌∙◌, subst}
+use Rattle.std.proofs.Common.{◌≡◌, List, [], ◌∷◌, ◌++◌, Option, Some, None, true, false, refl, sym, ap, ◌∙◌}
 use Rattle.libyaml_grammar.specs.sentences.Tokens.{Marks, NoToken, Token, marks_of, tok}
 use Rattle.libyaml_grammar.specs.sentences.Trees.{Properties, Stream, alone, free}
 use Rattle.libyaml_grammar.specs.cuts.CutTrees.{Cut, Place, at_directive, at_tag, at_tag_behind, block, content_due, document_due, implicit_root, indentless_entry, part_place, root, slot, start_due}
@@ -94,8 +94,7 @@ never_goes q p e = go q refl
 -- the prefix tree's tokens lead to its right edge
 pub front_reads : (l : List Token) (c : Cut) → IsFront l c → reads_all l unopened ≡ goes (reached c)
 front_reads l c f =
-    let e : feeds l unopened ≡ goes (reached c) = subst (λ (x : List Token). feeds x unopened ≡ goes (reached c))
-    f.tokens (cut_reads c []) in
+    let e : feeds l unopened ≡ goes (reached c) = rw f.tokens at (cut_reads c []) in
     reads_from l unopened (reached c) e (sym (feeds_order l unopened (reached c) e true) ∙ ((edge_told c).1 true
     ∙ f.order))
 

@@ -1,15 +1,13 @@
 -- A list whose only STREAM-END is its last token runs to its tree's events, or to its partial tree's events and error.
-use Rattle.std.proofs.Common.{◌≡◌, List, [], ◌∷◌, ◌++◌, refl, sym, ap, ◌∙◌, subst, Bool, true, false, inl, inr, append-nil}
+use Rattle.std.proofs.Common.{◌≡◌, List, [], ◌∷◌, ◌++◌, refl, sym, ap, ◌∙◌, Bool, true, false, inl, inr, append-nil}
 use Rattle.libyaml_types.specs.Fault.{Fault}
 use Rattle.libyaml_grammar.specs.sentences.Tokens.{Anchor, Content, Marks, StreamEnd, Tag, Token, tok}
 use Rattle.libyaml_grammar.specs.sentences.Trees.{Directives, tokens}
 use Rattle.libyaml_grammar.specs.sentences.Events.{events}
 use Rattle.libyaml_grammar.specs.cuts.CutTrees.{Cut, at_tag, at_tag_behind, declared}
-use Rattle.libyaml_grammar.specs.cuts.CutEvents.{cut_events}
-use Rattle.libyaml_grammar.specs.cuts.CutFaults.{fault}
 use Rattle.libyaml_grammar.specs.cuts.Fits.{Fits, IsUnknown}
 use Rattle.libyaml_grammar.specs.sentences.Sentences.{is_end, has_end}
-use Rattle.libyaml_grammar.specs.runs.Runs.{Ends, Fails, IsRun, has_token, is_behind, is_behind_properties, RunsWhole, to_its_end, to_its_fault}
+use Rattle.libyaml_grammar.specs.runs.Runs.{has_token, is_behind, is_behind_properties, RunsWhole, to_its_end, to_its_fault}
 use Rattle.libyaml_grammar.proofs.lent.Running.{sentence_run, cut_run}
 use Rattle.libyaml_grammar.proofs.trees.TreeOrCut.{sentence_or_cut}
 
@@ -53,12 +51,9 @@ behind_ends _ before b after h e = refl
 pub runs_whole : (l : List Token) (m : Marks) (f : Fault) → has_end l ≡ false → RunsWhole (l ++ tok StreamEnd m ∷ []) f
 runs_whole l m f h = elim (sentence_or_cut l m h).0 [
   | inl s ↦ to_its_end s.tree s.order s.all
-      (subst (λ (x : List Token). IsRun x f (events s.tree) Ends) (append-nil (tokens s.tree) ∙ sym s.all)
-      (sentence_run s.tree [] f s.order))
+      (rw (append-nil (tokens s.tree) ∙ sym s.all) at (sentence_run s.tree [] f s.order))
   | inr k ↦ to_its_fault k.before k.token k.after k.cut k.all k.fits
-      (subst (λ (x : List Token). IsRun x f (cut_events k.cut k.token)
-      (Fails (fault k.cut k.token.content k.token.start_mark))) (sym k.all)
-      (cut_run k.before k.token k.after k.cut f k.fits
+      (rw (← k.all) at (cut_run k.before k.token k.after k.cut f k.fits
       (behind_ends k.cut k.before k.token k.after k.fits (sym (last_of k.before k.token k.after)
       ∙ (ap last_is_end (sym k.all) ∙ last_of l (tok StreamEnd m) [])))))
 ]

@@ -206,8 +206,7 @@ stops_edge_block c x k m l g = stops_filled_block c x k m g.way
 
 stops_led : (q p : Position) (t : Token) → feed q t ≡ goes p → Stops (reads q t) (broken p)
 stops_led q p t e
-    = subst (λ (s : Step). Stops (checked s (is_legal q t.content)) (broken p)) (sym e)
-    (stops_order p (is_legal q t.content))
+    = rw (← e) at (stops_order p (is_legal q t.content))
 
 stops_heads : (b : Before) (ds : Directives) (k : Content) (m : Marks) → is_directive k ≡ true
     → Stops (reads (heads b ds) (tok k m)) (at_directive b ds)
@@ -265,8 +264,7 @@ cut_stops l (document_due (explicit b ds s (node x))) k m t o r w d u n
 cut_stops l (start_due b ds x) k m t o r w d u n = step_stops (read_step m (headed b ds x) k) tt d tt tt n
 cut_stops l (at_directive (free f) no_directives) k m t o r w d u n = stops_heads (free f) no_directives k m d n
 cut_stops l (at_directive (behind x) no_directives) k m t o r w d u n
-    = subst (λ (s : Step). Stops s (at_directive (behind x) no_directives)) (sym (directive_behind x k m d))
-    (stops_heads (behind x) no_directives k m d) n
+    = rw (← (directive_behind x k m d)) at (stops_heads (behind x) no_directives k m d) n
 cut_stops l (at_directive b (directive ds x)) k m t o r w d u n = stops_heads b (directive ds x) k m d n
 cut_stops l (content_due p) k m t o r w d u n =
     stops_content p k m (w, d, λ e. u (record { place = p; begins = (o, inl t); unknown = e })) n
@@ -300,8 +298,7 @@ cut_stops l (separator_due c (pair e y (with_value v (flow_node x)))) k m t o r 
 -- a partial tree that fits is where the reading stops
 pub fits_reach : (l : List Token) (b : Token) (c : Cut) → Fits l b c → reads_all l unopened ≡ goes (reached c)
 fits_reach l b c f =
-    let e : feeds l unopened ≡ goes (reached c) = subst (λ (x : List Token). feeds x unopened ≡ goes (reached c))
-    f.tokens (cut_reads c []) in
+    let e : feeds l unopened ≡ goes (reached c) = rw f.tokens at (cut_reads c []) in
     reads_from l unopened (reached c) e (sym (feeds_order l unopened (reached c) e true) ∙ ((edge_told c).1 true
     ∙ f.order))
 

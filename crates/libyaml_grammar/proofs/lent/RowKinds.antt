@@ -30,9 +30,8 @@ pub sentence_row : (n : ℕ) (l : List Token) (f : Fault) (e : List Event) (t : 
 sentence_row n l f e t r s g =
     let x : tokens t ≡ take n l = feeds_keep (take n l) unopened (done t)
     (reads_to (take n l) unopened (done t) r).0 [] ∙ append-nil (take n l) in
-    subst (λ (d : List Event). IsRun l f d Ends) g
-    (subst (λ (k : List Token). IsRun k f (events t) Ends) (ap (λ (k : List Token). k ++ drop n l) x
-    ∙ s) (sentence_run t (drop n l) f (read_order (take n l) (done t) r)))
+    rw g at (rw (ap (λ (k : List Token). k ++ drop n l) x ∙ s) at
+    (sentence_run t (drop n l) f (read_order (take n l) (done t) r)))
 
 -- token n is bad
 pub cut_row : (n : ℕ) (l : List Token) (f : Fault) (e : List Event) (g : Fault) (b : Token) (q : Position) (c : Cut)
@@ -41,10 +40,7 @@ pub cut_row : (n : ℕ) (l : List Token) (f : Fault) (e : List Event) (g : Fault
     → cut_events c b ≡ e
     → fault c b.content b.start_mark ≡ g → IsRun l f e (Fails g)
 cut_row n l f e g b q c s r h i j k
-    = subst (λ (d : Fault). IsRun l f e (Fails d)) k
-    (subst (λ (d : List Event). IsRun l f d (Fails (fault c b.content b.start_mark))) j
-    (subst (λ (x : List Token). IsRun x f (cut_events c b) (Fails (fault c b.content b.start_mark))) s
-    (cut_run (take n l) b (drop (suc n) l) c f (stops_fits (take n l) b q c r h) i)))
+    = rw k at (rw j at (rw s at (cut_run (take n l) b (drop (suc n) l) c f (stops_fits (take n l) b q c r h) i)))
 
 pub amid_row : (n : ℕ) (l : List Token) (f : Fault) (e : List Event) (b : Token) (q : Position) (c : Cut)
     → take n l ++ b ∷ drop (suc n) l ≡ l
@@ -52,9 +48,7 @@ pub amid_row : (n : ℕ) (l : List Token) (f : Fault) (e : List Event) (b : Toke
     → cut_events c b ≡ e
     → IsRun l f e (Fails f)
 amid_row n l f e b q c s r h i j
-    = subst (λ (d : List Event). IsRun l f d (Fails f)) j
-    (subst (λ (x : List Token). IsRun x f (cut_events c b) (Fails f)) s
-    (amid_run (take n l) b (drop (suc n) l) c f (stops_fits (take n l) b q c r h) i))
+    = rw j at (rw s at (amid_run (take n l) b (drop (suc n) l) c f (stops_fits (take n l) b q c r h) i))
 
 -- no token is bad, and none ends the stream
 pub begin_row : (l : List Token) (f : Fault) (e : List Event) (q : Position) → reads_all l unopened ≡ goes q

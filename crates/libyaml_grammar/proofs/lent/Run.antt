@@ -8,7 +8,7 @@ use Rattle.libyaml_grammar.proofs.lent.Positions.{Position, done, shown, unopene
 use Rattle.libyaml_grammar.proofs.lent.Reading.{Step, along, feeds, goes}
 use Rattle.libyaml_grammar.proofs.lent.Given.{gives, gives_all, if_all}
 use Rattle.libyaml_grammar.proofs.trees.Complete.{stream_reads}
-use Rattle.libyaml_grammar.proofs.lent.Shows.{Shows, step_shows}
+use Rattle.libyaml_grammar.proofs.lent.Shows.{step_shows}
 
 abbrev pub first_mark : List Token → Mark → Mark
 first_mark [] n = n
@@ -20,8 +20,7 @@ pub given_shown : (l : List Token) (q p : Position) → feeds l q ≡ goes p →
 given_shown l q p e n r
     = along (λ (a : List Token) (x : Position). shown p n r ≡ shown x (first_mark a n) (gives_all a x r)) p refl
     (λ t a y x f h. h
-    ∙ (subst (λ (s : Step). Shows s y (marks_of t) (gives y t.content (marks_of t))) f
-    (step_shows y t.content (marks_of t)) (first_mark a n) (gives_all a x r)
+    ∙ (rw f at (step_shows y t.content (marks_of t)) (first_mark a n) (gives_all a x r)
     ∙ ap (λ (s : Step). shown y t.start_mark (gives y t.content (marks_of t) (if_all s (gives_all a) r))) (sym f))) l q e
 
 pub tree_run : (t : Stream) → gives_all (tokens t) unopened [] ≡ events t

@@ -3,8 +3,7 @@ use Rattle.std.specs.Prelude.{◌&&◌}
 use Rattle.std.proofs.Common.{◌≡◌, ℕ, List, [], ◌∷◌, ◌++◌, Some, refl, sym, ap, ◌∙◌, subst, Bool, true, false, inl, inr, ◌↔◌, append-nil}
 use Rattle.libyaml_grammar.specs.sentences.Tokens.{Anchor, Marks, Tag, TagName, Token, tok, zero_marks}
 use Rattle.libyaml_grammar.specs.sentences.Trees.{anchor_tag, tag}
-use Rattle.libyaml_grammar.specs.sentences.Order.{is_known}
-use Rattle.libyaml_grammar.specs.cuts.CutTrees.{Place, at_tag_behind, content_due, declared, place_in_order, place_tokens}
+use Rattle.libyaml_grammar.specs.cuts.CutTrees.{Place, at_tag_behind, content_due, place_tokens}
 use Rattle.libyaml_grammar.specs.sentences.Sentences.{IsBeginning, IsSentence}
 use Rattle.libyaml_grammar.specs.cuts.Fits.{NodeBegins}
 use Rattle.libyaml_grammar.proofs.lent.Positions.{Position, due, position_in_order, position_rest, position_tokens, unopened}
@@ -56,8 +55,7 @@ module _ (l : List Token) (m : Marks) (s : List ℕ) where
       (sym (cut_append (content_due p) (tok (Tag h) n ∷ [])) ∙ e) in (
         p,
         (
-          subst (λ (t : TagName). place_in_order p (is_known (declared p) t.handle && true) ≡ true)
-              (same_tag h n f.1) o,
+          rw (same_tag h n f.1) at o,
           inl f.0,
         ),
       )
@@ -66,8 +64,7 @@ module _ (l : List Token) (m : Marks) (s : List ℕ) where
       (sym (cut_append (at_tag_behind p a k) (tok (Tag h) n ∷ [])) ∙ e) in (
         p,
         (
-          subst (λ (t : TagName). place_in_order p (is_known (declared p) t.handle && true) ≡ true)
-              (same_tag h n f.1) o,
+          rw (same_tag h n f.1) at o,
           inr (a, k, f.0),
         ),
       )

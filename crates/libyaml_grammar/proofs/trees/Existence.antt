@@ -126,8 +126,7 @@ gives_tag l c k m r e u = at (u.begins.1)
     behind_is : (p : Place) (a : AnchorName) (x : Marks) → place_tokens p (tok (Anchor a) x ∷ []) ≡ l
         → due p (Some (anchor a x)) ≡ reached c
     behind_is p a x f = goes_same (due p (Some (anchor a x))) (reached c)
-        (sym (subst (λ (y : List Token). feeds y unopened ≡ goes (due p (Some (anchor a x)))) f
-        (cut_reads (at_tag_behind p a x) []))
+        (sym (rw f at (cut_reads (at_tag_behind p a x) []))
         ∙ (reads_to l unopened (reached c) r).0)
 
     at : (place_tokens u.place [] ≡ l)

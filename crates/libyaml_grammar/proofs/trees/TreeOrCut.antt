@@ -127,8 +127,7 @@ pub cut_is_bad : (l : List Token) (b : Token) (c : Cut) → Fits l b c → IsBad
 cut_is_bad l b c f = (
   record {
     rest = rest zero_marks c;
-    sentence = subst (λ (x : List Token). IsSentence (x ++ rest zero_marks c))
-        f.tokens (cut_completes c f.order);
+    sentence = rw f.tokens at (cut_completes c f.order);
   },
   f.bad_token,
 )

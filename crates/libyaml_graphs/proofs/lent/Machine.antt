@@ -141,10 +141,7 @@ pub hands_key : (n : ℕ) (i : ℤ) (o : OpenNode) (s : List OpenNode) (nodes : 
     → type_at nodes o.node ≡ YAML_MAPPING_NODE
     → Hands n i (o ∷ s) nodes nodes (record { node = o.node; key = Some i } ∷ s) (nat_lt n (suc (children_at nodes o.node)))
 hands_key n i o s nodes none is =
-    subst (λ (k : Option ℤ). Hands n i (record { node = o.node; key = k } ∷ s) nodes nodes
-    (record { node = o.node; key = Some i } ∷ s)
-    (nat_lt n (suc (children_at nodes o.node)))) (sym none)
-    (same_nodes n i o.node _ _ nodes _
+    rw (← none) at (same_nodes n i o.node _ _ nodes _
     (by_type n i o.node None (Some i) s nodes (λ c. c) (λ (m : ℕ). nat_lt n (suc m)) YAML_MAPPING_NODE
     (λ h. cc) takes is))
   where
@@ -157,9 +154,7 @@ pub hands_value : (n : ℕ) (i : ℤ) (o : OpenNode) (k : ℤ) (s : List OpenNod
     → type_at nodes o.node ≡ YAML_MAPPING_NODE
     → Hands n i (o ∷ s) nodes (with_changed o.node (with_pair k i) nodes) (record { node = o.node; key = None } ∷ s) false
 hands_value n i o k s nodes waits is =
-    subst (λ (j : Option ℤ). Hands n i (record { node = o.node; key = j } ∷ s) nodes
-    (with_changed o.node (with_pair k i) nodes)
-    (record { node = o.node; key = None } ∷ s) false) (sym waits)
+    rw (← waits) at
     (by_type n i o.node (Some k) None s nodes (pair_behind (record { key = k; value = i })) (λ (m : ℕ). false)
     YAML_MAPPING_NODE (λ h. cc) takes is)
   where

@@ -69,8 +69,7 @@ front_roots (e ∷ f) r h = (front_first (opening_of e) f r h.0, front_roots f r
 open_roots : (l : List Event) → IsOpenDocument l → RootsFollow l
 open_roots l (none_open e) = subst RootsFollow (sym e) tt
 open_roots l (one_open d m n front e b) =
-    let first = subst (λ (k : List Event). RootFollows (Some (record { start = d; mark = m })) k) b.all
-    (root_first b.val [] (record { start = d; mark = m }))
+    let first = rw b.all at (root_first b.val [] (record { start = d; mark = m }))
     in
     let rest = subst RootsFollow b.all (value_roots b.val [] tt) in
     subst RootsFollow (sym e) (

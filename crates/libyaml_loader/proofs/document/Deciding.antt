@@ -84,7 +84,7 @@ module _ (n : ℕ) (l : Loader) (h : Held) (same : h.nodes ≡ l.nodes) (s : Lis
           → unless_full false (if_child_fits (parent_full n l.stack l.nodes) (on_alias c m l)) ≡ going k
           → alias_grows c l ≡ true
       by None g = absurd cc
-      by (Some c) g = takes_grow d is l.stack l.nodes (subst (λ (t : List OpenNode). TakesOneMore d t l.nodes) (sym stack)
+      by (Some c) g = takes_grow d is l.stack l.nodes (rw (← stack) at
           (subst (TakesOneMore d (map open_of s)) (alias_nodes (is_id p.node) p.node a m h ∙ same) puts.takes))
 
   noded : (q : Option Part) → IsNode q → load_may_grow l q ≡ true

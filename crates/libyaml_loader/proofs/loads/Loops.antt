@@ -73,19 +73,15 @@ module _ {S : Type 0} (g : Ghosts S) where
       go (inl (failed_before, same)) = absurd (true≢false (sym failed_before ∙ histories.faultless old run.asked run.given run.history))
       go (inr (none, over, (d, no_root, next))) =
           let b = answered new d (next_bounded n e x) (left_over e) x
-          (subst (λ (m : ℕ). UnlessBroken {A = Document} g.may_break (Ok d) new
-          (Answers g.known (next_bounded m e x) (Ok d) new (left_over e) x)) within (next.next_load e x run)) in
+          (rw within at (next.next_load e x run)) in
           let z = last_of e x n d follow b.0 no_root in
           whole (z.0 ∙ ap (λ (t : Load). t ∷ []) (sym z.1 ∙ ap last_load (sym (ends_here x d z.1))))
   of_run n old new documents ending e x within run follow (fault f (none, next, kept)) =
       failed new f kept (bounded_loads n e x) (next_bounded n e x) (left_over e) x (λ (w : Fault). roots.fault_of e x n w)
-      (subst (λ (m : ℕ). UnlessBroken {A = Document} g.may_break (Err f.error) new
-      (Answers g.known (next_bounded m e x) (Err f.error) new (left_over e) x)) within
-      (next.next_load e x run))
+      (rw within at (next.next_load e x run))
   of_run n old new documents ending e x within run follow (document d later end mid (none, root, next) more) =
       let b = answered mid d (next_bounded n e x) (left_over e) x
-      (subst (λ (m : ℕ). UnlessBroken {A = Document} g.may_break (Ok d) mid
-      (Answers g.known (next_bounded m e x) (Ok d) mid (left_over e) x)) within (next.next_load e x run)) in
+      (rw within at (next.next_load e x run)) in
       one_more new d later end (bounded_loads n (left_over e) x) (bounded_loads n e x) (earlier_of e x n d b.0 root)
       (of_run n mid new later end (left_over e) x (ap magnitude next.bound ∙ within) b.1 (left_roots e follow) more)
 
@@ -97,6 +93,5 @@ module _ {S : Type 0} (g : Ghosts S) where
   of_list old new documents ending l f loads history knows are y =
       let run : RunToCome g.known old are.events are.ending
       = record { asked = []; given = []; rest = l; fault = f; history = history; knows = knows; run = are.run } in
-      subst (λ (k : List Load). AreLoadsOf g.may_break new documents ending k) (sym are.all)
-      (of_run (magnitude old.max_entries) old new documents ending are.events are.ending refl run
+      rw (← are.all) at (of_run (magnitude old.max_entries) old new documents ending are.events are.ending refl run
       (roots_follow are.events (run_nests_so_far l f are.events are.ending are.run)) y)

@@ -49,8 +49,7 @@ last_of (x ∷ t) = go (last_of t)
 absolute : (asked m n : List Token) (x y : List Answer) → OneBegins (answers m x) (answers n y)
     → OneBegins (answers (asked ++ m) x) (answers (asked ++ n) y)
 absolute asked m n x y o
-    = subst (λ (z : List Answer). OneBegins z (answers (asked ++ n) y)) (answers_both asked m x)
-    (subst (OneBegins (answers asked (answers m x))) (answers_both asked n y)
+    = rw (answers_both asked m x) at (subst (OneBegins (answers asked (answers m x))) (answers_both asked n y)
     (both_behind asked (answers m x) (answers n y) o))
 
 behind_given : (given a b : List Event) → Begins (given ++ a) (given ++ b) → Begins a b

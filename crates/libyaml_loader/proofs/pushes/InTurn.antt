@@ -69,14 +69,12 @@ module _ (old now new : Composer) (events : List Event) (before docs after : Lis
       → (r q : Result (Unit {0}) yaml_error_type_t) (x y : yaml_error_type_t) → r ≡ Err x → q ≡ Err y
       → Composes Full now (e ∷ []) docs r new after → Composes More old events before q new after
   refused_turn More f r q x y is so h
-      = subst (λ (p : Result (Unit {0}) yaml_error_type_t). Composes More old events before p new after) (sym so)
-      (by (subst (λ (p : Result (Unit {0}) yaml_error_type_t). Composes Full now (e ∷ []) docs p new after) is h))
+      = rw (← so) at (by (rw is at h))
     where
       by : Composes Full now (e ∷ []) docs (Err x) new after → Composes More old events before (Err y) new after
       by k =
           let i : RefusesOneOf Full old.max_entries (composer_state now) (e ∷ []) k.added (fault_of new.fault)
-          = subst (λ (n : ℕ). RefusesOneOf Full n (composer_state now) (e ∷ []) k.added (fault_of new.fault))
-          turn.bound k.ends_so in
+          = rw turn.bound at k.ends_so in
           record {
             added = turn.added ++ k.added;
             appended = all_added k.added k.appended;

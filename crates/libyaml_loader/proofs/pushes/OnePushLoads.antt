@@ -44,8 +44,7 @@ pub one_loaded_proof : (p q : PushLoader)
 one_loaded_proof p q tokens a b bound h k =
     let s = one_pushed p.parser q.parser tokens h.events k.events h.pushed k.pushed in
     let led : Leads p.max_entries between h.events b q.state =
-    subst (λ (g : List Event). Leads p.max_entries between g b q.state) (sym s.1)
-    (subst (λ (n : ℕ). Leads n between k.events b q.state) (sym bound) k.leads)
+    rw (← s.1) at (rw (← bound) at k.leads)
     in
     let here : p.state ≡ q.state = h.leads.state ∙ sym led.state in
     let f : p.fault ≡ q.fault = h.none_kept ∙ sym k.none_kept in (

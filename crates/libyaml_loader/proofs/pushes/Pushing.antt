@@ -19,7 +19,7 @@ use Rattle.libyaml_events.specs.machine.Config.{Config, is_fault}
 use Rattle.libyaml_events.specs.machine.Want.{Want}
 use Rattle.libyaml_events.specs.sources.Determined.{BeginsEachRun}
 use Rattle.libyaml_events.specs.sources.Pushed as pushed
-use Rattle.libyaml_events.specs.sources.Pushed.{Fed, ForPushed, PushParser, Pushed}
+use Rattle.libyaml_events.specs.sources.Pushed.{PushParser}
 use Rattle.libyaml_events.specs.sources.Pushes as pushes
 use Rattle.libyaml_events.specs.sources.Pushes.{Done, NeedsMemory, Pushes, Stops, Takes, done_by, for_event, for_step}
 use Rattle.libyaml_events.proofs.lent.Pushes.{fed_begins_run, fed_count, fed_ended, fed_faultless, fed_settled, fed_whole}
@@ -183,9 +183,7 @@ module _ (Full Room : Type 0) (p q : PushParser) (t : Token) (given : List Event
   -- all events of the tokens
   all_begin : (h : loader_has_stopped first ≡ false) (tokens : List Token) (l : List Document)
       (k : Loaded first tokens l) → pushes.EndsSo Room (tokens ++ t ∷ []) (k.events ++ given) r q
-  all_begin h tokens l k = subst (λ (e : List Event). pushes.EndsSo Room (tokens ++ t ∷ []) (k.events ++ e) r q)
-      (sym (taken h).appended)
-      ((taken h).ends_so tokens k.events k.pushed)
+  all_begin h tokens l k = rw (← (taken h).appended) at ((taken h).ends_so tokens k.events k.pushed)
 
   from_start : (tokens : List Token) (l : List Document) (k : Loaded first tokens l) (composed : List Event)
       (here : State)
@@ -199,8 +197,7 @@ module _ (Full Room : Type 0) (p q : PushParser) (t : Token) (given : List Event
   second = standing_loader q (composer_state new) (fault_of new.fault) new.max_entries
 
   all_led : (u : Unit {0}) → s ≡ Ok u → Leads old.max_entries (composer_state old) given composes.added (composer_state new)
-  all_led u is = subst (λ (z : Done). comp.ComposedSo Full old.max_entries (composer_state old) given composes.added z
-      new) is composes.ends_so
+  all_led u is = rw is at composes.ends_so
 
   pub pushes_ok : (u v : Unit {0}) → s ≡ Ok u → r ≡ Ok v → PushesLoads Full first t before (Ok tt) second after
   pushes_ok u v is so = record {
@@ -217,11 +214,8 @@ module _ (Full Room : Type 0) (p q : PushParser) (t : Token) (given : List Event
       appended = composes.appended;
       ends_so = λ tokens l k. record {
         events = k.events ++ given;
-        pushed = subst (λ (z : Done). pushes.EndsSo Room (tokens ++ t ∷ []) (k.events ++ given) z q) so
-            (all_begin h tokens l k);
-        leads = subst (λ (n : ℕ). Leads n between (k.events ++ given) (l ++ composes.added) (composer_state new))
-            (sym bound)
-            (from_start tokens l k given (composer_state new) (all_led u is));
+        pushed = rw so at (all_begin h tokens l k);
+        leads = rw (← bound) at (from_start tokens l k given (composer_state new) (all_led u is));
         none_kept = ap fault_of (same is) ∙ k.none_kept;
       };
     };
@@ -251,7 +245,7 @@ module _ (Full Room : Type 0) (p q : PushParser) (t : Token) (given : List Event
       ends_so =
           λ tokens l k. stops h tokens l k;
     };
-    kept = subst (λ (z : Done). IfErr z (λ y. (y ≡ new.fault.error) × (is_fault new.fault.error ≡ true))) is kept_so;
+    kept = rw is at kept_so;
     bound = bound;
     so_far = loads_so_far second;
     whole = whole_loads second;
@@ -262,13 +256,11 @@ module _ (Full Room : Type 0) (p q : PushParser) (t : Token) (given : List Event
   }
     where
       one : RefusesOneOf Full old.max_entries (composer_state old) given composes.added (fault_of new.fault)
-      one = subst (λ (z : Done). comp.ComposedSo Full old.max_entries (composer_state old) given composes.added z new)
-          is composes.ends_so
+      one = rw is at composes.ends_so
 
       stops : loader_has_stopped first ≡ false → (tokens : List Token) (l : List Document) (k : Loaded first tokens l)
           → StopsLoading Full new.max_entries (tokens ++ t ∷ []) k.events (l ++ composes.added) (fault_of new.fault)
-      stops h tokens l k = subst (λ (n : ℕ). StopsLoading Full n (tokens ++ t ∷ []) k.events
-          (l ++ composes.added) (fault_of new.fault)) (sym bound)
+      stops h tokens l k = rw (← bound) at
           (refused_so Full old.max_entries (tokens ++ t ∷ []) k.events one.composed one.later
           (l ++ composes.added) one.here one.event (fault_of new.fault)
           (subst (BeginsEachRun (tokens ++ t ∷ []))
@@ -291,8 +283,7 @@ module _ (Full Room : Type 0) (p q : PushParser) (t : Token) (given : List Event
       ends_so =
           λ tokens l k. stops h tokens l k;
     };
-    kept = subst (λ (z : Done). IfErr z (λ x. (x ≡ (pushed.fault_in q).error) × (pushed.keeps_fault q ≡ true))) so
-        pushes_so.kept;
+    kept = rw so at pushes_so.kept;
     bound = bound;
     so_far = loads_so_far third;
     whole = whole_loads third;
@@ -313,13 +304,11 @@ module _ (Full Room : Type 0) (p q : PushParser) (t : Token) (given : List Event
 
       stops : loader_has_stopped first ≡ false → (tokens : List Token) (l : List Document) (k : Loaded first tokens l)
           → StopsLoading Full new.max_entries (tokens ++ t ∷ []) k.events (l ++ composes.added) (pushed.fault_in q)
-      stops h tokens l k = subst (λ (n : ℕ). StopsLoading Full n (tokens ++ t ∷ []) k.events
-          (l ++ composes.added) (pushed.fault_in q)) (sym bound)
+      stops h tokens l k = rw (← bound) at
           (parser_stops Full Room old.max_entries (tokens ++ t ∷ []) k.events given (l ++ composes.added)
           (composer_state new) (pushed.fault_in q)
           (from_start tokens l k given (composer_state new) (all_led u is))
-          (subst (λ (z : Done). pushes.EndsSo Room (tokens ++ t ∷ []) (k.events ++ given) z q) so
-          (all_begin h tokens l k)))
+          (rw so at (all_begin h tokens l k)))
 
 -- after a push an error is kept, or there is a history
 pub push_remembers : (Full : Type 0) (old new : PushLoader) (t : Token) (before after : List Document) (r : Done)

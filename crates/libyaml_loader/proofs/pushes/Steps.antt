@@ -16,7 +16,7 @@ use Rattle.libyaml_types.specs.Fault.{Fault, fault_of, memory_fault}
 use Rattle.libyaml_graphs.specs.graphs.GraphParts as parts
 use Rattle.libyaml_graphs.specs.graphs.GraphParts.{closing_of, opening_of, part_of}
 use Rattle.libyaml_graphs.specs.machine.Loader as machine
-use Rattle.libyaml_graphs.specs.machine.Loader.{Loader, State, between, bounded_option, failed, fresh, no_anchors, within}
+use Rattle.libyaml_graphs.specs.machine.Loader.{Loader, between, bounded_option, failed, fresh, no_anchors, within}
 use Rattle.libyaml_loader.specs.declared.composer.Composer as loader
 use Rattle.libyaml_loader.specs.declared.context.loader_ctx.{loader_ctx}
 use Rattle.libyaml_loader.specs.declared.refusal.Refusal.{Refusal}
@@ -52,11 +52,9 @@ module _ (old c : loader_ctx) (o : parts.Opening) (anchors : old.anchors ≡ no_
   none = ap (λ (x : loader_ctx). x.anchors) is ∙ anchors
 
   pub begun_leads : (n : ℕ) (e : Event) → opening_of e ≡ Some o → Leads n between (e ∷ []) [] (state_by true c)
-  begun_leads n e h = subst (λ (s : State). Leads n between (e ∷ []) [] s)
-      (ap (λ (l : Loader). within o l)
-      (sym (context_is_fresh c o document (ap (λ (x : Composer). x.stack) collections) none))
-      ∙ ap (λ (d : Document). within (opening_of_document d) (loader_of c)) (sym document))
-      (opens_there n e o h)
+  begun_leads n e h = rw (ap (λ (l : Loader). within o l) (sym (context_is_fresh c o document (ap (λ (x : Composer).
+      x.stack) collections) none)) ∙ ap (λ (d : Document). within (opening_of_document d) (loader_of c)) (sym
+      document)) at (opens_there n e o h)
 
   pub begun_stands : ComposerMatches c
   begun_stands = record {

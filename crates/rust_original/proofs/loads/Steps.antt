@@ -226,9 +226,7 @@ module _ (x : yaml_node_t) (opens : Bool) (es : List Start) (b : Built) (size : 
         (
           xs ++ record { anchor = a; carrier = record { id = suc (length (halves b.held)); mark = x.start_mark } } ∷ [],
           finished _,
-          subst (λ (n : ℕ). Agrees (carrier_start (Some a) x ∷ es)
-              (xs ++ record { anchor = a; carrier = record { id = suc n; mark = x.start_mark } } ∷ []))
-              (sym index_is) (agrees_more xs es a x.start_mark g e),
+          rw (← index_is) at (agrees_more xs es a x.start_mark g e),
           put_sound,
         ),
       )

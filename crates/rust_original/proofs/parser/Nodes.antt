@@ -5,7 +5,6 @@ use Rattle.libyaml_types.specs.Events.{zero_mark}
 use Rattle.libyaml_types.specs.Types.{token_type}
 use Rattle.libyaml_types.specs.declared.directive.yaml_tag_directive_t.{yaml_tag_directive_t}
 use Rattle.libyaml_types.specs.declared.enums.yaml_parser_state_t.{yaml_parser_state_t}
-use Rattle.libyaml_types.specs.declared.event.unnamed_yaml_event_t_data.{unnamed_yaml_event_t_data}
 use Rattle.libyaml_types.specs.declared.enums.yaml_scalar_style_t.TheVariants.{YAML_PLAIN_SCALAR_STYLE}
 use Rattle.libyaml_types.specs.Fault.{Fault}
 use Rattle.libyaml_grammar.specs.cuts.FaultTexts.{content_fault, parser_fault_in}
@@ -20,8 +19,8 @@ use Rattle.libyaml_events.specs.machine.Machine as mach
 use Rattle.libyaml_events.specs.machine.Machine.{Progressed, fault_with, or_default, put, seen, with_prefix, with_texts}
 use Rattle.libyaml_events.specs.machine.Want.{Texts, no_texts}
 use Rattle.rust_original.specs.parser.Parser as orig
-use Rattle.rust_original.specs.parser.Parser.{OK, ParserResult, OriginalParser, WrittenTag, prefixed, set_state}
-use Rattle.rust_original.proofs.parser.Relation.{standing, Agree, Below, Fits, IsFresh, Matches, entering, fed, inside, popped_fits, popped_fresh, there, tk}
+use Rattle.rust_original.specs.parser.Parser.{ParserResult, OriginalParser, WrittenTag, prefixed}
+use Rattle.rust_original.proofs.parser.Relation.{standing, Agree, Below, Matches, entering, fed, inside, popped_fits, popped_fresh, there, tk}
 
 abbrev pub written_text : Option TagName → Option (List ℕ)
 written_text None = None
@@ -246,9 +245,7 @@ module _ (f : Fault) (tags : List yaml_tag_directive_t) (hs : Handles) (agree : 
         → Matches f (orig.after_properties (par ss (tk k m n ∷ l)) (is_block_place p) (may_be_indentless p) None None m m)
         (fed f (with_texts no_texts (conf ss) (tk k m n) k (automaton.node_content p
         (props None None m n zero_mark) (config_of (conf ss)) (seen (tk k m n) k) (token_type k))) l)
-    bare k m n l = subst (λ (y : Progressed). Matches f
-        (orig.after_properties (par ss (tk k m n ∷ l)) (is_block_place p) (may_be_indentless p) None None m m) (fed f y l))
-        (sym (plain no_texts (conf ss) (tk k m n) k p (props None None m n zero_mark)))
+    bare k m n l = rw (← (plain no_texts (conf ss) (tk k m n) k p (props None None m n zero_mark))) at
         (content no_texts None None m m n zero_mark k m n l refl)
 
     -- a node

@@ -8,7 +8,7 @@ use Rattle.libyaml_events.specs.machine.Config.{Config, ended_or_failed, taken}
 use Rattle.libyaml_events.specs.machine.Machine.{Progressed, step}
 use Rattle.libyaml_events.specs.machine.Want.{AtState, Given, Want, Wants}
 use Rattle.libyaml_events.specs.sources.History.{is_stream_end}
-use Rattle.libyaml_events.specs.sources.Pushed.{Fed, standing}
+use Rattle.libyaml_events.specs.sources.Pushed.{Fed}
 use Rattle.libyaml_events.proofs.lent.Pushes as pushed
 use Rattle.libyaml_events.proofs.lent.Pushes.{fault_runs, fed_ended, fed_settled, gives_end, wants_runs}
 use Rattle.libyaml_events.proofs.lent.RunStops.{short_run}
@@ -43,12 +43,10 @@ module _ (f : Fault) where
       go (Err x) i = fails (fault_runs h x i rest f)
       go (Ok (Wants v, d)) i = next v d l g (pushed.wants w c u h i) (wants_runs h v d i)
       go (Ok (Given e, d)) i
-          = gives [] refl (subst (λ (y : List Token). Fed AtState (taken d) d.lookahead y (g ++ e ∷ [])) (sym (append-nil l))
-          (pushed.gives_on w c u h e d i)) (gives_end h e d i)
+          = gives [] refl (rw (← (append-nil l)) at (pushed.gives_on w c u h e d i)) (gives_end h e d i)
 
   by_tokens : (rest : List Token) → DoesFrom rest
-  by_tokens [] w c l g h n = fails (subst (λ (y : List Token). IsRun y f g (Fails f)) (sym (append-nil l))
-      (short_run l g f (fed_settled h (sym (fed_ended h) ∙ n))))
+  by_tokens [] w c l g h n = fails (rw (← (append-nil l)) at (short_run l g f (fed_settled h (sym (fed_ended h) ∙ n))))
   by_tokens (t ∷ rest) w c l g h n
       = one_more t (by_hand rest (by_tokens rest) w c t (l ++ t ∷ []) g (pushed.takes w c l g t h n))
 

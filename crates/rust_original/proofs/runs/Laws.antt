@@ -30,8 +30,7 @@ pub run_here : (l : List Token) (f : Fault) (e : List Event) (x : Ending) → Is
 run_here l f e x run =
     let r = some_run as_here false (λ p. inl refl) l f in
     let same = one_run_proof l f r.0 e r.1 x (r.5 refl) run in
-    subst (λ (d : List Event). Runs as_here (new_original_parser l f) d x) same.0
-    (subst (λ (y : Ending). Runs as_here (new_original_parser l f) r.0 y) same.1 r.2)
+    rw same.0 at (rw same.1 at r.2)
 
 pub whole_here : (l : List Token) (f : Fault) (e : List Event) (x : Ending) → IsRun l f e x → IsNested e → x ≡ Ends
 whole_here l f e x run =

@@ -15,7 +15,7 @@ use Rattle.libyaml_events.specs.machine.Config.{Config, Handles, ended_or_failed
 use Rattle.libyaml_events.specs.machine.Machine.{step}
 use Rattle.libyaml_events.specs.machine.Want.{AtState, Given}
 use Rattle.libyaml_events.specs.sources.History.{is_stream_end}
-use Rattle.libyaml_events.specs.sources.Pushed.{Fed, standing as between_tokens}
+use Rattle.libyaml_events.specs.sources.Pushed.{Fed}
 use Rattle.libyaml_events.proofs.lent.Pushes as pushed
 use Rattle.libyaml_events.proofs.lent.Pushes.{fed_count, fed_ended, fed_nests, fed_whole, gives_end, hand_runs, none_kept}
 use Rattle.libyaml_events.proofs.lent.RunStops.{whole_run}
@@ -148,7 +148,7 @@ module _ (f : Fault) (m : Mends) (b : Bool)
         runs = ends i k;
         nests = fed_nests a.fed;
         unended = λ x j. absurd (never x j);
-        run = λ j. subst (λ (y : List Token). IsRun y f (g ++ e ∷ []) Ends) (sym (same j)) (whole k);
+        run = λ j. rw (← (same j)) at (whole k);
       }
         where
           never : (x : Fault) → Ends ≡ Fails x → ⊥
@@ -162,8 +162,7 @@ module _ (f : Fault) (m : Mends) (b : Bool)
             runs = goes_on i k h.runs;
             nests = subst NestsSoFar (append_assoc g (e ∷ []) h.events) h.nests;
             unended = λ x j. (sym ends_so ∙ (over_flag p d rest l (g ++ e ∷ []) a ∙ k), h.unended x j);
-            run = λ j. subst (λ (y : List Token). IsRun y f (g ++ e ∷ h.events) h.ending) (sym (same j))
-                (subst (λ (y : List Event). IsRun (l ++ rest) f y h.ending) (append_assoc g (e ∷ []) h.events) (h.run j));
+            run = λ j. rw (← (same j)) at (rw (append_assoc g (e ∷ []) h.events) at (h.run j));
           }
 
   -- where both do the same

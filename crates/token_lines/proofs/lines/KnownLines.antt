@@ -1,12 +1,11 @@
 -- What is written of an input whose bytes are known, by what is written of each run of its lines.
-use Rattle.std.proofs.Common.{◌≡◌, ℕ, List, Option, Some, None, IfSome, refl, sym, subst}
+use Rattle.std.proofs.Common.{◌≡◌, ℕ, List, Option, Some, None, IfSome, refl}
 use Rattle.libyaml_types.specs.declared.event.yaml_event_t.{yaml_event_t}
 use Rattle.libyaml_types.specs.declared.token.yaml_token_t.{yaml_token_t}
 use Rattle.libyaml_types.specs.Fault.{Fault}
 use Rattle.libyaml_grammar.specs.runs.Runs.{Ending, IsRun}
 use Rattle.libyaml_types.specs.Source.{coming}
 use Rattle.libyaml_graphs.specs.loads.Bounds.{bounded_loads}
-use Rattle.libyaml_graphs.specs.loads.Loads.{Load}
 use Rattle.libyaml_graphs.proofs.lent.BoundedFronts.{front_of_loads}
 use Rattle.line_reading.specs.sources.LineSource.{coming_of}
 use Rattle.token_lines.specs.declared.run.run_end_t.{run_end_t}
@@ -32,5 +31,6 @@ pub writes_of_runs : (bytes : Option (List ℕ)) (MayBreak : Fault → Type 0) (
     → WritesNodesOf bytes MayBreak end old new
 writes_of_runs None MayBreak end old new h = tt
 writes_of_runs (Some bytes) MayBreak end old new h =
-    λ loads is. subst (λ (l : List Load). WritesLoads MayBreak end old new l) (sym is.all)
-    (writes_all MayBreak end old new _ _ (front_of_loads is.events is.ending most_entries) (h is.events is.ending is.run))
+    λ loads is. rw (← is.all) at
+    (writes_all MayBreak end old new _ _ (front_of_loads is.events is.ending most_entries) (h is.events is.ending
+    is.run))

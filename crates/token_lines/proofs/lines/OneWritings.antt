@@ -44,8 +44,7 @@ both_after l x y (inr h) = inr (h.0, ap (answers l) h.1 ∙ more_after l y h.0)
 pub after_asked : (asked m n : List yaml_token_t) (x y : List Answer) → OneBegins (answers m x) (answers n y)
     → OneBegins (answers (asked ++ m) x) (answers (asked ++ n) y)
 after_asked asked m n x y o
-    = subst (λ (z : List Answer). OneBegins z (answers (asked ++ n) y)) (answers_both asked m x)
-    (subst (OneBegins (answers asked (answers m x))) (answers_both asked n y)
+    = rw (answers_both asked m x) at (subst (OneBegins (answers asked (answers m x))) (answers_both asked n y)
     (both_after asked (answers m x) (answers n y) o))
 
 pub nothing_needed : (l : List yaml_token_t) (g : List yaml_event_t) → EachNeeded l [] g

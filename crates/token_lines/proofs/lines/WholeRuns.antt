@@ -1,5 +1,5 @@
 -- That a run in memory which tells its end wrote all that belongs to it.
-use Rattle.std.proofs.Common.{◌≡◌, ◌⊎◌, ℕ, List, [], Option, Some, None, sym, ap, ap₂, ◌∙◌, subst, inl, inr}
+use Rattle.std.proofs.Common.{◌≡◌, ◌⊎◌, ℕ, List, [], Option, Some, None, sym, ap, ap₂, ◌∙◌, inl, inr}
 use Rattle.libyaml_types.specs.Fault.{Fault, memory_fault}
 use Rattle.libyaml_grammar.specs.runs.Runs.{Ending, Fails}
 use Rattle.line_reading.specs.sources.NextLine.{BreaksOffAt}
@@ -37,5 +37,4 @@ pub as_slice : (MayBreak : Fault → Type 0) (end : run_end_t) (old written byte
     (ending : Ending) → old ≡ [] → bytes ≡ written
     → Writes MayBreak end (Some old) (Some written) lines ending → Writes MayBreak end (Some []) (Some bytes) lines ending
 as_slice MayBreak end old written bytes lines ending none same w =
-    subst (λ (b : List ℕ). Writes MayBreak end (Some []) (Some b) lines ending) (sym same)
-    (subst (λ (b : List ℕ). Writes MayBreak end (Some b) (Some written) lines ending) none w)
+    rw (← same) at (rw none at w)

@@ -127,8 +127,7 @@ module _ {S W : Type 0} (g : Ghosts S)
       let none = lines ∙ ap (λ (x : List (List ℕ)). earlier ++ x) (no_lines later d only.0 wrote.0)
       ∙ append-nil earlier in
       told_whole Ended before after (loads_lines loads) Ends (loads_ending loads) refl (ends ∙ ap loads_ending only.0)
-      (subst (λ (x : List (List ℕ)). Appends before after (concat x)) (sym none)
-      (Appends-kept before (contents l.writer) after (concat earlier) l.earlier.wrote wrote.1))
+      (rw (← none) at (Appends-kept before (contents l.writer) after (concat earlier) l.earlier.wrote wrote.1))
   go (Faulted f) (Ok d) load (memory, some, text) =
       let more = loads_lines (bounded_loads n (left_over rest.later) ending) in
       let is = first_lines later (bounded_loads n (left_over rest.later) ending) d
@@ -141,8 +140,7 @@ module _ {S W : Type 0} (g : Ghosts S)
       let none = lines ∙ ap (λ (x : List Load). earlier ++ loads_lines x) only in
       told_whole (Faulted f) before after (loads_lines loads) (Fails (kept_fault last)) (loads_ending loads)
       (ap tells wrote.0) (ends ∙ ap loads_ending only)
-      (subst (λ (x : List (List ℕ)). Appends before after (concat x ++ fault_text (kept_fault last))) (sym none)
-      (wrote_then [] (fault_text (kept_fault last)) wrote.1))
+      (rw (← none) at (wrote_then [] (fault_text (kept_fault last)) wrote.1))
   go (Faulted f) (Err x) (inr why) wrote =
       cut (Faulted f) (kept_fault last) (ap tells wrote.0) why [] (loads_lines later) refl wrote.1
   go OutputFailed r load wrote = output_failed refl

@@ -133,8 +133,7 @@ module _ {S W : Type 0} (g : Ghosts S) (contents : W → Option (List ℕ)) (n :
     moved : (P : List yaml_token_t → List yaml_event_t → Type 0) (a b : List yaml_token_t) (d e : List yaml_event_t)
         → P ((asked ++ a) ++ b) ((given ++ d) ++ e)
         → P (asked ++ (a ++ b)) (given ++ (d ++ e))
-    moved P a b d e h = subst (λ (l : List yaml_token_t). P l (given ++ (d ++ e))) (append_assoc asked a b)
-        (subst (P ((asked ++ a) ++ b)) (append_assoc given d e) h)
+    moved P a b d e h = rw (append_assoc asked a b) at (subst (P ((asked ++ a) ++ b)) (append_assoc given d e) h)
 
     -- the parser has ended
     ended : (o : Of Ended) (r : DocumentOrError) (l : FromHere Ended o r)

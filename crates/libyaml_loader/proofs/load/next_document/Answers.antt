@@ -1,4 +1,4 @@
-use Rattle.std.proofs.Common.{◌≡◌, ◌<◌, ℕ, Ok, Err, ap, refl, rules, sym, ◌∙◌, subst, [], ◌∷◌, true, false, arith, inr, Bool, Some}
+use Rattle.std.proofs.Common.{◌≡◌, ◌<◌, Ok, Err, ap, refl, rules, sym, ◌∙◌, subst, [], ◌∷◌, true, false, arith, inr, Bool, Some}
 use Rattle.std.proofs.Math.Nat.{le_refl}
 use Rattle.libyaml_documents.specs.Documents.{Document}
 use Rattle.libyaml_events.specs.parsers.EventsLeft.{events_left}
@@ -13,8 +13,7 @@ use Rattle.libyaml_loader.specs.declared.composer.Composer.{Composer}
 use Rattle.libyaml_loader.specs.document.Context.{loader_of, opening_of_document}
 use Rattle.libyaml_events.specs.sources.CallsInTurn.{Took}
 use Rattle.libyaml_loader.specs.loads.Loading.{DocumentOrError, LoadsFrom}
-use Rattle.libyaml_loader.specs.pushes.Composing.{RefusesEvent, closing_by, ended_by, state_by, composer_state}
-use Rattle.libyaml_graphs.specs.loads.Leads.{Leads}
+use Rattle.libyaml_loader.specs.pushes.Composing.{closing_by, ended_by, state_by, composer_state}
 use Rattle.libyaml_loader.proofs.loads.Ended.{has_not_ended, no_error, still_ended}
 use Rattle.libyaml_loader.proofs.loads.OnTheWay.{OnTheWay, way_ends, way_fails, way_finds_end, way_more, way_none, way_refused}
 use Rattle.libyaml_loader.proofs.loads.Taking.{behind_close, finds_end, parser_fails, running, took_event}
@@ -74,8 +73,7 @@ loop-composer-preserved g c =
       way_more g.S.yaml_token_source_t c.args.composer.max_entries c.args.parser.now c.loop-composer.parser
           (composer_state c.loop-composer.composer) i.0 call.new.parser (composer_state c.compose.new.self) call.new.event
           k.took
-          (subst (λ (n : ℕ). Leads n (composer_state c.loop-composer.composer) (call.new.event ∷ []) []
-          (composer_state c.compose.new.self)) i.2 (rw c.in-Ok-None.field-0-is at c.in-Ok-None.ensures.composes))
+          (rw i.2 at (rw c.in-Ok-None.field-0-is at c.in-Ok-None.ensures.composes))
           call.ensures.bound,
       c.compose.ensures.sound,
       c.compose.ensures.bound ∙ i.2,
@@ -164,9 +162,7 @@ returns-in-Err-clause-loads g c =
     way_refused g.S.yaml_token_source_t n c.args.parser.now c.loop-composer.parser
     (composer_state c.loop-composer.composer) c.loop-composer.invariant.0 call.new.parser c.keep_fault.new.parser
     call.new.event (fault_of c.compose.new.self.fault) k.took
-    (subst (λ (m : ℕ). RefusesEvent ⊥ m (composer_state c.loop-composer.composer) call.new.event
-    (fault_of c.compose.new.self.fault))
-    c.loop-composer.invariant.2 c.in-Err.ensures.composes) c.keep_fault.ensures.kept
+    (rw c.loop-composer.invariant.2 at c.in-Err.ensures.composes) c.keep_fault.ensures.kept
 
 pub returns-in-Err-clause-ended : goal.returns-in-Err-clause-ended
 returns-in-Err-clause-ended g c ended =

@@ -1,4 +1,4 @@
-use Rattle.std.proofs.Common.{ℕ, subst, sym, ◌∙◌}
+use Rattle.std.proofs.Common.{sym, ◌∙◌}
 use Rattle.std.proofs.lemmas.Bool.{true≢false}
 use Rattle.libyaml_graphs.specs.loads.Bounds.{next_bounded}
 use Rattle.libyaml_graphs.specs.loads.Loads.{left_over}
@@ -19,9 +19,7 @@ loads : (g : given.Over) (c : After-next_document g)
     (next_bounded (magnitude c.args.parser.now.max_entries)) left_over c.args.parser.now c.next_document.result
     c.next_document.new.parser
 loads g c =
-    subst (λ (n : ℕ). LoadsFrom g.S.yaml_token_source_t (next_bounded n) left_over c.args.parser.now
-    c.next_document.result c.next_document.new.parser) (c.new-composer.ensures.bound ∙ c.bound_of.ensures.value)
-    c.next_document.ensures.loads
+    rw (c.new-composer.ensures.bound ∙ c.bound_of.ensures.value) at c.next_document.ensures.loads
 
 pub returns-then-has_failed-clause-no_fault : goal.returns-then-has_failed-clause-no_fault
 returns-then-has_failed-clause-no_fault g c = histories.faultless c.args.parser.now

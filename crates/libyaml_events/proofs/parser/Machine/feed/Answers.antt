@@ -4,7 +4,7 @@ use Rattle.libyaml_events.specs.machine.Config.{Config, staying}
 use Rattle.libyaml_events.specs.sources.Pushed.{standing}
 use Rattle.libyaml_events.specs.sources.Pushes.{Takes}
 use Rattle.libyaml_events.proofs.calls.CallLemmas.{taken_same}
-use Rattle.libyaml_events.proofs.pushes.PushLoop.{Taking, taking_begins, wants_next, fails_onto, goes_on, is_done, step_falls}
+use Rattle.libyaml_events.proofs.pushes.PushLoop.{taking_begins, wants_next, fails_onto, goes_on, is_done, step_falls}
 use Rattle.libyaml_events.specs.machine.Outcomes.{wanted}
 use Rattle.libyaml_events.specs.machine.Want.{Want, AtState}
 use Rattle.libyaml_events.proofs.parser.Machine.feed.Goals as goal
@@ -58,9 +58,7 @@ loop-self-preserved c =
     let room : vec_capacity c.args.events.now ≤ vec_capacity c.step_onto.new.events = search rules in
     rw c.begin-in-loop-self.ensures.wanted (
       room,
-      subst (λ (x : Config). Taking (wanted c.args.pending.now) c.args.self.now c.args.token.now
-          c.args.events.now.items AtState x c.step_onto.new.token c.step_onto.new.events.items)
-          (taken_same c.step_onto.new.self c.begin-in-loop-self.ensures.ready.none)
+      rw (taken_same c.step_onto.new.self c.begin-in-loop-self.ensures.ready.none) at
           (goes_on (Unit {0}) _ _ _ _ _ _ _ _ c.loop-self.invariant.1 _
           (staying c.step_onto.new.token c.step_onto.new.self) s.1 _ s.2 c.step_onto.new.token refl
           (sym c.if-is_over.ensures)),

@@ -1,9 +1,7 @@
-use Rattle.std.proofs.Common.{◌+◌, ◌<◌, ◌≡◌, ◌∙◌, length, Ok, Err, ap, pos, refl, rules, subst, sym}
-use Rattle.libyaml_events.specs.machine.Config.{Config, is_fault, parser, with_lookahead}
+use Rattle.std.proofs.Common.{◌+◌, ◌<◌, ◌≡◌, ◌∙◌, Err, ap, pos, refl, rules, sym}
+use Rattle.libyaml_events.specs.machine.Config.{is_fault, parser, with_lookahead}
 use Rattle.libyaml_events.specs.machine.Outcomes.{wanted}
-use Rattle.libyaml_events.specs.parsers.Left.{Left}
-use Rattle.libyaml_events.specs.sources.Calls.{Call, held}
-use Rattle.libyaml_events.proofs.calls.CallLemmas.{Reading, fetched, faulted, first_reading, gave_event, gave_fault, takes_one, wants_more}
+use Rattle.libyaml_events.proofs.calls.CallLemmas.{fetched, faulted, first_reading, gave_event, gave_fault, takes_one, wants_more}
 use Rattle.libyaml_events.proofs.calls.LetGo.{fault_left, steps_empty}
 use Rattle.libyaml_events.proofs.layer.Agreeing.{fetched_fault, fetched_ready, kept_fault, without_lookahead}
 use Rattle.libyaml_events.proofs.parser.Machine.fill.Goals as goal
@@ -18,21 +16,15 @@ loop-self-init g c = (
 pub returns-in_err-next_token-clause-call : goal.returns-in_err-next_token-clause-call
 returns-in_err-next_token-clause-call g c = λ max.
     let e : c.from_residual.result ≡ Err c.in_err-next_token.field-0.0 = search rules in
-    rw e (subst (λ (x : Config). Call g.S.yaml_token_source_t.gives
-    (parser max c.args.source.now (with_lookahead c.args.lookahead.now c.args.self.now))
-    (Err c.in_err-next_token.field-0.0) (parser max c.next_token.new.source x))
-    (sym (without_lookahead c.next_token.new.lookahead c.next_token.new.self c.next_token.ensures.taken
-    c.next_token.ensures.none))
-    (faulted g.S.yaml_token_source_t.gives _ _ _ (c.loop-self.invariant.0 max) _ _
+    rw e (rw (← (without_lookahead c.next_token.new.lookahead c.next_token.new.self c.next_token.ensures.taken
+    c.next_token.ensures.none)) at (faulted g.S.yaml_token_source_t.gives _ _ _ (c.loop-self.invariant.0 max) _ _
     (c.in_err-next_token.ensures.fetches max)))
 
 pub returns-in_err-next_token-clause-left : goal.returns-in_err-next_token-clause-left
 returns-in_err-next_token-clause-left g c =
     let e : c.from_residual.result ≡ Err c.in_err-next_token.field-0.0 = search rules in
-    rw e (subst (λ (x : Config). Left (with_lookahead c.args.lookahead.now c.args.self.now)
-    c.in_err-next_token.field-0.0 x)
-    (sym (without_lookahead c.next_token.new.lookahead c.next_token.new.self c.next_token.ensures.taken
-    c.next_token.ensures.none))
+    rw e (rw (← (without_lookahead c.next_token.new.lookahead c.next_token.new.self c.next_token.ensures.taken
+    c.next_token.ensures.none)) at
     (fault_left g.S.yaml_token_source_t.gives _ _ _ (c.loop-self.invariant.0 (pos 1)) _ _
     (c.in_err-next_token.ensures.fetches (pos 1))))
 
@@ -54,11 +46,8 @@ take_token-requires g c = record {
 
 pub returns-in-Given-clause-call : goal.returns-in-Given-clause-call
 returns-in-Given-clause-call g c = λ max.
-    subst (λ (x : Config). Call g.S.yaml_token_source_t.gives
-    (parser max c.args.source.now (with_lookahead c.args.lookahead.now c.args.self.now))
-    (Ok c.take_token.new.event) (parser max c.next_token.new.source x))
-    (sym (without_lookahead (record c.next_token.new.lookahead { token = c.take_token.new.token }) c.take_token.new.self
-    c.next_token.ensures.taken c.has_no_lookahead.ensures))
+    rw (← (without_lookahead (record c.next_token.new.lookahead { token = c.take_token.new.token })
+    c.take_token.new.self c.next_token.ensures.taken c.has_no_lookahead.ensures)) at
     (gave_event g.S.yaml_token_source_t.gives _ _ _ _
     (fetched g.S.yaml_token_source_t.gives _ _ _ (c.loop-self.invariant.0 max) _ _
     (c.in_ok-next_token.ensures.fetches max))
@@ -74,11 +63,8 @@ returns-in-GivenBefore-clause-call g c = λ max.
 pub loop-self-preserved : goal.loop-self-preserved
 loop-self-preserved g c =
     let ready = c.take_token.ensures.ready c.in-Wants.is in (
-      λ max. subst (λ (x : Config). Reading g.S.yaml_token_source_t.gives
-          (parser max c.args.source.now (with_lookahead c.args.lookahead.now c.args.self.now))
-          (parser max c.next_token.new.source x) (wanted c.take_token.new.pending))
-          (sym (without_lookahead (record c.next_token.new.lookahead { token = c.take_token.new.token })
-          c.take_token.new.self c.next_token.ensures.taken ready.none))
+      λ max. rw (← (without_lookahead (record c.next_token.new.lookahead { token = c.take_token.new.token })
+          c.take_token.new.self c.next_token.ensures.taken ready.none)) at
           (wants_more g.S.yaml_token_source_t.gives _ _ _ _
           (fetched g.S.yaml_token_source_t.gives _ _ _ (c.loop-self.invariant.0 max) _ _
           (c.in_ok-next_token.ensures.fetches max)) _ _ (rw c.in-Wants.is at c.take_token.ensures.steps)),
@@ -88,11 +74,8 @@ loop-self-preserved g c =
 pub loop-self-smaller : goal.loop-self-smaller
 loop-self-smaller g c =
     let s = rw c.in-Wants.is at c.take_token.ensures.steps in
-    subst (λ (x : Config). g.S.yaml_token_source_t.bound c.next_token.new.source + length (held x)
-    < g.S.yaml_token_source_t.bound c.loop-self.source
-    + length (held (with_lookahead c.loop-self.lookahead c.loop-self.self)))
-    (sym (without_lookahead (record c.next_token.new.lookahead { token = c.take_token.new.token })
-    c.take_token.new.self c.next_token.ensures.taken (c.take_token.ensures.ready c.in-Wants.is).none))
+    rw (← (without_lookahead (record c.next_token.new.lookahead { token = c.take_token.new.token })
+    c.take_token.new.self c.next_token.ensures.taken (c.take_token.ensures.ready c.in-Wants.is).none)) at
     (takes_one g.S.yaml_token_source_t g.met.S.yaml_token_source_t.falls
     (parser (pos 1) c.loop-self.source (with_lookahead c.loop-self.lookahead c.loop-self.self))
     (parser (pos 1) c.next_token.new.source c.next_token.new.self)

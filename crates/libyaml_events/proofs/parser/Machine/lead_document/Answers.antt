@@ -1,7 +1,5 @@
-use Rattle.std.proofs.Common.{None, ◌≡◌, Bool, ap, subst, true}
+use Rattle.std.proofs.Common.{None, ◌≡◌, ap}
 use Rattle.libyaml_types.specs.Fault.{fault_of}
-use Rattle.libyaml_automaton.specs.Growth.{pushes_in_documents}
-use Rattle.libyaml_automaton.specs.Numbers.{next_of}
 use Rattle.libyaml_events.specs.machine.Config.{Config, handles_of}
 use Rattle.libyaml_events.proofs.layer.StepWithTexts.{still_ready}
 use Rattle.libyaml_events.proofs.layer.Directives.{document_grows, document_leads, handle_grows}
@@ -23,8 +21,7 @@ returns-clause-undone c = λ h.
 pub returns-clause-grows : goal.returns-clause-grows
 returns-clause-grows c = λ h. document_grows c.args.pending.now c.args.self.now c.args.token.now.content c.type_.result
     c.requires.ready c.type_.ensures
-    (subst (λ (b : Bool). pushes_in_documents (next_of c.args.pending.now.reading.next) b c.type_.result ≡ true)
-    (ap (λ (y : Config). y.behind_document_end) c.self.view_is) (c.document_step.ensures.full h))
+    (rw (ap (λ (y : Config). y.behind_document_end) c.self.view_is) at (c.document_step.ensures.full h))
 
 pub returns-clause-handle : goal.returns-clause-handle
 returns-clause-handle c = handle_grows (handles_of c.self.inside.handles.entries) (fault_of c.self.inside.prefix)

@@ -1,7 +1,7 @@
-use Rattle.std.proofs.Common.{◌≡◌, ◌≤◌, ◌<◌, ◌+◌, ◌∷◌, Err, length, drop, get_or, arith, rules, subst, sym}
+use Rattle.std.proofs.Common.{◌≡◌, ◌≤◌, ◌<◌, ◌+◌, ◌∷◌, Err, length, drop, get_or, arith, rules}
 use Rattle.std.proofs.lemmas.List.{drop-set-lt, drop_more}
 use Rattle.std.specs.Vec.{vec_capacity}
-use Rattle.libyaml_loader.proofs.pushes.InTurn.{InTurn, next_turn, refused_turn}
+use Rattle.libyaml_loader.proofs.pushes.InTurn.{next_turn, refused_turn}
 use Rattle.libyaml_loader.proofs.composer.Composer.compose_all.Goals as goal
 
 pub returns-in_err-compose_into-clause-composes : goal.returns-in_err-compose_into-clause-composes
@@ -16,8 +16,7 @@ returns-in_err-compose_into-clause-composes c =
     refused_turn c.args.self.now l.self c.compose_into.new.self c.args.events.now.items c.args.documents.now.items
     l.documents.items c.compose_into.new.documents.items e
     (drop (l.event-index + 1) l.event-items)
-    (subst (λ y. InTurn c.args.self.now c.args.events.now.items c.args.documents.now.items l.self y
-    l.documents.items) here (rw c.deref_mut-event-items.ensures.value at l.invariant.1))
+    (rw here at (rw c.deref_mut-event-items.ensures.value at l.invariant.1))
     _ _ (λ full. omega (arith, room, full)) c.compose_into.result c.from_residual.result c.in_err-compose_into.field-0.0
     c.in_err-compose_into.field-0.0 c.in_err-compose_into.was err c.compose_into.ensures.composes
 
@@ -33,12 +32,9 @@ loop-event-preserved c =
     in
     let left = drop-set-lt (l.event-index + 1) l.event-items l.event-index c.compose_into.new.event (omega arith) in (
       room,
-      subst (λ y. InTurn c.args.self.now c.deref_mut-event-items.result.now c.args.documents.now.items
-          c.compose_into.new.self y c.compose_into.new.documents.items) (sym left)
-          (next_turn c.args.self.now l.self c.compose_into.new.self _ _ _ c.compose_into.new.documents.items e
+      rw (← left) at (next_turn c.args.self.now l.self c.compose_into.new.self _ _ _ c.compose_into.new.documents.items e
           (drop (l.event-index + 1) l.event-items)
-          (subst (λ y. InTurn c.args.self.now c.deref_mut-event-items.result.now c.args.documents.now.items l.self y
-          l.documents.items) here l.invariant.1)
+          (rw here at l.invariant.1)
           _ c.compose_into.result c.in_ok-compose_into.field-0 c.in_ok-compose_into.was c.compose_into.ensures.composes
           c.compose_into.ensures.sound c.compose_into.ensures.bound
           (rw c.in_ok-compose_into.was at c.compose_into.ensures.fault)),

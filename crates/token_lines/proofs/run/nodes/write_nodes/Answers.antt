@@ -1,11 +1,9 @@
-use Rattle.std.proofs.Common.{◌≡◌, refl, ap, ◌∙◌, subst}
+use Rattle.std.proofs.Common.{◌≡◌, refl, ap, ◌∙◌}
 use Rattle.std.proofs.lemmas.Bool.{false_from_ne_true}
-use Rattle.libyaml_types.specs.Fault.{Fault, fault_of}
 use Rattle.libyaml_events.specs.sources.History.{has_failed, kept_fault}
 use Rattle.libyaml_loader.specs.document.Ids.{magnitude}
 use Rattle.token_lines.specs.declared.run.run_end_t.TheVariants.{Ended, OutputFailed}
 use Rattle.token_lines.specs.declared.run.RunStep.TheVariants as step
-use Rattle.token_lines.specs.lines.LineRun.{WroteFault}
 use Rattle.token_lines.proofs.nodes.NodeTurnLemmas.{last_load_at, loads_end, loads_failed, loads_output, none_loaded, one_loaded, turn_at}
 use Rattle.token_lines.proofs.nodes.NodeWritesLemmas.{writes_loads_so}
 use Rattle.token_lines.proofs.run.nodes.write_nodes.Goals as goal
@@ -61,12 +59,7 @@ returns-in-Failed-clause-kept g c failed =
     let last = c.in-Failed.ensures.kept (ap has_failed still.0 ∙ failed) in
     record {
       parser = last.1 ∙ still.0;
-      wrote = subst (λ (f : Fault). WroteFault c.faulted.result f (contents c.args.writer.now)
-          (contents c.faulted.new.writer)) (last.0
-          ∙ ap kept_fault still.0)
-          (subst (λ w. WroteFault c.faulted.result (fault_of c.in-Failed.fault) (contents w)
-          (contents c.faulted.new.writer)) (last.2
-          ∙ still.1) c.faulted.ensures);
+      wrote = rw (last.0 ∙ ap kept_fault still.0) at (rw (last.2 ∙ still.1) at c.faulted.ensures);
     }
 
 pub returns-in-Ended-clause-in_turn : goal.returns-in-Ended-clause-in_turn
