@@ -1,7 +1,7 @@
 //! The calls that add a node to a document.
 
 ghost use Rattle.std.specs.Prelude.{◌≡◌, ◌+◌, ◌<◌, ◌↔◌, pos, [], Err, IfOk, IfSome, OnOk, OnErr};
-ghost use Rattle.std.specs.Prelude.{IsErrOf, IsUtf8, length};
+ghost use Rattle.std.specs.Prelude.{IsErrOf, IsUtf8, is_ok, length, ◌++◌, ◌∷◌, if◌then◌else◌};
 ghost use Rattle.std.specs.Option.{option_copied};
 ghost use Rattle.libyaml_documents.specs.Documents.{most_nodes, with_node};
 ghost use Rattle.libyaml_documents.specs.Nodes.{ids_of, node_of, node_type, tag_or, type_at};
@@ -18,9 +18,12 @@ use libyaml_types::{
     ZERO_MARK, yaml_mapping_style_t, yaml_node_type_t, yaml_refusal_t, yaml_scalar_style_t,
     yaml_sequence_style_t,
 };
-use std::alloc::Global;
+use std::alloc::{AllocError, Global};
 
 const MOST_NODES: usize = 2147483647;
+
+/// From how many nodes on a list of nodes grows fourfold.
+const MANY_NODES: usize = 512;
 
 /// Checks that an id is left for one more node.
 ///
@@ -77,6 +80,41 @@ fn new_node(
     })
 }
 
+/// Appends a node to a list. One of many nodes, where it is full, grows fourfold rather than twofold.
+///
+/// The blocks that it left are then a third of it. After twofold growth they are as long as the list itself,
+/// which makes glibc give memory back to the system when the document is freed, and the next document has its
+/// pages mapped in anew.
+///
+/// # Errors
+///
+/// `AllocError` where an allocation fails; the list is then as it was.
+#[inline(always)]
+fn push(nodes: &mut Vec<yaml_node_t>, node: yaml_node_t) -> Result<(), AllocError>
+    ensures items { nodes.new.items
+        ≡ (if is_ok result then nodes.old.items ++ node ∷ [] else nodes.old.items) }
+{
+    if nodes.len() == nodes.capacity() {
+        lengthen(nodes);
+    }
+    match nodes.push(node) {
+        Ok(()) => Ok(()),
+        Err(_) => Err(AllocError),
+    }
+}
+
+/// Makes a full list of many nodes four times as long. Where memory isn't there for that, the list stays.
+#[cold]
+#[inline(never)]
+fn lengthen(nodes: &mut Vec<yaml_node_t>)
+    ensures { nodes.new.items ≡ nodes.old.items }
+{
+    let count = nodes.len();
+    if count >= MANY_NODES {
+        let _ = nodes.reserve(count.saturating_mul(3));
+    }
+}
+
 /// Appends a node without children, and returns its id.
 ///
 /// # Errors
@@ -97,7 +135,7 @@ pub(super) fn push_node(
     ensures type_is { IfOk result (λ id. type_at document.new.nodes id ≡ node_type node.content) }
     ensures types_kept { KeepsTypes document.old.nodes document.new.nodes }
 {
-    match document.nodes.push(node) {
+    match push(&mut document.nodes, node) {
         Ok(()) => Ok(document.nodes.len() as i32),
         Err(_) => Err(yaml_refusal_t::Memory),
     }
