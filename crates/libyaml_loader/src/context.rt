@@ -102,7 +102,7 @@ impl loader_ctx {
     /// `Memory`, where an allocation fails or a list has `max_entries` entries already; `UndefinedAlias`,
     /// where no earlier node has the alias's anchor; `RepeatedAnchor`, where an earlier node has the anchor
     /// of this one.
-    #[inline(never)]
+    #[inline(always)]
     pub(crate) fn compose(&mut self, event: &mut yaml_event_t) -> Result<(), Refusal>
         requires stands { ComposerMatches self.old }
         requires not_end { closing_of event.old ≡ None }

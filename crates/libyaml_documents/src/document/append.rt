@@ -19,6 +19,7 @@ use libyaml_types::{yaml_node_type_t, yaml_refusal_t};
 /// `Memory` where an allocation fails; the document is then as it was.
 ///
 /// libyaml: `yaml_document_append_sequence_item`.
+#[inline(always)]
 pub fn yaml_document_append_sequence_item(
     document: &mut yaml_document_t,
     sequence: i32,
@@ -49,6 +50,7 @@ pub fn yaml_document_append_sequence_item(
 /// `Memory` where an allocation fails; the document is then as it was.
 ///
 /// libyaml: `yaml_document_append_mapping_pair`.
+#[inline(always)]
 pub fn yaml_document_append_mapping_pair(
     document: &mut yaml_document_t,
     mapping: i32,
