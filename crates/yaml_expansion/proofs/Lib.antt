@@ -1,0 +1,5 @@
+mod Trees
+mod Ids
+mod Walks
+mod Moves
+mod OneOfBoth

@@ -1,0 +1,56 @@
+//! The expanded size of a document.
+ghost use Rattle.libyaml_documents.specs.Documents.{most_nodes};
+ghost use Rattle.std.specs.Prelude.{ℕ, ℤ, pos, suc, ◌<◌, ◌≤◌, ◌≡◌, IfOk, IsErrOf};
+ghost use Rattle.yaml_expansion.specs.Expansion.{HasExpandedSize, IsReached, LiesOnCycle};
+
+use crate::error::yaml_expansion_error_t;
+use crate::size::Size;
+use crate::walk::{Step, Walk};
+use libyaml_documents::yaml_document_t;
+use std::alloc::Global;
+
+/// Returns how many nodes the document has with its aliases written out: the nodes of the tree that comes of
+/// copying a node at each place that names it. A document without nodes has none.
+///
+/// It takes memory for each node of the document once, whatever the tree's size, and looks at each node, item
+/// and pair once or twice.
+///
+/// # Errors
+///
+/// - `Cyclic` where a collection that one comes to from the root contains itself, also below others: the
+///   tree has no end. It has the id of such a collection.
+/// - `TooLarge` where the tree has an end, and more than `max` nodes.
+/// - `Memory` where an allocation fails.
+pub fn expanded_size(
+    alloc: Global,
+    document: &yaml_document_t,
+    max: u64,
+) -> Result<u64, yaml_expansion_error_t>
+    ensures size { IfOk result (λ size. HasExpandedSize document.now.nodes size × (size ≤ max)) }
+    ensures cyclic { (id : ℤ) → IsErrOf result (yaml_expansion_error_t.Cyclic id)
+        → IsReached document.now.nodes id × LiesOnCycle document.now.nodes id }
+    ensures too_large { IsErrOf result yaml_expansion_error_t.TooLarge
+        → (size : ℕ) × HasExpandedSize document.now.nodes size × (max < size) }
+{
+    let nodes = document.nodes();
+    if nodes.is_empty() {
+        return Ok(0);
+    }
+    let mut walk = Walk::new(alloc, nodes, max)?;
+    loop {
+        match walk.step(nodes)? {
+            Step::Moves => {}
+            Step::Ends(Size::Within(size)) => return Ok(size),
+            Step::Ends(Size::TooLarge) => return Err(yaml_expansion_error_t::TooLarge),
+            Step::Meets(place) => return Err(cyclic_at(place)),
+        }
+    }
+}
+
+/// Returns the error where the node at this place contains itself: ids count from 1, places from 0.
+fn cyclic_at(place: usize) -> yaml_expansion_error_t
+    requires { place < most_nodes }
+    ensures { result ≡ yaml_expansion_error_t.Cyclic (pos (suc place)) }
+{
+    yaml_expansion_error_t::Cyclic((place + 1) as i32)
+}
