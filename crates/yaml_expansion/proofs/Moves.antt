@@ -9,7 +9,7 @@ use Rattle.libyaml_documents.specs.Nodes.{ids_of, IsIdUpTo, EveryIdNamesANode}
 use Rattle.yaml_expansion.specs.declared.size.Size.{Size}
 use Rattle.yaml_expansion.specs.declared.walk.Mark.{Mark}
 use Rattle.yaml_expansion.specs.declared.walk.Mark.TheVariants.{New, Open, Done}
-use Rattle.yaml_expansion.specs.Expansion.{TreesHave, none, ids_at, ids_of_node, LiesOnCycle, IsReached, HasExpandedSize}
+use Rattle.yaml_expansion.specs.Expansion.{TreesHave, none, ids_at, ids_of_node, IsCyclicAt, HasExpandedSize}
 use Rattle.yaml_expansion.specs.Sizes.{bounded}
 use Rattle.yaml_expansion.specs.Walks.{IsRight, times, times_open, Walks, steps_left, work}
 use Rattle.yaml_expansion.proofs.Trees.{together, of_one}
@@ -211,7 +211,7 @@ module _ (nodes : List yaml_node_t) (max : ℕ) where
 
   pub cycles : (marks : List Mark) (above : List ℕ) (place c number next : ℕ) (size : Size) → Walks nodes max marks above place
       → slice_get (ids_at nodes (pos (suc place))) number ≡ Some (pos (suc c)) → get_or marks c New ≡ Open next size
-      → IsReached nodes (pos (suc c)) × LiesOnCycle nodes (pos (suc c))
+      → IsCyclicAt nodes (pos (suc c))
   cycles marks above place c number next size w child that =
       let o = w.opened c in
       let u : times_open (get_or marks c New) ≡ 1 = ap times_open that in

@@ -22,6 +22,10 @@ abbrev LongWay : List yaml_node_t → ℕ → ℕ → Type 0
 LongWay nodes steps from = (places : List ℕ) × (length places ≡ steps) × Way nodes from places
     × AllByRecursion (λ place. place < length nodes) places
 
+equal_or_not : (a b : ℕ) (t : Bool) → nat_eq a b ≡ t → (a ≡ b) ⊎ (nat_eq a b ≡ false)
+equal_or_not a b true e = inl (eqb-true a b e)
+equal_or_not a b false e = inr e
+
 module _ (nodes : List yaml_node_t) where
   trees_or_way : (steps : ℕ)
       → ((p : ℕ) → p < length nodes → ((n : ℕ) × TreesHave nodes (pos (suc p) ∷ []) n) ⊎ LongWay nodes steps p)
@@ -52,15 +56,11 @@ module _ (nodes : List yaml_node_t) where
           | inr w ↦ inr (w.0 ∷ w.3.0, ap (λ (n : ℕ). suc n) w.3.1, (w.1, w.3.2), (w.2, w.3.3))
         ]
 
-  same_place : (a b : ℕ) (t : Bool) → nat_eq a b ≡ t → (a ≡ b) ⊎ (nat_eq a b ≡ false)
-  same_place a b true e = inl (eqb-true a b e)
-  same_place a b false e = inr e
-
   -- a way meets a place, or does not
   meets : (a from : ℕ) (places : List ℕ) → Way nodes from places → AllByRecursion (λ place. nat_eq a place ≡ false) places
       ⊎ ((child : ℤ) × Holds nodes (pos (suc from)) child × LeadsTo nodes child (pos (suc a)))
   meets a from [] way = inl tt
-  meets a from (x ∷ xs) way = elim (same_place a x (nat_eq a x) refl) [
+  meets a from (x ∷ xs) way = elim (equal_or_not a x (nat_eq a x) refl) [
     | inl e ↦ inr (
       pos (suc x),
       way.0,
@@ -84,17 +84,13 @@ module _ (nodes : List yaml_node_t) where
     | inr m ↦ inr (from, here (pos (suc from)), m)
   ]
 
-same_or : (a b : ℕ) (t : Bool) → nat_eq a b ≡ t → (a ≡ b) ⊎ (nat_eq a b ≡ false)
-same_or a b true e = inl (eqb-true a b e)
-same_or a b false e = inr e
-
 rest_of : (a b : Bool) → a ≡ false → (a || b) ≡ true → b ≡ true
 rest_of true b f e = cc
 rest_of false b f e = e
 
 below_any : (n : ℕ) (xs : List ℕ) → AllByRecursion (λ place. place < n) xs → (q : ℕ) → list_any (nat_eq q) xs ≡ true → q < n
 below_any n [] h q e = cc
-below_any n (x ∷ xs) h q e = elim (same_or q x (nat_eq q x) refl) [
+below_any n (x ∷ xs) h q e = elim (equal_or_not q x (nat_eq q x) refl) [
   | inl f ↦ omega (arith, f, h.0)
   | inr f ↦ below_any n xs h.1 q (rest_of (nat_eq q x) (list_any (nat_eq q) xs) f e)
 ]
@@ -110,11 +106,11 @@ size_or_cycle (x ∷ rest) valid =
         | inl d ↦
             let few = length-le_from_distinct_below (0 ∷ w.0) (length nodes) d (below_any (length nodes) (0 ∷ w.0) (some, w.3)) in
             absurd (omega (arith, few, w.1))
-        | inr c ↦ inr (pos (suc c.0), (some, c.1), c.2)
+        | inr c ↦ inr (pos (suc c.0), ((some, c.1), c.2))
       ]
     ]
 
 -- and never both
 pub not_both : (nodes : List yaml_node_t) (n : ℕ) → HasExpandedSize nodes n → IsCyclic nodes → ⊥
-not_both [] n t c = omega (arith, c.1.0)
-not_both (x ∷ rest) n t c = no_cycle (x ∷ rest) (pos 1) c.0 n t c.1.1 c.2
+not_both [] n t c = omega (arith, c.1.0.0)
+not_both (x ∷ rest) n t c = no_cycle (x ∷ rest) (pos 1) c.0 n t c.1.0.1 c.1.1

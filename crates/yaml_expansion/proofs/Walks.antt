@@ -102,11 +102,6 @@ module _ (nodes : List yaml_node_t) where
           (on (pos (suc from)) (pos (suc x)) (pos (suc c)) d.0 r.0, r.1)
     ]
 
-  pub last_on_way : (above : List ℕ) (place : ℕ) → DownFromRoot nodes above place → LeadsTo nodes (pos 1) (pos (suc place))
-  last_on_way [] place d = subst (λ (x : ℕ). LeadsTo nodes (pos 1) (pos (suc x))) (sym d) (here (pos 1))
-  last_on_way (x ∷ xs) place d =
-      subst (λ (y : ℕ). LeadsTo nodes (pos (suc y)) (pos (suc place))) d.0 (down_leads x xs place d.1)
-
   pub on_way : (c : ℕ) (above : List ℕ) (place : ℕ) → DownFromRoot nodes above place → 0 < times c (above ++ place ∷ [])
       → LeadsTo nodes (pos 1) (pos (suc c)) × LeadsTo nodes (pos (suc c)) (pos (suc place))
   on_way c [] place d h = elim (same_or_not place c (nat_eq place c) refl) [

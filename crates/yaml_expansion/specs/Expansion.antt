@@ -45,6 +45,10 @@ LiesOnCycle nodes id = (child : ℤ) × Holds nodes id child × LeadsTo nodes ch
 abbrev pub IsReached : List yaml_node_t → ℤ → Type 0
 IsReached nodes id = (0 < length nodes) × LeadsTo nodes (pos 1) id
 
--- from the root one comes to a cycle
+-- one comes from the root to this id, and from it back to it
+abbrev pub IsCyclicAt : List yaml_node_t → ℤ → Type 0
+IsCyclicAt nodes id = IsReached nodes id × LiesOnCycle nodes id
+
+-- one comes from the root to a cycle
 abbrev pub IsCyclic : List yaml_node_t → Type 0
-IsCyclic nodes = (id : ℤ) × IsReached nodes id × LiesOnCycle nodes id
+IsCyclic nodes = (id : ℤ) × IsCyclicAt nodes id

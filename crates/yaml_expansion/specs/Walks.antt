@@ -7,7 +7,7 @@ use Rattle.yaml_expansion.specs.declared.walk.Mark.TheVariants.{New, Open, Done}
 use Rattle.yaml_expansion.specs.declared.walk.Step.{Step}
 use Rattle.yaml_expansion.specs.declared.walk.Step.TheVariants.{Moves, Ends, Meets}
 use Rattle.yaml_expansion.specs.declared.walk.Walk.{Walk}
-use Rattle.yaml_expansion.specs.Expansion.{TreesHave, HasExpandedSize, Holds, IsReached, LiesOnCycle, ids_at}
+use Rattle.yaml_expansion.specs.Expansion.{TreesHave, HasExpandedSize, Holds, IsCyclicAt, ids_at}
 use Rattle.yaml_expansion.specs.Sizes.{bounded}
 
 -- what the mark of the node at a place says
@@ -46,8 +46,8 @@ pub record Walks (nodes : List yaml_node_t) (max : ℕ) (marks : List Mark) (abo
   pub way : DownFromRoot nodes above place
   pub opened : (k : ℕ) → times k (above ++ place ∷ []) ≡ times_open (get_or marks k New)
 
-abbrev pub IsAt : List yaml_node_t → Walk → Type 0
-IsAt nodes walk = Walks nodes walk.max walk.marks.items walk.above.items walk.place
+abbrev pub IsUnderWay : List yaml_node_t → Walk → Type 0
+IsUnderWay nodes walk = Walks nodes walk.max walk.marks.items walk.above.items walk.place
 
 -- how many steps are left for a node of so many ids
 abbrev pub steps_left : (ids : ℕ) → Mark → ℕ
@@ -63,6 +63,6 @@ work (node ∷ nodes) (mark ∷ marks) = steps_left (length (ids_of node.content
 
 -- what a step led to
 abbrev pub StepSays : List yaml_node_t → (old new : Walk) → Step → Type 0
-StepSays nodes old new Moves = IsAt nodes new × (work nodes new.marks.items < work nodes old.marks.items)
+StepSays nodes old new Moves = IsUnderWay nodes new × (work nodes new.marks.items < work nodes old.marks.items)
 StepSays nodes old new (Ends size) = (n : ℕ) × HasExpandedSize nodes n × (size ≡ bounded old.max n)
-StepSays nodes old new (Meets place) = (place < length nodes) × IsReached nodes (pos (suc place)) × LiesOnCycle nodes (pos (suc place))
+StepSays nodes old new (Meets place) = (place < length nodes) × IsCyclicAt nodes (pos (suc place))

@@ -1,7 +1,7 @@
 //! The expanded size of a document.
+ghost use Rattle.std.specs.Prelude.{ℕ, ℤ, ◌<◌, ◌≤◌, ◌≡◌, ◌⊎◌, pos, suc, Ok, IfOk, IsErrOf};
 ghost use Rattle.libyaml_documents.specs.Documents.{most_nodes};
-ghost use Rattle.std.specs.Prelude.{ℕ, ℤ, pos, suc, ◌<◌, ◌≤◌, ◌≡◌, IfOk, IsErrOf};
-ghost use Rattle.yaml_expansion.specs.Expansion.{HasExpandedSize, IsReached, LiesOnCycle};
+ghost use Rattle.yaml_expansion.specs.Expansion.{HasExpandedSize, IsCyclic, IsCyclicAt};
 
 use crate::error::yaml_expansion_error_t;
 use crate::size::Size;
@@ -12,13 +12,13 @@ use std::alloc::Global;
 /// Returns how many nodes the document has with its aliases written out: the nodes of the tree that comes of
 /// copying a node at each place that names it. A document without nodes has none.
 ///
-/// It takes memory for each node of the document once, whatever the tree's size, and looks at each node, item
-/// and pair once or twice.
+/// Each node, item and pair of the document is looked at once or twice, and each node takes memory once,
+/// however large the tree is.
 ///
 /// # Errors
 ///
-/// - `Cyclic` where a collection that one comes to from the root contains itself, also below others: the
-///   tree has no end. It has the id of such a collection.
+/// - `Cyclic` where one comes from the root to a collection that contains itself, through others or at once:
+///   the tree has no end. It has the id of such a collection.
 /// - `TooLarge` where the tree has an end, and more than `max` nodes.
 /// - `Memory` where an allocation fails.
 pub fn expanded_size(
@@ -27,10 +27,34 @@ pub fn expanded_size(
     max: u64,
 ) -> Result<u64, yaml_expansion_error_t>
     ensures size { IfOk result (λ size. HasExpandedSize document.now.nodes size × (size ≤ max)) }
-    ensures cyclic { (id : ℤ) → IsErrOf result (yaml_expansion_error_t.Cyclic id)
-        → IsReached document.now.nodes id × LiesOnCycle document.now.nodes id }
     ensures too_large { IsErrOf result yaml_expansion_error_t.TooLarge
         → (size : ℕ) × HasExpandedSize document.now.nodes size × (max < size) }
+    ensures cyclic { (id : ℤ) → IsErrOf result (yaml_expansion_error_t.Cyclic id)
+        → IsCyclicAt document.now.nodes id }
+
+    // And each of these answers is given where it is right, unless memory runs out.
+    ensures where_small { (size : ℕ) → HasExpandedSize document.now.nodes size → size ≤ max
+        → (result ≡ Ok size) ⊎ IsErrOf result yaml_expansion_error_t.Memory }
+    ensures where_large { (size : ℕ) → HasExpandedSize document.now.nodes size → max < size
+        → IsErrOf result yaml_expansion_error_t.TooLarge ⊎ IsErrOf result yaml_expansion_error_t.Memory }
+    ensures where_cyclic { IsCyclic document.now.nodes
+        → ((id : ℤ) × IsErrOf result (yaml_expansion_error_t.Cyclic id))
+        ⊎ IsErrOf result yaml_expansion_error_t.Memory }
+{
+    measure(alloc, document, max)
+}
+
+/// Returns the same.
+fn measure(
+    alloc: Global,
+    document: &yaml_document_t,
+    max: u64,
+) -> Result<u64, yaml_expansion_error_t>
+    ensures size { IfOk result (λ size. HasExpandedSize document.now.nodes size × (size ≤ max)) }
+    ensures too_large { IsErrOf result yaml_expansion_error_t.TooLarge
+        → (size : ℕ) × HasExpandedSize document.now.nodes size × (max < size) }
+    ensures cyclic { (id : ℤ) → IsErrOf result (yaml_expansion_error_t.Cyclic id)
+        → IsCyclicAt document.now.nodes id }
 {
     let nodes = document.nodes();
     if nodes.is_empty() {

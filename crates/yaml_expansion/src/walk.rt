@@ -4,7 +4,7 @@ ghost use Rattle.std.specs.Prelude.{IfOk, OnOk, OnSome, ◌^◌, IfSome, IfNone,
 ghost use Rattle.libyaml_documents.specs.Nodes.{EveryIdNamesANode, IsIdUpTo, ids_of, ids_of_pairs};
 ghost use Rattle.yaml_expansion.specs.Expansion.{HasExpandedSize, IsReached, LiesOnCycle, ids_at};
 ghost use Rattle.yaml_expansion.specs.Sizes.{bounded};
-ghost use Rattle.yaml_expansion.specs.Walks.{IsAt, StepSays, times_open};
+ghost use Rattle.yaml_expansion.specs.Walks.{IsUnderWay, StepSays, times_open};
 ghost use Rattle.yaml_expansion.specs.declared.walk.Mark.TheVariants.{New, Open, Done};
 ghost use Rattle.yaml_expansion.specs.declared.size.Size.{Size};
 
@@ -156,7 +156,7 @@ impl Walk {
     /// `AllocError` where an allocation fails.
     pub(crate) fn new(alloc: Global, nodes: &[yaml_node_t], max: u64) -> Result<Walk, AllocError>
         requires { 0 < length nodes.now }
-        ensures at_root { IfOk result (λ walk. IsAt nodes.now walk) }
+        ensures at_root { IfOk result (λ walk. IsUnderWay nodes.now walk) }
         ensures bound { IfOk result (λ walk. walk.max ≡ max) }
     {
         let mut marks = new_marks(alloc, nodes.len())?;
@@ -222,7 +222,7 @@ impl Walk {
     /// `AllocError` where an allocation fails.
     pub(crate) fn step(&mut self, nodes: &[yaml_node_t]) -> Result<Step, AllocError>
         requires ids { EveryIdNamesANode nodes.now }
-        requires at { IsAt nodes.now self.old }
+        requires at { IsUnderWay nodes.now self.old }
         ensures said { IfOk result (λ step. StepSays nodes.now self.old self.new step) }
         ensures max { self.new.max ≡ self.old.max }
     {

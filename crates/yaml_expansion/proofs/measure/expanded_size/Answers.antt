@@ -1,27 +1,59 @@
-use Rattle.std.proofs.Common.{◌≡◌, ℤ, pos, suc, List, [], ◌∷◌, length, ap, subst, sym, ◌∙◌, arith, eqb-true}
+use Rattle.std.proofs.Common.{◌≡◌, ◌⊎◌, ℕ, ℤ, ◌<◌, ◌≤◌, List, Result, Ok, Err, inl, inr, refl, ap, arith}
+use Rattle.std.specs.Prelude.{IfOk, IsErrOf}
 use Rattle.libyaml_documents.specs.declared.node.yaml_node_t.{yaml_node_t}
-use Rattle.yaml_expansion.specs.Expansion.{HasExpandedSize, IsReached, LiesOnCycle, none}
+use Rattle.yaml_expansion.specs.declared.error.yaml_expansion_error_t.{yaml_expansion_error_t}
+use Rattle.yaml_expansion.specs.declared.error.yaml_expansion_error_t.TheVariants.{Cyclic, TooLarge, Memory}
+use Rattle.yaml_expansion.specs.Expansion.{HasExpandedSize, IsCyclic, IsCyclicAt, root_of}
+use Rattle.yaml_expansion.proofs.OneOfBoth.{not_both}
+use Rattle.yaml_expansion.proofs.Trees.{one_size}
 use Rattle.yaml_expansion.proofs.measure.expanded_size.Goals as goal
 
-nothing_to_copy : (nodes : List yaml_node_t) → length nodes ≡ 0 → HasExpandedSize nodes 0
-nothing_to_copy [] e = none
-nothing_to_copy (node ∷ nodes) e = absurd (omega (arith, e))
+-- each answer has its reason, and no two reasons hold of one document
+record Said (nodes : List yaml_node_t) (max : ℕ) (r : Result ℕ yaml_expansion_error_t) : Type 0 where
+  size : IfOk r (λ size. HasExpandedSize nodes size × (size ≤ max))
+  too_large : IsErrOf r TooLarge → (size : ℕ) × HasExpandedSize nodes size × (max < size)
+  cyclic : (id : ℤ) → IsErrOf r (Cyclic id) → IsCyclicAt nodes id
 
-met : (nodes these : List yaml_node_t) (id this : ℤ) → nodes ≡ these → id ≡ this → IsReached nodes id × LiesOnCycle nodes id
-    → IsReached these this × LiesOnCycle these this
-met nodes these id this n i h =
-    subst (λ (l : List yaml_node_t). IsReached l this × LiesOnCycle l this) n
-    (subst (λ (x : ℤ). IsReached nodes x × LiesOnCycle nodes x) i h)
+module _ (nodes : List yaml_node_t) (max : ℕ) where
+  small : (r : Result ℕ yaml_expansion_error_t) → Said nodes max r → (size : ℕ) → HasExpandedSize nodes size → size ≤ max
+      → (r ≡ Ok size) ⊎ IsErrOf r Memory
+  small (Ok n) said size t le =
+      inl (ap (λ (x : ℕ). Ok x) (one_size nodes (root_of nodes) n size said.size.0 t))
+  small (Err (Cyclic id)) said size t le = absurd (not_both nodes size t (id, said.cyclic id refl))
+  small (Err TooLarge) said size t le =
+      let large = said.too_large refl in
+      absurd (omega (arith, large.2, one_size nodes (root_of nodes) large.0 size large.1 t))
+  small (Err Memory) said size t le = inr refl
 
-pub returns-then-is_empty-clause-size : goal.returns-then-is_empty-clause-size
-returns-then-is_empty-clause-size c =
-    let none_of : length c.nodes-nodes.result.now ≡ 0 = eqb-true _ _ (sym c.if-is_empty.ensures) in
-    let nodes_none : length c.args.document.now.nodes ≡ 0 = ap (λ (l : List yaml_node_t). length l) (sym c.nodes-nodes.ensures.all) ∙ none_of in
-    (nothing_to_copy c.args.document.now.nodes nodes_none, omega arith)
+  large : (r : Result ℕ yaml_expansion_error_t) → Said nodes max r → (size : ℕ) → HasExpandedSize nodes size → max < size
+      → IsErrOf r TooLarge ⊎ IsErrOf r Memory
+  large (Ok n) said size t lt =
+      absurd (omega (arith, said.size.1, one_size nodes (root_of nodes) n size said.size.0 t))
+  large (Err (Cyclic id)) said size t lt = absurd (not_both nodes size t (id, said.cyclic id refl))
+  large (Err TooLarge) said size t lt = inl refl
+  large (Err Memory) said size t lt = inr refl
 
-pub returns-in-Meets-clause-cyclic : goal.returns-in-Meets-clause-cyclic
-returns-in-Meets-clause-cyclic c = λ id is.
-    let said = rw c.in-Meets.is at c.in_ok-step.ensures.said in
-    let same : pos (suc c.in-Meets.place) ≡ id = cc in
-    met c.nodes-nodes.result.now c.args.document.now.nodes (pos (suc c.in-Meets.place)) id c.nodes-nodes.ensures.all same
-    (said.1, said.2)
+  endless : (r : Result ℕ yaml_expansion_error_t) → Said nodes max r → IsCyclic nodes
+      → ((id : ℤ) × IsErrOf r (Cyclic id)) ⊎ IsErrOf r Memory
+  endless (Ok n) said c = absurd (not_both nodes n said.size.0 c)
+  endless (Err (Cyclic id)) said c = inl (id, refl)
+  endless (Err TooLarge) said c = let large = said.too_large refl in absurd (not_both nodes large.0 large.1 c)
+  endless (Err Memory) said c = inr refl
+
+pub returns-clause-where_small : goal.returns-clause-where_small
+returns-clause-where_small c =
+    let said = c.measure.ensures in
+    small c.args.document.now.nodes c.args.max c.measure.result
+    (record { size = said.size; too_large = said.too_large; cyclic = said.cyclic })
+
+pub returns-clause-where_large : goal.returns-clause-where_large
+returns-clause-where_large c =
+    let said = c.measure.ensures in
+    large c.args.document.now.nodes c.args.max c.measure.result
+    (record { size = said.size; too_large = said.too_large; cyclic = said.cyclic })
+
+pub returns-clause-where_cyclic : goal.returns-clause-where_cyclic
+returns-clause-where_cyclic c =
+    let said = c.measure.ensures in
+    endless c.args.document.now.nodes c.args.max c.measure.result
+    (record { size = said.size; too_large = said.too_large; cyclic = said.cyclic })

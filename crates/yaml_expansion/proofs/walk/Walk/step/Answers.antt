@@ -60,7 +60,7 @@ returns-in-Open-clause-said c =
     let walk = c.args.self.now in
     let met = cycles c.args.nodes.now walk.max walk.marks.items walk.above.items walk.place c.in-Some.child c.progress-next.result.0
     c.in-Open.next c.in-Open.size c.requires.at c.in-Some.ensures.child (sym c.in-Open.ensures) in
-    (c.in-Some.ensures.inside, met.0, met.1)
+    (c.in-Some.ensures.inside, met)
 
 pub returns-in-Done-clause-said : goal.returns-in-Done-clause-said
 returns-in-Done-clause-said c =
