@@ -224,7 +224,7 @@ pub fn append_item(
 }
 
 /// Appends a pair, where its ids allow it.
-fn append_pair(
+pub fn append_pair(
     document: &mut yaml_document_t,
     mapping: i32,
     key: i32,

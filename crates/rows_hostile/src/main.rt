@@ -15,6 +15,7 @@ mod large;
 mod lines;
 mod nested;
 mod shapes;
+mod sizes;
 mod texts;
 
 use anyhow::{Context, Result};
@@ -24,8 +25,10 @@ use std::rt::Files;
 fn show_tables(rt: &(impl Files + Print + AllocGlobal), tables: &mut Tables<'_>) -> Result<()> {
     let row = read_text(rt, "text.tokens")?;
     let kinds = read_text(rt, "kinds")?;
+    let sizes = read_text(rt, "sizes")?;
     large::show(rt, tables)?;
     nested::show(rt, tables)?;
+    sizes::show(rt, tables, sizes.as_str())?;
     texts::show(rt, tables, row.as_str())?;
     drawn::show(rt, tables, kinds.as_str())?;
     failing::show(rt, tables)?;

@@ -4,6 +4,7 @@
 //! stand for a huge tree, and one whose anchor contains its own alias for a tree without end.
 #![tactic(auto)]
 
+mod children;
 mod error;
 pub mod laws;
 mod measure;

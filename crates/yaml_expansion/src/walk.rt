@@ -1,16 +1,14 @@
 //! A walk over the nodes, from the root down and back, by which each gets its size once.
-ghost use Rattle.std.specs.Prelude.{◌≡◌, ℕ, ◌+◌, ◌++◌, ◌∷◌, [], slice_set, vec_len, ◌<◌, ◌≤◌, ◌≤ℤ◌, pos, suc, get_or, length, replicate, slice_get};
-ghost use Rattle.std.specs.Prelude.{IfOk, OnOk, OnSome, ◌^◌, IfSome, IfNone, IsErrOf, Err, Some, None, if◌then◌else◌};
-ghost use Rattle.libyaml_documents.specs.Nodes.{EveryIdNamesANode, IsIdUpTo, ids_of, ids_of_pairs};
-ghost use Rattle.yaml_expansion.specs.Expansion.{HasExpandedSize, IsReached, LiesOnCycle, ids_at};
+ghost use Rattle.std.specs.Prelude.{◌≡◌, ◌++◌, ◌∷◌, [], ◌<◌, IfOk, OnOk};
+ghost use Rattle.std.specs.Prelude.{get_or, length, replicate, slice_set, vec_len};
+ghost use Rattle.libyaml_documents.specs.Nodes.{EveryIdNamesANode};
 ghost use Rattle.yaml_expansion.specs.Sizes.{bounded};
 ghost use Rattle.yaml_expansion.specs.Walks.{IsUnderWay, StepSays, times_open};
-ghost use Rattle.yaml_expansion.specs.declared.walk.Mark.TheVariants.{New, Open, Done};
-ghost use Rattle.yaml_expansion.specs.declared.size.Size.{Size};
+ghost use Rattle.yaml_expansion.specs.declared.walk.Mark.TheVariants.{New, Open};
 
-use crate::error::yaml_expansion_error_t;
+use crate::children::child_at;
 use crate::size::{Size, size_of, sum_of};
-use libyaml_documents::{unnamed_yaml_node_t_data, yaml_node_pair_t, yaml_node_t};
+use libyaml_documents::yaml_node_t;
 use std::alloc::{AllocError, Global};
 
 /// How far a node has been measured.
@@ -35,94 +33,6 @@ pub(crate) struct Walk {
     place: usize,
     /// The bound.
     max: u64,
-}
-
-/// Returns the place of the node of this id.
-fn place_of(id: i32) -> usize
-    requires { pos 1 ≤ℤ id }
-    ensures { id ≡ pos (suc result) }
-{
-    id as usize - 1
-}
-
-/// Returns the id of this number, from 0, among those that the node holds.
-#[tactic(auto, using(crate::proofs::Ids::ids_of_node))]
-fn child_of(node: &yaml_node_t, number: usize) -> Option<i32>
-    ensures id { result ≡ slice_get (ids_of node.now.content) number }
-    ensures room { OnSome result (number + 1 < 2 ^ 64) }
-{
-    match &node.content {
-        unnamed_yaml_node_t_data::Scalar(_) => None,
-        unnamed_yaml_node_t_data::Sequence(sequence) => item_in(sequence.items.as_slice(), number),
-        unnamed_yaml_node_t_data::Mapping(mapping) => id_in(mapping.pairs.as_slice(), number),
-    }
-}
-
-/// Returns the item of this number.
-fn item_in(items: &[i32], number: usize) -> Option<i32>
-    ensures id { result ≡ slice_get items.now number }
-    ensures room { OnSome result (number + 1 < 2 ^ 64) }
-{
-    if number < items.len() {
-        Some(items[number])
-    } else {
-        None
-    }
-}
-
-/// Returns the id of this number, from 0, among the keys and values of pairs.
-#[tactic(auto, using(crate::proofs::Ids::past_pairs, crate::proofs::Ids::within_pairs))]
-fn id_in(pairs: &[yaml_node_pair_t], number: usize) -> Option<i32>
-    requires { length pairs.now < 2 ^ 63 }
-    ensures id { result ≡ slice_get (ids_of_pairs pairs.now) number }
-    ensures room { OnSome result (number + 1 < 2 ^ 64) }
-{
-    match pair_in(pairs, number / 2) {
-        Some(pair) => Some(half_of(pair, number % 2 == 0)),
-        None => None,
-    }
-}
-
-/// Returns the pair of this number.
-fn pair_in(pairs: &[yaml_node_pair_t], number: usize) -> Option<yaml_node_pair_t>
-    ensures pair { result ≡ slice_get pairs.now number }
-    ensures found { OnSome result (number < length pairs.now) }
-{
-    pairs.get(number).copied()
-}
-
-/// Returns the key or the value of a pair.
-fn half_of(pair: yaml_node_pair_t, is_key: bool) -> i32
-    ensures { result ≡ (if is_key then pair.key else pair.value) }
-{
-    if is_key { pair.key } else { pair.value }
-}
-
-/// Returns the id of this number among those that the node at a place holds.
-#[tactic(auto, using(crate::proofs::Moves::ids_here))]
-fn id_at(nodes: &[yaml_node_t], place: usize, number: usize) -> Option<i32>
-    requires { place < length nodes.now }
-    ensures id { result ≡ slice_get (ids_at nodes.now (pos (suc place))) number }
-    ensures room { OnSome result (number + 1 < 2 ^ 64) }
-{
-    child_of(&nodes[place], number)
-}
-
-/// Returns the place of the node that this id of a node names.
-#[tactic(auto, using(crate::proofs::Moves::id_names))]
-fn child_at(nodes: &[yaml_node_t], place: usize, number: usize) -> Option<usize>
-    requires place { place < length nodes.now }
-    requires ids { EveryIdNamesANode nodes.now }
-    ensures child { IfSome result (λ child.
-        slice_get (ids_at nodes.now (pos (suc place))) number ≡ Some (pos (suc child))) }
-    ensures none { IfNone result (slice_get (ids_at nodes.now (pos (suc place))) number ≡ None) }
-    ensures inside { IfSome result (λ child. child < length nodes.now) }
-    ensures room { OnSome result (number + 1 < 2 ^ 64) }
-{
-    match id_at(nodes, place, number) {
-        Some(id) => Some(place_of(id)),
-        None => None,
-    }
 }
 
 /// Returns so many new marks.
