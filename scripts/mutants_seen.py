@@ -45,6 +45,7 @@ PROGRAMS = {
     "yamltokens_program": ["yamltokens", "rows_lines"],
     "example_source": ["rows_hostile"],
     "yaml_path": ["example_paths"],
+    "yaml_expansion": ["example_sizes", "rows_hostile"],
 }
 # Tables that take minutes without proof: they are tried only for a mutant of which the page names them.
 SLOW = {

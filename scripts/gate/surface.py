@@ -24,7 +24,7 @@ IMPL = re.compile(r"impl(<.*?>)? (?:(.+?) for )?(\w+)")
 USE = re.compile(r"pub use ([\w:]+?)(?:::\{([^}]*)\}| as (\w+))?;")
 LAWS = re.compile(r"(?:laws|rows)::")
 NAMED = (
-    "unsafe_libyaml", "token_lines", "yaml_path", "token_steps", "token_steps_c",
+    "unsafe_libyaml", "token_lines", "yaml_path", "yaml_expansion", "token_steps", "token_steps_c",
     "document_steps", "document_steps_c",
 )
 INNER = re.compile(r"putting::")  # a module for the crates above alone

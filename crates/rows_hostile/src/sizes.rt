@@ -1,7 +1,7 @@
 //! Expanded sizes of documents built by calls: nodes that are shared, parents after children, cycles that are
 //! reached and not, and sizes at and past a bound.
 //!
-//! A line of `data/sizes` has a name, a bound, the nodes and what the call answers. A node is `.` for a scalar,
+//! A line of `data/sizes` has a name, a bound, the nodes and what the call returns. A node is `.` for a scalar,
 //! the ids of a sequence's items in brackets, or those of a mapping's keys and values in braces.
 
 use crate::calls::{append_item, append_pair};
@@ -74,13 +74,13 @@ fn document_of(alloc: Global, words: &str) -> Result<yaml_document_t> {
     Ok(document)
 }
 
-/// Whether the call answers this of this document.
-fn is_answered(alloc: Global, document: &yaml_document_t, max: u64, wanted: &str) -> Result<bool> {
-    let answer = match expanded_size(alloc, document, max) {
+/// Whether the call returns this of this document.
+fn returns_this(alloc: Global, document: &yaml_document_t, max: u64, wanted: &str) -> Result<bool> {
+    let told = match expanded_size(alloc, document, max) {
         Ok(size) => format!(in alloc; "{size}")?,
         Err(error) => format!(in alloc; "{error}")?,
     };
-    Ok(answer.as_str() == wanted)
+    Ok(told.as_str() == wanted)
 }
 
 /// Makes sequences in a row, each with the next one so many times, and the last with a scalar.
@@ -101,7 +101,7 @@ fn levels(alloc: Global, depth: u64, times: u64) -> Result<yaml_document_t> {
     Ok(document)
 }
 
-/// Whether the call answers this of such sequences, whatever 64 bits hold.
+/// Whether the call returns this of such sequences, without a bound below 64 bits.
 fn has_size(
     alloc: Global,
     depth: u64,
@@ -126,7 +126,7 @@ struct Row<'a> {
 fn read_row(line: &str) -> Result<Row<'_>> {
     let (name, rest) = line.split_once('|').context("no bound")?;
     let (max, rest) = rest.split_once('|').context("no nodes")?;
-    let (words, wanted) = rest.split_once('|').context("no answer")?;
+    let (words, wanted) = rest.split_once('|').context("no result")?;
     Ok(Row {
         name,
         max: max.parse::<u64>()?,
@@ -144,7 +144,7 @@ pub fn show(rt: &(impl Print + AllocGlobal), tables: &mut Tables<'_>, lines: &st
     for line in lines.lines() {
         let row = read_row(line)?;
         let document = document_of(alloc, row.words)?;
-        let is_right = is_answered(alloc, &document, row.max, row.wanted)?;
+        let is_right = returns_this(alloc, &document, row.max, row.wanted)?;
         table.count(rt, row.name, is_right)?;
     }
     let is_right = has_size(alloc, 10, 10, Ok(11_111_111_111));

@@ -32,7 +32,7 @@ pub fn expanded_size(
     ensures cyclic { (id : ℤ) → IsErrOf result (yaml_expansion_error_t.Cyclic id)
         → IsCyclicAt document.now.nodes id }
 
-    // And each of these answers is given where it is right, unless memory runs out.
+    // And each of these is returned where it is right, unless memory runs out.
     ensures where_small { (size : ℕ) → HasExpandedSize document.now.nodes size → size ≤ max
         → (result ≡ Ok size) ⊎ IsErrOf result yaml_expansion_error_t.Memory }
     ensures where_large { (size : ℕ) → HasExpandedSize document.now.nodes size → max < size

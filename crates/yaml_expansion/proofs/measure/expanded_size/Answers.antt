@@ -8,7 +8,7 @@ use Rattle.yaml_expansion.proofs.OneOfBoth.{not_both}
 use Rattle.yaml_expansion.proofs.Trees.{one_size}
 use Rattle.yaml_expansion.proofs.measure.expanded_size.Goals as goal
 
--- each answer has its reason, and no two reasons hold of one document
+-- each result has its reason, and no two reasons hold of one document
 record Said (nodes : List yaml_node_t) (max : ℕ) (r : Result ℕ yaml_expansion_error_t) : Type 0 where
   size : IfOk r (λ size. HasExpandedSize nodes size × (size ≤ max))
   too_large : IsErrOf r TooLarge → (size : ℕ) × HasExpandedSize nodes size × (max < size)
