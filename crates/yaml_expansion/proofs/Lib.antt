@@ -3,3 +3,4 @@ mod Ids
 mod Walks
 mod Moves
 mod OneOfBoth
+mod Counting

@@ -1,3 +1,4 @@
 pub mod Expansion
 pub mod Sizes
 pub mod Walks
+pub mod Ways
