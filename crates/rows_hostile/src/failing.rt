@@ -8,6 +8,7 @@ use crate::calls::{
 };
 use crate::growing::{GrowingList, Grown, lists};
 use crate::lines::{LinesOf, are_same_or_cut, lines_of};
+use crate::sizes::is_size_or_memory;
 use example_source::Letters;
 use rows_common::Tables;
 use std::alloc::Global;
@@ -144,6 +145,7 @@ fn show_single_calls(rt: &(impl Print + AllocGlobal), tables: &mut Tables<'_>) -
     let (stream, fault) = ("a stream without documents", "a fault of a source");
     table.count(rt, stream, takes_no_memory(rt.alloc()))?;
     table.count(rt, fault, keeps_its_fault(rt.alloc()))?;
+    table.count(rt, "an expanded size", is_size_or_memory(rt.alloc()))?;
     tables.show(rt, table)
 }
 

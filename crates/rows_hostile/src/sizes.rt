@@ -114,6 +114,27 @@ fn has_size(
     }
 }
 
+/// Whether a call returns the size of a small document, and does not say that an allocation failed; None where
+/// it does neither.
+fn is_size_told(alloc: Global) -> Option<bool> {
+    let Ok(document) = levels(alloc, 3, 2) else {
+        return Some(false);
+    };
+    match expanded_size(alloc, &document, 15) {
+        Ok(15) => Some(true),
+        Err(yaml_expansion_error_t::Memory) => Some(false),
+        _ => None,
+    }
+}
+
+/// Whether one of two calls returns that size, and the other does too or finds no memory.
+pub fn is_size_or_memory(alloc: Global) -> bool {
+    matches!(
+        (is_size_told(alloc), is_size_told(alloc)),
+        (Some(true), Some(_)) | (Some(_), Some(true))
+    )
+}
+
 /// The parts of a line.
 #[derive(Drop)]
 struct Row<'a> {
