@@ -129,10 +129,13 @@ fn is_size_told(alloc: Global) -> Option<bool> {
 
 /// Whether one of two calls returns that size, and the other does too or finds no memory.
 pub fn is_size_or_memory(alloc: Global) -> bool {
-    matches!(
-        (is_size_told(alloc), is_size_told(alloc)),
-        (Some(true), Some(_)) | (Some(_), Some(true))
-    )
+    let Some(one) = is_size_told(alloc) else {
+        return false;
+    };
+    let Some(other) = is_size_told(alloc) else {
+        return false;
+    };
+    one || other
 }
 
 /// The parts of a line.
