@@ -1,4 +1,5 @@
-"""Loaders in bad hands: deep texts, streams and methods that call their own loader, wrong arguments, cycles and leaks.
+"""Loaders in bad hands: deep texts, streams and methods that call their own loader, calls for tokens, events and nodes in any
+order, wrong arguments, a second interpreter, a package without its extension, cycles and leaks.
 
     hostile.py [--turned] [LEVELS]
 
@@ -9,8 +10,12 @@ Run by extension_checks.sh.
 """
 import copy
 import gc
+import os
 import pickle
+import random
+import subprocess
 import sys
+import tempfile
 import weakref
 
 import pokhvizi
@@ -147,6 +152,107 @@ def errors():
     expect("no __init__", said(pokhvizi.CParser.__new__(pokhvizi.CParser).get_event), "ValueError: the loader has no stream")
 
 
+def again_and_again():
+    loader = pokhvizi.SafeLoader("[a, b}")
+    depths = set()
+    for _ in range(50):
+        try:
+            loader.get_event() and loader.get_single_node()
+        except yaml.YAMLError as failure:
+            trace, depth = failure.__traceback__, 0
+            while trace is not None:
+                trace, depth = trace.tb_next, depth + 1
+            depths.add(depth)
+    expect("a traceback that doesn't grow", len(depths) < 4, True)
+
+
+# ---- Tokens, events and nodes in any order ----
+
+def told(thing):
+    if isinstance(thing, yaml.Node):
+        return type(thing).__name__
+    return [type(thing).__name__, getattr(thing, "value", None), getattr(thing, "anchor", None)]
+
+
+def in_order(base, text, calls):
+    parser = type("Loader", (base, yaml.resolver.Resolver), {})(text)
+    yaml.resolver.Resolver.__init__(parser)
+    return [said(lambda: told(getattr(parser, call)())) for call in calls]
+
+
+def mixed():
+    refused = "RuntimeError: a token is asked for where a document comes next"
+    for text, events in (("- &a x\n- *a\n", 4), ("- &a x\n- b\n", 4), ("a", 2), ("[a, b]", 3), ("%TAG !e! f\n--- !e!g h\n", 1)):
+        for last in ("get_event", "peek_event", "check_event", "get_node", "get_token"):
+            calls = ["get_event"] * events + ["check_node", "get_token", last]
+            expect("a token behind check_node, %r" % text, in_order(pokhvizi.CParser, text, calls)[-2], refused)
+    for text, events in (("a", 2), ("'b'", 2), ("*a", 2), ("--- >\n c\n", 2), ("", 5), ("a", 9)):
+        calls = ["get_event"] * events + ["get_token"]
+        expect("a token behind events, %r" % text, *(in_order(base, text, calls)[-1] for base in (pokhvizi.CParser, yaml.cyaml.CParser)))
+        calls = ["get_token"] * 9 + ["peek_event", "check_event", "check_node"]
+        expect("events behind the last token, %r" % text, *(in_order(base, text, calls) for base in (pokhvizi.CParser, yaml.cyaml.CParser)))
+    # Any other order: each text that comes is one that stands there.
+    drawn, calls = random.Random(7), ["%s_%s" % (how, what) for what in ("token", "event", "node") for how in ("get", "check", "peek")]
+    calls = calls[:-1] + ["get_single_node"]
+    values = {None, "aa", "bb", "t:c", "dd", "utf-8"}
+    for text in ("- &aa !e!c bb\n- *aa\n", "k: 'bb'\n", "%TAG !e! t:\n--- !e!c &aa dd\n...\nbb\n", "? [aa, *bb]\n"):
+        for _ in range(200):
+            made = in_order(pokhvizi.CParser, text, drawn.choices(calls, k=12))
+            texts = {part for thing in made if isinstance(thing, list) for part in thing[1:] if isinstance(part, str)}
+            if not texts - {"k"} <= values:
+                expect("calls in any order, %r" % text, texts, values)
+    expect("calls in any order", True, True)
+
+
+# ---- Other interpreters, and no extension ----
+
+ALL_READ = """
+import yaml, pokhvizi
+words = ""
+try:
+    from pokhvizi import CSafeLoader
+except ImportError as error:
+    words = str(error)
+loaded = yaml.load("a: [1, 2]", Loader=pokhvizi.SafeLoader)
+"""
+
+
+def second_interpreter():
+    try:
+        import _xxsubinterpreters as interpreters
+    except ImportError:
+        print("not run: a second interpreter, which %s can't make by this module" % sys.version.split()[0])
+        return
+    out = tempfile.NamedTemporaryFile()
+    begun = interpreters.create(isolated=False) if sys.version_info >= (3, 10) else interpreters.create()
+    try:
+        interpreters.run_string(begun, "import sys\nsys.path[:0] = %r\n%s\nopen(%r, 'w').write(repr((loaded, words)))"
+                                % (sys.path, ALL_READ, out.name))
+    finally:
+        interpreters.destroy(begun)
+    loaded, words = eval(open(out.name).read())
+    expect("a second interpreter's loaders in Python", loaded, {"a": [1, 2]})
+    expect("its loaders in C are refused in words", words[:25] + words[-51:],
+           "pokhvizi.CSafeLoader need" + "a wheel that has it, or use pokhvizi.SafeLoader or Loader"[-51:])
+    expect("the first one's after it", yaml.load("a: [1, 2]", Loader=pokhvizi.CSafeLoader), {"a": [1, 2]})
+    kept = sys.modules.pop("pokhvizi._yaml")
+    import pokhvizi._yaml as again
+    expect("the module imported again", again is kept, True)
+
+
+def no_extension():
+    with tempfile.TemporaryDirectory() as folder:
+        os.mkdir(folder + "/pokhvizi")
+        for name in ("__init__.py", "cyaml.py"):
+            os.symlink(os.path.join(os.path.dirname(pokhvizi.__file__), name), "%s/pokhvizi/%s" % (folder, name))
+        run = subprocess.run([sys.executable, "-c", ALL_READ + "print(loaded, words)"], env=dict(os.environ, PYTHONPATH=folder),
+                             stdout=subprocess.PIPE, universal_newlines=True)
+    expect("without the extension", run.stdout[:71],
+           "{'a': [1, 2]} pokhvizi.CSafeLoader needs the extension pokhvizi._yaml, ")
+    expect("what to do then", run.stdout[-58:], "a wheel that has it, or use pokhvizi.SafeLoader or Loader\n")
+    expect("a name that isn't", said(lambda: pokhvizi.nothing)[:16], "AttributeError: ")
+
+
 # ---- Hooks, against PyYAML's ----
 
 def hooks():
@@ -200,7 +306,10 @@ def once():
     class Mine(pokhvizi.CSafeLoader):  # a class that goes as well
         pass
 
-    stream = Stream()
+    class Named(Stream):  # its name is an object that refers to the loader, and a mark has the name
+        name = property(lambda self: self)
+
+    stream = Stream() if random.random() < 0.5 else Named()
     stream.loader = Mine(stream)
     stream.loader.me = stream.loader
     said(stream.loader.peek_event)
@@ -234,7 +343,7 @@ def leaks():
     expect("KB after them, beside %d" % before, max(resident() - before, 500), 500)
 
 
-for part in (deep, within_itself, finalizers, errors, hooks, marks, leaks):
+for part in (deep, within_itself, finalizers, errors, again_and_again, mixed, second_interpreter, no_extension, hooks, marks, leaks):
     part()
 print("%d cases, %d levels, %d wrong" % (cases, LEVELS, wrong))
 sys.exit(wrong != 0)

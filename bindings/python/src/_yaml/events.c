@@ -41,6 +41,10 @@ int take_event(parser_object *parser)
     while (parser->event.kind == 0 && !parser->has_ended) {
         if (take_token(parser) < 0)
             return -1;
+        if (parser->token.type == YAML_NO_TOKEN) { /* calls for tokens took the last */
+            parser->has_ended = 1;
+            break;
+        }
         did = step(parser, &fault);
         if (did != POKHVIZI_GAVE && did != POKHVIZI_STAYS) {
             parser->event.kind = 0;
@@ -70,6 +74,7 @@ void leave_event(parser_object *parser)
     if (!parser->stays)
         yaml_token_delete(&parser->token);
     parser->event.kind = 0;
+    parser->stays = 0;
 }
 
 /* ---- What is in an event ---- */

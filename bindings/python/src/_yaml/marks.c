@@ -1,5 +1,5 @@
-/* The type Mark: a place in a text, which may be copied and pickled. It is none of the collector's: a name is
- * a text or a number. */
+/* The type Mark: a place in a text, which may be copied and pickled. It is none of the collector's: the name of
+ * a stream is a text or a number. */
 #include "loader.h"
 #include <structmember.h>
 

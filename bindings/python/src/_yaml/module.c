@@ -182,18 +182,36 @@ static int fill(PyObject *module)
     return add(module, "libyaml_version", PyUnicode_FromString(yaml_get_version_string()));
 }
 
+static int is_filled;
+
+/* The interpreter ends that has the module; another may begin. */
+static void let_go(void *module)
+{
+    (void)module;
+    is_filled = 0;
+}
+
 static PyModuleDef definition = {
     PyModuleDef_HEAD_INIT,
     .m_name = "pokhvizi._yaml",
     .m_doc = "PyYAML's CParser with a proved parser and composer.",
-    .m_size = -1,
+    .m_free = let_go,
 };
 
+/* One interpreter of a process has the module: `its` are that one's. */
 PyMODINIT_FUNC PyInit__yaml(void)
 {
-    PyObject *module = PyModule_Create(&definition);
+    PyObject *module;
 
+    if (is_filled) {
+        if ((module = PyState_FindModule(&definition)) != NULL) /* borrowed */
+            return shared(module);
+        PyErr_SetString(PyExc_ImportError, "another interpreter of this process has pokhvizi._yaml");
+        return NULL;
+    }
+    module = PyModule_Create(&definition);
     if (module != NULL && fill(module) < 0)
         Py_CLEAR(module);
+    is_filled = module != NULL;
     return module;
 }

@@ -58,8 +58,14 @@ static PyObject *next_token(parser_object *parser)
     PyObject *token = parser->current_token;
 
     parser->current_token = NULL;
-    if (token != NULL || take_token(parser) < 0)
+    if (token != NULL)
         return token;
+    if (parser->event.kind != 0) { /* a document was asked for: the token in hand is its event's */
+        PyErr_SetString(PyExc_RuntimeError, "a token is asked for where a document comes next");
+        return NULL;
+    }
+    if (take_token(parser) < 0)
+        return NULL;
     token = token_object(parser);
     yaml_token_delete(&parser->token);
     return token;

@@ -394,7 +394,7 @@ class Parser:
 
     def next_event(self):
         if self.failure is not None:
-            raise self.failure
+            raise self.failure.with_traceback(None)  # else its traceback would grow by each call
         try:
             if self.events is None:
                 self.events = Steps(self)
@@ -418,10 +418,17 @@ class SafeLoader(Parser, yaml.SafeLoader):
 
 # ---- Loaders in C ----
 
+_IN_C = ["CBaseLoader", "CFullLoader", "CLoader", "CParser", "CSafeLoader", "CUnsafeLoader"]
+
 try:
     from .cyaml import CBaseLoader, CFullLoader, CLoader, CParser, CSafeLoader, CUnsafeLoader
-except ModuleNotFoundError as error:
-    if error.name != "pokhvizi._yaml":
-        raise
+except ImportError as error:
+    _LACKS = str(error)
+
+    def __getattr__(name):
+        if name in _IN_C:
+            raise ImportError("pokhvizi.%s needs the extension pokhvizi._yaml, which this interpreter lacks (%s): install a wheel "
+                              "that has it, or use pokhvizi.SafeLoader or Loader" % (name, _LACKS))
+        raise AttributeError("module %r has no attribute %r" % (__name__, name))
 else:
-    __all__ += ["CBaseLoader", "CFullLoader", "CLoader", "CParser", "CSafeLoader", "CUnsafeLoader"]
+    __all__ += _IN_C
