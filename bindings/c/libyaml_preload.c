@@ -159,7 +159,11 @@ static void forget_directives(yaml_parser_t *parser)
 /* The next token, which is left; NULL where the scanner has an error. */
 static yaml_token_t *peek(yaml_parser_t *parser)
 {
-    return parser->token_available || yaml_parser_fetch_more_tokens(parser) ? parser->tokens.head : NULL;
+    if (parser->token_available || yaml_parser_fetch_more_tokens(parser))
+        return parser->tokens.head;
+    if (parser->error == YAML_NO_ERROR)  /* libyaml doesn't say of each refused allocation that it was one */
+        parser->error = YAML_MEMORY_ERROR;
+    return NULL;
 }
 
 /* Takes the next token, whose texts have another owner now. */
@@ -806,11 +810,13 @@ static void leave_frame(yaml_parser_t *parser, uint8_t kind, struct held *held)
         end_stream(parser);
 }
 
-/* Lets a token go whose event is composed. */
+/* Lets a token go whose event is composed, with the text that no node took: of a scalar where it is passed over. */
 static void leave(yaml_parser_t *parser, yaml_token_t *token)
 {
     if (token->type == YAML_ALIAS_TOKEN)
         free(token->data.alias.value);
+    else if (token->type == YAML_SCALAR_TOKEN && token->data.scalar.value != NULL)
+        free(token->data.scalar.value);
     skip(parser);
 }
 

@@ -254,6 +254,26 @@ static void check_deleted(void)
     }
 }
 
+/* Loads within a document that is being parsed, at each of its events: the rest of it is passed over. libyaml has an assertion
+ * there. */
+static void check_loads_within(void)
+{
+    yaml_parser_t parser;
+    yaml_document_t document;
+    unsigned long sum = 0;
+
+    for (long most = 3; most < 12; most++) {
+        long before = live;
+        if (!begin(&parser, "- [&a aaaa, *a, !!b 'cccc']\n- d\n--- last\n"))
+            abort();
+        expect(parse(&parser, most, &sum) == most, "events", most);
+        expect(yaml_parser_load(&parser, &document) && document.nodes.top - document.nodes.start == 1, "a load within", most);
+        yaml_document_delete(&document);
+        yaml_parser_delete(&parser);
+        expect(live == before, "blocks are lost", most);
+    }
+}
+
 static void check_faults(void)
 {
     yaml_parser_t parser;
@@ -387,12 +407,13 @@ int main(void)
     if (wrong)
         return 1;
     make_deep();
-    long refused = check_refusals(TEXT, EVENTS) + check_refusals(deep, 4 + 2 * LEVELS);
+    long refused = check_refusals(TEXT, EVENTS) + check_refusals(deep, 4 + 2 * LEVELS) + check_refusals("k: &a ! x\n", 8);
     char *anchors = make_anchors(40);
     refused += check_refused_loads(TEXT, NODES) + check_refused_loads(deep, LEVELS) + check_refused_loads(anchors, 41);
     free(anchors);
     check_anchors();
     check_deleted();
+    check_loads_within();
     check_faults();
     check_tags();
     check_room();
