@@ -9,9 +9,9 @@
  * A call reads no token past those that its event needs, and moves their texts into the event. What is kept between two
  * calls stands in the yaml_parser_t, in the place of what libyaml's own parser keeps there: its states, the marks of open
  * collections, and the tag directives of the document. So a parser may be moved and deleted as with libyaml, at any time,
- * and two parsers share nothing. A load composes the next document of the events that it parses, and keeps nothing after it; it
- * finds an alias's node by a hash table, where libyaml looks at each anchor of the document. A failed allocation is the error
- * YAML_MEMORY_ERROR, after which a call gives no event and no document.
+ * and two parsers share nothing. A load composes the next document of the events that it parses, and keeps nothing after it.
+ * Hash tables find an alias's node and a tag's handle, where libyaml looks at each anchor and handle of the document. A failed
+ * allocation is the error YAML_MEMORY_ERROR, after which a call gives no event and no document.
  *
  * What is other than with libyaml stands in docs/DIFFERENCES.md. */
 #include <pokhvizi/compose.h>
@@ -36,12 +36,16 @@ static_assert(offsetof(yaml_token_t, end_mark) == offsetof(yaml_token_t, start_m
 struct kept {
     pokhvizi_steps_t steps;
     size_t states_room, marks_room;
-    uint32_t key;  /* for the hashes of anchors, or 0 */
+    uint32_t key;  /* for the hashes of anchors and handles, or 0 */
     uint8_t states[];
 };
 
-/* The tag directives of a document, in the place of `parser->tag_directives`. Their texts follow the handles that there is
- * room for, each with a zero byte after it. */
+/* How many tag directives there is room for at first. */
+enum { FEW = 8 };
+
+/* The tag directives of a document, in the place of `parser->tag_directives`. After the handles that there is room for, which is
+ * a power of two, stand two numbers for each: a table, which has the numbers of handles, from 1, each where its hash says, and
+ * else 0. Texts follow, each with a zero byte after it. */
 struct directives {
     size_t count, room, length, texts_room;
     pokhvizi_handle_t handles[];
@@ -92,6 +96,36 @@ static int grow_marks(yaml_parser_t *parser)
     return 1;
 }
 
+/* ---- Hashes ---- */
+
+/* A number from 2^28 to 2^29 - 1 that is drawn once a stream. */
+static uint32_t key_of(yaml_parser_t *parser)
+{
+    struct kept *kept = kept_of(parser);
+    uint32_t drawn;
+
+    if (kept->key == 0) {
+        if (syscall(SYS_getrandom, &drawn, sizeof drawn, 0) != sizeof drawn)  /* getentropy needs a C library of 2017 */
+            drawn = (uint32_t)((uintptr_t)kept >> 4);
+        kept->key = 1u << 28 | drawn >> 4;
+    }
+    return kept->key;
+}
+
+/* The polynomial of a name at the key, modulo 2^31 - 1 and then mixed: whoever wrote a text, few of its anchors and handles share
+ * a hash, since the key isn't known. The sum stays below 2^32, so that no product is lost. */
+static uint32_t hash_of(const yaml_char_t *name, uint32_t key)
+{
+    uint64_t hash = 0;
+
+    for (; *name != '\0'; name++) {
+        hash = hash * key + *name;
+        hash = (hash & INT32_MAX) + (hash >> 31);
+    }
+    hash = (uint32_t)hash * UINT32_C(0x9E3779B1);
+    return (uint32_t)(hash ^ hash >> 15);
+}
+
 /* ---- Tag directives ---- */
 
 static const struct directives *directives_of(const yaml_parser_t *parser)
@@ -101,16 +135,32 @@ static const struct directives *directives_of(const yaml_parser_t *parser)
     return parser->tag_directives.start == NULL ? &NONE : (const void *)parser->tag_directives.start;
 }
 
+static size_t *table_of(const struct directives *directives)
+{
+    return (size_t *)(void *)(directives->handles + directives->room);
+}
+
 static const uint8_t *texts_of(const struct directives *directives)
 {
-    return (const uint8_t *)(directives->handles + directives->room);
+    return (const uint8_t *)(table_of(directives) + 2 * directives->room);
+}
+
+/* The place of a handle in the table, or the one that is free for it. */
+static size_t *place_of_handle(const struct directives *all, const yaml_char_t *handle, uint32_t key)
+{
+    size_t *table = table_of(all), last = 2 * all->room - 1, at = hash_of(handle, key) & last;
+
+    while (table[at] != 0 &&
+           strcmp((const char *)texts_of(all) + all->handles[table[at] - 1].handle.place, (const char *)handle) != 0)
+        at = (at + 1) & last;
+    return &table[at];
 }
 
 /* Makes room for so many directives and bytes of texts; NULL where memory is refused, and then all is as it was. */
 static struct directives *grow_directives(yaml_parser_t *parser, size_t room, size_t texts_room)
 {
     const struct directives *old = directives_of(parser);
-    struct directives *made = malloc(sizeof *made + room * sizeof *made->handles + texts_room);
+    struct directives *made = malloc(sizeof *made + room * (sizeof *made->handles + 2 * sizeof(size_t)) + texts_room);
 
     if (made == NULL)
         return NULL;
@@ -119,7 +169,10 @@ static struct directives *grow_directives(yaml_parser_t *parser, size_t room, si
     made->length = old->length;
     made->texts_room = texts_room;
     memcpy(made->handles, old->handles, old->count * sizeof *old->handles);
-    memcpy(made->handles + room, texts_of(old), old->length);
+    memset(table_of(made), 0, 2 * room * sizeof(size_t));
+    memcpy((uint8_t *)texts_of(made), texts_of(old), old->length);
+    for (size_t i = 0; i < made->count; i++)
+        *place_of_handle(made, texts_of(made) + made->handles[i].handle.place, key_of(parser)) = i + 1;
     free(parser->tag_directives.start);
     parser->tag_directives.start = (yaml_tag_directive_t *)(void *)made;
     parser->tag_directives.end = parser->tag_directives.top = parser->tag_directives.start;
@@ -135,14 +188,16 @@ static int declare(yaml_parser_t *parser, const yaml_token_t *token)
     size_t count = directives_of(parser)->count, length = directives_of(parser)->length;
 
     if (all == NULL || count == all->room || first + second > all->texts_room - length)
-        all = grow_directives(parser, 2 * count + 2, 2 * (length + first + second));
+        all = grow_directives(parser, all == NULL ? FEW : count == all->room ? 2 * count : all->room,
+                              2 * (length + first + second));
     if (all == NULL)
         return 0;
-    uint8_t *texts = (uint8_t *)(all->handles + all->room);
+    uint8_t *texts = (uint8_t *)texts_of(all);
     memcpy(texts + length, handle, first);
     memcpy(texts + length + first, prefix, second);
     all->handles[all->count++] = (pokhvizi_handle_t){{length, first - 1}, {length + first, second - 1}};
     all->length = length + first + second;
+    *place_of_handle(all, handle, key_of(parser)) = all->count;
     return 1;
 }
 
@@ -150,8 +205,13 @@ static void forget_directives(yaml_parser_t *parser)
 {
     struct directives *all = (struct directives *)(void *)parser->tag_directives.start;
 
-    if (all != NULL)
+    if (all != NULL && all->room > FEW) {  /* another document would take time for all of its table */
+        free(all);
+        memset(&parser->tag_directives, 0, sizeof parser->tag_directives);
+    } else if (all != NULL && all->count > 0) {
         all->count = all->length = 0;
+        memset(table_of(all), 0, 2 * all->room * sizeof(size_t));
+    }
 }
 
 /* ---- Tokens ---- */
@@ -174,26 +234,39 @@ static void skip(yaml_parser_t *parser)
     parser->tokens.head++;
 }
 
+/* Where the document has declared a handle, that one handle; puts how many it is, 1 or 0. */
+static const pokhvizi_handle_t *find_handle(yaml_parser_t *parser, const yaml_char_t *handle, size_t *count)
+{
+    const struct directives *all = directives_of(parser);
+    size_t at = all->count == 0 ? 0 : *place_of_handle(all, handle, key_of(parser));
+
+    *count = at != 0;
+    return at == 0 ? all->handles : all->handles + at - 1;
+}
+
 /* Puts the tag of a token in full where there is room for it, and its length; returns its fact. */
-static uint8_t put_tag(const yaml_parser_t *parser, const yaml_token_t *token, uint8_t *out, size_t room, size_t *length)
+static uint8_t put_tag(yaml_parser_t *parser, const yaml_token_t *token, uint8_t *out, size_t room, size_t *length)
 {
     const struct directives *all = directives_of(parser);
     const yaml_char_t *handle = token->data.tag.handle, *suffix = token->data.tag.suffix;
+    size_t count;
+    const pokhvizi_handle_t *found = find_handle(parser, handle, &count);
 
-    return pokhvizi_tag(all->handles, all->count, texts_of(all), all->length, handle, strlen((const char *)handle),
-                        suffix, strlen((const char *)suffix), out, room, length);
+    return pokhvizi_tag(found, count, texts_of(all), all->length, handle, strlen((const char *)handle), suffix,
+                        strlen((const char *)suffix), out, room, length);
 }
 
-static uint8_t directive_fact(const yaml_parser_t *parser, const yaml_char_t *handle)
+static uint8_t directive_fact(yaml_parser_t *parser, const yaml_char_t *handle)
 {
     const struct directives *all = directives_of(parser);
+    size_t count;
+    const pokhvizi_handle_t *found = find_handle(parser, handle, &count);
 
-    return pokhvizi_directive_fact(all->handles, all->count, texts_of(all), all->length, handle,
-                                   strlen((const char *)handle));
+    return pokhvizi_directive_fact(found, count, texts_of(all), all->length, handle, strlen((const char *)handle));
 }
 
 /* The fact that a step takes with a token. Most tokens have none, and are told apart first. */
-static uint8_t fact_of(const yaml_parser_t *parser, const yaml_token_t *token, struct held *held)
+static uint8_t fact_of(yaml_parser_t *parser, const yaml_token_t *token, struct held *held)
 {
     enum { WITH_FACT = 1 << YAML_VERSION_DIRECTIVE_TOKEN | 1 << YAML_TAG_DIRECTIVE_TOKEN | 1 << YAML_TAG_TOKEN | 1 << YAML_SCALAR_TOKEN };
     uint8_t none;
@@ -215,7 +288,7 @@ static uint8_t fact_of(const yaml_parser_t *parser, const yaml_token_t *token, s
 }
 
 /* Holds a tag in full, of which the fact was asked for; 0 where memory is refused, and then its texts are the token's. */
-static int hold_tag(const yaml_parser_t *parser, const yaml_token_t *token, struct held *held)
+static int hold_tag(yaml_parser_t *parser, const yaml_token_t *token, struct held *held)
 {
     if (*token->data.tag.handle == '\0') {
         held->tag = token->data.tag.suffix;
@@ -530,34 +603,6 @@ static int grow_stack(struct loading *loading)
     loading->stack = made;
     loading->stack_room *= 2;
     return 1;
-}
-
-/* A number from 2^28 to 2^29 - 1 that is drawn once a stream. */
-static uint32_t key_of(yaml_parser_t *parser)
-{
-    struct kept *kept = kept_of(parser);
-    uint32_t drawn;
-
-    if (kept->key == 0) {
-        if (syscall(SYS_getrandom, &drawn, sizeof drawn, 0) != sizeof drawn)  /* getentropy needs a C library of 2017 */
-            drawn = (uint32_t)((uintptr_t)kept >> 4);
-        kept->key = 1u << 28 | drawn >> 4;
-    }
-    return kept->key;
-}
-
-/* The polynomial of an anchor at the key, modulo 2^31 - 1 and then mixed: whoever wrote a text, few of its anchors share a hash,
- * since the key isn't known. The sum stays below 2^32, so that no product is lost. */
-static uint32_t hash_of(const yaml_char_t *anchor, uint32_t key)
-{
-    uint64_t hash = 0;
-
-    for (; *anchor != '\0'; anchor++) {
-        hash = hash * key + *anchor;
-        hash = (hash & INT32_MAX) + (hash >> 31);
-    }
-    hash = (uint32_t)hash * UINT32_C(0x9E3779B1);
-    return (uint32_t)(hash ^ hash >> 15);
 }
 
 /* The place of an anchor in a table, or the one that is free for it. */

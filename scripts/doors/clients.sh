@@ -182,7 +182,8 @@ compare_preloaded() {
 
 preload() {
     memory='' ratios=''
-    cc -O1 -g -Wall -Wextra -Werror -o "$work/preload_calls" scripts/doors/clients/preload_calls.c -lyaml -lpthread || return 1
+    cc -O1 -g -Wall -Wextra -Werror -Ibindings/c/include -o "$work/preload_calls" scripts/doors/clients/preload_calls.c \
+        "$dir/libpokhvizi.a" -lyaml -lpthread || return 1
     if "$work/preload_calls" > "$work/calls" 2>&1; then
         echo "without the preload, the calls should differ"
         return 1

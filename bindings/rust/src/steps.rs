@@ -2,6 +2,7 @@
 
 use crate::fault::Fault;
 use original::*;
+use std::collections::HashMap;
 use std::ffi::CStr;
 use std::mem::MaybeUninit;
 use std::{iter, ptr};
@@ -97,6 +98,8 @@ extern "C" {
 pub struct TagDirectives {
     handles: Vec<Handle>,
     texts: Vec<u8>,
+    /// Where each stands among the handles: the calls below look at each that they are shown, so they are shown one.
+    places: HashMap<Vec<u8>, usize>,
 }
 
 impl TagDirectives {
@@ -106,12 +109,22 @@ impl TagDirectives {
             handle: self.put(handle),
             prefix: self.put(prefix),
         };
+        self.places.insert(handle.to_vec(), self.handles.len());
         self.handles.push(made);
     }
 
     pub fn forget(&mut self) {
-        self.handles.clear();
-        self.texts.clear();
+        if !self.handles.is_empty() {
+            *self = TagDirectives::default();
+        }
+    }
+
+    /// Returns the handle of a text alone where the document has declared it.
+    fn find(&self, handle: &[u8]) -> &[Handle] {
+        match self.places.get(handle) {
+            Some(&place) => &self.handles[place..=place],
+            None => &[],
+        }
     }
 
     /// Returns the handles and prefixes.
@@ -148,12 +161,12 @@ impl TagDirectives {
 
     /// Returns the fact of a tag and its length; puts it in full where there is room.
     fn put_tag(&self, handle: &[u8], suffix: &[u8], out: &mut [u8]) -> (u8, usize) {
-        let mut length = 0;
+        let (found, mut length) = (self.find(handle), 0);
         // SAFETY: each pointer is to as many entries as are said.
         let fact = unsafe {
             pokhvizi_tag(
-                self.handles.as_ptr(),
-                self.handles.len(),
+                found.as_ptr(),
+                found.len(),
                 self.texts.as_ptr(),
                 self.texts.len(),
                 handle.as_ptr(),
@@ -170,11 +183,12 @@ impl TagDirectives {
 
     /// Returns the fact of a TAG-DIRECTIVE.
     fn fact(&self, handle: &[u8]) -> u8 {
+        let found = self.find(handle);
         // SAFETY: each pointer is to as many entries as are said.
         unsafe {
             pokhvizi_directive_fact(
-                self.handles.as_ptr(),
-                self.handles.len(),
+                found.as_ptr(),
+                found.len(),
                 self.texts.as_ptr(),
                 self.texts.len(),
                 handle.as_ptr(),

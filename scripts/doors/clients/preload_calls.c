@@ -1,7 +1,8 @@
 /* Calls of libyaml where bindings/c/libyaml_preload.c is preloaded: each allocation refused in turn, parsers that are
  * deleted at each event, moved, used after an error or after the end, and by several threads; documents; more states, marks,
- * tag directives, texts and anchors than there was room for at first; the time that anchors take. Says what was wrong, and exits
- * with 1 where anything was. */
+ * tag directives, texts and anchors than there was room for at first; drawn tag directives, beside pokhvizi_directive_fact and
+ * pokhvizi_tag; the time that anchors and directives take. Says what was wrong, and exits with 1 where anything was. */
+#include <pokhvizi/steps.h>
 #include <pthread.h>
 #include <stdio.h>
 #include <stdlib.h>
@@ -217,16 +218,32 @@ static char *make_anchors(long count)
     return text;
 }
 
-/* The least time of three loads. */
-static double time_of_anchors(long count)
+/* So many tag directives, and a node with each handle. */
+static char *make_directives(long count)
 {
-    char *text = make_anchors(count);
+    char *text = malloc(48 * count + 100), *at = text;
+
+    if (text == NULL)
+        abort();
+    for (long i = 0; i < count; i++)
+        at += sprintf(at, "%%TAG !h%ld! tag:x\n", i);
+    at += sprintf(at, "--- [\n");
+    for (long i = 0; i < count; i++)
+        at += sprintf(at, "!h%ld!a b,\n", i);
+    sprintf(at, "]\n");
+    return text;
+}
+
+/* The least time of three loads. */
+static double time_of(char *(*make)(long), long count)
+{
+    char *text = make(count);
     yaml_error_type_t error;
     double least = 1e9;
 
     for (int i = 0; i < 3; i++) {
         clock_t begun = clock();
-        expect(load_text(text, &error) == count + 1 && error == YAML_NO_ERROR, "anchors", count);
+        expect(load_text(text, &error) == count + 1 && error == YAML_NO_ERROR, "nodes", count);
         double taken = (double)(clock() - begun) / CLOCKS_PER_SEC;
         least = taken < least ? taken : least;
     }
@@ -234,12 +251,119 @@ static double time_of_anchors(long count)
     return least;
 }
 
-/* Eight times the anchors take no more than 24 times the time; as the square it would be 64. */
-static void check_anchors(void)
+/* Eight times the anchors, or the directives, take no more than 24 times the time; as the square it would be 64. */
+static void check_times(void)
 {
-    double few = time_of_anchors(8000), many = time_of_anchors(64000);
+    double few = time_of(make_anchors, 8000), many = time_of(make_anchors, 64000);
 
     expect(many < 24 * few, "anchors take time as the square, milliseconds", (long)(many * 1000));
+    few = time_of(make_directives, 8000);
+    many = time_of(make_directives, 64000);
+    expect(many < 24 * few, "tag directives take time as the square, milliseconds", (long)(many * 1000));
+}
+
+/* ---- Drawn tag directives ---- */
+
+static unsigned drawn(unsigned below)
+{
+    static uint64_t seed = 1;
+
+    seed = seed * 6364136223846793005u + 1442695040888963407u;
+    return (unsigned)(seed >> 33) % below;
+}
+
+static const char *drawn_handle(void)
+{
+    static char handle[8];
+    unsigned kind = drawn(20);
+
+    if (kind < 2)
+        return kind == 0 ? "!" : "!!";
+    sprintf(handle, "!%c%u!", 'a' + drawn(3), drawn(kind < 10 ? 6 : 60));
+    return handle;
+}
+
+/* What the two calls say of one document: the tags of its nodes in full, and a line for the error that ends it. */
+static void say(char *out, char handles[][8], long declared, char tags[][8], long tagged)
+{
+    static pokhvizi_handle_t list[200];
+    static uint8_t texts[4000];
+    size_t length = 0, size;
+    uint8_t tag[64];
+
+    for (long i = 0; i < declared; i++) {
+        size_t here = strlen(handles[i]);
+        if (pokhvizi_directive_fact(list, i, texts, length, (uint8_t *)handles[i], here) == 1) {
+            strcat(out, "found duplicate %TAG directive\n");
+            return;
+        }
+        list[i] = (pokhvizi_handle_t){{length, here}, {length + here, 0}};
+        memcpy(texts + length, handles[i], here);
+        list[i].prefix.length = sprintf((char *)texts + length + here, "t%ld:", i);
+        length += here + list[i].prefix.length;
+    }
+    for (long i = 0; i < tagged; i++) {
+        if (pokhvizi_tag(list, declared, texts, length, (uint8_t *)tags[i], strlen(tags[i]), (const uint8_t *)"s", 1, tag,
+                         sizeof tag, &size) == 4) {
+            strcat(out, "found undefined tag handle\n");
+            return;
+        }
+        sprintf(out + strlen(out), "%.*s\n", (int)size, tag);
+    }
+}
+
+/* The same of the parser. */
+static void hear(char *out, const char *text)
+{
+    yaml_parser_t parser;
+    yaml_event_t event;
+    int more;
+
+    if (!begin(&parser, text))
+        abort();
+    do {
+        more = yaml_parser_parse(&parser, &event) && event.type != YAML_STREAM_END_EVENT;
+        if (event.type == YAML_SCALAR_EVENT)
+            sprintf(out + strlen(out), "%s\n", event.data.scalar.tag);
+        yaml_event_delete(&event);
+    } while (more);
+    if (parser.error != YAML_NO_ERROR)
+        sprintf(out + strlen(out), "%s\n", parser.problem);
+    yaml_parser_delete(&parser);
+}
+
+/* Streams of two documents, of few and of many directives, declared once or twice, or not at all. */
+static long check_handles(void)
+{
+    static char handles[200][8], tags[50][8], text[20000], said[8000], heard[8000];
+    long faults = 0;
+
+    for (long round = 0; round < 3000; round++) {
+        char *at = text;
+        said[0] = heard[0] = '\0';
+        for (int document = 0; document < 2 && strstr(said, "found") == NULL; document++) {
+            long declared = drawn(round % 3 == 0 ? 120 : 6), tagged = drawn(50), repeats = drawn(2);
+            for (long i = 0; i < declared; i++) {
+                strcpy(handles[i], drawn_handle());
+                for (long k = 0; !repeats && k < i; k++)
+                    if (strcmp(handles[k], handles[i]) == 0)
+                        sprintf(handles[i], "!z%ld!", i), k = i;
+                at += sprintf(at, "%%TAG %s t%ld:\n", handles[i], i);
+            }
+            at += sprintf(at, "---\n");
+            for (long i = 0; i < tagged; i++) {
+                strcpy(tags[i], declared > 0 && drawn(20) > 0 ? handles[drawn(declared)] : drawn_handle());
+                at += sprintf(at, "- %ss x\n", tags[i]);
+            }
+            at += sprintf(at, tagged == 0 ? "[]\n...\n" : "...\n");
+            say(said, handles, declared, tags, tagged);
+        }
+        hear(heard, text);
+        expect(strcmp(said, heard) == 0, "drawn directives", round);
+        faults += strstr(said, "found") != NULL;
+    }
+    expect(faults > 300 && faults < 2700, "errors of drawn directives", faults);
+    return faults;
 }
 
 static void check_deleted(void)
@@ -411,7 +535,8 @@ int main(void)
     char *anchors = make_anchors(40);
     refused += check_refused_loads(TEXT, NODES) + check_refused_loads(deep, LEVELS) + check_refused_loads(anchors, 41);
     free(anchors);
-    check_anchors();
+    check_times();
+    check_handles();
     check_deleted();
     check_loads_within();
     check_faults();

@@ -9,13 +9,16 @@ to be wrong. Says what is wrong, and exits with 1 where something is.
 Run by extension_checks.sh.
 """
 import copy
+import ctypes
 import gc
 import os
 import pickle
 import random
+import struct
 import subprocess
 import sys
 import tempfile
+import time
 import weakref
 
 import pokhvizi
@@ -204,6 +207,66 @@ def mixed():
     expect("calls in any order", True, True)
 
 
+# ---- Tag directives ----
+
+def drawn_directives():
+    """Streams of drawn directives and tags, beside what the library says of all handles at once; and the time of many."""
+    library, drawn, wrong_ones, faults = pokhvizi.Library.get(), random.Random(3), 0, 0
+
+    def handle():
+        return drawn.choice(["!", "!!"] + ["!%s%d!" % (drawn.choice("abc"), drawn.randrange(drawn.choice([6, 60])))] * 8)
+
+    def facts(handles, tags):
+        texts = [(name.encode(), b"t%d:" % place) for place, name in enumerate(handles)]
+        ends = [0]
+        for pair in texts:
+            ends += ends[-1] + len(pair[0]), ends[-1] + len(pair[0] + pair[1])
+        places = list(zip(ends, (len(text) for pair in texts for text in pair)))
+        records = b"".join(struct.pack("=2Q", *place) for place in places)
+        joined = b"".join(first + second for first, second in texts)
+        for count, (name, _) in enumerate(texts):
+            if library.directive_fact(records, count, joined, len(joined), name, len(name)):
+                return "found duplicate %TAG directive"
+        said = []
+        for name in tags:
+            size, out = ctypes.c_size_t(), ctypes.create_string_buffer(64)
+            if library.tag(records, len(texts), joined, len(joined), name.encode(), len(name), b"s", 1, out, 64, size) == 4:
+                return "found undefined tag handle"
+            said.append(out.raw[:size.value].decode())
+        return said
+
+    def heard(text, loader):
+        try:
+            return [event.tag for event in yaml.parse(text, loader) if isinstance(event, yaml.ScalarEvent)]
+        except yaml.YAMLError as failure:
+            return "found undefined tag handle" if "undefined" in failure.problem else "found duplicate %TAG directive"
+
+    for number in range(600):
+        handles = [handle() for _ in range(drawn.randrange(40 if number % 4 == 0 else 5))]
+        handles = handles if drawn.random() < 0.3 else list(dict.fromkeys(handles))
+        tags = [drawn.choice(handles) if handles and drawn.random() < 0.95 else handle() for _ in range(drawn.randrange(1, 12))]
+        text = "".join("%%TAG %s t%d:\n" % (name, place) for place, name in enumerate(handles))
+        text += "---\n" + "".join("- %ss x\n" % name for name in tags)
+        wanted = facts(handles, tags)
+        faults += isinstance(wanted, str)
+        wrong_ones += any(heard(text, loader) != wanted for loader in (pokhvizi.CLoader, pokhvizi.Loader))
+    expect("drawn directives", wrong_ones, 0)
+    expect("errors of drawn directives", 60 < faults < 540, True)
+
+    def least(count):
+        text = "".join("%%TAG !h%d! tag:x\n" % i for i in range(count)) + "--- [" + "".join("!h%d!a b, " % i for i in range(count)) + "]\n"
+        times = []
+        for _ in range(3):
+            begun = time.process_time()
+            yaml.compose(text, Loader=pokhvizi.CBaseLoader)
+            times.append(time.process_time() - begun)
+        return min(times)
+
+    few = least(4000)
+    many = least(32000)
+    expect("eight times the directives, of %.3f s" % few, many < 24 * few or many, True)
+
+
 # ---- Other interpreters, and no extension ----
 
 ALL_READ = """
@@ -343,7 +406,8 @@ def leaks():
     expect("KB after them, beside %d" % before, max(resident() - before, 500), 500)
 
 
-for part in (deep, within_itself, finalizers, errors, again_and_again, mixed, second_interpreter, no_extension, hooks, marks, leaks):
+for part in (deep, within_itself, finalizers, errors, again_and_again, mixed, drawn_directives, second_interpreter, no_extension, hooks,
+             marks, leaks):
     part()
 print("%d cases, %d levels, %d wrong" % (cases, LEVELS, wrong))
 sys.exit(wrong != 0)

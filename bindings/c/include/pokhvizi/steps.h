@@ -122,13 +122,15 @@ typedef struct {
 /* The fact of a VERSION-DIRECTIVE. */
 uint8_t pokhvizi_version_fact(int32_t major, int32_t minor);
 
-/* The fact of a TAG-DIRECTIVE, where the document has declared `handles`, whose texts are ranges of `texts`. */
+/* The fact of a TAG-DIRECTIVE, where the document has declared `handles`, whose texts are ranges of `texts`. It looks at them one
+ * after the other, as pokhvizi_tag does, so a document of directives takes time as the square of its length. A hash table of the
+ * caller's avoids that: both calls say the same where `handles` is that one declared handle which is `handle`, or none. */
 uint8_t pokhvizi_directive_fact(const pokhvizi_handle_t *handles, size_t count, const uint8_t *texts, size_t length,
                                 const uint8_t *handle, size_t handle_length);
 
 /* The fact of a TAG. `*size` is the length of the tag in full, or SIZE_MAX where the handle isn't declared. The tag in full is
  * put at the start of `out` where all of it has room; else, and beyond it, `out` stays as it was. A handle needs no directive
- * if it is empty, `!` or `!!`. As pokhvizi_directive_fact it looks at the handles one after the other. */
+ * if it is empty, `!` or `!!`. */
 uint8_t pokhvizi_tag(const pokhvizi_handle_t *handles, size_t count, const uint8_t *texts, size_t length,
                      const uint8_t *handle, size_t handle_length, const uint8_t *suffix, size_t suffix_length,
                      uint8_t *out, size_t room, size_t *size);

@@ -1,10 +1,10 @@
 /* Steps from tokens to events, and PyYAML's objects. */
 #include "loader.h"
 
-static uint32_t step(parser_object *parser, pokhvizi_fault_t *fault)
+static uint32_t step(parser_object *parser, uint8_t fact, pokhvizi_fault_t *fault)
 {
     return pokhvizi_step(&parser->steps, parser->states, parser->states_room, parser->marks,
-                         parser->marks_room, (uint8_t)parser->token.type, fact_of(parser), span_of(parser),
+                         parser->marks_room, (uint8_t)parser->token.type, fact, span_of(parser),
                          &parser->event, fault);
 }
 
@@ -37,6 +37,7 @@ int take_event(parser_object *parser)
 {
     pokhvizi_fault_t fault;
     uint32_t did;
+    int fact;
 
     while (parser->event.kind == 0 && !parser->has_ended) {
         if (take_token(parser) < 0)
@@ -45,7 +46,9 @@ int take_event(parser_object *parser)
             parser->has_ended = 1;
             break;
         }
-        did = step(parser, &fault);
+        if ((fact = fact_of(parser)) < 0)
+            return -1;
+        did = step(parser, (uint8_t)fact, &fault);
         if (did != POKHVIZI_GAVE && did != POKHVIZI_STAYS) {
             parser->event.kind = 0;
             if (follow(parser, did, &fault) < 0)
@@ -63,7 +66,7 @@ void leave_event(parser_object *parser)
         parser->held.has_version = 0;
         break;
     case YAML_DOCUMENT_END_EVENT:
-        parser->directives.count = parser->directives.length = 0;
+        forget_directives(&parser->directives);
         break;
     case YAML_STREAM_END_EVENT:
         parser->has_ended = 1;

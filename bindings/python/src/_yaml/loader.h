@@ -125,6 +125,7 @@ struct held {
 struct directives {
     pokhvizi_handle_t *handles;
     uint8_t *texts;
+    PyObject *places; /* of handles, by texts, or NULL before the first */
     size_t count, room, length, texts_room;
 };
 
@@ -198,10 +199,13 @@ static inline const pokhvizi_span_t *span_of(const parser_object *parser)
 int take_token(parser_object *parser);
 
 /* The fact that a step takes with the token in hand. */
-uint8_t fact_of(parser_object *parser);
+int fact_of(parser_object *parser);
 
 /* Takes what the token in hand has for an event that comes later. */
 int hold(parser_object *parser);
+
+/* Forgets the tag directives of a document. */
+void forget_directives(struct directives *all);
 
 /* The token in hand, as PyYAML has it, or None. */
 PyObject *token_object(const parser_object *parser);

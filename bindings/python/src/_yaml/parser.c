@@ -188,12 +188,13 @@ static int parser_clear(PyObject *object)
     parser_object *parser = (parser_object *)object;
     PyObject *objects[] = {
         parser->stream.source, parser->stream.name, parser->stream.rest, parser->current_token,
-        parser->current_event, parser->held.anchor, parser->held.tag,
+        parser->current_event, parser->held.anchor, parser->held.tag, parser->directives.places,
     };
     size_t i;
 
     parser->stream.source = parser->stream.name = parser->stream.rest = NULL;
     parser->current_token = parser->current_event = parser->held.anchor = parser->held.tag = NULL;
+    parser->directives.places = NULL;
     if (parser->standing != UNBORN) {
         parser->standing = UNBORN;
         free_memory(parser);
@@ -213,7 +214,7 @@ static int parser_traverse(PyObject *object, visitproc visit, void *arg)
     Py_VISIT(parser->stream.name);
     Py_VISIT(parser->current_token);
     Py_VISIT(parser->current_event);
-    return 0; /* the others are texts */
+    return 0; /* the others are texts, and a dict of texts and numbers */
 }
 
 static void parser_dealloc(PyObject *object)

@@ -22,24 +22,48 @@ int take_token(parser_object *parser)
 
 /* ---- Facts ---- */
 
-static uint8_t directive_fact(const struct directives *all, const yaml_char_t *handle)
+/* Puts the handle of this text alone where the document has declared it; returns how many it is, 1 or 0. */
+static int find_handle(const struct directives *all, const yaml_char_t *text, const pokhvizi_handle_t **found)
 {
-    return pokhvizi_directive_fact(all->handles, all->count, all->texts, all->length, handle,
-                                   strlen((const char *)handle));
+    PyObject *key, *place;
+
+    *found = all->handles;
+    if (all->count == 0)
+        return 0;
+    key = text_of(text);
+    if (key == NULL)
+        return -1;
+    place = PyDict_GetItemWithError(all->places, key); /* borrowed */
+    Py_DECREF(key);
+    if (place == NULL)
+        return PyErr_Occurred() ? -1 : 0;
+    *found += PyLong_AsSsize_t(place); /* as `declare` made it: this doesn't fail */
+    return 1;
+}
+
+static int directive_fact(const struct directives *all, const yaml_char_t *handle)
+{
+    const pokhvizi_handle_t *found;
+    int count = find_handle(all, handle, &found);
+
+    return count < 0 ? -1 : pokhvizi_directive_fact(found, (size_t)count, all->texts, all->length, handle,
+                                                    strlen((const char *)handle));
 }
 
 /* Puts the tag in full of the token in hand where there is room for it, and its length; returns its fact. */
-static uint8_t put_tag(const parser_object *parser, uint8_t *out, size_t room, size_t *length)
+static int put_tag(const parser_object *parser, uint8_t *out, size_t room, size_t *length)
 {
     const struct directives *all = &parser->directives;
     const yaml_char_t *handle = parser->token.data.tag.handle, *suffix = parser->token.data.tag.suffix;
+    const pokhvizi_handle_t *found;
+    int count = find_handle(all, handle, &found);
 
-    return pokhvizi_tag(all->handles, all->count, all->texts, all->length, handle,
-                        strlen((const char *)handle), suffix, strlen((const char *)suffix), out, room,
-                        length);
+    return count < 0 ? -1 : pokhvizi_tag(found, (size_t)count, all->texts, all->length, handle,
+                                         strlen((const char *)handle), suffix, strlen((const char *)suffix), out,
+                                         room, length);
 }
 
-uint8_t fact_of(parser_object *parser)
+int fact_of(parser_object *parser)
 {
     const yaml_token_t *token = &parser->token;
     uint8_t none;
@@ -85,8 +109,7 @@ static int hold_tag(parser_object *parser)
         PyErr_NoMemory();
         return -1;
     }
-    put_tag(parser, out, length, &length);
-    tag = text_of_bytes(out, length);
+    tag = put_tag(parser, out, length, &length) < 0 ? NULL : text_of_bytes(out, length);
     if (out != few)
         PyMem_Free(out);
     if (tag == NULL)
@@ -94,6 +117,29 @@ static int hold_tag(parser_object *parser)
     Py_XDECREF(parser->held.tag);
     parser->held.tag = tag;
     return 0;
+}
+
+void forget_directives(struct directives *all)
+{
+    all->count = all->length = 0;
+    Py_CLEAR(all->places);
+}
+
+/* Notes the place of a handle. */
+static int put_place(struct directives *all, const yaml_char_t *handle, size_t place)
+{
+    PyObject *key, *number;
+    int done = -1;
+
+    if (all->places == NULL && (all->places = PyDict_New()) == NULL)
+        return -1;
+    key = text_of(handle);
+    number = PyLong_FromSize_t(place);
+    if (key != NULL && number != NULL)
+        done = PyDict_SetItem(all->places, key, number);
+    Py_XDECREF(key);
+    Py_XDECREF(number);
+    return done;
 }
 
 /* Adds the directive of the token in hand. */
@@ -108,6 +154,8 @@ static int declare(parser_object *parser)
         return -1;
     if (first + second > all->texts_room - place &&
         grow(&all->texts, NULL, &all->texts_room, place + first + second, 1) < 0)
+        return -1;
+    if (put_place(all, handle, all->count) < 0)
         return -1;
     memcpy(all->texts + place, handle, first);
     memcpy(all->texts + place + first, prefix, second);

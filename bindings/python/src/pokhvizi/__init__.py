@@ -76,17 +76,14 @@ def use_library(path):
 
 
 def pointer(buffer):
-    """Returns the address of a buffer, which the caller keeps; that of another where it is empty."""
-    return ctypes.c_void_p(ctypes.addressof(ctypes.c_char.from_buffer(buffer or NOTHING)))
-
-
-NOTHING = bytearray(8)
+    """Returns the address of a buffer, which the caller keeps."""
+    return ctypes.c_void_p(ctypes.addressof(ctypes.c_char.from_buffer(buffer)))
 
 
 # ---- Tag directives ----
 
 class Directives:
-    """The tag directives of a document, as the library reads them and as an event has them."""
+    """The tag directives of a document. The library looks at each that it is shown, so it is shown the one that a handle names."""
 
     HANDLE = struct.Struct("=4Q")
     DEFAULT = len("tag:yaml.org,2002:")  # the longest prefix that needs no directive
@@ -97,29 +94,32 @@ class Directives:
         self.forget()
 
     def forget(self):
-        self.tags, self.handles, self.texts, self.longest = {}, bytearray(), bytearray(), self.DEFAULT
+        self.tags = {}
 
-    def records(self):
-        return pointer(self.handles), len(self.tags), pointer(self.texts), len(self.texts)
+    def record(self, handle):
+        """Returns the handles that the library is shown and their texts, each with its length, and how long a prefix may be."""
+        if handle not in self.tags:
+            return b"", 0, b"", 0, self.DEFAULT
+        handle, prefix = handle.encode(), self.tags[handle].encode()
+        place, length = len(handle), len(prefix)
+        return self.HANDLE.pack(0, place, place, length), 1, handle + prefix, place + length, max(length, self.DEFAULT)
 
     def fact(self, handle):
         """Returns the fact of a directive: whether its handle has been declared."""
+        *record, _ = self.record(handle)
         handle = handle.encode()
-        return self.library.directive_fact(*self.records(), handle, len(handle))
+        return self.library.directive_fact(*record, handle, len(handle))
 
     def declare(self, handle, prefix):
         self.tags[handle] = prefix
-        place, handle, prefix = len(self.texts), handle.encode(), prefix.encode()
-        self.handles += self.HANDLE.pack(place, len(handle), place + len(handle), len(prefix))
-        self.texts += handle + prefix
-        self.longest = max(self.longest, len(prefix))
 
     def tag(self, handle, suffix):
         """Returns the fact of a tag, and the tag in full, or None where its handle isn't declared."""
-        handle, suffix = (handle or "").encode(), suffix.encode()
-        room = self.longest + len(suffix)
+        handle, suffix = handle or "", suffix.encode()
+        *record, longest = self.record(handle)
+        handle, room = handle.encode(), longest + len(suffix)
         out = ctypes.create_string_buffer(room)
-        fact = self.library.tag(*self.records(), handle, len(handle), suffix, len(suffix), out, room, self.size)
+        fact = self.library.tag(*record, handle, len(handle), suffix, len(suffix), out, room, self.size)
         length = self.size.value
         return fact, None if length == self.UNDECLARED else out.raw[:length].decode()
 
