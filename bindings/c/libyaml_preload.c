@@ -13,10 +13,15 @@
  * Hash tables find an alias's node and a tag's handle, where libyaml looks at each anchor and handle of the document. A failed
  * allocation is the error YAML_MEMORY_ERROR, after which a call gives no event and no document.
  *
+ * The environment's POKHVIZI_MAX_DEPTH and POKHVIZI_MAX_NODES are the most collections that may be open at once, and the most
+ * nodes of a document, items or pairs of a node. What exceeds them is a parser error, "found too many levels", at the token that
+ * opens one more, and a composer error, "found too many nodes", at the node.
+ *
  * What is other than with libyaml stands in docs/DIFFERENCES.md. */
 #include <pokhvizi/compose.h>
 #include <pokhvizi/steps.h>
 #include <assert.h>
+#include <stdio.h>
 #include <stdlib.h>
 #include <string.h>
 #include <sys/syscall.h>
@@ -65,6 +70,42 @@ static int out_of_memory(yaml_parser_t *parser)
     return 0;
 }
 
+/* ---- Bounds ---- */
+
+/* How many collections may be open, and how many entries each list of a document may have. */
+static struct {
+    size_t depth, nodes;
+} bounds;
+
+/* The number that a variable of the environment has, or `most` where it has none. Another text ends the process: it would run
+ * without the bound that is asked for. */
+static size_t bound_of(const char *name, size_t most)
+{
+    const char *text = getenv(name);
+    size_t bound = 0;
+
+    if (text == NULL || *text == '\0')
+        return most;
+    for (; *text >= '0' && *text <= '9'; text++)
+        bound = bound > most / 10 ? most : 10 * bound + (size_t)(*text - '0');
+    if (*text != '\0') {
+        fprintf(stderr, "libyaml_preload.so: %s is no number: %s\n", name, getenv(name));
+        _exit(2);
+    }
+    return bound < most ? bound : most;
+}
+
+__attribute__((constructor)) static void read_bounds(void)
+{
+    bounds.depth = bound_of("POKHVIZI_MAX_DEPTH", PTRDIFF_MAX / sizeof(yaml_mark_t));
+    bounds.nodes = bound_of("POKHVIZI_MAX_NODES", INT32_MAX);
+}
+
+static size_t least(size_t one, size_t other)
+{
+    return one < other ? one : other;
+}
+
 /* ---- Stacks ---- */
 
 static struct kept *kept_of(const yaml_parser_t *parser)
@@ -86,7 +127,7 @@ static int grow_states(yaml_parser_t *parser, size_t room)
 
 static int grow_marks(yaml_parser_t *parser)
 {
-    size_t room = 2 * kept_of(parser)->marks_room;
+    size_t room = least(2 * kept_of(parser)->marks_room, bounds.depth);
     yaml_mark_t *marks = realloc(parser->marks.start, room * sizeof *marks);
 
     if (marks == NULL)
@@ -450,13 +491,22 @@ static int give_fault(yaml_parser_t *parser, const pokhvizi_fault_t *fault)
     return 0;
 }
 
+/* The next token opens one collection more than may be open. */
+static int give_too_deep(yaml_parser_t *parser)
+{
+    pokhvizi_fault_t fault = {.problem = POKHVIZI_TOO_DEEP};
+
+    memcpy(&fault.problem_mark, &parser->tokens.head->start_mark, sizeof fault.problem_mark);
+    return give_fault(parser, &fault);
+}
+
 /* Begins a stream; 0 where memory is refused. */
 static int begin(yaml_parser_t *parser)
 {
     if (!grow_states(parser, 64))
         return 0;
     pokhvizi_steps_new(&kept_of(parser)->steps);
-    kept_of(parser)->marks_room = parser->marks.end - parser->marks.start;
+    kept_of(parser)->marks_room = least((size_t)(parser->marks.end - parser->marks.start), bounds.depth);
     kept_of(parser)->key = 0;
     free(parser->tag_directives.start);
     memset(&parser->tag_directives, 0, sizeof parser->tag_directives);
@@ -502,6 +552,8 @@ static int follow(yaml_parser_t *parser, uint32_t did, const pokhvizi_fault_t *f
     case POKHVIZI_FULL_STATES:
         return grow_states(parser, 2 * kept_of(parser)->states_room) || out_of_memory(parser);
     case POKHVIZI_FULL_MARKS:
+        if (kept_of(parser)->marks_room == bounds.depth)
+            return give_too_deep(parser);
         return grow_marks(parser) || out_of_memory(parser);
     case POKHVIZI_FAULT:
         return give_fault(parser, fault);
@@ -783,18 +835,14 @@ static int begin_document(const yaml_parser_t *parser, const pokhvizi_event_t *m
     return done;
 }
 
-static int give_composer_fault(yaml_parser_t *parser, const pokhvizi_event_t *made, const yaml_document_t *document,
-                               int32_t first)
+static int give_composer_fault(yaml_parser_t *parser, uint32_t deed, const pokhvizi_event_t *made,
+                               const yaml_document_t *document, int32_t first)
 {
     parser->error = YAML_COMPOSER_ERROR;
+    parser->problem = pokhvizi_refusal(deed, &parser->context);
     memcpy(&parser->problem_mark, &made->start_mark, sizeof parser->problem_mark);
-    if (made->kind == YAML_ALIAS_EVENT) {
-        parser->problem = "found undefined alias";
-        return 0;
-    }
-    parser->problem = "second occurrence";
-    parser->context = "found duplicate anchor; first occurrence";
-    parser->context_mark = node_of(document, first)->start_mark;
+    if (parser->context != NULL)
+        parser->context_mark = node_of(document, first)->start_mark;
     return 0;
 }
 
@@ -816,7 +864,8 @@ static int follow_event(yaml_parser_t *parser, uint32_t deed, int32_t fact, cons
         return 1;
     case POKHVIZI_UNDEFINED_ALIAS:
     case POKHVIZI_REPEATED_ANCHOR:
-        return give_composer_fault(parser, made, document, fact);
+    case POKHVIZI_FULL_LIST:
+        return give_composer_fault(parser, deed, made, document, fact);
     default:
         return out_of_memory(parser);
     }
@@ -897,7 +946,7 @@ __attribute__((visibility("default"))) int yaml_parser_load(yaml_parser_t *parse
     assert(parser);
     assert(document);
     memset(document, 0, sizeof *document);
-    pokhvizi_composer_new(&loading.composer, INT32_MAX);
+    pokhvizi_composer_new(&loading.composer, (uint32_t)bounds.nodes);
     loading.stack = loading.first;
     loading.stack_room = sizeof loading.first / sizeof *loading.first;
     loading.carriers = NULL;

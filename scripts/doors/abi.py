@@ -4,7 +4,8 @@
     python3 scripts/doors/abi.py [--write]
 
 bindings/c/abi.txt has that number, the layout of each struct as layout.py writes it, and each function that a header declares.
-The exit status is 1 where one of them is another. With --write the file is written, which needs a higher number in
+What the bindings in Python and Rust have of the headers by hand is compared too: sizes and places in structs, numbers of results,
+words of errors. The exit status is 1 where one of them is another. With --write the file is written, which needs a higher number in
 bindings/c/ABI_VERSION where a struct or function that was there has changed or is gone.
 
 Run by check.sh.
@@ -32,6 +33,120 @@ def lines():
             yield " ".join(found.split())
 
 
+# ---- What bindings have by hand ----
+
+BINDINGS = C.parent
+ENUM = re.compile(r"^enum \{\n(.*?)\}", re.M | re.S)
+WORDS = re.compile(r"words\[\d+\]\[2\] = \{\n(.*?)\n    \};", re.S)
+PAIR = re.compile(r'\(\s*b"(.*?)\\0",\s*(?:None|Some\(b"(.*?)\\0"\)),?\s*\)', re.S)
+REPR = re.compile(r"#\[repr\(C\)\]\n(?:pub )?struct (\w+) \{\n(.*?)^\}", re.M | re.S)
+FORMAT = re.compile(r"(\d*)([xBQ])")
+SIZES = {"x": 1, "B": 1, "Q": 8}
+# Rust: the file, its struct and that of the header
+RUST = (("steps.rs", "Shape", "pokhvizi_event_t"), ("steps.rs", "Problem", "pokhvizi_fault_t"), ("steps.rs", "Range", "pokhvizi_text_t"),
+        ("steps.rs", "Handle", "pokhvizi_handle_t"), ("composer.rs", "Place", "pokhvizi_place_t"))
+BLOCKS = (("steps.rs", "Record", "pokhvizi_steps_t"), ("composer.rs", "Record", "pokhvizi_composer_t"), ("composer.rs", "Open", "pokhvizi_open_t"))
+# Python: the name of a format and the fields that it reads
+FORMATS = (("HANDLE", "pokhvizi_handle_t", "handle.place handle.length prefix.place prefix.length"),
+           ("EVENT", "pokhvizi_event_t", "kind has_anchor has_tag implicit quoted_implicit is_flow start_mark.index end_mark.index"),
+           ("PROBLEM", "pokhvizi_fault_t", "problem context_mark.index problem_mark.index"))
+
+
+def places(fields, start=0, path=""):
+    """The place and size of each number in a struct, by its path."""
+    for name, offset, kind in fields:
+        if kind.fields:
+            yield from places(kind.fields, start + offset, f"{path}{name}.")
+        else:
+            yield path + name, (start + offset, kind.size)
+
+
+def read_by(form):
+    """The place and size of each number that a format of Python's module struct reads, and how many bytes it has."""
+    found, offset = [], 0
+    for count, letter in FORMAT.findall(form):
+        for _ in range(int(count or 1)):
+            found += [(offset, SIZES[letter])] if letter != "x" else []
+            offset += SIZES[letter]
+    return found, offset
+
+
+def one(pattern, text, name):
+    found = re.findall(pattern, text, re.S)
+    if len(found) != 1:
+        sys.exit(f"{name}: {len(found)} places have the form {pattern}")
+    return found[0]
+
+
+def differing_structs(structs):
+    """What is another in Python's and Rust's structs, in words."""
+    python = (BINDINGS / "python/src/pokhvizi/__init__.py").read_text()
+    size, counts = one(r'RECORD, COUNTS = (\d+), struct\.Struct\("=(.*?)"\)', python, "__init__.py")
+    steps = structs["pokhvizi_steps_t"]
+    if int(size) != steps.size or read_by(counts)[0] != [dict(places(steps.fields))["machine.marks_count"]]:
+        yield "__init__.py: RECORD or COUNTS"
+    for name, struct, fields in FORMATS:
+        there = dict(places(structs[struct].fields))
+        wanted = [there[field] for field in fields.split()], structs[struct].size
+        if read_by(one(rf'{name} = struct\.Struct\("=(.*?)"\)', python, "__init__.py")) != wanted:
+            yield f"__init__.py: {name}"
+    for file, name, struct in BLOCKS:
+        kind, count = one(rf"struct {name}\(\[(u\d+); (\d+)\]\);", (BINDINGS / "rust/src" / file).read_text(), file)
+        width = int(kind[1:]) // 8
+        if (structs[struct].size, structs[struct].alignment) != (width * int(count), width):
+            yield f"{file}: {name}"
+    types = {name: layout.Layout(name, size, size) for name, (_, size) in layout.NUMBERS.items()}
+    types["yaml_mark_t"] = structs["pokhvizi_mark_t"]
+    for file in ("steps.rs", "composer.rs"):
+        for name, body in REPR.findall((BINDINGS / "rust/src" / file).read_text()):
+            types[name] = layout.struct(name, re.sub(r"^    (?=\w+:)", "    pub ", body, flags=re.M), types)
+    for file, name, struct in RUST:
+        if [place for _, place in places(types[name].fields)] != [place for _, place in places(structs[struct].fields)]:
+            yield f"{file}: {name}"
+
+
+def names_of(header):
+    """The names of each enum of a header, without what all begin with."""
+    return [[name.split(" = ") for name in re.findall(r"POKHVIZI_(\w+(?: = \d+)?)", found)] for found in ENUM.findall(header)]
+
+
+def differing_numbers(header, rust, python=None):
+    """What is another in the results of a call, in words."""
+    names = names_of(header)[0]
+    for number, (name, *_) in enumerate(names):
+        found = re.findall(rf"^(?:pub )?const {name}: \w+ = (\d+);", rust, re.M)
+        if found and found != [str(number)]:
+            yield f"Rust's {name}"
+    if len(re.findall(r"^(?:pub )?const [A-Z_]+: u32 = ", rust, re.M)) < len(names) - 2:
+        yield "the count of Rust's numbers"
+    if python is not None and python.split(", ") != [name for name, *_ in names][:len(python.split(", "))]:
+        yield "Python's numbers"
+
+
+def words_of(header):
+    """The words of a header's table, in pairs."""
+    strings = re.findall(r'\{"(.*?)", (?:NULL|"(.*?)")\}', WORDS.search(header)[1])
+    return [tuple(pair) for pair in strings]
+
+
+def differing():
+    """What the bindings have by hand and the headers otherwise."""
+    headers = {name: (C / "include/pokhvizi" / f"{name}.h").read_text() for name in ("steps", "compose")}
+    rust = {name: (BINDINGS / "rust/src" / f"{name}.rs").read_text() for name in ("steps", "composer", "fault")}
+    yield from differing_structs({struct.name: struct for struct in layout.structs()})
+    python = one(r"^    (WANTS, [A-Z_, ]+) = range\(\d+\)$".replace("^", "(?m:^)").replace("$", "(?m:$)"),
+                 (BINDINGS / "python/src/pokhvizi/__init__.py").read_text(), "__init__.py")
+    yield from differing_numbers(headers["steps"], rust["steps"], python)
+    yield from differing_numbers(headers["compose"], rust["composer"])
+    too_deep = re.search(r"POKHVIZI_TOO_DEEP = (\d+)", headers["steps"])[1]
+    if f"const TOO_DEEP: usize = {too_deep};" not in rust["steps"]:
+        yield "Rust's TOO_DEEP"
+    for header, table in (("steps", "PROBLEMS"), ("compose", "REFUSALS")):
+        there = [tuple(pair) for pair in PAIR.findall(one(rf"const {table}: .*? = \[\n(.*?)\n\];", rust["fault"], "fault.rs"))]
+        if there != words_of(headers[header]):
+            yield f"Rust's {table}"
+
+
 def main():
     words = sys.argv[1:]
     if words not in ([], ["--write"]):
@@ -47,6 +162,9 @@ def main():
     elif [first, *before] != [f"ABI {number}", *now]:
         other = next((line for line in now if line not in set(before)), gone[0] if gone else first)
         sys.exit(f"bindings/c/abi.txt is another, which `abi.py --write` writes: {other}")
+    by_hand = list(differing())
+    if by_hand:
+        sys.exit("a binding has other numbers or words than the headers: " + ", ".join(by_hand))
 
 
 if __name__ == "__main__":

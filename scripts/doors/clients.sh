@@ -8,7 +8,7 @@
 # checks, of which all are run where none is named:
 #
 #     preload            this parser by LD_PRELOAD (bindings/c/libyaml_preload.c): each of its allocations refused, parsers deleted,
-#                        moved, used after a fault and by threads; libyaml's memory over 7 MB, for events and for documents; and
+#                        moved, used after a fault and by threads; bounds; libyaml's memory over 7 MB, for events and for documents; and
 #                        where valgrind is there, the instructions of loads, which are at most 1.04 of libyaml's
 #     events             libyaml's events and nodes of YAML files of this machine, broken texts and the YAML test suite,
 #                        preloaded, with all fields
@@ -191,6 +191,16 @@ preload() {
     documents 20 > "$work/text.yaml"
     compare_memory memory 900000 && compare_memory loads 400000 || return 1
     ! command -v valgrind > /dev/null || compare_preloaded || return 1
+    if POKHVIZI_MAX_DEPTH=21 POKHVIZI_MAX_NODES=31 LD_PRELOAD=$preloaded "$work/preload_calls" bounds > "$work/calls" 2>&1; then
+        echo "with other bounds the calls should differ"
+        return 1
+    fi
+    for words in 'MAX_DEPTH=2x' 'MAX_NODES=-1'; do
+        env "POKHVIZI_$words" "LD_PRELOAD=$preloaded" "$work/preload_calls" > "$work/calls" 2>&1
+        [ "$? $(cat "$work/calls")" = "2 libyaml_preload.so: POKHVIZI_${words%=*} is no number: ${words#*=}" ] ||
+            { echo "a bound that is no number: $(cat "$work/calls")"; return 1; }
+    done
+    POKHVIZI_MAX_DEPTH=20 POKHVIZI_MAX_NODES=30 LD_PRELOAD=$preloaded "$work/preload_calls" bounds || return 1
     said=$(LD_PRELOAD=$preloaded "$work/preload_calls") && echo "$said$memory"
 }
 

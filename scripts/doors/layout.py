@@ -67,18 +67,30 @@ def write_fields(name, layout, parts, path="", start=0):
             print(f'_Static_assert(_Generic((({name} *)0)->{place}, {kind.name}: 1, default: 0), "{name}.{place}: its type");')
 
 
+def structs_of(header, sources, names, parts):
+    """The layouts of a header's structs."""
+    types = {name: Layout(c, size, size) for name, (c, size) in NUMBERS.items()}
+    for name, body in STRUCT.findall("".join((CRATES / source).read_text() for source in sources)):
+        layout = types[name] = struct(names.get(name, name), body, types)
+        if name not in parts:
+            yield layout
+    missing = (set(names) | set(parts)) - set(types)
+    if missing:
+        raise SystemExit(f"{header}: no struct {missing}")
+
+
+def structs():
+    """The layouts of all headers' structs."""
+    for one in HEADERS:
+        yield from structs_of(*one)
+
+
 def main():
     for header, sources, names, parts in HEADERS:
-        types = {name: Layout(c, size, size) for name, (c, size) in NUMBERS.items()}
         print(f'#include "{header}"')
-        for name, body in STRUCT.findall("".join((CRATES / source).read_text() for source in sources)):
-            layout = types[name] = struct(names.get(name, name), body, types)
-            if name not in parts:
-                write_fields(layout.name, layout, parts)
-                print(f'_Static_assert(sizeof({layout.name}) == {layout.size}, "{layout.name}: its size");')
-        missing = (set(names) | set(parts)) - set(types)
-        if missing:
-            raise SystemExit(f"{header}: no struct {missing}")
+        for layout in structs_of(header, sources, names, parts):
+            write_fields(layout.name, layout, parts)
+            print(f'_Static_assert(sizeof({layout.name}) == {layout.size}, "{layout.name}: its size");')
 
 
 if __name__ == "__main__":

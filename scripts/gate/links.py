@@ -7,7 +7,7 @@
 - a Rust block or a clause of a contract that no file of crates/ or examples/ has word for word;
 - a mutant that WRONG_BODIES lists and no crate has, or the other way round;
 - a script that scripts/README.md doesn't list;
-- another version than that of the file VERSION, in CHANGELOG's first entry the macro of pokhvizi/version.h, or the Python package.
+- another version than that of the file VERSION, in CHANGELOG's first entry the macro of pokhvizi/version.h, the Python package or the Rust crate.
 
     python3 scripts/gate/links.py
 
@@ -117,7 +117,8 @@ def unlisted_scripts():
 def other_versions():
     version = (TOP / "VERSION").read_text().strip()
     for name, form in [("CHANGELOG.md", r"^## (.*)$"), ("bindings/c/include/pokhvizi/version.h", r'^#define POKHVIZI_VERSION "(.*)"$'),
-                       ("bindings/python/src/pokhvizi/__init__.py", r'^__version__ = "(.*)"$')]:
+                       ("bindings/python/src/pokhvizi/__init__.py", r'^__version__ = "(.*)"$'),
+                       ("bindings/rust/src/lib.rs", r'^pub const POKHVIZI_VERSION: &str = "(.*)";$')]:
         shown = re.search(form, (TOP / name).read_text(), flags=re.M)
         if shown is None or shown[1] != version:
             yield f"{name}: the version is {shown and shown[1]}, and VERSION says {version}"

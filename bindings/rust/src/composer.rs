@@ -1,5 +1,6 @@
 //! The composer of `pokhvizi/compose.h`: an event in, and what is to be done to the document out.
 
+use crate::bounds;
 use crate::fault::Fault;
 use std::collections::HashMap;
 
@@ -35,6 +36,19 @@ extern "C" {
     ) -> u32;
 }
 
+// What a call returns.
+const PASSES: u32 = 0;
+const BEGINS: u32 = 1;
+const ENDS: u32 = 2;
+const ROOT: u32 = 3;
+const ITEM: u32 = 4;
+const KEY: u32 = 5;
+const VALUE: u32 = 6;
+const CLOSES: u32 = 7;
+const FULL_STACK: u32 = 8;
+pub const UNDEFINED_ALIAS: u32 = 9;
+const REPEATED_ANCHOR: u32 = 10;
+
 /// What is to be done to the document.
 #[derive(Clone, Copy, PartialEq)]
 pub enum Deed {
@@ -61,11 +75,9 @@ pub enum Child {
 
 /// Why an event can't be composed.
 pub enum Refusal {
-    /// No node carries the anchor of this alias.
-    UndefinedAlias,
-    /// This node carries the anchor of another.
-    RepeatedAnchor(i32),
-    /// No memory, or too many nodes.
+    /// The call's number, and the node that carries the anchor, where one does.
+    Deed(u32, Option<i32>),
+    /// No memory.
     Fault(Fault),
 }
 
@@ -85,7 +97,7 @@ impl Composer {
     pub fn new() -> Composer {
         let mut record = Record([0; 3]);
         // SAFETY: the record is the caller's.
-        unsafe { pokhvizi_composer_new(&mut record, i32::MAX as u32) };
+        unsafe { pokhvizi_composer_new(&mut record, bounds::max_nodes()) };
         Composer {
             record,
             few: [Open([0; 4]); Composer::ROOM],
@@ -111,21 +123,19 @@ impl Composer {
             // SAFETY: the pointers are to as many entries as are said.
             let deed = unsafe { pokhvizi_compose(&mut self.record, stack, room, kind, fact, place) };
             return match deed {
-                0 => Ok(Deed::Passes),
-                1 => Ok(Deed::Begins),
-                2 => Ok(Deed::Ends),
-                3 => Ok(Deed::Puts(Child::Root)),
-                4 => Ok(Deed::Puts(Child::Item)),
-                5 => Ok(Deed::Puts(Child::Key)),
-                6 => Ok(Deed::Puts(Child::Value)),
-                7 => Ok(Deed::Closes),
-                8 => {
+                PASSES => Ok(Deed::Passes),
+                BEGINS => Ok(Deed::Begins),
+                ENDS => Ok(Deed::Ends),
+                ROOT => Ok(Deed::Puts(Child::Root)),
+                ITEM => Ok(Deed::Puts(Child::Item)),
+                KEY => Ok(Deed::Puts(Child::Key)),
+                VALUE => Ok(Deed::Puts(Child::Value)),
+                CLOSES => Ok(Deed::Closes),
+                FULL_STACK => {
                     self.grow()?;
                     continue;
                 }
-                9 => Err(Refusal::UndefinedAlias),
-                10 => Err(Refusal::RepeatedAnchor(fact)),
-                _ => Err(Refusal::Fault(Fault::memory())),
+                deed => Err(Refusal::Deed(deed, (deed == REPEATED_ANCHOR).then_some(fact))),
             };
         }
     }

@@ -21,9 +21,11 @@
 //! - A failed allocation of the library is the fault `YAML_MEMORY_ERROR`; one of Rust's ends the process, as there.
 //! - A load within a document that is being parsed is the parser's fault `load within a document`.
 //! - A load after a fault fails again with that fault.
+//! - [`POKHVIZI_VERSION`] and the module [`bounds`] are added.
 
 #![allow(non_camel_case_types, clippy::missing_safety_doc)]
 
+pub mod bounds;
 mod composer;
 mod documents;
 mod events;
@@ -36,6 +38,9 @@ use std::ops::Deref;
 use std::ptr;
 
 pub use original::*;
+
+/// The version of this crate, which the original hasn't: a program that names it doesn't compile where cargo left the patch out.
+pub const POKHVIZI_VERSION: &str = "0.3.0";
 
 /// Whether a call succeeded.
 #[must_use]

@@ -1,5 +1,6 @@
 //! The steps of `pokhvizi/steps.h`: a token in, at most one event out.
 
+use crate::bounds;
 use crate::fault::Fault;
 use original::*;
 use std::collections::HashMap;
@@ -92,6 +93,15 @@ extern "C" {
         size: *mut usize,
     ) -> u8;
 }
+
+// What a step returns, and the number of a problem that none has.
+const WANTS: u32 = 0;
+const GAVE: u32 = 1;
+const STAYS: u32 = 2;
+const FULL_STATES: u32 = 3;
+const FULL_MARKS: u32 = 4;
+const FAULT: u32 = 5;
+pub const TOO_DEEP: usize = 13;
 
 /// The tag directives of a document.
 #[derive(Default)]
@@ -214,6 +224,8 @@ pub struct Steps {
     record: Record,
     states: Vec<u8>,
     marks: Vec<yaml_mark_t>,
+    /// How long the stack of marks may get.
+    max_depth: usize,
     pub directives: TagDirectives,
 }
 
@@ -241,13 +253,14 @@ impl Steps {
     const ROOM: usize = 32;
 
     pub fn new() -> Steps {
-        let mut record = Record([0; 17]);
+        let (mut record, max_depth) = (Record([0; 17]), bounds::max_depth());
         // SAFETY: the record is the caller's.
         unsafe { pokhvizi_steps_new(&mut record) };
         Steps {
             record,
             states: vec![0; Steps::ROOM],
-            marks: vec![no_mark(); Steps::ROOM],
+            marks: vec![no_mark(); Steps::ROOM.min(max_depth)],
+            max_depth,
             directives: TagDirectives::default(),
         }
     }
@@ -277,12 +290,16 @@ impl Steps {
                 problem.as_mut_ptr(),
             );
             match did {
-                0 => return Ok(Did::Wants),
-                1 => return Ok(Did::Gave),
-                2 => return Ok(Did::Stays),
-                3 => grow(&mut self.states, 0)?,
-                4 => grow(&mut self.marks, no_mark())?,
-                5 => return Err(Fault::of_problem(&problem.assume_init())),
+                WANTS => return Ok(Did::Wants),
+                GAVE => return Ok(Did::Gave),
+                STAYS => return Ok(Did::Stays),
+                FULL_STATES => grow(&mut self.states, 0)?,
+                FULL_MARKS if self.marks.len() == self.max_depth => return Err(Fault::too_deep(token.start_mark)),
+                FULL_MARKS => {
+                    grow(&mut self.marks, no_mark())?;
+                    self.marks.truncate(self.max_depth);
+                }
+                FAULT => return Err(Fault::of_problem(&problem.assume_init())),
                 _ => unreachable!("the stacks are as long as they are said to be"),
             }
         }

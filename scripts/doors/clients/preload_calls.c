@@ -1,7 +1,8 @@
 /* Calls of libyaml where bindings/c/libyaml_preload.c is preloaded: each allocation refused in turn, parsers that are
  * deleted at each event, moved, used after an error or after the end, and by several threads; documents; more states, marks,
  * tag directives, texts and anchors than there was room for at first; drawn tag directives, beside pokhvizi_directive_fact and
- * pokhvizi_tag; the time that anchors and directives take. Says what was wrong, and exits with 1 where anything was. */
+ * pokhvizi_tag; the time that anchors and directives take. Says what was wrong, and exits with 1 where anything was. With the word
+ * `bounds` it checks no more than those that the environment sets: a depth of 20 and 30 nodes. */
 #include <pokhvizi/steps.h>
 #include <pthread.h>
 #include <stdio.h>
@@ -525,8 +526,71 @@ static void check_threads(void)
     }
 }
 
-int main(void)
+/* ---- Bounds ---- */
+
+static void check_bound(const char *text, int loads, long count, yaml_error_type_t error, const char *problem, size_t at)
 {
+    yaml_parser_t parser;
+    yaml_document_t document;
+    unsigned long sum = 0;
+    long before = live, there = 0;
+    int more = loads;
+
+    if (!begin(&parser, text))
+        abort();
+    if (!loads)
+        there = parse(&parser, 1000, &sum);
+    while (more && (more = yaml_parser_load(&parser, &document))) {
+        more = yaml_document_get_root_node(&document) != NULL;
+        there += document.nodes.top - document.nodes.start;
+        yaml_document_delete(&document);
+    }
+    expect(there == count && parser.error == error, "a bound", there);
+    expect(problem == NULL || (parser.problem != NULL && strcmp(parser.problem, problem) == 0 &&
+                               parser.problem_mark.index == at && parser.context == NULL),
+           "its error", at);
+    yaml_parser_delete(&parser);
+    expect(live == before, "blocks are lost", there);
+}
+
+/* A list of so many items, of which the first has the anchor `a`. */
+static const char *items(const char *item, int count)
+{
+    static char text[200];
+    char *at = text + sprintf(text, "[ &a b");
+
+    for (int i = 1; i < count; i++)
+        at += sprintf(at, ", %s", item);
+    strcpy(at, "]");
+    return text;
+}
+
+static void check_bounds(void)
+{
+    static const char deep[] = "[[[[[[[[[[[[[[[[[[[[]]]]]]]]]]]]]]]]]]]]", *levels = "found too many levels", *nodes = "found too many nodes";
+    static char brackets[100001];
+
+    memset(brackets, '[', sizeof brackets - 1);
+    check_bound(deep, 0, 44, YAML_NO_ERROR, NULL, 0);
+    check_bound(deep, 1, 20, YAML_NO_ERROR, NULL, 0);
+    clock_t begun = clock();
+    check_bound(brackets, 0, 22, YAML_PARSER_ERROR, levels, 20);
+    check_bound(brackets, 1, 0, YAML_PARSER_ERROR, levels, 20);
+    expect(clock() - begun < CLOCKS_PER_SEC, "time of brackets", clock() - begun);
+    check_bound(items("b", 29), 1, 30, YAML_NO_ERROR, NULL, 0);
+    check_bound(items("b", 30), 1, 0, YAML_COMPOSER_ERROR, nodes, 92);
+    check_bound(items("*a", 30), 1, 2, YAML_NO_ERROR, NULL, 0);
+    check_bound(items("*a", 31), 1, 0, YAML_COMPOSER_ERROR, nodes, 124);
+    if (!wrong)
+        puts("bounds hold");
+}
+
+int main(int count, char **words)
+{
+    if (count > 1 && strcmp(words[1], "bounds") == 0) {
+        check_bounds();
+        return wrong;
+    }
     check_whole();
     if (wrong)
         return 1;

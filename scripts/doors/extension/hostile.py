@@ -66,6 +66,42 @@ def deep():
            "ParserError: while parsing a flow node")
 
 
+# ---- Bounds ----
+
+def bounds():
+    def bounded(text, act, **bounds):
+        return said(lambda: len(list(act(text, type("Bounded", (pokhvizi.CSafeLoader,), bounds)))))
+
+    acts = yaml.parse, yaml.compose_all, yaml.load_all
+    for levels in (1, 2, 31, 32, 33, 200):
+        for text in ("[" * levels + "]" * levels, "- " * levels + "x", "? " * (levels - 1) + "- x"):
+            for act in acts[:2]:
+                free = bounded(text, act)
+                expect("as deep as may be, %d" % levels, bounded(text, act, max_depth=levels), free)
+                expect("deeper than may be, %d" % levels, bounded(text, act, max_depth=levels - 1), "ParserError: found too many levels")
+    for act in acts:
+        begun = time.process_time()
+        expect("100 KB of brackets", bounded("[" * 100000, act, max_depth=1000), "ParserError: found too many levels")
+        expect("their time, which is 10 ms", time.process_time() - begun < 1, True)
+    expect("no collection", [bounded(text, yaml.compose_all, max_depth=0) for text in ("a", "- a")],
+           [1, "ParserError: found too many levels"])
+    many = "ComposerError: found too many nodes"
+    for text, nodes in (("[a, b, c]", 4), ("{a: b, c: d}", 5), ("- &a b\n- *a\n- *a\n- *a\n", 4), ("--- a\n--- [b]\n", 2)):
+        for act in acts[1:]:
+            expect("as many nodes as may be", bounded(text, act, max_nodes=nodes), bounded(text, act))
+            expect("more nodes than may be", bounded(text, act, max_nodes=nodes - 1), many)
+    try:
+        yaml.compose("- [a]\n- [b, [c]]", type("Bounded", (pokhvizi.CSafeLoader,), {"max_depth": 2}))
+    except yaml.YAMLError as failure:
+        expect("where it is", (failure.problem_mark.line, failure.problem_mark.column, failure.context), (1, 6, None))
+    for bound in (-1, "x", 1.5, 1 << 70):
+        for name in ("max_depth", "max_nodes"):
+            expect("no bound", bounded("a", yaml.compose_all, **{name: bound}),
+                   "ValueError: %s has to be None or a number from 0 on, and is %r" % (name, bound))
+    expect("bounds that are larger than any", bounded("[a]", yaml.compose_all, max_depth=1 << 62, max_nodes=1 << 62), 1)
+    expect("the bounds of a class", (pokhvizi.CSafeLoader.max_depth, pokhvizi.CParser.max_nodes), (None, None))
+
+
 # ---- Loaders that are called while they are at work ----
 
 def within_itself():
@@ -406,7 +442,7 @@ def leaks():
     expect("KB after them, beside %d" % before, max(resident() - before, 500), 500)
 
 
-for part in (deep, within_itself, finalizers, errors, again_and_again, mixed, drawn_directives, second_interpreter, no_extension, hooks,
+for part in (deep, bounds, within_itself, finalizers, errors, again_and_again, mixed, drawn_directives, second_interpreter, no_extension, hooks,
              marks, leaks):
     part()
 print("%d cases, %d levels, %d wrong" % (cases, LEVELS, wrong))

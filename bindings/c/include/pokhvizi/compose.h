@@ -28,9 +28,8 @@
  *
  * To put a node is to append it to the nodes of the document: the event's tag, value and style, and its marks; a collection has
  * no children yet. Where it has an anchor, that names it from now on, also within itself. As libyaml loads it, a node without a
- * tag, or with the tag `!`, has tag:yaml.org,2002:str, :seq or :map; an undefined alias is "found undefined alias" where the
- * alias starts; and a repeated anchor is "second occurrence" where this node starts, with the context "found duplicate anchor;
- * first occurrence" where the node `fact` starts.
+ * tag, or with the tag `!`, has tag:yaml.org,2002:str, :seq or :map. pokhvizi_refusal has the words of what stops; that is where
+ * the event starts, and the context of a repeated anchor where the node `fact` starts.
  *
  * Facts. `fact` is the one thing that a call has to know of texts: of an ALIAS the id of the node of the document that carries
  * its anchor, and of a node with an anchor the id of an earlier one that carries it. It is 0 where there is none, and of any
@@ -110,6 +109,24 @@ typedef struct {
  * of the caller's from anchors to ids finds the same number without that. */
 int32_t pokhvizi_carrier(const pokhvizi_anchor_t *anchors, size_t count, const uint8_t *texts, size_t length,
                          const uint8_t *anchor, size_t anchor_length);
+
+/* ---- Words ---- */
+
+/* Returns the words of a deed that stops, libyaml's where it has such an error, and sets `*context` to those of its context, or
+ * to NULL. */
+static __inline const char *pokhvizi_refusal(uint32_t deed, const char **context)
+{
+    static const char *const words[4][2] = {
+        {"found undefined alias", NULL},
+        {"second occurrence", "found duplicate anchor; first occurrence"},
+        {"found too many nodes", NULL},
+        {"the composer's stack was overwritten", NULL},
+    };
+    uint32_t place = deed - POKHVIZI_UNDEFINED_ALIAS;
+
+    *context = words[place < 4 ? place : 3][1];
+    return words[place < 4 ? place : 3][0];
+}
 
 #ifdef __cplusplus
 }

@@ -27,6 +27,10 @@
  * entries, and `marks` at most N. What stands in them before the first call doesn't matter; to make them larger, move their
  * bytes, as by realloc.
  *
+ * To bound how deep a text nests, don't make `marks` larger than that at POKHVIZI_FULL_MARKS, and stop: the token opens a
+ * collection too deep (POKHVIZI_TOO_DEEP). An entry is one collection that a token opens, kinds 7, 8, 10 and 12. Two kinds have
+ * none and count with what they stand in: a sequence that isn't indented in its mapping, and a pair in a flow sequence.
+ *
  * Facts. What a call has to know of a token's texts is one number, `fact`. It goes by the document's handles, so ask for it at
  * each call, also where the token stayed:
  *
@@ -83,7 +87,8 @@ typedef struct {
     pokhvizi_mark_t start_mark, end_mark;
 } pokhvizi_event_t;
 
-/* Why the tokens are no YAML stream: `problem` is 1 to 12, and `context_mark` is 0 where it has no context. */
+/* Why the tokens are no YAML stream: `problem` is 1 to 12, and `context_mark` is 0 where it has no context. What a caller says of
+ * a bound on depth has the number after these. */
 typedef struct {
     uint8_t problem;
     pokhvizi_mark_t context_mark, problem_mark;
@@ -98,6 +103,8 @@ enum {
     POKHVIZI_FAULT,
     POKHVIZI_BAD
 };
+
+enum { POKHVIZI_TOO_DEEP = 13 };
 
 /* Begins a parse. */
 void pokhvizi_steps_new(pokhvizi_steps_t *steps);
@@ -140,7 +147,7 @@ uint8_t pokhvizi_tag(const pokhvizi_handle_t *handles, size_t count, const uint8
 /* Returns libyaml's words of an error's problem, and sets `*context` to those of its context, or to NULL. */
 static __inline const char *pokhvizi_problem(uint8_t problem, const char **context)
 {
-    static const char *const words[13][2] = {
+    static const char *const words[14][2] = {
         {"no fault", NULL},
         {"did not find expected <stream-start>", NULL},
         {"did not find expected <document start>", NULL},
@@ -154,10 +161,11 @@ static __inline const char *pokhvizi_problem(uint8_t problem, const char **conte
         {"did not find expected key", "while parsing a block mapping"},
         {"did not find expected ',' or ']'", "while parsing a flow sequence"},
         {"did not find expected ',' or '}'", "while parsing a flow mapping"},
+        {"found too many levels", NULL},
     };
 
-    *context = words[problem < 13 ? problem : 0][1];
-    return words[problem < 13 ? problem : 0][0];
+    *context = words[problem < 14 ? problem : 0][1];
+    return words[problem < 14 ? problem : 0][0];
 }
 
 #ifdef __cplusplus

@@ -154,18 +154,11 @@ static int close_node(const struct document *document, int32_t id)
 static int refuse(const struct document *document, int deed, int32_t fact)
 {
     parser_object *parser = document->parser;
+    const char *context, *problem = pokhvizi_refusal((uint32_t)deed, &context);
 
-    switch (deed) {
-    case POKHVIZI_UNDEFINED_ALIAS:
-        return give_fault(parser, YAML_COMPOSER_ERROR, NULL, NULL, "found undefined alias",
-                          &parser->event.start_mark);
-    case POKHVIZI_REPEATED_ANCHOR:
-        return give_second(parser, entry_of(document, fact)->node, "found duplicate anchor; first occurrence",
-                           "second occurrence");
-    default:
-        PyErr_SetString(PyExc_MemoryError, "a document has too many nodes");
-        return -1;
-    }
+    if (deed == POKHVIZI_REPEATED_ANCHOR)
+        return give_second(parser, entry_of(document, fact)->node, context, problem);
+    return give_fault(parser, YAML_COMPOSER_ERROR, context, NULL, problem, &parser->event.start_mark);
 }
 
 /* Does to the document what the composer says. */
@@ -229,7 +222,7 @@ static void begin_document(struct document *document, parser_object *parser)
     document->anchors = NULL;
     document->hooks = (struct hooks){0};
     document->resolved = (struct resolved){0};
-    pokhvizi_composer_new(&document->composer, INT32_MAX);
+    pokhvizi_composer_new(&document->composer, (uint32_t)parser->max_nodes);
 }
 
 /* Gives back what a document has taken. */

@@ -8,6 +8,20 @@ static uint32_t step(parser_object *parser, uint8_t fact, pokhvizi_fault_t *faul
                          &parser->event, fault);
 }
 
+/* Makes the stack of marks larger, unless the token in hand opens one collection more than may be open. */
+static int grow_marks(parser_object *parser)
+{
+    const char *context, *problem = pokhvizi_problem(POKHVIZI_TOO_DEEP, &context);
+
+    if (parser->marks_room == parser->max_depth)
+        return give_fault(parser, YAML_PARSER_ERROR, context, NULL, problem, &span_of(parser)->start_mark);
+    if (grow(&parser->marks, parser->first_marks, &parser->marks_room, 0, sizeof *parser->marks) < 0)
+        return -1;
+    if (parser->marks_room > parser->max_depth)
+        parser->marks_room = parser->max_depth;
+    return 0;
+}
+
 /* Does what a step asks for that gave no event. */
 static int follow(parser_object *parser, uint32_t did, const pokhvizi_fault_t *fault)
 {
@@ -22,7 +36,7 @@ static int follow(parser_object *parser, uint32_t did, const pokhvizi_fault_t *f
     case POKHVIZI_FULL_STATES:
         return grow(&parser->states, parser->first_states, &parser->states_room, 0, sizeof *parser->states);
     case POKHVIZI_FULL_MARKS:
-        return grow(&parser->marks, parser->first_marks, &parser->marks_room, 0, sizeof *parser->marks);
+        return grow_marks(parser);
     case POKHVIZI_FAULT:
         problem = pokhvizi_problem(fault->problem, &context);
         return give_fault(parser, YAML_PARSER_ERROR, context, &fault->context_mark, problem,

@@ -52,7 +52,7 @@ struct kept {
     /* Names of attributes, made once, since Python's cache of attributes goes by their addresses. */
     struct {
         PyObject *read, *name, *resolve, *descend_resolver, *ascend_resolver, *yaml_path_resolvers, *function,
-            *start_mark, *end_mark;
+            *start_mark, *end_mark, *max_depth, *max_nodes;
     } names;
     int is_new; /* Python is 3.9 or later */
 };
@@ -148,6 +148,7 @@ typedef struct {
     uint8_t *states, first_states[64];
     pokhvizi_mark_t *marks, first_marks[32];
     size_t states_room, marks_room;
+    size_t max_depth, max_nodes; /* what may be open at once; what each list of a document may have */
 } parser_object;
 
 extern PyType_Spec parser_spec;

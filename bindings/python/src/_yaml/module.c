@@ -106,6 +106,8 @@ static int make_names(void)
         {"__func__", &its.names.function},
         {"start_mark", &its.names.start_mark},
         {"end_mark", &its.names.end_mark},
+        {"max_depth", &its.names.max_depth},
+        {"max_nodes", &its.names.max_nodes},
     };
     size_t i;
 
@@ -169,6 +171,18 @@ static int make_mark_type(void)
     return add(type, "pointer", shared(Py_None));
 }
 
+/* The bounds of a loader are attributes of its class, and None is none. */
+static int add_parser_type(PyObject *module)
+{
+    PyObject *type = PyType_FromSpec(&parser_spec);
+
+    if (type == NULL || add(type, "max_depth", shared(Py_None)) < 0 || add(type, "max_nodes", shared(Py_None)) < 0) {
+        Py_XDECREF(type);
+        return -1;
+    }
+    return add(module, "CParser", type);
+}
+
 static int fill(PyObject *module)
 {
     if (import_others() < 0 || import_tokens() < 0 || import_events() < 0)
@@ -176,8 +190,7 @@ static int fill(PyObject *module)
     if (find_version() < 0 || make_styles() < 0 || make_implicits() < 0 || make_names() < 0 ||
         make_mark_type() < 0)
         return -1;
-    if (add(module, "Mark", shared((PyObject *)its.mark)) < 0 ||
-        add(module, "CParser", PyType_FromSpec(&parser_spec)) < 0)
+    if (add(module, "Mark", shared((PyObject *)its.mark)) < 0 || add_parser_type(module) < 0)
         return -1;
     return add(module, "libyaml_version", PyUnicode_FromString(yaml_get_version_string()));
 }

@@ -238,6 +238,33 @@ static int begin_directives(struct directives *directives)
     return -1;
 }
 
+/* Puts the loader's bound of this name; `most` where it is None or a larger number. */
+static int find_bound(parser_object *parser, PyObject *name, size_t most, size_t *bound)
+{
+    PyObject *found = PyObject_GetAttr((PyObject *)parser, name);
+    int done = found == NULL ? -1 : 0;
+
+    *bound = found == NULL || found == Py_None ? most : PyLong_AsSize_t(found);
+    if (*bound == (size_t)-1 && PyErr_Occurred() && found != NULL) {
+        PyErr_Format(PyExc_ValueError, "%U has to be None or a number from 0 on, and is %R", name, found);
+        done = -1;
+    }
+    Py_XDECREF(found);
+    if (*bound > most)
+        *bound = most;
+    return done;
+}
+
+static int find_bounds(parser_object *parser)
+{
+    if (find_bound(parser, its.names.max_depth, PY_SSIZE_T_MAX, &parser->max_depth) < 0 ||
+        find_bound(parser, its.names.max_nodes, INT32_MAX, &parser->max_nodes) < 0)
+        return -1;
+    if (parser->marks_room > parser->max_depth)
+        parser->marks_room = parser->max_depth;
+    return 0;
+}
+
 /* Begins a stream, of which nothing is there yet. */
 static int begin(parser_object *parser)
 {
@@ -254,7 +281,7 @@ static int begin(parser_object *parser)
     parser->states_room = LENGTH(parser->first_states);
     parser->marks = parser->first_marks;
     parser->marks_room = LENGTH(parser->first_marks);
-    return begin_directives(&parser->directives);
+    return begin_directives(&parser->directives) < 0 ? -1 : find_bounds(parser);
 }
 
 static int parser_init(PyObject *object, PyObject *arguments, PyObject *keywords)

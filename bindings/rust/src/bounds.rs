@@ -1,0 +1,32 @@
+//! Bounds on what is parsed and loaded, which the original doesn't have. They hold in all threads for each parser that begins
+//! after they were set, and until then there is none.
+//!
+//! ```
+//! unsafe_libyaml::bounds::set_max_depth(1000);
+//! ```
+
+use std::sync::atomic::{AtomicU32, AtomicUsize, Ordering::Relaxed};
+
+static DEPTH: AtomicUsize = AtomicUsize::new(usize::MAX);
+static NODES: AtomicU32 = AtomicU32::new(i32::MAX as u32);
+
+/// Sets how many collections may be open at once. The token that opens one more is the parser's fault `found too many levels`.
+///
+/// A sequence that isn't indented in its mapping, and a pair in a flow sequence, count with what they stand in.
+pub fn set_max_depth(depth: usize) {
+    DEPTH.store(depth, Relaxed);
+}
+
+/// Sets how many nodes a document may have, and how many items or pairs each node. One more is the composer's fault
+/// `found too many nodes`. The most is 2147483647.
+pub fn set_max_nodes(nodes: u32) {
+    NODES.store(nodes.min(i32::MAX as u32), Relaxed);
+}
+
+pub(crate) fn max_depth() -> usize {
+    DEPTH.load(Relaxed)
+}
+
+pub(crate) fn max_nodes() -> u32 {
+    NODES.load(Relaxed)
+}

@@ -1,0 +1,71 @@
+//! Bounds, and the version: they are of the process, so no other test runs beside this one.
+
+use std::ffi::CStr;
+use std::mem::MaybeUninit;
+use unsafe_libyaml::*;
+
+/// How many events or documents there are of a text, and the fault that ends them.
+unsafe fn told(text: &str, loads: bool) -> (usize, String) {
+    let (mut parser, mut count) = (Box::new(MaybeUninit::uninit()), 0);
+    let parser: *mut yaml_parser_t = parser.as_mut_ptr();
+    assert!(yaml_parser_initialize(parser).ok);
+    yaml_parser_set_input_string(parser, text.as_ptr(), text.len() as u64);
+    loop {
+        let (mut event, mut document) = (MaybeUninit::uninit(), MaybeUninit::uninit());
+        let (given, is_last) = if loads {
+            let given = yaml_parser_load(parser, document.as_mut_ptr()).ok;
+            let is_last = !given || yaml_document_get_root_node(document.as_mut_ptr()).is_null();
+            if given {
+                yaml_document_delete(document.as_mut_ptr());
+            }
+            (given, is_last)
+        } else {
+            let given = yaml_parser_parse(parser, event.as_mut_ptr()).ok;
+            let is_last = !given || (*event.as_ptr()).type_ == YAML_STREAM_END_EVENT;
+            yaml_event_delete(event.as_mut_ptr());
+            (given, is_last)
+        };
+        if is_last {
+            let (mut fault, problem) = (String::new(), (*parser).problem);
+            if !given {
+                fault = CStr::from_ptr(problem.cast()).to_string_lossy().into_owned();
+                fault += &format!(" {}", (*parser).problem_mark.index);
+            }
+            yaml_parser_delete(parser);
+            return (count, fault);
+        }
+        count += 1;
+    }
+}
+
+#[test]
+fn bounds_hold() {
+    assert!(!POKHVIZI_VERSION.is_empty());
+    let deep = |levels: usize| "[".repeat(levels) + &"]".repeat(levels);
+    for levels in [1, 3, 31, 32, 33, 1000] {
+        bounds::set_max_depth(levels);
+        for text in [deep(levels), "- ".repeat(levels) + "x", "? ".repeat(levels) + "x"] {
+            assert_eq!(unsafe { told(&text, true) }, (1, String::new()), "{levels}");
+            assert_eq!(unsafe { told(&text, false) }.1, "", "{levels}");
+        }
+        let fault = format!("found too many levels {levels}");
+        for loads in [false, true] {
+            assert_eq!(unsafe { told(&deep(levels + 1), loads) }.1, fault);
+            assert_eq!(unsafe { told(&"[".repeat(100_000), loads) }.1, fault);
+        }
+    }
+    bounds::set_max_depth(0);
+    assert_eq!(unsafe { told("a", true) }, (1, String::new()));
+    assert_eq!(unsafe { told("[]", true) }, (0, "found too many levels 0".to_owned()));
+    bounds::set_max_depth(usize::MAX);
+    bounds::set_max_nodes(4);
+    assert_eq!(unsafe { told("[a, b, c]", true) }, (1, String::new()));
+    for (text, at) in [
+        ("[a, b, c, d]", 10),
+        ("--- [a]\n--- [a, b, c, d]", 22),
+        ("- &a b\n- *a\n- *a\n- *a\n- *a\n", 24),
+    ] {
+        assert_eq!(unsafe { told(text, true) }.1, format!("found too many nodes {at}"));
+        assert_eq!(unsafe { told(text, false) }.1, "");
+    }
+}
