@@ -70,12 +70,13 @@ static int out_of_memory(yaml_parser_t *parser)
     return 0;
 }
 
-/* ---- Bounds ---- */
+/* ---- The environment ---- */
 
 /* How many collections may be open, and how many entries each list of a document may have. */
 static struct {
     size_t depth, nodes;
 } bounds;
+static const char *check_file;
 
 /* The number that a variable of the environment has, or `most` where it has none. Another text ends the process: it would run
  * without the bound that is asked for. */
@@ -95,8 +96,10 @@ static size_t bound_of(const char *name, size_t most)
     return bound < most ? bound : most;
 }
 
-__attribute__((constructor)) static void read_bounds(void)
+/* As the program begins: no later call looks at what it may be changing. */
+__attribute__((constructor)) static void read_environment(void)
 {
+    check_file = getenv("POKHVIZI_CHECK");
     bounds.depth = bound_of("POKHVIZI_MAX_DEPTH", PTRDIFF_MAX / sizeof(yaml_mark_t));
     bounds.nodes = bound_of("POKHVIZI_MAX_NODES", INT32_MAX);
 }
@@ -104,6 +107,23 @@ __attribute__((constructor)) static void read_bounds(void)
 static size_t least(size_t one, size_t other)
 {
     return one < other ? one : other;
+}
+
+/* The version of this library, which a program finds by this name where it is preloaded. */
+__attribute__((visibility("default"))) const char *pokhvizi_preload_version(void)
+{
+    return POKHVIZI_VERSION;
+}
+
+/* Notes in the file that the environment's POKHVIZI_CHECK names that a stream is parsed here, for proved-libyaml. */
+static void note_use(void)
+{
+    FILE *file = check_file == NULL ? NULL : fopen(check_file, "r+");
+
+    if (file != NULL) {
+        fputs(POKHVIZI_VERSION "\n", file);
+        fclose(file);
+    }
 }
 
 /* ---- Stacks ---- */
@@ -511,6 +531,7 @@ static int begin(yaml_parser_t *parser)
     free(parser->tag_directives.start);
     memset(&parser->tag_directives, 0, sizeof parser->tag_directives);
     parser->state = YAML_PARSE_DOCUMENT_CONTENT_STATE;
+    note_use();
     return 1;
 }
 

@@ -138,6 +138,43 @@ if python3 -c 'import yaml; yaml.CLoader' 2> /dev/null; then
 else
     skip "a program that is preloaded: python3 lacks PyYAML's C part"
 fi
+cat > use.c << 'C'
+#include <stdio.h>
+#include <yaml.h>
+
+int main(int count, char **words)
+{
+    yaml_parser_t parser;
+    yaml_event_t event;
+
+    (void)words;
+    if (count > 1 || !yaml_parser_initialize(&parser))
+        return 7;
+    yaml_parser_set_input_string(&parser, (const unsigned char *)"a", 1);
+    return yaml_parser_parse(&parser, &event) ? 0 : 1;
+}
+C
+starter=$installed/bin/proved-libyaml
+preload=$installed/lib/pokhvizi/libyaml_preload.so
+gcc -O2 use.c -o use -lyaml || complain "use.c"
+want 'a program that is checked' "proved-libyaml: ./use used the proved parser, Pokhvizi $version" "$starter" --check ./use
+want 'its status' 'status 7' sh -c "'$starter' ./use other; echo status \$?"
+want 'a program that parses nothing' "proved-libyaml: ./use didn't use the proved parser, status 1" \
+    sh -c "said=\$('$starter' --check ./use other 2>&1); echo \"\$said, status \$?\""
+gcc -O2 -static use.c -o static -lyaml || complain "use.c, statically"
+want 'a program that no preload reaches' "proved-libyaml: ./static didn't use the proved parser, status 1" \
+    sh -c "said=\$('$starter' --check ./static 2>&1); echo \"\$said, status \$?\""
+want 'a bound that is no number' "proved-libyaml: the library can't be used: libyaml_preload.so: POKHVIZI_MAX_NODES is no number: many; ./use is not run" \
+    env POKHVIZI_MAX_NODES=many "$starter" ./use
+mv "$preload" kept.so
+want 'no library, no run' "proved-libyaml: $installed/lib/pokhvizi/libyaml_preload.so isn't there; ./use is not run 1" \
+    sh -c "said=\$('$starter' ./use 2>&1); echo \"\$said \$?\""
+printf 'none' > "$preload"
+want 'a library that is none' 1 sh -c "'$starter' ./use 2> /dev/null; echo \$?"
+mv kept.so "$preload"
+mkdir 'with space' && cp -R "$installed/." 'with space'
+sed -i "s#^lib=.*#lib=\$here/../lib#" 'with space/bin/proved-libyaml'
+want 'a path with a space' 1 sh -c "'with space/bin/proved-libyaml' ./use 2> /dev/null; echo \$?"
 make -s -C "unpacked/pokhvizi-$version-x86_64-linux" PREFIX="$installed" uninstall
 want 'what uninstalling leaves' '' find "$installed" ! -type d
 
@@ -169,6 +206,14 @@ if [ -n "$cargo" ] && ls -d "$crates"/serde_yaml-* unpacked/pokhvizi-unsafe-liby
         "$work"/unpacked/pokhvizi-unsafe-libyaml-* > app/Cargo.toml
     printf 'fn main() { println!("{}", serde_yaml::Deserializer::from_str("a\\n...\\nb\\n").take(9).count()); }\n' > app/src/main.rs
     want 'the crate, below serde_yaml' 2 sh -c "cd app && PATH='${cargo%/*}:$PATH' CARGO_HOME='$work/home' timeout 600 '$cargo' run -q --offline"
+    for how in patched plain; do
+        mkdir -p $how/src
+        printf 'fn main() { println!("{}", unsafe_libyaml::POKHVIZI_VERSION); }\n' > $how/src/main.rs
+        sed -e 's/^name.*/name = "named"/' -e 's/^serde_yaml.*/unsafe-libyaml = "0.2"/' app/Cargo.toml > $how/Cargo.toml
+    done
+    sed -i '/^\[patch/,$d' plain/Cargo.toml
+    want 'a program that names the version' "$version" sh -c "cd patched && PATH='${cargo%/*}:$PATH' CARGO_HOME='$work/home' timeout 600 '$cargo' run -q --offline"
+    want 'the same without the patch' 1 sh -c "cd plain && PATH='${cargo%/*}:$PATH' CARGO_HOME='$work/home' timeout 600 '$cargo' run -q --offline 2>&1 | grep -c '^error.*POKHVIZI_VERSION'"
 else
     skip "the crate: cargo or serde_yaml isn't there, or no archive for Rust was made"
 fi
