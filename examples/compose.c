@@ -1,5 +1,5 @@
 /* compose < FILE: the nodes of each document of a YAML text, printed as soon as the document ends, of libyaml's events and by
- * pokhvizi/compose.h. The status is 1 after an error.
+ * pokhvizi/compose.h. The status is 1 after an error, which standard error tells, and 2 where memory ran out.
  *
  *     cc compose.c -o compose $(pkg-config --cflags --libs pokhvizi) -lyaml */
 #include <pokhvizi/compose.h>
@@ -24,7 +24,7 @@ static size_t anchors_count, length;
 static void *resized(void *block, size_t size)
 {
     if ((block = realloc(block, size)) == NULL)
-        exit((puts("out of memory"), 2));
+        exit((fputs("compose: out of memory\n", stderr), 2));
     return block;
 }
 
@@ -83,9 +83,35 @@ static void show(void)
     nodes_count = anchors_count = length = 0;
 }
 
-static int failed(const char *problem, size_t line, size_t column)
+static void tell(const char *words, yaml_mark_t mark)
 {
-    fprintf(stderr, "compose: line %zu, column %zu: %s\n", line + 1, column + 1, problem);
+    fprintf(stderr, "compose: line %zu, column %zu: %s\n", mark.line + 1, mark.column + 1, words);
+}
+
+/* libyaml's reader tells a byte of the input, its scanner and parser a mark. */
+static int parser_failed(const yaml_parser_t *parser)
+{
+    if (parser->problem == NULL)
+        exit((fputs("compose: out of memory\n", stderr), 2));
+    if (parser->error == YAML_READER_ERROR)
+        fprintf(stderr, "compose: byte %zu: %s\n", parser->problem_offset, parser->problem);
+    else
+        tell(parser->problem, parser->problem_mark);
+    if (parser->context != NULL)
+        tell(parser->context, parser->context_mark);
+    return 1;
+}
+
+/* Tells why an event can't be composed; `first` is the node that has its anchor, where one has. */
+static int composer_failed(uint32_t deed, const yaml_event_t *event, int32_t first)
+{
+    const char *context, *problem = pokhvizi_refusal(deed, &context);
+
+    if (deed == POKHVIZI_BAD_STACK)
+        abort();
+    tell(problem, event->start_mark);
+    if (context != NULL)
+        tell(context, nodes[first - 1].event.start_mark);
     return 1;
 }
 
@@ -106,7 +132,7 @@ int main(void)
     pokhvizi_composer_new(&composer, INT32_MAX);
     for (int is_last = 0; !is_last;) {
         if (!yaml_parser_parse(&parser, &event))
-            return failed(parser.problem, parser.problem_mark.line, parser.problem_mark.column);
+            return parser_failed(&parser);
         const yaml_char_t *anchor = anchor_of(&event);
         int32_t fact = anchor == NULL ? 0 : pokhvizi_carrier(
             anchors, anchors_count, texts, length, anchor, strlen((const char *)anchor));
@@ -115,9 +141,7 @@ int main(void)
         while ((deed = pokhvizi_compose(&composer, stack, room, (uint8_t)event.type, fact, &place)) == POKHVIZI_FULL_STACK)
             stack = resized(stack, (room *= 2) * sizeof *stack);
         if (deed > POKHVIZI_FULL_STACK)
-            return failed(deed == POKHVIZI_UNDEFINED_ALIAS ? "found undefined alias" :
-                          deed == POKHVIZI_REPEATED_ANCHOR ? "second occurrence" : "too many nodes",
-                          event.start_mark.line, event.start_mark.column);
+            return composer_failed(deed, &event, fact);
         is_last = event.type == YAML_STREAM_END_EVENT;
         if (deed >= POKHVIZI_ROOT && deed <= POKHVIZI_VALUE) {
             if (place.node != 0)

@@ -1,5 +1,5 @@
 /* events < FILE: the events of a YAML text, a line each with its marks and texts, by libyaml's scanner and the calls of
- * pokhvizi/steps.h. The status is 1 after an error, which the last line tells, and 2 where memory ran out.
+ * pokhvizi/steps.h. The status is 1 after an error, which standard error tells, and 2 where memory ran out.
  *
  *     cc events.c -o events $(pkg-config --cflags --libs pokhvizi) -lyaml */
 #include <pokhvizi/steps.h>
@@ -20,7 +20,7 @@ static char *anchor, *tag;
 static void *resized(void *block, size_t size)
 {
     if ((block = realloc(block, size)) == NULL)
-        exit((puts("out of memory"), 2));
+        exit((fputs("events: out of memory\n", stderr), 2));
     return block;
 }
 
@@ -100,9 +100,35 @@ static void show(const pokhvizi_event_t *event, int stays, const yaml_token_t *t
         count = length = 0;
 }
 
-static int failed(const char *problem, size_t line, size_t column)
+static void tell(const char *words, pokhvizi_mark_t mark)
 {
-    printf("%s at %zu:%zu\n", problem, line, column);
+    fprintf(stderr, "events: line %zu, column %zu: %s\n", (size_t)mark.line + 1, (size_t)mark.column + 1, words);
+}
+
+static int parser_failed(const pokhvizi_fault_t *fault)
+{
+    const char *context, *problem = pokhvizi_problem(fault->problem, &context);
+
+    tell(problem, fault->problem_mark);
+    if (context != NULL)
+        tell(context, fault->context_mark);
+    return 1;
+}
+
+static pokhvizi_mark_t mark_of(yaml_mark_t mark)
+{
+    return (pokhvizi_mark_t){mark.index, mark.line, mark.column};
+}
+
+/* libyaml's reader tells a byte of the input, its scanner a mark. */
+static int scanner_failed(const yaml_parser_t *scanner)
+{
+    if (scanner->problem == NULL)
+        exit((fputs("events: out of memory\n", stderr), 2));
+    if (scanner->error == YAML_READER_ERROR)
+        fprintf(stderr, "events: byte %zu: %s\n", scanner->problem_offset, scanner->problem);
+    else
+        tell(scanner->problem, mark_of(scanner->problem_mark));
     return 1;
 }
 
@@ -117,7 +143,6 @@ int main(void)
     pokhvizi_fault_t fault;
     yaml_parser_t scanner;
     yaml_token_t token = {0};
-    const char *context;
 
     handles = resized(NULL, sizeof *handles);
     texts = resized(NULL, 1);
@@ -129,20 +154,30 @@ int main(void)
         if (did == POKHVIZI_WANTS || did == POKHVIZI_GAVE) {
             yaml_token_delete(&token);
             if (!yaml_parser_scan(&scanner, &token))
-                return failed(scanner.problem, scanner.problem_mark.line, scanner.problem_mark.column);
+                return scanner_failed(&scanner);
         }
-        did = pokhvizi_step(&steps, states, states_room, marks, marks_room, (uint8_t)token.type, fact_of(&token),
-            (const pokhvizi_span_t *)&token.start_mark, &event, &fault);
-        if (did == POKHVIZI_WANTS)
+        const pokhvizi_span_t at = {mark_of(token.start_mark), mark_of(token.end_mark)};
+        did = pokhvizi_step(&steps, states, states_room, marks, marks_room, (uint8_t)token.type, fact_of(&token), &at,
+            &event, &fault);
+        switch (did) {
+        case POKHVIZI_WANTS:
             keep(&token);
-        else if (did == POKHVIZI_FULL_STATES)
-            states = resized(states, states_room *= 2);
-        else if (did == POKHVIZI_FULL_MARKS)
-            marks = resized(marks, (marks_room *= 2) * sizeof *marks);
-        else if (did == POKHVIZI_FAULT)
-            return failed(pokhvizi_problem(fault.problem, &context), fault.problem_mark.line, fault.problem_mark.column);
-        else
+            break;
+        case POKHVIZI_GAVE:
+        case POKHVIZI_STAYS:
             show(&event, did == POKHVIZI_STAYS, &token);
+            break;
+        case POKHVIZI_FULL_STATES:
+            states = resized(states, states_room *= 2);
+            break;
+        case POKHVIZI_FULL_MARKS: /* to bound depth, stop here: pokhvizi_problem has words for POKHVIZI_TOO_DEEP */
+            marks = resized(marks, (marks_room *= 2) * sizeof *marks);
+            break;
+        case POKHVIZI_FAULT:
+            return parser_failed(&fault);
+        default: /* POKHVIZI_BAD */
+            abort();
+        }
     }
     yaml_token_delete(&token);
     yaml_parser_delete(&scanner);

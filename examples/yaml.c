@@ -531,13 +531,13 @@ static void put_document(struct run *run, const pokhvizi_event_t *end)
 
 static int composer_fault(struct run *run, const pokhvizi_event_t *event, uint32_t deed, int32_t fact)
 {
-    if (deed == POKHVIZI_UNDEFINED_ALIAS)
-        put_fault(&run->out, "FAULT composer", mark_of(event->start_mark), "found undefined alias", mark_of(event->start_mark), NULL);
-    else if (deed == POKHVIZI_REPEATED_ANCHOR)
-        put_fault(&run->out, "FAULT composer", mark_of(event->start_mark), "second occurrence",
-                  ENTRIES(struct node, run->nodes)[fact - 1].start, "found duplicate anchor; first occurrence");
-    else
+    const char *context, *problem = pokhvizi_refusal(deed, &context);
+    yaml_mark_t start = mark_of(event->start_mark);
+
+    if (deed != POKHVIZI_UNDEFINED_ALIAS && deed != POKHVIZI_REPEATED_ANCHOR)
         return FAILED;
+    put_fault(&run->out, "FAULT composer", start, problem,
+              deed == POKHVIZI_REPEATED_ANCHOR ? ENTRIES(struct node, run->nodes)[fact - 1].start : start, context);
     return FAULTED;
 }
 
@@ -612,6 +612,8 @@ static int take_token(struct run *run, const yaml_token_t *token)
 {
     pokhvizi_event_t event;
     pokhvizi_fault_t fault;
+    const yaml_mark_t start = token->start_mark, end = token->end_mark;
+    const pokhvizi_span_t at = {{start.index, start.line, start.column}, {end.index, end.line, end.column}};
     const char *context;
     int status = ENDED;
 
@@ -620,8 +622,8 @@ static int take_token(struct run *run, const yaml_token_t *token)
         if (run->states.failed || run->marks.failed || run->tag.failed || status != ENDED)
             return status != ENDED ? status : FAILED;
         switch (pokhvizi_step(&run->steps, run->states.bytes, run->states.room, ENTRIES(pokhvizi_mark_t, run->marks),
-                              ROOM(pokhvizi_mark_t, run->marks), (uint8_t)token->type, fact,
-                              (const pokhvizi_span_t *)(const void *)&token->start_mark, &event, &fault)) {
+                              ROOM(pokhvizi_mark_t, run->marks), (uint8_t)token->type, fact, &at, &event,
+                              &fault)) {
         case POKHVIZI_WANTS:
             keep(run, token);
             return run->anchor.failed || run->handles.failed || run->handle_texts.failed ? FAILED : ENDED;

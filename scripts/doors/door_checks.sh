@@ -101,6 +101,24 @@ check_threads() {
     check "the same, helgrind" valgrind -q --tool=helgrind --error-exitcode=9 "$work/plain" threads examples/list.yaml
 }
 
+# tells SAMPLE WORDS TEXT: what a sample says on standard error of a text, on one line; its status is 1.
+tells() {
+    said=$(printf -- "$3" | "$work/$1" 2>&1 > /dev/null; echo "status $?")
+    said=$(echo "$said" | tr '\n' ' ')
+    [ "$said" = "$2 status 1 " ] || complain "examples/$1.c says: $said"
+}
+
+# What a sample says of texts that libyaml's reader or scanner, or the parser, refuses; and a compiler that looks at casts.
+check_sample() {
+    $cc -O2 $strict -Wstrict-aliasing=1 -Wcast-align=strict -fsyntax-only "examples/$1.c" || complain "examples/$1.c: a cast"
+    $cc $sanitized $strict -o "$work/$1_sanitized" "examples/$1.c" "$library" -lyaml || exit 2
+    ASAN_OPTIONS=detect_leaks=0 "$work/$1_sanitized" < examples/compose.yaml > /dev/null || complain "examples/$1.c, sanitized"
+    tells "$1" "$1: byte 4: invalid leading UTF-8 octet" 'a\nb\n\377\n'
+    tells "$1" "$1: byte 3: control characters are not allowed" 'a\nb\001\n'
+    tells "$1" "$1: line 2, column 6: mapping values are not allowed in this context" 'a\n--- b: c: d\n'
+    tells "$1" "$1: line 2, column 3: did not find expected ',' or ']' $1: line 1, column 3: while parsing a flow sequence" '- [a\n  }'
+}
+
 # ---- Steps ----
 
 check_steps() {
@@ -117,6 +135,7 @@ check_steps() {
     $cc -O2 $strict -o "$work/events" examples/events.c "$library" -lyaml || exit 2
     check "examples/events.c" sh -c "'$work/events' < examples/compose.yaml | tee '$work/lines' | wc -l &&
         cut -d ' ' -f 1 '$work/lines' | uniq | tail -n 1 | grep -x -e -STR"
+    check_sample events
     check_three "beside libyaml's events" "$@"
     check_three "bad calls" bad "$@"
     check_threads examples/*.yaml
@@ -142,7 +161,9 @@ check_compose() {
     $cc -O2 $strict -o "$work/compose" examples/compose.c "$library" -lyaml || exit 2
     check "examples/compose.c" sh -c "printf 'a: &x [b, *x]\n--- c\n' | '$work/compose' | tr '\n' ' ' |
         grep '1 mapping 2:3 2 scalar a 3 sequence 4 3 4 scalar b ... 1 scalar c ...'"
-    ! printf '&a [&a b]\n' | "$work/compose" > /dev/null 2>&1 || complain "examples/compose.c: a fault is not told"
+    check_sample compose
+    tells compose 'compose: line 1, column 5: second occurrence compose: line 1, column 1: found duplicate anchor; first occurrence' '&a [&a b]'
+    tells compose 'compose: line 1, column 3: found undefined alias' '- *a'
 }
 
 # ---- The program ----
@@ -186,6 +207,7 @@ check_texts() {
 # Outputs that fail, words that are wrong, files that aren't there.
 check_failures() {
     runs=0
+    $cc -O2 $strict -Wstrict-aliasing=1 -Wcast-align=strict -fsyntax-only examples/yaml.c || complain "examples/yaml.c: a cast"
     for mode in tokens events nodes; do
         expect_message 3 sh -c "'$work/plain_yaml' $mode examples/list.yaml > /dev/full"
         expect_message 3 sh -c "'$work/plain_yaml' $mode examples/list.yaml >&-"
