@@ -42,19 +42,26 @@ aarch64) cc=aarch64-linux-gnu-gcc tools=aarch64-linux-gnu- for_machine='--target
 esac
 : > "$dir/rt_lib.log"
 
+# Runs a command. All that it says goes to the log; what the prover has done is told as it comes, once a function.
+log() {
+    : > "$dir/failed"
+    { "$@" 2>&1 && rm "$dir/failed"; } | tee -a "$dir/rt_lib.log" | { grep --line-buffered -E '^(fn|rt:) ' || :; }
+    [ ! -e "$dir/failed" ] || { tail -n 5 "$dir/rt_lib.log" >&2; rm "$dir/failed"; exit 1; }
+}
+
 # Makes NAME.o of a crate: its only global names are these.
 build_door() {
     door=$1 crate=$2
     shift 2
     wanted=$(printf '%s\n' "$@" | sort)
     archive=$dir/lib$crate.a
-    echo "building $door of crates/$crate; what it says goes to $dir/rt_lib.log"
+    echo "building $door of crates/$crate, in a minute, or ten where nothing is proved yet; see tail -f $dir/rt_lib.log"
     if [ $machine = x86_64 ] && [ -z "$after" ]; then
-        (cd "crates/$crate" && rt lib $for_machine) >> "$dir/rt_lib.log" 2>&1 || { tail -n 5 "$dir/rt_lib.log" >&2; exit 1; }
+        log sh -c "cd crates/$crate && rt lib $for_machine"
         cp "crates/$crate/out/lib$crate.a" "$archive"
     else
         # `rt lib` would prove the crates below again in a fresh checkout.
-        sh scripts/parts/over_kept.sh "$crate" "$archive" "$kit/toolchain" $for_machine >> "$dir/rt_lib.log" 2>&1 || { tail -n 5 "$dir/rt_lib.log" >&2; exit 1; }
+        log sh scripts/parts/over_kept.sh "$crate" "$archive" "$kit/toolchain" $for_machine
     fi
     (cd "$dir" && "${tools}ar" x "$archive" && mv "$crate.o" "${door}_module.o")
     rm -f "$archive"

@@ -22,12 +22,12 @@ cd "$crate" || exit 2
 
 # The files of `data` go where the program runs; none of their names has a space.
 files=$(cd data && find . -type f | sed 's|^\./||; s|.*|--data &=data/&|')
-out=$(mktemp) || exit 2
-trap 'rm -f "$out"' EXIT
+out=$(mktemp) && status=$(mktemp) || exit 2
+trap 'rm -f "$out" "$status"' EXIT
+echo "building $crate without a proof, and then running it: a table is told as it ends"
 # shellcheck disable=SC2086
-rt try --seconds 600 $files -- "$@" >"$out"
-ended=$?
-cat "$out"
+{ rt try --seconds 600 $files -- "$@"; echo $? > "$status"; } | tee "$out"
+ended=$(cat "$status")
 [ "$ended" = 0 ] || exit "$ended"
 if [ $write = yes ]; then
     cp "$out" stdout

@@ -5,7 +5,10 @@
 #
 # Needs gcc, binutils and Debian's libyaml-dev. CC and STRIP name the tools for another machine.
 set -eu
-dir=$(cd "${1:?usage: sh bindings/c/build_preload.sh DIR}" && pwd)
+usage='usage: sh bindings/c/build_preload.sh DIR, where build_c.sh made DIR'
+case ${1-} in '' | -*) echo "$usage" >&2; exit 2 ;; esac
+[ $# -eq 1 ] && [ -f "$1/libpokhvizi.a" ] || { echo "$usage" >&2; exit 2; }
+dir=$(cd "$1" && pwd)
 cd "$(dirname "$0")/../.."
 "${CC:-gcc}" -O2 -Wall -Wextra -Werror -pedantic -shared -fPIC -fvisibility=hidden -Ibindings/c/include -Wl,--exclude-libs,ALL \
     -Wl,-z,relro,-z,now -Wl,--build-id=sha1 -ffile-prefix-map="$PWD=." -o "$dir/libyaml_preload.so" bindings/c/libyaml_preload.c \

@@ -6,7 +6,10 @@
 # Needs gcc, binutils, libyaml.a with its header (Debian's libyaml-dev) and Python's headers, of 3.8 or later: those that
 # PYTHON_INCLUDE names, or of python3. It serves each Python from 3.8 on; libyaml is part of it.
 set -eu
-dir=$(cd "${1:?usage: sh bindings/python/build_extension.sh DIR}" && pwd)
+usage='usage: sh bindings/python/build_extension.sh DIR, where build_c.sh made DIR'
+case ${1-} in '' | -*) echo "$usage" >&2; exit 2 ;; esac
+[ $# -eq 1 ] && [ -f "$1/libpokhvizi.a" ] || { echo "$usage" >&2; exit 2; }
+dir=$(cd "$1" && pwd)
 cd "$(dirname "$0")/../.."
 python=${PYTHON_INCLUDE:-$(python3 -c 'import sysconfig; print(sysconfig.get_path("include"))')}
 cc=${CC:-gcc}
