@@ -319,11 +319,12 @@ loaded = yaml.load("a: [1, 2]", Loader=pokhvizi.SafeLoader)
 def second_interpreter():
     try:
         import _xxsubinterpreters as interpreters
+        words = {"isolated": False} if sys.version_info >= (3, 10) else {}
     except ImportError:
-        print("not run: a second interpreter, which %s can't make by this module" % sys.version.split()[0])
-        return
+        import _interpreters as interpreters
+        words = {"config": "legacy"}
     out = tempfile.NamedTemporaryFile()
-    begun = interpreters.create(isolated=False) if sys.version_info >= (3, 10) else interpreters.create()
+    begun = interpreters.create(**words)
     try:
         interpreters.run_string(begun, "import sys\nsys.path[:0] = %r\n%s\nopen(%r, 'w').write(repr((loaded, words)))"
                                 % (sys.path, ALL_READ, out.name))
@@ -344,7 +345,8 @@ def no_extension():
         os.mkdir(folder + "/pokhvizi")
         for name in ("__init__.py", "cyaml.py"):
             os.symlink(os.path.join(os.path.dirname(pokhvizi.__file__), name), "%s/pokhvizi/%s" % (folder, name))
-        run = subprocess.run([sys.executable, "-c", ALL_READ + "print(loaded, words)"], env=dict(os.environ, PYTHONPATH=folder),
+        path = os.pathsep.join([folder, os.environ.get("PYTHONPATH", "")])
+        run = subprocess.run([sys.executable, "-c", ALL_READ + "print(loaded, words)"], env=dict(os.environ, PYTHONPATH=path),
                              stdout=subprocess.PIPE, universal_newlines=True)
     expect("without the extension", run.stdout[:71],
            "{'a': [1, 2]} pokhvizi.CSafeLoader needs the extension pokhvizi._yaml, ")
