@@ -386,7 +386,7 @@ crate() {
     (cd "$work/unsafe_libyaml" && cargo test -q -j 1) || return 1
     (cd "$work/unsafe_libyaml" && POKHVIZI_DIR=/nowhere cargo build -q -j 1) > "$work/missing" 2>&1 && return 1
     grep -q "POKHVIZI_DIR may name the folder of libpokhvizi.a" "$work/missing" || { cat "$work/missing"; return 1; }
-    echo "$(grep -c '^#\[test\]' bindings/rust/tests/calls.rs) tests"
+    echo "$(cat bindings/rust/tests/*.rs | grep -c '^#\[test\]') tests"
 }
 
 loads_rust() {

@@ -7,7 +7,8 @@
 #
 # Tokens, events, nodes, values and errors beside those of PyYAML's C loaders, with all fields and marks: over the repository's
 # own texts, and YAML files below /usr and /opt; how much of a stream has been read when each comes; each allocation of Python's and
-# of libc's refused in turn; deep texts, loaders that are called while they are at work, cycles and leaks. With `all` there are
+# of libc's refused in turn; deep texts and bounds, drawn tag directives, calls in any order, loaders that are called while they
+# are at work, a second interpreter, cycles and leaks. With `all` there are
 # more files, deeper texts, and each text has its allocations refused. The status is 0 where all is as it should be.
 #
 # PYTHON is python3 where it isn't set. Needs what build_extension.sh needs, and PyYAML with its C form for that Python. Where the

@@ -21,6 +21,7 @@
 //! - A failed allocation of the library is the fault `YAML_MEMORY_ERROR`; one of Rust's ends the process, as there.
 //! - A load within a document that is being parsed is the parser's fault `load within a document`.
 //! - A load after a fault fails again with that fault.
+//! - A document with more nodes than it may have is the composer's fault `found too many nodes`, in place of one of memory.
 //! - [`POKHVIZI_VERSION`] and the module [`bounds`] are added.
 
 #![allow(non_camel_case_types, clippy::missing_safety_doc)]
