@@ -134,18 +134,23 @@ impl Parser {
             self.lines
                 .extend_from_slice(b"stacks that are too short are taken\n")?;
         }
+        let kind = token_kind(byte_of(token.kind));
+        let differs = self.steps.differs(kind).number();
         let did = self
             .steps
             .step(
                 self.states.as_mut_slice(),
                 self.marks.as_mut_slice(),
-                token_kind(byte_of(token.kind)),
+                kind,
                 fact,
                 &span_of(token),
                 &mut event,
                 &mut fault,
             )
             .number();
+        if differs != 0 && did != FULL_STATES && did != FULL_MARKS {
+            self.write_difference(differs, &mark_of(&token.start_mark))?;
+        }
         match did {
             WANTS => self.hold(token)?,
             GAVE => self.write(alloc, &event, Some(*token), texts)?,
@@ -325,6 +330,14 @@ impl Parser {
             return option_of(texts, &self.anchor);
         }
         Ok(None)
+    }
+
+    /// Writes the line of a token with which libyaml does something else: the number of the place, and
+    /// where it starts.
+    fn write_difference(&mut self, number: u8, mark: &yaml_mark_t) -> Result<()> {
+        let (index, line, column) = (mark.index, mark.line, mark.column);
+        writeln!(&mut self.lines, "DIFFERS {number} {index}:{line}:{column}")?;
+        Ok(())
     }
 
     /// Writes the line of a fault: its number, and where it was found and where its context starts.

@@ -5,6 +5,7 @@ ghost use Rattle.libyaml_automaton.specs.Automaton.{AtState};
 ghost use Rattle.libyaml_automaton.specs.Config.{stacks_of, first_stacks, Within};
 ghost use Rattle.libyaml_automaton.specs.Growth.{HasNoRoom};
 ghost use Rattle.libyaml_automaton.specs.Wanted.{purpose_of};
+ghost use Rattle.token_steps.specs.Differing.{differs_in};
 ghost use Rattle.token_steps.specs.Facts as facts;
 ghost use Rattle.token_steps.specs.Growth.{grows_states, grows_marks};
 ghost use Rattle.token_steps.specs.Records.{AreFlags, AreUnused, kind_of, span_token};
@@ -14,7 +15,7 @@ ghost use Rattle.token_steps.specs.Tells.{Tells, want_in, IsGiven, IsUntold};
 use crate::did::Did;
 use crate::head::NO_HEAD;
 use crate::records::{step_event_t, step_fault_t, step_span_t};
-use libyaml_automaton::{Action, Automaton, Reading};
+use libyaml_automaton::{Action, Automaton, Difference, Reading};
 use libyaml_types::{yaml_mark_t, yaml_token_type_t};
 
 /// What is kept between two calls, beside the two stacks: plain numbers, each of which may be any.
@@ -75,6 +76,14 @@ impl steps_t {
             read: Reading::new(),
             tag: 0,
         }
+    }
+
+    /// Returns where libyaml does something else with a token of this kind, if it is handed in next.
+    #[inline(always)]
+    pub fn differs(&self, kind: yaml_token_type_t) -> Difference
+        ensures { result ≡ differs_in self.now kind }
+    {
+        self.machine.differs(&self.read, kind)
     }
 
     /// Takes a token by its kind, fact and marks. Puts at most one event, or an error, and returns which.

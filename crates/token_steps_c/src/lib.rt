@@ -8,8 +8,10 @@ ghost use Rattle.std.specs.Prelude.{◌≡◌, ◌≤◌, ◌↔◌, ℕ, List, 
 ghost use Rattle.libyaml_types.specs.declared.mark.yaml_mark_t.{yaml_mark_t};
 ghost use Rattle.libyaml_automaton.specs.Automaton.{AtState};
 ghost use Rattle.libyaml_automaton.specs.Config.{stacks_of, first_stacks, Within};
+ghost use Rattle.libyaml_automaton.specs.Differing.{difference_number};
 ghost use Rattle.libyaml_automaton.specs.Growth.{HasNoRoom};
 ghost use Rattle.libyaml_automaton.specs.Wanted.{purpose_of};
+ghost use Rattle.token_steps.specs.Differing.{differs_in};
 ghost use Rattle.token_steps.specs.Facts as facts;
 ghost use Rattle.token_steps.specs.Growth.{grows_states, grows_marks};
 ghost use Rattle.token_steps.specs.Records.{AreFlags, AreUnused, kind_of, span_token};
@@ -29,6 +31,17 @@ pub extern "C" fn pokhvizi_steps_new(steps: &mut steps_t)
     ensures within { (states : List ℕ) (marks : List yaml_mark_t) → Within steps.new.machine states marks }
 {
     *steps = steps_t::new();
+}
+
+/// Returns where libyaml does something else with a token of this kind, if it is handed in next, as
+/// `steps_t::differs` does: 0 where it does the same; 1 after the KEY of a flow sequence's pair, where it
+/// loses the token; and where it has an error, 2 where a block mapping's KEY is due, and 3 after a document's
+/// explicit end.
+#[unsafe(no_mangle)]
+pub extern "C" fn pokhvizi_differs(steps: &steps_t, kind: u8) -> u8
+    ensures { result ≡ difference_number (differs_in steps.now (kind_of kind)) }
+{
+    steps.differs(token_kind(kind)).number()
 }
 
 /// Takes a token by its kind, fact and marks, as `steps_t::step` does. Returns 0 where the next token is
