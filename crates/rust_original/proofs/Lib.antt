@@ -1,3 +1,4 @@
 pub mod parser
 pub mod runs
+pub mod strict
 pub mod loads

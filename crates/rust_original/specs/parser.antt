@@ -2,3 +2,5 @@ pub mod Parser
 pub mod Texts
 pub mod Runs
 pub mod Differences
+pub mod Strict
+pub mod StrictCalls

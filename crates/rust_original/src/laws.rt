@@ -3,10 +3,14 @@
 ghost use Rattle.std.specs.Prelude.{◌≡◌, ◌⊎◌, ℕ, List, Some, Bool, true, false, map};
 ghost use Rattle.libyaml_types.specs.Events.{empty_event};
 ghost use Rattle.libyaml_types.specs.Fault.{Fault};
-ghost use Rattle.libyaml_grammar.specs.runs.Runs.{Ending, Ends, IsRun};
+ghost use Rattle.libyaml_grammar.specs.runs.Runs.{Ending, Ends, Fails, IsRun};
 ghost use Rattle.libyaml_grammar.specs.sentences.Events.{Event};
 ghost use Rattle.libyaml_grammar.specs.sentences.Nesting.{IsNested, NestsSoFar};
-ghost use Rattle.libyaml_grammar.specs.sentences.Tokens.{Token};
+ghost use Rattle.libyaml_grammar.specs.sentences.Sentences.{has_end};
+ghost use Rattle.libyaml_grammar.specs.sentences.Tokens.{Mark, Token};
+ghost use Rattle.libyaml_automaton.specs.declared.difference.Difference.{Difference};
+ghost use Rattle.libyaml_automaton.specs.declared.difference.Difference.TheVariants.{BareDocument, PairKey};
+ghost use Rattle.libyaml_automaton.specs.declared.difference.Difference.TheVariants.{ValueFirst};
 ghost use Rattle.libyaml_graphs.specs.loads.Bounds.{IsBoundedLoads, bounded_loads};
 ghost use Rattle.libyaml_graphs.specs.loads.Loads.{Load};
 ghost use Rattle.libyaml_events.specs.machine.Config.{is_fault};
@@ -14,8 +18,12 @@ ghost use Rattle.rust_original.specs.loader.Loader.{loads_there};
 ghost use Rattle.rust_original.specs.loader.LoadsThere.{LoadsCompare, LoadsThere};
 ghost use Rattle.rust_original.specs.parser.Differences.{Compares, Differs, call_here, call_there};
 ghost use Rattle.rust_original.specs.parser.Parser.{Mends, OK, OriginalParser, yaml_parser_parse};
-ghost use Rattle.rust_original.specs.parser.Runs.{Runs, RunsThere, as_here, call, new_original_parser};
-ghost use Rattle.rust_original.specs.parser.Runs.{run_within};
+ghost use Rattle.rust_original.specs.parser.Runs.{Runs, RunsThere, as_here, as_there, call};
+ghost use Rattle.rust_original.specs.parser.Runs.{new_original_parser, run_within};
+ghost use Rattle.rust_original.specs.parser.Strict.{Over, Stopped, StopsAt, StrictEnding, StrictRun};
+ghost use Rattle.rust_original.specs.parser.Strict.{document_fault, key_fault};
+ghost use Rattle.rust_original.specs.parser.StrictCalls.{BetweenAsked, ForAskedFailed, ForStopped};
+ghost use Rattle.rust_original.specs.parser.StrictCalls.{RunThere, StopThere};
 ghost use Rattle.rust_original.specs.parser.Texts.{NoneHoldsZero, as_held};
 
 /// The Rust crate has one run over each list of tokens and error of a source after it. Its events nest, and
@@ -57,6 +65,37 @@ pub fn compared()
     ensures runs { (l : List Token) (f : Fault) (e d : List Event) (x y : Ending) → RunsThere l f e x
         → IsRun (map as_held l) f d y → Compares (new_original_parser (map as_held l) f) e x d y }
     ensures texts { (l : List Token) → NoneHoldsZero l → map as_held l ≡ l }
+{}
+
+/// A strict parser is asked before each token whether the Rust crate does something else there. Where it
+/// never does, the run is that of both. Where it does, both do the same up to that call, and there something
+/// else: the Rust crate fails with this error, or after the KEY of a pair goes on. Over each list there is
+/// one such run.
+pub fn strict()
+    ensures same { (l : List Token) (f : Fault) (e : List Event) (x : Ending) → StrictRun l f e (Over x)
+        → RunsThere l f e x × IsRun (map as_held l) f e x }
+    ensures stops { (l : List Token) (f : Fault) (e : List Event) (k : Difference) (m n : Mark)
+        → StrictRun l f e (Stopped k m n) → StopsAt (new_original_parser (map as_held l) f) e k m n }
+    ensures value_first { (l : List Token) (f : Fault) (e : List Event) (m n : Mark)
+        → StrictRun l f e (Stopped ValueFirst m n) → RunsThere l f e (Fails (key_fault m n)) }
+    ensures bare_document { (l : List Token) (f : Fault) (e : List Event) (m n : Mark)
+        → StrictRun l f e (Stopped BareDocument m n) → RunsThere l f e (Fails (document_fault n)) }
+    ensures some { (l : List Token) (f : Fault) → (e : List Event) × (x : StrictEnding) × StrictRun l f e x }
+    ensures one { (l : List Token) (f : Fault) (e d : List Event) (x y : StrictEnding) → StrictRun l f e x
+        → StrictRun l f d y → (e ≡ d) × (x ≡ y) }
+{}
+
+/// So it is with a caller of the steps that asks before each call (`steps_t::differs`): what it was given,
+/// and the error, are those of the Rust crate over the same tokens. Where something differs at the token in
+/// hand, the Rust crate gave the same so far, and fails with this error, or goes on otherwise.
+pub fn strict_calls()
+    ensures so_far { BetweenAsked (λ l g. has_end l ≡ false
+        → (f : Fault) → Runs as_there (new_original_parser l f) g (Fails f)) }
+    ensures ended { BetweenAsked (λ l g. has_end l ≡ true → RunThere l g Ends) }
+    ensures failed { ForAskedFailed (λ l g f. RunThere l g (Fails f)) }
+    ensures value_first { ForStopped ValueFirst (λ l g m n. RunThere l g (Fails (key_fault m n))) }
+    ensures bare_document { ForStopped BareDocument (λ l g m n. RunThere l g (Fails (document_fault n))) }
+    ensures pair_key { ForStopped PairKey (λ l g m n. StopThere PairKey l g m n) }
 {}
 
 /// What the original's loader makes of events that nest, whole ones with the stream's end alone, and with any

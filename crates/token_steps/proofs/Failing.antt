@@ -15,7 +15,7 @@ use Rattle.token_steps.proofs.Follows.{no}
 use Rattle.token_steps.proofs.Running.{stood}
 use Rattle.token_steps.proofs.Tied.{steps_told, told_with}
 
-told : (x : Did) (p : StepResult) (d : steps_t) (e : step_event_t) (f : step_fault_t) (c : Stacks) → 5 ≡ number x
+pub told : (x : Did) (p : StepResult) (d : steps_t) (e : step_event_t) (f : step_fault_t) (c : Stacks) → 5 ≡ number x
     → Tells x p d e f c → p ≡ Err (step_fault f)
 told did.Failed p d e f c q h = h
 told did.Wants p d e f c q h = no (sym (ap (λ (x : ℕ). x == 5) q))

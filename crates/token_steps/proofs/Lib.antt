@@ -8,5 +8,6 @@ pub mod Tied
 pub mod Running
 pub mod Stacks
 pub mod Failing
+pub mod Stepped
 pub mod Tables
 pub mod lent

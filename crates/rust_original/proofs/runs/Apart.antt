@@ -232,15 +232,15 @@ compared {p} {e} {x} (fails {f = f} i) d y s = go (apart p) d y s
     go (inl h) d y (fails j) = same refl (ap Fails (fail_same (sym i ∙ (h ∙ j))))
 
 -- one run
-pub one_run : {p : OriginalParser} {e : List Event} {x : Ending} → Runs as_there p e x → (d : List Event) (y : Ending)
-    → Runs as_there p d y → (e ≡ d) × (x ≡ y)
+pub one_run : {m : Mends} {p : OriginalParser} {e : List Event} {x : Ending} → Runs m p e x → (d : List Event) (y : Ending)
+    → Runs m p d y → (e ≡ d) × (x ≡ y)
 one_run (ends i f) d y (ends j g) = let k = ok_same (sym i ∙ j) in (ap (λ (z : Event). z ∷ []) k.0, refl)
 one_run (ends i f) d y (goes_on j g later) = absurd (both_flags (ok_same (sym i ∙ j)).1 f g)
 one_run (ends i f) d y (fails j) = absurd (apart_outcomes (sym i ∙ j))
 one_run (goes_on i f rest) d y (ends j g) = absurd (both_flags (sym (ok_same (sym i ∙ j)).1) g f)
-one_run (goes_on {e = a} {later = l} i f rest) d y (goes_on {e = b} {later = m} j g later) =
+one_run {m} (goes_on {e = a} {later = l} i f rest) d y (goes_on {e = b} {later = n} j g later) =
     let k = ok_same (sym i ∙ j) in
-    let h = one_run rest m y (subst (λ (z : OriginalParser). Runs as_there z m y) (sym k.1) later) in
+    let h = one_run rest n y (subst (λ (z : OriginalParser). Runs m z n y) (sym k.1) later) in
     (ap (λ (z : Event). z ∷ l) k.0 ∙ ap (λ (z : List Event). b ∷ z) h.0, h.1)
 one_run (goes_on i f rest) d y (fails j) = absurd (apart_outcomes (sym i ∙ j))
 one_run (fails i) d y (ends j g) = absurd (apart_outcomes (sym j ∙ i))

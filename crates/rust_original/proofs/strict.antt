@@ -1,0 +1,4 @@
+pub mod Quiet
+pub mod Judged
+pub mod Runs
+pub mod Calls

@@ -1,0 +1,363 @@
+-- A call of the original does the same as one here where no token of the call was told apart, and what it does where one was.
+use Rattle.std.proofs.Common.{◌≡◌, ◌∷◌, ◌∙◌, List, [], None, Bool, true, false, Ok, Err, refl, sym, ap, subst}
+use Rattle.libyaml_types.specs.Types.{token_type}
+use Rattle.libyaml_types.specs.declared.directive.yaml_tag_directive_t.{yaml_tag_directive_t}
+use Rattle.libyaml_types.specs.declared.enums.yaml_parser_state_t.{yaml_parser_state_t}
+use Rattle.libyaml_types.specs.declared.enums.yaml_parser_state_t.TheVariants as st
+use Rattle.libyaml_types.specs.declared.enums.yaml_scalar_style_t.TheVariants.{YAML_PLAIN_SCALAR_STYLE}
+use Rattle.libyaml_types.specs.Fault.{Fault}
+use Rattle.libyaml_grammar.specs.sentences.Events.{event}
+use Rattle.libyaml_grammar.specs.sentences.Tokens.{Content, DocumentEnd, DocumentStart, FlowEntry, FlowSequenceEnd, Mark, StreamEnd, TagDirective, Token, Value, VersionDirective}
+use Rattle.libyaml_automaton.specs.Config.{top_mark}
+use Rattle.libyaml_automaton.specs.declared.difference.Difference.{Difference}
+use Rattle.libyaml_automaton.specs.declared.difference.Difference.TheVariants.{Nowhere}
+use Rattle.libyaml_events.specs.machine.Config.{Config, Handles, config_of, is_end_state, no_handles, taken}
+use Rattle.libyaml_events.specs.machine.Machine.{Progressed, seen, step}
+use Rattle.libyaml_events.specs.machine.Want.{AtState, Given, Want, Wants}
+use Rattle.rust_original.specs.parser.Differences.{Differs, bare_document, behind_entry, behind_start, call_here, call_there, pair_key, value_first}
+use Rattle.rust_original.specs.parser.Parser.{OriginalParser, PUSH_mark, ParserResult, SKIP_TOKEN, behind_directives, scalar_event_with, set_state, yaml_parser_process_empty_scalar}
+use Rattle.rust_original.specs.parser.Strict.{DoesThere, GivesEvent, differs_by}
+use Rattle.rust_original.proofs.parser.Handles.{defaults_appended}
+use Rattle.rust_original.proofs.parser.Relation.{Fits, IsInside, Opens, SamePlace, before, behind, behind_end, entering, first, inside, over, root_end, there_with, tk, tokens_of}
+use Rattle.rust_original.proofs.strict.Quiet as quiet
+use Rattle.rust_original.proofs.strict.Quiet.{Quiet, QuietProgress, QuietState, QuietStep, quiet_behind, quiet_by}
+
+-- what the questions of one call say: none is met, or one is, with the marks of the innermost collection and the token
+pub data Judged : Type 0 where
+  none : Judged
+  met : Difference → (context_mark mark : Mark) → Judged
+
+abbrev pub judged_at : Difference → Config → Token → Judged → Judged
+judged_at Nowhere c t j = j
+judged_at k c t j = met k (top_mark c.marks) t.start_mark
+
+abbrev pub judged_by : Progressed → (Want → Config → Judged) → Judged
+judged_by (Err g) more = none
+judged_by (Ok (Given e, d)) more = none
+judged_by (Ok (Wants v, d)) more = more v d
+
+abbrev pub judged : Want → Config → List Token → Judged
+judged w c [] = none
+judged w c (t ∷ l) = judged_at (differs_by w c t) c t (judged_by (step w c t) (λ v d. judged v d l))
+
+-- no further question is met
+after : (more : Want → Config → Judged) → ((v : Want) (d : Config) → Quiet v.next → more v d ≡ none)
+    → (o : Progressed) → QuietProgress o → judged_by o more ≡ none
+after more h (Err g) q = refl
+after more h (Ok (Given e, d)) q = refl
+after more h (Ok (Wants v, d)) q = h v d q
+
+still : (l : List Token) (w : Want) (c : Config) → Quiet w.next → judged w c l ≡ none
+still [] w c q = refl
+still (t ∷ l) w c q
+    = ap (λ (k : Difference). judged_at k c t (judged_by (step w c t) (λ v d. judged v d l)))
+    (quiet.nowhere w.next c.state c.behind_document_end (token_type t.content) q)
+    ∙ after (λ v d. judged v d l) (λ v d h. still l v d h) (step w c t) (quiet_behind w c t q)
+
+behind_token : (l : List Token) (o : Progressed) → QuietProgress o → judged_by o (λ v d. judged v d l) ≡ none
+behind_token l o q = after (λ v d. judged v d l) (still l) o q
+
+-- what a call of the original does then
+abbrev pub Found : Judged → OriginalParser → Type 0
+Found none p = call_there p ≡ call_here p
+Found (met k m n) p = Differs p (call_there p) (call_here p) × DoesThere k m n (call_there p)
+
+found_none : (j : Judged) (p : OriginalParser) → j ≡ none → call_there p ≡ call_here p → Found j p
+found_none j p i e = subst (λ (x : Judged). Found x p) (sym i) e
+
+module _ (f : Fault) (x : Fault) (ss : List yaml_parser_state_t) where
+  abbrev conf : yaml_parser_state_t → List Mark → Handles → Bool → Config
+  conf s ms hs be
+      = record { lookahead = None; state = s; states = ss; marks = ms; handles = hs; behind_document_end = be; fault = x }
+
+  -- the states where no question is met, and none after them
+  abbrev Silent : yaml_parser_state_t → Type 0
+  Silent st.YAML_PARSE_IMPLICIT_DOCUMENT_START_STATE = ⊥
+  Silent st.YAML_PARSE_BLOCK_MAPPING_KEY_STATE = ⊥
+  Silent st.YAML_PARSE_FLOW_SEQUENCE_ENTRY_STATE = ⊥
+  Silent st.YAML_PARSE_FLOW_SEQUENCE_ENTRY_MAPPING_KEY_STATE = ⊥
+  Silent st.YAML_PARSE_FLOW_MAPPING_KEY_STATE = ⊥
+  Silent _ = Unit {0}
+
+  silent : (s : yaml_parser_state_t) → Silent s → (ms : List Mark) (hs : Handles) (be : Bool) (l : List Token)
+      → judged AtState (conf s ms hs be) l ≡ none
+  silent s q ms hs be [] = refl
+  silent s q ms hs be (t ∷ l)
+      = ap (λ (k : Difference). judged_at k (conf s ms hs be) t
+      (judged_by (step AtState (conf s ms hs be) t) (λ v d. judged v d l))) (same s q)
+      ∙ behind_token l (step AtState (conf s ms hs be) t)
+      (quiet_by AtState (conf s ms hs be) t
+      (quiet.at_state s (config_of (conf s ms hs be)) (seen t t.content) (token_type t.content) (still_quiet s q)))
+    where
+      same : (s : yaml_parser_state_t) → Silent s → differs_by AtState (conf s ms hs be) t ≡ Nowhere
+      same st.YAML_PARSE_IMPLICIT_DOCUMENT_START_STATE q = absurd q
+      same st.YAML_PARSE_BLOCK_MAPPING_KEY_STATE q = absurd q
+      same st.YAML_PARSE_FLOW_SEQUENCE_ENTRY_MAPPING_KEY_STATE q = absurd q
+      same _ q = refl
+
+      still_quiet : (s : yaml_parser_state_t) → Silent s → QuietState s
+      still_quiet st.YAML_PARSE_IMPLICIT_DOCUMENT_START_STATE q = q
+      still_quiet st.YAML_PARSE_FLOW_SEQUENCE_ENTRY_STATE q = q
+      still_quiet st.YAML_PARSE_FLOW_MAPPING_KEY_STATE q = q
+      still_quiet _ q = tt
+
+  -- the same of a state's function alone: its steps want no token for a state's
+  unmet : (s : yaml_parser_state_t) → QuietState s → (ms : List Mark) (hs : Handles) (be : Bool) (t : Token)
+      (l : List Token) → judged_by (step AtState (conf s ms hs be) t) (λ v d. judged v d l) ≡ none
+  unmet s q ms hs be t l = behind_token l (step AtState (conf s ms hs be) t)
+      (quiet_by AtState (conf s ms hs be) t
+      (quiet.at_state s (config_of (conf s ms hs be)) (seen t t.content) (token_type t.content) q))
+
+  abbrev Finds : (here there_state : yaml_parser_state_t) → (marks marks_there : List Mark) → List yaml_tag_directive_t
+      → Handles → Bool → Bool → Bool → (tokens tokens_there : List Token) → Type 0
+  Finds s s' ms ms' tags hs be flag ended l l'
+      = Found (judged AtState (conf s ms hs be) l) (there_with f tags flag s' ended (conf s ms hs be) ms' l')
+
+  unasked : (s s' : yaml_parser_state_t) (ms ms' : List Mark) (tags : List yaml_tag_directive_t) (hs : Handles)
+      (be flag ended : Bool) (l l' : List Token) → judged AtState (conf s ms hs be) l ≡ none
+      → call_there (there_with f tags flag s' ended (conf s ms hs be) ms' l')
+      ≡ call_here (there_with f tags flag s' ended (conf s ms hs be) ms' l')
+      → Finds s s' ms ms' tags hs be flag ended l l'
+  unasked s s' ms ms' tags hs be flag ended l l' i e
+      = found_none (judged AtState (conf s ms hs be) l) (there_with f tags flag s' ended (conf s ms hs be) ms' l') i e
+
+  -- where a block mapping's KEY is due
+  block_key : (ms : List Mark) (tags : List yaml_tag_directive_t) (hs : Handles) (be flag : Bool) (l : List Token)
+      → Finds st.YAML_PARSE_BLOCK_MAPPING_KEY_STATE st.YAML_PARSE_BLOCK_MAPPING_KEY_STATE ms ms tags hs be flag false l l
+  block_key ms tags hs be flag [] = refl
+  block_key ms tags hs be flag (t ∷ l) = go t.content t.start_mark t.end_mark
+    where
+      go : (k : Content) (m n : Mark)
+          → Finds st.YAML_PARSE_BLOCK_MAPPING_KEY_STATE st.YAML_PARSE_BLOCK_MAPPING_KEY_STATE ms ms tags hs be flag false
+          (tk k m n ∷ l) (tk k m n ∷ l)
+      go Value m n = (
+        value_first
+            (there_with f tags flag st.YAML_PARSE_BLOCK_MAPPING_KEY_STATE false (conf st.YAML_PARSE_BLOCK_MAPPING_KEY_STATE ms hs be) ms (tk Value m n ∷ l))
+            (tk Value m n) l (behind_entry refl) refl refl,
+        refl,
+      )
+      go k m n = unasked st.YAML_PARSE_BLOCK_MAPPING_KEY_STATE st.YAML_PARSE_BLOCK_MAPPING_KEY_STATE ms ms tags hs be flag false
+          (tk k m n ∷ l) (tk k m n ∷ l) (unmet st.YAML_PARSE_BLOCK_MAPPING_KEY_STATE tt ms hs be (tk k m n) l) refl
+
+  first_key : (ms : List Mark) (tags : List yaml_tag_directive_t) (hs : Handles) (be flag : Bool) (t : Token)
+      (l : List Token)
+      → Finds st.YAML_PARSE_BLOCK_MAPPING_KEY_STATE st.YAML_PARSE_BLOCK_MAPPING_FIRST_KEY_STATE (t.start_mark ∷ ms) ms tags
+      hs be flag false l (t ∷ l)
+  first_key ms tags hs be flag t [] = refl
+  first_key ms tags hs be flag t (u ∷ l) = go u.content u.start_mark u.end_mark
+    where
+      go : (k : Content) (m n : Mark)
+          → Finds st.YAML_PARSE_BLOCK_MAPPING_KEY_STATE st.YAML_PARSE_BLOCK_MAPPING_FIRST_KEY_STATE (t.start_mark ∷ ms) ms
+          tags hs be flag false (tk k m n ∷ l) (t ∷ tk k m n ∷ l)
+      go Value m n = (
+        value_first
+            (SKIP_TOKEN (PUSH_mark t.start_mark (there_with f tags flag st.YAML_PARSE_BLOCK_MAPPING_FIRST_KEY_STATE false (conf st.YAML_PARSE_BLOCK_MAPPING_KEY_STATE (t.start_mark ∷ ms) hs be) ms
+            (t ∷ tk Value m n ∷ l))))
+            (tk Value m n) l (behind_start t (tk Value m n ∷ l) refl refl) refl refl,
+        refl,
+      )
+      go k m n = unasked st.YAML_PARSE_BLOCK_MAPPING_KEY_STATE st.YAML_PARSE_BLOCK_MAPPING_FIRST_KEY_STATE (t.start_mark ∷ ms) ms tags hs be flag false
+          (tk k m n ∷ l) (t ∷ tk k m n ∷ l) (unmet st.YAML_PARSE_BLOCK_MAPPING_KEY_STATE tt (t.start_mark ∷ ms) hs be (tk k m n) l) refl
+
+  -- after the KEY of a pair
+  behind_pair_key : (ms : List Mark) (tags : List yaml_tag_directive_t) (hs : Handles) (be flag : Bool) (l : List Token)
+      → Finds st.YAML_PARSE_FLOW_SEQUENCE_ENTRY_MAPPING_KEY_STATE st.YAML_PARSE_FLOW_SEQUENCE_ENTRY_MAPPING_KEY_STATE ms ms
+      tags hs be flag false l l
+  behind_pair_key ms tags hs be flag [] = refl
+  behind_pair_key ms tags hs be flag (t ∷ l) = go t.content t.start_mark t.end_mark
+    where
+      goes : (u : Token) → GivesEvent (yaml_parser_process_empty_scalar u.end_mark
+          (set_state st.YAML_PARSE_FLOW_SEQUENCE_ENTRY_MAPPING_VALUE_STATE (SKIP_TOKEN
+          (there_with f tags flag st.YAML_PARSE_FLOW_SEQUENCE_ENTRY_MAPPING_KEY_STATE false (conf st.YAML_PARSE_FLOW_SEQUENCE_ENTRY_MAPPING_KEY_STATE ms hs be) ms (u ∷ l)))))
+      goes u = (
+        event (scalar_event_with None None [] true false YAML_PLAIN_SCALAR_STYLE) u.end_mark u.end_mark,
+        set_state st.YAML_PARSE_FLOW_SEQUENCE_ENTRY_MAPPING_VALUE_STATE (SKIP_TOKEN
+            (there_with f tags flag st.YAML_PARSE_FLOW_SEQUENCE_ENTRY_MAPPING_KEY_STATE false (conf st.YAML_PARSE_FLOW_SEQUENCE_ENTRY_MAPPING_KEY_STATE ms hs be) ms (u ∷ l))),
+        refl,
+      )
+
+      go : (k : Content) (m n : Mark)
+          → Finds st.YAML_PARSE_FLOW_SEQUENCE_ENTRY_MAPPING_KEY_STATE
+          st.YAML_PARSE_FLOW_SEQUENCE_ENTRY_MAPPING_KEY_STATE ms ms tags hs be flag false (tk k m n ∷ l) (tk k m n ∷ l)
+      go Value m n = (pair_key (tk Value m n) l refl refl refl, goes (tk Value m n))
+      go FlowEntry m n = (pair_key (tk FlowEntry m n) l refl refl refl, goes (tk FlowEntry m n))
+      go FlowSequenceEnd m n = (pair_key (tk FlowSequenceEnd m n) l refl refl refl, goes (tk FlowSequenceEnd m n))
+      go k m n = unasked st.YAML_PARSE_FLOW_SEQUENCE_ENTRY_MAPPING_KEY_STATE st.YAML_PARSE_FLOW_SEQUENCE_ENTRY_MAPPING_KEY_STATE ms ms tags hs be flag
+          false (tk k m n ∷ l) (tk k m n ∷ l) (unmet st.YAML_PARSE_FLOW_SEQUENCE_ENTRY_MAPPING_KEY_STATE tt ms hs be (tk k m n) l) refl
+
+  -- after FLOW-ENTRY an entry's first token comes, which is taken as there
+  sequence_entry : (ms : List Mark) (hs : Handles) (be : Bool) (l : List Token)
+      → judged AtState (conf st.YAML_PARSE_FLOW_SEQUENCE_ENTRY_STATE ms hs be) l ≡ none
+  sequence_entry ms hs be [] = refl
+  sequence_entry ms hs be (t ∷ l) = go t.content t.start_mark t.end_mark
+    where
+      go : (k : Content) (m n : Mark)
+          → judged AtState (conf st.YAML_PARSE_FLOW_SEQUENCE_ENTRY_STATE ms hs be) (tk k m n ∷ l) ≡ none
+      go FlowEntry m n = silent st.YAML_PARSE_FLOW_SEQUENCE_FIRST_ENTRY_STATE tt ms hs be l
+      go FlowSequenceEnd m n = refl
+      go k m n = refl
+
+  mapping_key : (ms : List Mark) (hs : Handles) (be : Bool) (l : List Token)
+      → judged AtState (conf st.YAML_PARSE_FLOW_MAPPING_KEY_STATE ms hs be) l ≡ none
+  mapping_key ms hs be [] = refl
+  mapping_key ms hs be (t ∷ l) = go t.content t.start_mark t.end_mark
+    where
+      go : (k : Content) (m n : Mark)
+          → judged AtState (conf st.YAML_PARSE_FLOW_MAPPING_KEY_STATE ms hs be) (tk k m n ∷ l) ≡ none
+      go FlowEntry m n = silent st.YAML_PARSE_FLOW_MAPPING_FIRST_KEY_STATE tt ms hs be l
+      go k m n = refl
+
+  -- the first document, and one after an explicit end
+  first_document : (ms : List Mark) (hs : Handles) (l : List Token)
+      → judged AtState (conf st.YAML_PARSE_IMPLICIT_DOCUMENT_START_STATE ms hs false) l ≡ none
+  first_document ms hs [] = refl
+  first_document ms hs (t ∷ l) = behind_token l (step AtState (conf st.YAML_PARSE_IMPLICIT_DOCUMENT_START_STATE ms hs false) t)
+      (quiet_by AtState (conf st.YAML_PARSE_IMPLICIT_DOCUMENT_START_STATE ms hs false) t
+      (quiet.first_document (config_of (conf st.YAML_PARSE_IMPLICIT_DOCUMENT_START_STATE ms hs false)) (seen t t.content)
+      (token_type t.content) refl))
+
+  -- a DOCUMENT-END more, which is skipped
+  abbrev between : List Mark → List Token → OriginalParser
+  between ms l = there_with f [] true st.YAML_PARSE_DOCUMENT_START_STATE false
+      (conf st.YAML_PARSE_IMPLICIT_DOCUMENT_START_STATE ms no_handles true) ms l
+
+  carried : {o u : ParserResult} (ms : List Mark) (m n : Mark) (l : List Token) → Differs (between ms l) o u
+      → Differs (between ms (tk DocumentEnd m n ∷ l)) o u
+  carried ms m n l (bare_document r t rest s e i h j) = bare_document r t rest s e i h j
+  carried ms m n l (value_first r t rest (behind_start u v s i) j e) = absurd (no s)
+    where
+      no : st.YAML_PARSE_DOCUMENT_START_STATE ≡ st.YAML_PARSE_BLOCK_MAPPING_FIRST_KEY_STATE → ⊥
+      no h = cc
+  carried ms m n l (value_first r t rest (behind_entry s) j e) = absurd (no s)
+    where
+      no : st.YAML_PARSE_DOCUMENT_START_STATE ≡ st.YAML_PARSE_BLOCK_MAPPING_KEY_STATE → ⊥
+      no h = cc
+  carried ms m n l (pair_key t rest s i e) = absurd (no s)
+    where
+      no : st.YAML_PARSE_DOCUMENT_START_STATE ≡ st.YAML_PARSE_FLOW_SEQUENCE_ENTRY_MAPPING_KEY_STATE → ⊥
+      no h = cc
+
+  further : (ms : List Mark) (m n : Mark) (l : List Token) (j : Judged) → Found j (between ms l)
+      → Found j (between ms (tk DocumentEnd m n ∷ l))
+  further ms m n l none e = e
+  further ms m n l (met k p q) e = (carried ms m n l e.0, e.1)
+
+  bare : (ms : List Mark) (l : List Token)
+      → Finds st.YAML_PARSE_IMPLICIT_DOCUMENT_START_STATE st.YAML_PARSE_DOCUMENT_START_STATE ms ms [] no_handles true true
+      false l l
+  bare ms [] = refl
+  bare ms (t ∷ l) = go t.content t.start_mark t.end_mark (bare ms l)
+    where
+      Goal : List Token → Type 0
+      Goal l = Finds st.YAML_PARSE_IMPLICIT_DOCUMENT_START_STATE st.YAML_PARSE_DOCUMENT_START_STATE ms ms [] no_handles
+          true true false l l
+
+      directive : (k : Content) (m n : Mark) → QuietProgress
+          (step AtState (conf st.YAML_PARSE_IMPLICIT_DOCUMENT_START_STATE ms no_handles true) (tk k m n))
+          → judged_by (step AtState (conf st.YAML_PARSE_IMPLICIT_DOCUMENT_START_STATE ms no_handles true) (tk k m n))
+          (λ v d. judged v d l) ≡ none
+      directive k m n q
+          = behind_token l (step AtState (conf st.YAML_PARSE_IMPLICIT_DOCUMENT_START_STATE ms no_handles true) (tk k m n)) q
+
+      go : (k : Content) (m n : Mark) → Goal l → Goal (tk k m n ∷ l)
+      go DocumentEnd m n ih = further ms m n l (judged AtState (conf st.YAML_PARSE_IMPLICIT_DOCUMENT_START_STATE ms no_handles true) l) ih
+      go (VersionDirective v) m n ih = found_none _ _ (directive (VersionDirective v) m n
+          (quiet_by AtState (conf st.YAML_PARSE_IMPLICIT_DOCUMENT_START_STATE ms no_handles true)
+          (tk (VersionDirective v) m n) tt)) refl
+      go (TagDirective g) m n ih = found_none _ _ (directive (TagDirective g) m n
+          (quiet_by AtState (conf st.YAML_PARSE_IMPLICIT_DOCUMENT_START_STATE ms no_handles true)
+          (tk (TagDirective g) m n) tt)) refl
+      go DocumentStart m n ih = refl
+      go StreamEnd m n ih = refl
+      go k m n ih = (
+        bare_document _ _ l refl refl refl refl refl,
+        defaults_appended (there_with f [] true st.YAML_PARSE_DOCUMENT_START_STATE false
+            (conf st.YAML_PARSE_IMPLICIT_DOCUMENT_START_STATE ms no_handles true) ms (tk k m n ∷ l)) m
+            (behind_directives m None []),
+      )
+
+  quiet_state : (s : yaml_parser_state_t) → Silent s → (ms ms' : List Mark) (tags : List yaml_tag_directive_t)
+      (hs : Handles) (be flag ended : Bool) (s' : yaml_parser_state_t) (l l' : List Token)
+      → call_there (there_with f tags flag s' ended (conf s ms hs be) ms' l')
+      ≡ call_here (there_with f tags flag s' ended (conf s ms hs be) ms' l')
+      → Finds s s' ms ms' tags hs be flag ended l l'
+  quiet_state s q ms ms' tags hs be flag ended s' l l' e = found_none _ _ (silent s q ms hs be l) e
+
+  next_document : (ms : List Mark) (be : Bool) (k : Content) (m n : Mark) (l : List Token)
+      → (elim k [ DocumentEnd ↦ true | _ ↦ false ]) ≡ false
+      → Finds st.YAML_PARSE_DOCUMENT_START_STATE st.YAML_PARSE_DOCUMENT_START_STATE ms ms [] no_handles be false false
+      (tk k m n ∷ l) (tk k m n ∷ l)
+  next_document ms be DocumentEnd m n l e = absurd cc
+  next_document ms be k m n l e
+      = quiet_state st.YAML_PARSE_DOCUMENT_START_STATE tt ms ms [] no_handles be false false
+      st.YAML_PARSE_DOCUMENT_START_STATE (tk k m n ∷ l) (tk k m n ∷ l) refl
+
+  entered : (s' s : yaml_parser_state_t) (ms : List Mark) (tags : List yaml_tag_directive_t) (hs : Handles)
+      (be flag : Bool) (t : Token) (l : List Token) → Opens s' s
+      → Finds s s' (t.start_mark ∷ ms) ms tags hs be flag false l (t ∷ l)
+  entered st.YAML_PARSE_BLOCK_SEQUENCE_FIRST_ENTRY_STATE st.YAML_PARSE_BLOCK_SEQUENCE_ENTRY_STATE ms tags hs be flag t l i
+      = quiet_state st.YAML_PARSE_BLOCK_SEQUENCE_ENTRY_STATE tt (t.start_mark ∷ ms) ms tags hs be flag false
+      st.YAML_PARSE_BLOCK_SEQUENCE_FIRST_ENTRY_STATE l (t ∷ l) refl
+  entered st.YAML_PARSE_BLOCK_MAPPING_FIRST_KEY_STATE st.YAML_PARSE_BLOCK_MAPPING_KEY_STATE ms tags hs be flag t l i
+      = first_key ms tags hs be flag t l
+  entered st.YAML_PARSE_FLOW_SEQUENCE_FIRST_ENTRY_STATE st.YAML_PARSE_FLOW_SEQUENCE_FIRST_ENTRY_STATE ms tags hs be flag t
+      l i
+      = quiet_state st.YAML_PARSE_FLOW_SEQUENCE_FIRST_ENTRY_STATE tt (t.start_mark ∷ ms) ms tags hs be flag false
+      st.YAML_PARSE_FLOW_SEQUENCE_FIRST_ENTRY_STATE l (t ∷ l) refl
+  entered st.YAML_PARSE_FLOW_MAPPING_FIRST_KEY_STATE st.YAML_PARSE_FLOW_MAPPING_FIRST_KEY_STATE ms tags hs be flag t l i
+      = quiet_state st.YAML_PARSE_FLOW_MAPPING_FIRST_KEY_STATE tt (t.start_mark ∷ ms) ms tags hs be flag false
+      st.YAML_PARSE_FLOW_MAPPING_FIRST_KEY_STATE l (t ∷ l) refl
+  entered _ _ ms tags hs be flag t l i = absurd i
+
+  within : (s : yaml_parser_state_t) (ms : List Mark) (tags : List yaml_tag_directive_t) (hs : Handles) (be flag : Bool)
+      (l : List Token) → IsInside s → Finds s s ms ms tags hs be flag false l l
+  within st.YAML_PARSE_BLOCK_MAPPING_KEY_STATE ms tags hs be flag l i = block_key ms tags hs be flag l
+  within st.YAML_PARSE_FLOW_SEQUENCE_ENTRY_MAPPING_KEY_STATE ms tags hs be flag l i = behind_pair_key ms tags hs be flag l
+  within st.YAML_PARSE_FLOW_SEQUENCE_ENTRY_STATE ms tags hs be flag l i
+      = found_none _ _ (sequence_entry ms hs be l) refl
+  within st.YAML_PARSE_FLOW_MAPPING_KEY_STATE ms tags hs be flag l i = found_none _ _ (mapping_key ms hs be l) refl
+  within st.YAML_PARSE_DOCUMENT_CONTENT_STATE ms tags hs be flag l i
+      = quiet_state st.YAML_PARSE_DOCUMENT_CONTENT_STATE tt ms ms tags hs be flag false st.YAML_PARSE_DOCUMENT_CONTENT_STATE l l refl
+  within st.YAML_PARSE_BLOCK_NODE_STATE ms tags hs be flag l i
+      = quiet_state st.YAML_PARSE_BLOCK_NODE_STATE tt ms ms tags hs be flag false st.YAML_PARSE_BLOCK_NODE_STATE l l refl
+  within st.YAML_PARSE_BLOCK_NODE_OR_INDENTLESS_SEQUENCE_STATE ms tags hs be flag l i
+      = quiet_state st.YAML_PARSE_BLOCK_NODE_OR_INDENTLESS_SEQUENCE_STATE tt ms ms tags hs be flag false st.YAML_PARSE_BLOCK_NODE_OR_INDENTLESS_SEQUENCE_STATE l l refl
+  within st.YAML_PARSE_FLOW_NODE_STATE ms tags hs be flag l i
+      = quiet_state st.YAML_PARSE_FLOW_NODE_STATE tt ms ms tags hs be flag false st.YAML_PARSE_FLOW_NODE_STATE l l refl
+  within st.YAML_PARSE_BLOCK_SEQUENCE_ENTRY_STATE ms tags hs be flag l i
+      = quiet_state st.YAML_PARSE_BLOCK_SEQUENCE_ENTRY_STATE tt ms ms tags hs be flag false st.YAML_PARSE_BLOCK_SEQUENCE_ENTRY_STATE l l refl
+  within st.YAML_PARSE_INDENTLESS_SEQUENCE_ENTRY_STATE ms tags hs be flag l i
+      = quiet_state st.YAML_PARSE_INDENTLESS_SEQUENCE_ENTRY_STATE tt ms ms tags hs be flag false st.YAML_PARSE_INDENTLESS_SEQUENCE_ENTRY_STATE l l refl
+  within st.YAML_PARSE_BLOCK_MAPPING_VALUE_STATE ms tags hs be flag l i
+      = quiet_state st.YAML_PARSE_BLOCK_MAPPING_VALUE_STATE tt ms ms tags hs be flag false st.YAML_PARSE_BLOCK_MAPPING_VALUE_STATE l l refl
+  within st.YAML_PARSE_FLOW_SEQUENCE_ENTRY_MAPPING_VALUE_STATE ms tags hs be flag l i
+      = quiet_state st.YAML_PARSE_FLOW_SEQUENCE_ENTRY_MAPPING_VALUE_STATE tt ms ms tags hs be flag false st.YAML_PARSE_FLOW_SEQUENCE_ENTRY_MAPPING_VALUE_STATE l l refl
+  within st.YAML_PARSE_FLOW_SEQUENCE_ENTRY_MAPPING_END_STATE ms tags hs be flag l i
+      = quiet_state st.YAML_PARSE_FLOW_SEQUENCE_ENTRY_MAPPING_END_STATE tt ms ms tags hs be flag false st.YAML_PARSE_FLOW_SEQUENCE_ENTRY_MAPPING_END_STATE l l refl
+  within st.YAML_PARSE_FLOW_MAPPING_VALUE_STATE ms tags hs be flag l i
+      = quiet_state st.YAML_PARSE_FLOW_MAPPING_VALUE_STATE tt ms ms tags hs be flag false st.YAML_PARSE_FLOW_MAPPING_VALUE_STATE l l refl
+  within st.YAML_PARSE_FLOW_MAPPING_EMPTY_VALUE_STATE ms tags hs be flag l i
+      = quiet_state st.YAML_PARSE_FLOW_MAPPING_EMPTY_VALUE_STATE tt ms ms tags hs be flag false st.YAML_PARSE_FLOW_MAPPING_EMPTY_VALUE_STATE l l refl
+  within _ ms tags hs be flag l i = absurd i
+
+  found : {s s' : yaml_parser_state_t} {ms ms' : List Mark} {tags : List yaml_tag_directive_t} {hs : Handles} {be flag
+      ended : Bool} {l l' : List Token} → Fits ss s s' ms ms' tags hs be flag ended l l' → is_end_state s ≡ false
+      → Finds s s' ms ms' tags hs be flag ended l l'
+  found (before {ms} {l}) e
+      = quiet_state st.YAML_PARSE_STREAM_START_STATE tt ms ms [] no_handles false false false
+      st.YAML_PARSE_STREAM_START_STATE l l refl
+  found (first {ms} {l}) e = found_none _ _ (first_document ms no_handles l) refl
+  found (behind_end {ms} {l}) e = bare ms l
+  found (behind {ms} {be} {t} {l} i) e = next_document ms be t.content t.start_mark t.end_mark l i
+  found (root_end {ms} {tags} {hs} {be} {flag} {l}) e
+      = quiet_state st.YAML_PARSE_DOCUMENT_END_STATE tt ms ms tags hs be flag false st.YAML_PARSE_DOCUMENT_END_STATE l l
+      refl
+  found (entering {s} {s'} {ms} {tags} {hs} {be} {flag} {t} {l} i b a n) e = entered s' s ms tags hs be flag t l i
+  found (inside {s} {ms} {tags} {hs} {be} {flag} {l} i b a) e = within s ms tags hs be flag l i
+  found over e = absurd cc
+
+-- a call, where the parsers stand to one another
+pub call_found : (f : Fault) (q : OriginalParser) (d : Config) (l : List Token) → SamePlace f q d l
+    → is_end_state d.state ≡ false → Found (judged AtState (taken d) (tokens_of d.lookahead l)) q
+call_found f q d l s e = subst (λ (p : OriginalParser). Found (judged AtState (taken d) (tokens_of d.lookahead l)) p)
+    (sym s.is) (found f d.fault d.states s.fits e)

@@ -1,0 +1,115 @@
+-- What a call of a run is of the machine's steps.
+use Rattle.std.proofs.Common.{◌≡◌, ◌∙◌, ◌==◌, List, ℕ, Option, None, Some, Ok, Err, true, false, sym, ap}
+use Rattle.libyaml_types.specs.Fault.{no_fault}
+use Rattle.libyaml_types.specs.declared.mark.yaml_mark_t.{yaml_mark_t}
+use Rattle.libyaml_grammar.specs.sentences.Events.{Event}
+use Rattle.libyaml_grammar.specs.sentences.Tokens.{Token}
+use Rattle.libyaml_automaton.specs.Automaton as a
+use Rattle.libyaml_automaton.specs.Config.{Stacks, stacks_of}
+use Rattle.libyaml_automaton.specs.Wanted.{purpose_of}
+use Rattle.libyaml_events.specs.machine.Config.{Handles, config_with}
+use Rattle.libyaml_events.specs.machine.Machine.{declared_by, fault_with, lookahead_after, step}
+use Rattle.libyaml_events.specs.machine.Want as parser
+use Rattle.libyaml_events.specs.machine.Want.{Texts}
+use Rattle.token_steps.specs.declared.did.Did.{Did}
+use Rattle.token_steps.specs.declared.did.Did.TheVariants as did
+use Rattle.token_steps.specs.declared.steps.steps_t.{steps_t}
+use Rattle.token_steps.specs.declared.records.step_event_t.{step_event_t}
+use Rattle.token_steps.specs.declared.records.step_fault_t.{step_fault_t}
+use Rattle.token_steps.specs.Facts.{Given, StepResult, Wants, step_by_fact}
+use Rattle.token_steps.specs.Numbers.{number}
+use Rattle.token_steps.specs.Records.{event_of, shape_of, step_fault}
+use Rattle.token_steps.specs.RunLaws.{want_with}
+use Rattle.token_steps.specs.Runs.{Run, StepCalls}
+use Rattle.token_steps.specs.Tells.{Tells, want_in}
+use Rattle.token_steps.specs.Texts.{event_with, handles_past, kept_behind, token_of}
+use Rattle.token_steps.proofs.Failing.{told}
+use Rattle.token_steps.proofs.Follows.{no}
+use Rattle.token_steps.proofs.Running.{stood}
+use Rattle.token_steps.proofs.Tied.{steps_told, told_with}
+
+-- what the number says
+wanted : (x : Did) (p : StepResult) (d : steps_t) (e : step_event_t) (f : step_fault_t) (c : Stacks) → 0 ≡ number x
+    → Tells x p d e f c → p ≡ Ok (Wants (want_in d), c)
+wanted did.Wants p d e f c q h = h
+wanted did.Gave p d e f c q h = no (sym (ap (λ (x : ℕ). x == 0) q))
+wanted did.Stays p d e f c q h = no (sym (ap (λ (x : ℕ). x == 0) q))
+wanted did.FullStates p d e f c q h = no (sym (ap (λ (x : ℕ). x == 0) q))
+wanted did.FullMarks p d e f c q h = no (sym (ap (λ (x : ℕ). x == 0) q))
+wanted did.Failed p d e f c q h = no (sym (ap (λ (x : ℕ). x == 0) q))
+wanted did.Bad p d e f c q h = no (sym (ap (λ (x : ℕ). x == 0) q))
+
+gave : (x : Did) (p : StepResult) (d : steps_t) (e : step_event_t) (f : step_fault_t) (c : Stacks) → 1 ≡ number x
+    → Tells x p d e f c → (p ≡ Ok (Given (event_of e false), c)) × (purpose_of d.read ≡ a.AtState)
+gave did.Gave p d e f c q h = h
+gave did.Wants p d e f c q h = no (sym (ap (λ (x : ℕ). x == 1) q))
+gave did.Stays p d e f c q h = no (sym (ap (λ (x : ℕ). x == 1) q))
+gave did.FullStates p d e f c q h = no (sym (ap (λ (x : ℕ). x == 1) q))
+gave did.FullMarks p d e f c q h = no (sym (ap (λ (x : ℕ). x == 1) q))
+gave did.Failed p d e f c q h = no (sym (ap (λ (x : ℕ). x == 1) q))
+gave did.Bad p d e f c q h = no (sym (ap (λ (x : ℕ). x == 1) q))
+
+stayed : (x : Did) (p : StepResult) (d : steps_t) (e : step_event_t) (f : step_fault_t) (c : Stacks) → 2 ≡ number x
+    → Tells x p d e f c → (p ≡ Ok (Given (event_of e true), c)) × (purpose_of d.read ≡ a.AtState)
+stayed did.Stays p d e f c q h = h
+stayed did.Wants p d e f c q h = no (sym (ap (λ (x : ℕ). x == 2) q))
+stayed did.Gave p d e f c q h = no (sym (ap (λ (x : ℕ). x == 2) q))
+stayed did.FullStates p d e f c q h = no (sym (ap (λ (x : ℕ). x == 2) q))
+stayed did.FullMarks p d e f c q h = no (sym (ap (λ (x : ℕ). x == 2) q))
+stayed did.Failed p d e f c q h = no (sym (ap (λ (x : ℕ). x == 2) q))
+stayed did.Bad p d e f c q h = no (sym (ap (λ (x : ℕ). x == 2) q))
+
+-- the machine's step at the token in hand
+pub step_wants : (d d' : steps_t) (ss ss' : List ℕ) (ms ms' : List yaml_mark_t) (hs : Handles) (kept : Texts)
+    (l : List Token) (g : List Event) (t : Token) (e : step_event_t) (f : step_fault_t)
+    → Run d ss ms hs kept (Some t) l g → StepCalls 0 d ss ms hs t d' ss' ms' e f
+    → step (want_with d kept) (config_with (stacks_of d.machine ss ms) hs no_fault None) t
+    ≡ Ok (
+      parser.Wants (want_with d' (kept_behind kept t.content)),
+      config_with (stacks_of d'.machine ss' ms') (declared_by hs t.content) no_fault None,
+    )
+step_wants d d' ss ss' ms ms' hs kept l g t e f r c =
+    let at = stood d ss ms hs kept (Some t) l g r in
+    steps_told (want_in d) hs kept t (stacks_of d.machine ss ms) at.holds at.tag
+    ∙ ap (told_with kept hs t t.content) (wanted c.0 _ d' e f _ c.1 c.2)
+
+pub step_gives : (d d' : steps_t) (ss ss' : List ℕ) (ms ms' : List yaml_mark_t) (hs : Handles) (kept : Texts)
+    (l : List Token) (g : List Event) (t : Token) (e : step_event_t) (f : step_fault_t)
+    → Run d ss ms hs kept (Some t) l g → StepCalls 1 d ss ms hs t d' ss' ms' e f
+    → (step (want_with d kept) (config_with (stacks_of d.machine ss ms) hs no_fault None) t
+    ≡ Ok (
+      parser.Given (event_with hs kept t.content (event_of e false)),
+      config_with (stacks_of d'.machine ss' ms') (handles_past hs (shape_of e)) no_fault None,
+    )) × (purpose_of d'.read ≡ a.AtState)
+step_gives d d' ss ss' ms ms' hs kept l g t e f r c =
+    let at = stood d ss ms hs kept (Some t) l g r in
+    let h = gave c.0 _ d' e f _ c.1 c.2 in (
+      steps_told (want_in d) hs kept t (stacks_of d.machine ss ms) at.holds at.tag
+          ∙ ap (told_with kept hs t t.content) h.0,
+      h.1,
+    )
+
+pub step_stays : (d d' : steps_t) (ss ss' : List ℕ) (ms ms' : List yaml_mark_t) (hs : Handles) (kept : Texts)
+    (l : List Token) (g : List Event) (t : Token) (e : step_event_t) (f : step_fault_t)
+    → Run d ss ms hs kept (Some t) l g → StepCalls 2 d ss ms hs t d' ss' ms' e f
+    → (step (want_with d kept) (config_with (stacks_of d.machine ss ms) hs no_fault None) t
+    ≡ Ok (
+      parser.Given (event_with hs kept t.content (event_of e true)),
+      config_with (stacks_of d'.machine ss' ms') (handles_past hs (shape_of e)) no_fault (Some t),
+    )) × (purpose_of d'.read ≡ a.AtState)
+step_stays d d' ss ss' ms ms' hs kept l g t e f r c =
+    let at = stood d ss ms hs kept (Some t) l g r in
+    let h = stayed c.0 _ d' e f _ c.1 c.2 in (
+      steps_told (want_in d) hs kept t (stacks_of d.machine ss ms) at.holds at.tag
+          ∙ ap (told_with kept hs t t.content) h.0,
+      h.1,
+    )
+
+pub step_fails : (d d' : steps_t) (ss ss' : List ℕ) (ms ms' : List yaml_mark_t) (hs : Handles) (kept : Texts)
+    (l : List Token) (g : List Event) (t : Token) (e : step_event_t) (f : step_fault_t)
+    → Run d ss ms hs kept (Some t) l g → StepCalls 5 d ss ms hs t d' ss' ms' e f
+    → step (want_with d kept) (config_with (stacks_of d.machine ss ms) hs no_fault None) t ≡ Err (fault_with (step_fault f))
+step_fails d d' ss ss' ms ms' hs kept l g t e f r c =
+    let at = stood d ss ms hs kept (Some t) l g r in
+    steps_told (want_in d) hs kept t (stacks_of d.machine ss ms) at.holds at.tag
+    ∙ ap (told_with kept hs t t.content) (told c.0 _ d' e f _ c.1 c.2)
