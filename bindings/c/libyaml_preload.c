@@ -17,7 +17,8 @@
  * nodes of a document, items or pairs of a node. What exceeds them is a parser error, "found too many levels", at the token that
  * opens one more, and a composer error, "found too many nodes", at the node.
  *
- * What is other than with libyaml stands in docs/DIFFERENCES.md. */
+ * What is other than with libyaml stands in docs/DIFFERENCES.md. With POKHVIZI_STRICT=1 in the environment nothing is: where libyaml
+ * has an error, so has a call, and where it loses a token, a call has an error of its own. */
 #include <pokhvizi/compose.h>
 #include <pokhvizi/steps.h>
 #include <assert.h>
@@ -42,6 +43,7 @@ struct kept {
     pokhvizi_steps_t steps;
     size_t states_room, marks_room;
     uint32_t key;  /* for the hashes of anchors and handles, or 0 */
+    int strict;    /* where libyaml does something else there is an error */
     uint8_t states[];
 };
 
@@ -520,6 +522,14 @@ static int give_too_deep(yaml_parser_t *parser)
     return give_fault(parser, &fault);
 }
 
+/* POKHVIZI_STRICT is set, to something else than 0. */
+static int is_strict(void)
+{
+    const char *value = getenv("POKHVIZI_STRICT");
+
+    return value != NULL && *value != '\0' && strcmp(value, "0") != 0;
+}
+
 /* Begins a stream; 0 where memory is refused. */
 static int begin(yaml_parser_t *parser)
 {
@@ -528,6 +538,7 @@ static int begin(yaml_parser_t *parser)
     pokhvizi_steps_new(&kept_of(parser)->steps);
     kept_of(parser)->marks_room = least((size_t)(parser->marks.end - parser->marks.start), bounds.depth);
     kept_of(parser)->key = 0;
+    kept_of(parser)->strict = is_strict();
     free(parser->tag_directives.start);
     memset(&parser->tag_directives, 0, sizeof parser->tag_directives);
     parser->state = YAML_PARSE_DOCUMENT_CONTENT_STATE;
@@ -562,6 +573,8 @@ static inline uint32_t step(yaml_parser_t *parser, const yaml_token_t *token, st
     const pokhvizi_span_t *at = (const pokhvizi_span_t *)(const void *)&token->start_mark;
     pokhvizi_mark_t *marks = (pokhvizi_mark_t *)(void *)parser->marks.start;
 
+    if (kept->strict && pokhvizi_refuses(&kept->steps, marks, kept->marks_room, token->type, at, fault))
+        return POKHVIZI_FAULT;
     return pokhvizi_step(&kept->steps, kept->states, kept->states_room, marks, kept->marks_room, token->type,
                          fact_of(parser, token, held), at, made, fault);
 }

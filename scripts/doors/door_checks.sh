@@ -126,7 +126,8 @@ check_steps() {
     printf '%s\n' '#include <pokhvizi/steps.h>' '#include <string.h>' 'int main(void) { pokhvizi_steps_t s; uint8_t states[1];' \
         'pokhvizi_mark_t marks[1]; pokhvizi_event_t e; pokhvizi_fault_t f; const char *context; pokhvizi_span_t at;' \
         'memset(&at, 0, sizeof at); memset(&f, 0, sizeof f); pokhvizi_steps_new(&s);' \
-        'return pokhvizi_step(&s, states, 1, marks, 1, 2, 0, &at, &e, &f) == POKHVIZI_FAULT && f.problem == 1 &&' \
+        'return pokhvizi_differs(&s, 2) == POKHVIZI_SAME && pokhvizi_refuses(&s, marks, 1, 2, &at, &f) == 0 &&' \
+        'pokhvizi_step(&s, states, 1, marks, 1, 2, 0, &at, &e, &f) == POKHVIZI_FAULT && f.problem == 1 &&' \
         'strcmp(pokhvizi_problem(f.problem, &context), "did not find expected <stream-start>") == 0 && context == 0 ? 0 : 1; }' \
         > "$work/header.c"
     check_library
@@ -137,6 +138,10 @@ check_steps() {
         cut -d ' ' -f 1 '$work/lines' | uniq | tail -n 1 | grep -x -e -STR"
     check_sample events
     check_three "beside libyaml's events" "$@"
+    mkdir "$work/strict"
+    python3 scripts/doors/clients/strict.py write "$work/strict" 400 1 > /dev/null
+    check_three "strict, beside libyaml's events" strict "$work/strict"/*.yaml
+    ! "$work/plain" "$work/strict"/*.yaml > /dev/null || complain "what is not strict is libyaml's, too"
     check_three "bad calls" bad "$@"
     check_threads examples/*.yaml
 }

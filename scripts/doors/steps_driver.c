@@ -3,6 +3,7 @@
  *     cc -O2 -o steps_driver scripts/doors/steps_driver.c DIR/libpokhvizi.a -lyaml -lpthread
  *     steps_driver FILE..             the events of YAML files, of libyaml's tokens (Debian: libyaml-dev), beside those that its
  *                                     `yaml_parser_parse` gives: each field and mark, and the fault
+ *     steps_driver strict FILE..      the same of strict parsing, where an error may say that libyaml loses a token
  *     steps_driver bad FILE..         numbers that are no token's, stacks that are too small, records of any bytes
  *     steps_driver threads FILE..     the first, in eight threads at once
  *     steps_driver times N FILE       the least time of N runs of libyaml's parser, and of the steps
@@ -28,6 +29,7 @@ struct stream {
     pokhvizi_handle_t *handles;  /* of the document's tag directives, whose texts stand in `texts` */
     size_t handles_count, handles_room;
     struct bytes texts;
+    int is_strict;
 };
 
 /* An event. What an event of its kind hasn't is empty. */
@@ -155,9 +157,11 @@ static uint32_t next(struct stream *stream, uint32_t did, struct event *event, p
     for (;;) {
         if ((did == POKHVIZI_WANTS || did == POKHVIZI_GAVE) && !take(stream))
             return POKHVIZI_WANTS;
+        const pokhvizi_span_t *at = (const pokhvizi_span_t *)(const void *)&stream->token.start_mark;
+        if (stream->is_strict && pokhvizi_refuses(&stream->steps, stream->marks, stream->marks_room, stream->token.type, at, fault))
+            return POKHVIZI_FAULT;
         did = pokhvizi_step(&stream->steps, stream->states, stream->states_room, stream->marks, stream->marks_room,
-                            stream->token.type, fact_of(stream, &event->tag),
-                            (const pokhvizi_span_t *)(const void *)&stream->token.start_mark, &event->shape, fault);
+                            stream->token.type, fact_of(stream, &event->tag), at, &event->shape, fault);
         event->token = did == POKHVIZI_GAVE ? &stream->token : NULL;
         if (did == POKHVIZI_WANTS)
             hold(stream, event);
@@ -279,11 +283,14 @@ static int fault_is(const struct stream *stream, uint32_t did, const pokhvizi_fa
 }
 
 struct counts {
-    size_t events, faults;
+    size_t events, faults, lost;
 };
 
-/* Compares the events of a text, with stacks that have room for so many at first; 1 where all are alike, and the fault. */
-static int is_alike(const struct bytes *yaml, size_t room, struct counts *counts)
+enum { LOSES_A_TOKEN = 13 };
+
+/* Compares the events of a text, with stacks that have room for so many at first; 1 where all are alike, and the fault. A strict
+ * parse may end where libyaml loses a token. */
+static int is_alike(const struct bytes *yaml, size_t room, int is_strict, struct counts *counts)
 {
     yaml_parser_t parser;
     yaml_event_t event;
@@ -294,10 +301,16 @@ static int is_alike(const struct bytes *yaml, size_t room, struct counts *counts
     int alike = 1, more = 1;
 
     begin(&stream, yaml, room);
+    stream.is_strict = is_strict;
     begin_parser(&parser, yaml);
     while (alike && more) {
         int given = yaml_parser_parse(&parser, &event);
         did = next(&stream, did, &made, &fault);
+        if (is_strict && did == POKHVIZI_FAULT && fault.problem == LOSES_A_TOKEN) {
+            yaml_event_delete(&event);
+            counts->lost++;
+            break;
+        }
         if (!given) {
             alike = fault_is(&stream, did, &fault, &parser);
             counts->faults++;
@@ -317,7 +330,7 @@ static int is_alike(const struct bytes *yaml, size_t room, struct counts *counts
 }
 
 /* Each file, with stacks of no entry, of one, of three, and of many. */
-static int compare(char **names)
+static int compare(char **names, int is_strict)
 {
     static const size_t rooms[] = {0, 1, 3, 65536};
     struct counts all = {0}, again = {0};
@@ -327,15 +340,15 @@ static int compare(char **names)
         struct bytes yaml = read_file(*names);
         int alike = 1;
         for (size_t i = 0; i < sizeof rooms / sizeof *rooms; i++)
-            alike = is_alike(&yaml, rooms[i], i == 0 ? &all : &again) && alike;
+            alike = is_alike(&yaml, rooms[i], is_strict, i == 0 ? &all : &again) && alike;
         if (!alike)
             printf("%s differs\n", *names);
         differ += !alike;
         files++;
         free(yaml.at);
     }
-    printf("%zu files, %zu events, %zu faults, %zu differ\n", files, all.events, all.faults, differ);
-    return differ != 0;
+    printf("%zu files, %zu events, %zu faults, %zu lost tokens, %zu differ\n", files, all.events, all.faults, all.lost, differ);
+    return differ != 0 || is_strict != (all.lost != 0);
 }
 
 /* ---- Bad calls ---- */
@@ -496,6 +509,10 @@ static void check_spoiled(const struct stream *stream, const char *name)
                (call.event.kind >= YAML_STREAM_START_EVENT && call.event.kind <= YAML_MAPPING_END_EVENT),
            "an event's number", name);
     free_call(&call);
+    pokhvizi_mark_t *few = copy_of(spoiled.marks, marks * sizeof *few);
+    if (pokhvizi_refuses(&spoiled.steps, few, marks, drawn(), &(pokhvizi_span_t){{0, 0, 0}, {0, 0, 0}}, &call.fault))
+        expect(call.fault.problem == 2 || call.fault.problem == 10 || call.fault.problem == LOSES_A_TOKEN, "a refusal", name);
+    free(few);
     free(spoiled.states);
     free(spoiled.marks);
 }
@@ -587,7 +604,7 @@ static void *run_rounds(void *yaml)
     int differs = 0;
 
     for (int round = 0; round < ROUNDS; round++)
-        differs |= !is_alike(yaml, round % 3, &counts);
+        differs |= !is_alike(yaml, round % 3, 0, &counts);
     return differs ? yaml : NULL;
 }
 
@@ -681,5 +698,7 @@ int main(int count, char **words)
         return threads(words + 2);
     if (count == 4 && strcmp(words[1], "times") == 0)
         return times(atoi(words[2]), words[3]);
-    return compare(words + 1);
+    if (count > 2 && strcmp(words[1], "strict") == 0)
+        return compare(words + 2, 1);
+    return compare(words + 1, 0);
 }

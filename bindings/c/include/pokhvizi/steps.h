@@ -23,6 +23,17 @@
  *     POKHVIZI_FAULT         `fault` is set              stop: the tokens are no YAML stream
  *     POKHVIZI_BAD           nothing was done            stop: `steps` counts more than `states_room` or `marks_room`
  *
+ * Strict parsing. This parser accepts some streams that libyaml refuses or reads otherwise, at three places. A caller that wants
+ * libyaml's language asks pokhvizi_differs before each step, or has pokhvizi_refuses do so, and stops where the result isn't 0:
+ *
+ *     POKHVIZI_SAME           libyaml does the same      go on with the step
+ *     POKHVIZI_PAIR_KEY       it loses the token         after KEY in a flow sequence, as in `[ ? ]`
+ *     POKHVIZI_VALUE_FIRST    it has an error            an entry of a block mapping begins with VALUE, as `: x`
+ *     POKHVIZI_BARE_DOCUMENT  it has an error            an implicit document after a document's explicit end
+ *
+ * Texts with zero bytes end at them in libyaml, whose anchors and tags are C strings. So take their lengths by strlen, or refuse
+ * a token with such a text.
+ *
  * `states` and `marks` are stacks in the caller's memory. While N collections are open, `states` holds at most N + 1
  * entries, and `marks` at most N. What stands in them before the first call doesn't matter; to make them larger, move their
  * bytes, as by realloc.
@@ -87,8 +98,8 @@ typedef struct {
     pokhvizi_mark_t start_mark, end_mark;
 } pokhvizi_event_t;
 
-/* Why the tokens are no YAML stream: `problem` is 1 to 12, and `context_mark` is 0 where it has no context. What a caller says of
- * a bound on depth has the number after these. */
+/* Why the tokens are no YAML stream: `problem` is 1 to 12, and `context_mark` is 0 where it has no context. The two numbers after
+ * these are of what a caller refuses: a token that libyaml loses (pokhvizi_refuses), and a depth beyond its own bound. */
 typedef struct {
     uint8_t problem;
     pokhvizi_mark_t context_mark, problem_mark;
@@ -104,7 +115,17 @@ enum {
     POKHVIZI_BAD
 };
 
-enum { POKHVIZI_TOO_DEEP = 13 };
+enum {
+    POKHVIZI_SAME,
+    POKHVIZI_PAIR_KEY,
+    POKHVIZI_VALUE_FIRST,
+    POKHVIZI_BARE_DOCUMENT
+};
+
+enum {
+    POKHVIZI_LOST_TOKEN = 13,
+    POKHVIZI_TOO_DEEP = 14
+};
 
 /* Begins a parse. */
 void pokhvizi_steps_new(pokhvizi_steps_t *steps);
@@ -113,6 +134,27 @@ void pokhvizi_steps_new(pokhvizi_steps_t *steps);
 uint32_t pokhvizi_step(pokhvizi_steps_t *steps, uint8_t *states, size_t states_room, pokhvizi_mark_t *marks,
                        size_t marks_room, uint8_t kind, uint8_t fact, const pokhvizi_span_t *at, pokhvizi_event_t *event,
                        pokhvizi_fault_t *fault);
+
+/* Whether libyaml does something else with a token of this kind, if it is handed in next: one of the four numbers above. */
+uint8_t pokhvizi_differs(const pokhvizi_steps_t *steps, uint8_t kind);
+
+/* Of a strict parse: 1 where libyaml does something else with this token, and then `fault` is libyaml's, or says that it loses the
+ * token; 0 where it does the same. `marks` are those of the next step. */
+static __inline int pokhvizi_refuses(const pokhvizi_steps_t *steps, const pokhvizi_mark_t *marks, size_t marks_room,
+                                     uint8_t kind, const pokhvizi_span_t *at, pokhvizi_fault_t *fault)
+{
+    static const uint8_t problems[4] = {0, POKHVIZI_LOST_TOKEN, 10, 2};
+    static const pokhvizi_mark_t none = {0, 0, 0};
+    uint8_t difference = pokhvizi_differs(steps, kind);
+    size_t count = steps->machine.marks_count;
+
+    if (difference == POKHVIZI_SAME)
+        return 0;
+    fault->problem = problems[difference & 3];
+    fault->context_mark = difference != POKHVIZI_BARE_DOCUMENT && count - 1 < marks_room ? marks[count - 1] : none;
+    fault->problem_mark = at->start_mark;
+    return 1;
+}
 
 /* ---- Directives and tags ---- */
 
@@ -144,10 +186,10 @@ uint8_t pokhvizi_tag(const pokhvizi_handle_t *handles, size_t count, const uint8
 
 /* ---- Words ---- */
 
-/* Returns libyaml's words of an error's problem, and sets `*context` to those of its context, or to NULL. */
+/* Returns the words of an error's problem, libyaml's but of the last two, and sets `*context` to those of its context, or to NULL. */
 static __inline const char *pokhvizi_problem(uint8_t problem, const char **context)
 {
-    static const char *const words[14][2] = {
+    static const char *const words[15][2] = {
         {"no fault", NULL},
         {"did not find expected <stream-start>", NULL},
         {"did not find expected <document start>", NULL},
@@ -161,11 +203,12 @@ static __inline const char *pokhvizi_problem(uint8_t problem, const char **conte
         {"did not find expected key", "while parsing a block mapping"},
         {"did not find expected ',' or ']'", "while parsing a flow sequence"},
         {"did not find expected ',' or '}'", "while parsing a flow mapping"},
+        {"found an empty key before a token that libyaml loses", "while parsing a flow sequence"},
         {"found too many levels", NULL},
     };
 
-    *context = words[problem < 14 ? problem : 0][1];
-    return words[problem < 14 ? problem : 0][0];
+    *context = words[problem < 15 ? problem : 0][1];
+    return words[problem < 15 ? problem : 0][0];
 }
 
 #ifdef __cplusplus

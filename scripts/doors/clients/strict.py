@@ -1,0 +1,133 @@
+"""Texts for strict parsing, and the comparison of what was read of them.
+
+    strict.py write DIR COUNT SEED     draws texts, and writes them as files of DIR; prints their names
+    strict.py plain|strict|loose < NAMES
+    strict.py compare PLAIN STRICT LOOSE
+
+The second reads files by PyYAML's CLoader, and by that of bindings/python, strict or not. PLAIN, STRICT and LOOSE are its outputs,
+or those of events.c over these files: of libyaml, of a strict parser, and of one that isn't. What is
+strict must be libyaml's, byte by byte; or, where libyaml loses a token after the KEY of a flow pair, begin so and end with the error
+that says it. There must be texts of each kind, and the parser that isn't strict must differ at all three places.
+
+Run by clients.sh.
+"""
+import os
+import random
+import sys
+
+SCALARS = ["a", "b c", "'q'", '"d"', "|\n  text\n", "~", "1", "- x", "a: b", "*x", "&x a", "&x", "!t a", "!!str", "! a", "!a%00b c",
+           "!e!f%00 g", "!u!v w", ""]
+FLOW = ["[ ? ]", "[ ? , a ]", "[ ? : b ]", "[ ? : ]", "[ ? , ]", "[ ? a ]", "[ ? a : b, c ]", "[ : b ]", "[ a : b ]", "{ ? }", "{ ? : b }",
+        "{ : b }", "{ a, b : c }", "[ [ ? ] ]", "{ a : [ ? : ] }", "[ ]", "{ }", "[ a, ", "[ a ] ]", "{ a : ", "[ ? &x ]", "[ ? *x ]",
+        "[ ? { ? : } : [ ? ] ]"]
+LINES = [": x", ":", "a: b", "a:", "- a", "-", "? a", "?", "- : x", "? b\n: c", "- - a", "- ? a\n  : b", "-\n  : x", "a:\n  : x", "a:\n- b",
+         "a:\n- b\n: c", "{K}: {S}", "- {S}", "{S}", "? {F}", "- {F}", "a: {F}", "{F}", "# c", "", "\t", "&m\n: x", "!t\n: x"]
+BREAKS = ["---", "...", "...\n...", "... # c", "--- a", "--- {S}", "%YAML 1.1\n---", "%YAML 1.2\n---", "%YAML 1.3\n---",
+          "%TAG !e! tag:e,2000:\n---", "%TAG !u! u%00v\n---", "%TAG ! !\n---", "...\n%YAML 1.1", "...\n{S}", "...\n{F}", "...\n: x",
+          "...\n- a", "...\na: b", "...\n%FOO\n---\nx", "a\n...\nb"]
+
+
+def drawn(random_):
+    pick = random_.choice
+    lines = []
+    for _ in range(random_.randint(1, 7)):
+        line = pick(LINES if random_.random() < 0.65 else BREAKS)
+        line = line.replace("{S}", pick(SCALARS)).replace("{F}", pick(FLOW)).replace("{K}", pick(["a", "? a", "[ ? ]", "&k a", "!t"]))
+        indent = " " * pick([0, 0, 0, 0, 2, 2, 4])
+        lines += [indent + part for part in line.split("\n")]
+    text = "\n".join(lines) + pick(["\n", "\n", ""])
+    if random_.random() < 0.1:
+        place = random_.randrange(len(text) + 1)
+        text = text[:place] + pick(list(":?-[]{},&*!|>'\"%#\n .") + ["\0"]) + text[place:]
+    return text
+
+
+def write(folder, count, seed):
+    for number in range(count):
+        name = os.path.join(folder, f"{number}.yaml")
+        with open(name, "w", encoding="utf-8", newline="") as file:
+            file.write(drawn(random.Random(f"{seed} {number}")))
+        print(name)
+
+
+def read(how):
+    """Prints the events that a C loader gives."""
+    import pokhvizi
+    import yaml
+
+    class Loader(yaml.CLoader if how == "plain" else pokhvizi.CLoader):
+        strict_libyaml = how == "strict"
+
+    def mark(at):
+        return at and (at.index, at.line, at.column)
+
+    fields = "anchor", "tag", "implicit", "value", "style", "flow_style", "explicit", "version", "tags", "encoding"
+    for name in sys.stdin.read().split("\n")[:-1]:
+        print("file", name)
+        try:
+            with open(name, "rb") as file:
+                for it in yaml.parse(file.read(), Loader):
+                    print(type(it).__name__, mark(it.start_mark), mark(it.end_mark), [getattr(it, field, None) for field in fields])
+        except yaml.YAMLError as failure:
+            marks = [mark(getattr(failure, at, None)) for at in ("context_mark", "problem_mark")]
+            print("error", type(failure).__name__, repr(str(failure)), marks)
+
+
+def blocks(name):
+    """The lines of each file."""
+    found = {}
+    with open(name, encoding="utf-8") as lines:
+        for line in lines:
+            if line.startswith("file "):
+                here = found.setdefault(line.strip(), [])
+            else:
+                here.append(line)
+    return found
+
+
+LOSES = "found an empty key before a token that libyaml loses"
+ERRORS = {"value_first": "did not find expected key", "bare_document": "did not find expected <document start>"}
+
+
+def place_of(plain, loose, strict):
+    """The place where a parser that isn't strict does something else, though a load may fail later and hide it."""
+    if LOSES in strict[-1]:
+        return "pair_key"
+    for place, words in ERRORS.items():
+        if plain != loose and words in strict[-1]:
+            return place
+    return None
+
+
+def compare(plain, strict, loose):
+    plain, strict, loose = blocks(plain), blocks(strict), blocks(loose)
+    counts = {"accepted": 0, "refused": 0, "pair_key": 0, "value_first": 0, "bare_document": 0}
+    wrong = [] if list(plain) == list(strict) == list(loose) else ["other files"]
+    for name, lines in plain.items():
+        here = strict.get(name, [""])
+        place = place_of(lines, loose.get(name), here)
+        if LOSES in here[-1]:
+            if here[:-1] != lines[:len(here) - 1]:
+                wrong.append(name)
+        elif here != lines:
+            wrong.append(name)
+        elif place is None and lines != loose.get(name):
+            wrong.append(name + ", which is read otherwise where nothing is told apart")
+        counts[place or ("refused" if lines[-1].startswith("error") else "accepted")] += 1
+    lacking = [word for word, count in counts.items() if count == 0]
+    if wrong or lacking:
+        print("\n".join(wrong[:20]))
+        print(f"{len(wrong)} of {len(plain)} texts are wrong; none is there of: {' '.join(lacking) or 'nothing'}")
+        return 1
+    said = ", ".join(f"{count} {word}" for word, count in counts.items())
+    print(f"{len(plain)} texts: {said}")
+    return 0
+
+
+if __name__ == "__main__":
+    if sys.argv[1] == "write":
+        write(sys.argv[2], int(sys.argv[3]), sys.argv[4])
+    elif sys.argv[1] != "compare":
+        read(sys.argv[1])
+    else:
+        sys.exit(compare(*sys.argv[2:]))
