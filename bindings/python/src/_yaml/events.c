@@ -3,6 +3,9 @@
 
 static uint32_t step(parser_object *parser, uint8_t fact, pokhvizi_fault_t *fault)
 {
+    if (parser->is_strict && pokhvizi_refuses(&parser->steps, parser->marks, parser->marks_room,
+                                              (uint8_t)parser->token.type, span_of(parser), fault))
+        return POKHVIZI_FAULT;
     return pokhvizi_step(&parser->steps, parser->states, parser->states_room, parser->marks,
                          parser->marks_room, (uint8_t)parser->token.type, fact, span_of(parser),
                          &parser->event, fault);

@@ -52,7 +52,7 @@ struct kept {
     /* Names of attributes, made once, since Python's cache of attributes goes by their addresses. */
     struct {
         PyObject *read, *name, *resolve, *descend_resolver, *ascend_resolver, *yaml_path_resolvers, *function,
-            *start_mark, *end_mark, *max_depth, *max_nodes;
+            *start_mark, *end_mark, *max_depth, *max_nodes, *strict_libyaml;
     } names;
     int is_new; /* Python is 3.9 or later */
 };
@@ -145,6 +145,7 @@ typedef struct {
     struct held held;
     struct directives directives;
     pokhvizi_steps_t steps;
+    int is_strict; /* where libyaml does something else there is an error */
     uint8_t *states, first_states[64];
     pokhvizi_mark_t *marks, first_marks[32];
     size_t states_room, marks_room;

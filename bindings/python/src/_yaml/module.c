@@ -108,6 +108,7 @@ static int make_names(void)
         {"end_mark", &its.names.end_mark},
         {"max_depth", &its.names.max_depth},
         {"max_nodes", &its.names.max_nodes},
+        {"strict_libyaml", &its.names.strict_libyaml},
     };
     size_t i;
 
@@ -171,12 +172,13 @@ static int make_mark_type(void)
     return add(type, "pointer", shared(Py_None));
 }
 
-/* The bounds of a loader are attributes of its class, and None is none. */
+/* What a loader's class may set: its bounds, where None is none, and whether it reads libyaml's language alone. */
 static int add_parser_type(PyObject *module)
 {
     PyObject *type = PyType_FromSpec(&parser_spec);
 
-    if (type == NULL || add(type, "max_depth", shared(Py_None)) < 0 || add(type, "max_nodes", shared(Py_None)) < 0) {
+    if (type == NULL || add(type, "max_depth", shared(Py_None)) < 0 || add(type, "max_nodes", shared(Py_None)) < 0 ||
+        add(type, "strict_libyaml", shared(Py_False)) < 0) {
         Py_XDECREF(type);
         return -1;
     }

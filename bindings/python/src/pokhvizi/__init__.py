@@ -183,6 +183,8 @@ class Steps:
     INCOMPATIBLE, DUPLICATE_HANDLE, UNDECLARED_HANDLE = 4, 5, 8
 
     def __init__(self, scanner):
+        if getattr(scanner, "strict_libyaml", False):
+            raise ValueError("strict_libyaml is for the loaders in C, as CSafeLoader")
         self.scanner, self.library, self.marks = scanner, Library.get(), Marks()
         self.directives = Directives(self.library)
         self.record, self.states = bytearray(self.RECORD), bytearray(self.FEW)

@@ -4,6 +4,8 @@
 
     yaml.load(text, Loader=CSafeLoader)
 
+Where the class of a loader has `strict_libyaml = True`, it reads what libyaml reads, and no more.
+
 `CParser` before a constructor and a resolver of PyYAML's makes another loader, as PyYAML's own `CParser` does.
 """
 from yaml.constructor import BaseConstructor, Constructor, FullConstructor, SafeConstructor, UnsafeConstructor
