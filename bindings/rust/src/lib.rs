@@ -23,6 +23,9 @@
 //! - A load after a fault fails again with that fault.
 //! - A document with more nodes than it may have is the composer's fault `found too many nodes`, in place of one of memory.
 //! - [`POKHVIZI_VERSION`] and the module [`bounds`] are added.
+//!
+//! With the feature `strict` nothing is read otherwise: where the original has an error there is that error, and where it loses a
+//! token there is one that says so.
 
 #![allow(non_camel_case_types, clippy::missing_safety_doc)]
 

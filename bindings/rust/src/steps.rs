@@ -8,9 +8,15 @@ use std::ffi::CStr;
 use std::mem::MaybeUninit;
 use std::{iter, ptr};
 
-/// What is kept between two steps: plain numbers, which nobody reads here.
+/// What is kept between two steps: plain numbers, which nobody reads here, but for how many marks there are.
 #[repr(C)]
 struct Record([u64; 17]);
+
+impl Record {
+    fn marks_count(&self) -> usize {
+        self.0[2] as usize
+    }
+}
 
 /// An event without its texts; flags are 1 or 0, and the number of its kind is the original's.
 #[derive(Clone, Copy)]
@@ -68,6 +74,8 @@ extern "C" {
         fault: *mut Problem,
     ) -> u32;
 
+    fn pokhvizi_differs(steps: *const Record, kind: u8) -> u8;
+
     fn pokhvizi_version_fact(major: i32, minor: i32) -> u8;
 
     fn pokhvizi_directive_fact(
@@ -101,7 +109,7 @@ const STAYS: u32 = 2;
 const FULL_STATES: u32 = 3;
 const FULL_MARKS: u32 = 4;
 const FAULT: u32 = 5;
-pub const TOO_DEEP: usize = 13;
+pub const TOO_DEEP: usize = 14;
 
 /// The tag directives of a document.
 #[derive(Default)]
@@ -265,14 +273,35 @@ impl Steps {
         }
     }
 
+    /// Returns the fault of a strict parser where the original does something else with a token: the original's, or that the
+    /// original loses the token.
+    fn refuse(&self, kind: u8, at: yaml_mark_t) -> Result<(), Fault> {
+        // SAFETY: the record is a steps' own.
+        let number = match unsafe { pokhvizi_differs(&self.record, kind) } {
+            0 => return Ok(()),
+            1 => 13,
+            2 => 10,
+            _ => 2,
+        };
+        let innermost = self.marks[..self.record.marks_count()].last();
+        Err(Fault::of_problem(&Problem {
+            number,
+            context_mark: innermost.copied().unwrap_or_else(no_mark),
+            problem_mark: at,
+        }))
+    }
+
     /// Steps with a token, and writes the shape of the event that it gives.
     ///
     /// # Errors
     ///
-    /// The parser's error, or no memory for a stack.
+    /// The parser's error, or no memory for a stack; with the feature `strict`, also where the original does something else.
     #[inline]
     pub unsafe fn step(&mut self, token: &yaml_token_t, shape: &mut Shape) -> Result<Did, Fault> {
         let (kind, fact) = (token.type_ as u8, self.fact(token));
+        if cfg!(feature = "strict") {
+            self.refuse(kind, token.start_mark)?;
+        }
         // The two marks of a token are neighbours.
         let at = ptr::addr_of!(token.start_mark).cast();
         loop {
