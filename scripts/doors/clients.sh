@@ -21,7 +21,10 @@
 #     pyyaml_ext         PyYAML's own tests of its C form, over the extension of bindings/python
 #     cloaders           the C loaders of bindings/python and PyYAML's over YAML files of this machine, PyYAML's test data, the
 #                        test suite and broken texts, with all fields
-#     crate              the tests of bindings/rust
+#     strict_c           strict parsing, preloaded, over 20,000 drawn texts: libyaml's events, nodes and errors, but where it loses
+#                        a token; SEED is another draw
+#     strict_python      the same of the C loaders of bindings/python, and of PyYAML's
+#     crate              the tests of bindings/rust, and with its feature `strict` over the same texts
 #     loads_rust         nodes, memory over 7 MB and instructions of loads by that crate and by the original; of one large
 #                        document, small documents and anchors they are at most 1.31, 1.28 and .68 of the original's
 #     pipe_rust          events before a slow pipe's end, by that crate
@@ -204,6 +207,42 @@ preload() {
     said=$(LD_PRELOAD=$preloaded "$work/preload_calls") && echo "$said$memory"
 }
 
+# ---- Strict parsing ----
+
+# Draws 20,000 texts.
+strict_texts() {
+    [ -e "$work/strict_names" ] && return
+    mkdir -p "$work/strict"
+    python3 "$lists/strict.py" write "$work/strict" 20000 "${SEED:-1}" > "$work/strict_names"
+}
+
+# compare_strict: of $work/plain, $work/loose and $work/strict_read; that the check sees a parser that isn't strict, too.
+compare_strict() {
+    if python3 "$lists/strict.py" compare "$work/plain" "$work/loose" "$work/loose" > "$work/turned"; then
+        echo "a parser that isn't strict passes"
+        return 1
+    fi
+    python3 "$lists/strict.py" compare "$work/plain" "$work/strict_read" "$work/loose"
+}
+
+strict_c() {
+    strict_texts || return 1
+    for what in files nodes; do
+        "$work/events" $what < "$work/strict_names" > "$work/plain" &&
+            LD_PRELOAD=$preloaded "$work/events" $what < "$work/strict_names" > "$work/loose" &&
+            POKHVIZI_STRICT=1 LD_PRELOAD=$preloaded "$work/events" $what < "$work/strict_names" > "$work/strict_read" || return 1
+        compare_strict || return 1
+    done
+}
+
+strict_python() {
+    strict_texts || return 1
+    for how in plain loose strict_read; do
+        PYTHONPATH="$work/python" "$python" "$lists/strict.py" ${how%_read} < "$work/strict_names" > "$work/$how" || return 1
+    done
+    compare_strict
+}
+
 # Names YAML files of this machine.
 name_files() {
     find / -xdev \( -path /proc -o -path /tmp -o -path /sys \) -prune -o -type f \( -name '*.yaml' -o -name '*.yml' \) \
@@ -383,7 +422,8 @@ uses_patch() {
 
 crate() {
     prepare_cargo
-    (cd "$work/unsafe_libyaml" && cargo test -q -j 1) || return 1
+    strict_texts || return 1
+    (cd "$work/unsafe_libyaml" && cargo test -q -j 1 && POKHVIZI_TEXTS="$work/strict" cargo test -q -j 1 --features strict) || return 1
     (cd "$work/unsafe_libyaml" && POKHVIZI_DIR=/nowhere cargo build -q -j 1) > "$work/missing" 2>&1 && return 1
     grep -q "POKHVIZI_DIR may name the folder of libpokhvizi.a" "$work/missing" || { cat "$work/missing"; return 1; }
     echo "$(cat bindings/rust/tests/*.rs | grep -c '^#\[test\]') tests"
@@ -466,7 +506,7 @@ serde_yaml() {
 
 wanted=$*
 for word in $wanted; do
-    case " preload events pipe_c pyyaml_c psych pyyaml_pure loaders pipe_python pyyaml_ext cloaders crate loads_rust pipe_rust yaml_test_suite serde_yaml " in
+    case " preload events pipe_c pyyaml_c psych pyyaml_pure loaders pipe_python pyyaml_ext cloaders strict_c strict_python crate loads_rust pipe_rust yaml_test_suite serde_yaml " in
     *" $word "*) ;;
     *) echo "no check has the name $word" >&2; exit 2 ;;
     esac
@@ -483,6 +523,8 @@ check loaders PyYAML pyyaml libyaml-pp-perl -- loaders
 check pipe_python PyYAML -- pipe_python
 check pyyaml_ext PyYAML cc yaml.h pyyaml _yaml.abi3.so -- pyyaml_ext
 check cloaders PyYAML cc yaml.h pyyaml libyaml-pp-perl _yaml.abi3.so -- cloaders
+check strict_c cc yaml.h libyaml_preload.so events -- strict_c
+check strict_python PyYAML _yaml.abi3.so -- strict_python
 check crate cargo unsafe-libyaml -- crate
 check loads_rust cargo valgrind unsafe-libyaml -- loads_rust
 check pipe_rust cargo unsafe-libyaml -- pipe_rust
