@@ -1,5 +1,5 @@
 -- A node that begins at a step, where the step goes on in another function.
-use Rattle.std.proofs.Common.{◌≡◌, ◌⊎◌, inl, inr, ◌↔◌, ◌∙◌, ℕ, List, true, Some, refl, sym}
+use Rattle.std.proofs.Common.{◌≡◌, ◌⊎◌, inl, inr, ◌↔◌, ◌∙◌, ℕ, List, Some, refl, sym}
 use Rattle.libyaml_types.specs.declared.mark.yaml_mark_t.{yaml_mark_t}
 use Rattle.libyaml_types.specs.declared.enums.yaml_token_type_t.{yaml_token_type_t}
 use Rattle.libyaml_automaton.specs.declared.action.Action.{Action}
@@ -11,13 +11,13 @@ use Rattle.libyaml_automaton.specs.declared.next.Next.TheVariants as next
 use Rattle.libyaml_automaton.specs.declared.node_place.NodePlace.{NodePlace}
 use Rattle.libyaml_automaton.specs.Numbers.{next_of}
 use Rattle.libyaml_automaton.specs.Wanted.{wanted_by}
-use Rattle.libyaml_automaton.specs.Fits.{FitsBare, IsFull, IsNothingDone, Stays, SameReading, opens_at}
+use Rattle.libyaml_automaton.specs.Fits.{FitsBare, IsFull, IsNothingDone, Stays, SameReading, begins_at, opens_at}
 use Rattle.libyaml_automaton.specs.Growth.{pushes, begun_place, opens, HasNoRoom}
 
 -- it is full where a stack that it pushes on is
 pub full_states_where : (n : Next) (k : yaml_token_type_t) (p : NodePlace) (a : Action) (m d : Automaton)
-    (states : List ℕ) (marks : List yaml_mark_t) → pushes n k ≡ true → begun_place n k ≡ Some p → d ≡ m
-    → (a ≡ did.FullStates) ↔ (HasNoRoom true states d.states_count × (HasNoRoom (opens_at p k) marks d.marks_count → ⊥))
+    (states : List ℕ) (marks : List yaml_mark_t) → pushes n k ≡ begins_at p k → begun_place n k ≡ Some p → d ≡ m
+    → (a ≡ did.FullStates) ↔ (HasNoRoom (begins_at p k) states d.states_count × (HasNoRoom (opens_at p k) marks d.marks_count → ⊥))
     → (a ≡ did.FullStates) ↔ (HasNoRoom (pushes n k) states m.states_count
     × (HasNoRoom (opens n k) marks m.marks_count → ⊥))
 full_states_where n k p a m d states marks e b s f = rw (e, b, sym s) f
