@@ -3,7 +3,6 @@ mod DocumentsEqual
 mod EventsEqual
 mod Fields
 pub mod Ids
-pub mod Children
 mod Named
 mod NodesEqual
 mod TokensEqual

@@ -6,4 +6,3 @@ pub mod LoadedNodes
 pub mod Models
 pub mod Node
 pub mod Nodes
-pub mod Children

@@ -16,7 +16,7 @@ use crate::node::yaml_node_t;
 use crate::walk::{yaml_node_items_t, yaml_node_pairs_t};
 pub use add::{yaml_document_add_mapping, yaml_document_add_scalar, yaml_document_add_sequence};
 pub use append::{yaml_document_append_mapping_pair, yaml_document_append_sequence_item};
-pub use building::{append_child, append_node, begin_document, end_document, set_end_mark};
+pub use building::{append_node, begin_document, end_document, set_end_mark};
 pub use initialize::yaml_document_initialize;
 use libyaml_types::{yaml_mark_t, yaml_tag_directive_t, yaml_version_directive_t};
 use std::marker::Model;

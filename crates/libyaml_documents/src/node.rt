@@ -198,40 +198,9 @@ impl Eq for yaml_node_t {
     ghost laws = { same_node_equiv };
 }
 
-/// The role of a child in the node that it was appended to.
-#[derive(Copy, Clone)]
-pub enum ChildRole {
-    /// An item of a sequence.
-    Item,
-    /// A key of a mapping, whose value comes next.
-    Key,
-    /// The value of the key before it.
-    Value,
-    /// None: the node is a scalar, which has no children.
-    Ignored,
-}
-
-/// Checks that a list of this many entries may have one more.
-///
-/// # Errors
-///
-/// `AllocError` where it has `most` or more.
-#[inline(always)]
-fn has_room(entries: usize, most: usize) -> Result<(), AllocError>
-    ensures ok { OnOk result (nat_lt most (suc entries) ≡ false) }
-    ensures full { OnErr result (nat_lt most (suc entries) ≡ true) }
-{
-    if entries < most {
-        Ok(())
-    } else {
-        Err(AllocError)
-    }
-}
-
 impl yaml_node_t {
     ghost use Rattle.libyaml_documents.specs.Nodes.{node_type, items_of, pairs_of};
     ghost use Rattle.libyaml_documents.specs.Nodes.{IsSequence, IsMapping, with_item, with_pair};
-    ghost use Rattle.libyaml_documents.specs.Children.{MayRefuseChild, PushedAs};
 
     /// Returns the type of the node, which is never `YAML_NO_NODE`.
     ///
@@ -267,44 +236,6 @@ impl yaml_node_t {
         match &self.content {
             unnamed_yaml_node_t_data::Mapping(mapping) => mapping.pairs.as_slice(),
             _ => &[],
-        }
-    }
-
-    /// Appends a child to this node, whose list may have `most` entries: to a sequence as an item; to a
-    /// mapping as the value of `key`, or else as a key, which changes nothing.
-    ///
-    /// # Errors
-    ///
-    /// `AllocError` where the list of an item or a key has `most` entries, or an allocation fails; the node
-    /// is then as it was.
-    #[inline(always)]
-    pub(crate) fn push_child(
-        &mut self,
-        key: Option<yaml_node_item_t>,
-        child: yaml_node_item_t,
-        most: usize,
-    ) -> Result<ChildRole, AllocError>
-        ensures ok { IfOk result (λ role. PushedAs role most key child self.old self.new) }
-        ensures refused { OnErr result (MayRefuseChild most key self.old) }
-        ensures unchanged { OnErr result (self.new ≡ self.old) }
-    {
-        match &mut self.content {
-            unnamed_yaml_node_t_data::Scalar(_) => Ok(ChildRole::Ignored),
-            unnamed_yaml_node_t_data::Sequence(sequence) => {
-                has_room(sequence.items.len(), most)?;
-                sequence.items.push(child)?;
-                Ok(ChildRole::Item)
-            }
-            unnamed_yaml_node_t_data::Mapping(mapping) => match key {
-                Some(key) => {
-                    mapping.pairs.push(yaml_node_pair_t { key, value: child })?;
-                    Ok(ChildRole::Value)
-                }
-                None => {
-                    has_room(mapping.pairs.len(), most)?;
-                    Ok(ChildRole::Key)
-                }
-            },
         }
     }
 

@@ -1,16 +1,14 @@
 //! The steps by which a loader builds a document of events.
 
 ghost use Rattle.std.specs.Prelude.{◌≡◌, ◌+◌, ◌<◌, ◌↔◌, ◌⊎◌, pos, [], Err, IfOk, OnOk, OnErr};
-ghost use Rattle.std.specs.Prelude.{IfSome, IsErrOf, length};
+ghost use Rattle.std.specs.Prelude.{IsErrOf, length};
 ghost use Rattle.libyaml_documents.specs.Documents.{most_nodes, with_node, with_changed_node};
-ghost use Rattle.libyaml_documents.specs.Children.{AppendedAs, MayRefuseAt};
 ghost use Rattle.libyaml_documents.specs.LoadedNodes.{begun_document, ended_document, with_end};
 ghost use Rattle.libyaml_documents.specs.Nodes.{ids_of, node_type, type_at, IsIdUpTo, KeepsTypes};
 
 use super::add::{has_room, push_node};
 use super::{place_of, yaml_document_t};
-use crate::items::yaml_node_item_t;
-use crate::node::{ChildRole, yaml_node_t};
+use crate::node::yaml_node_t;
 use libyaml_types::{
     ZERO_MARK, unnamed_yaml_event_t_data_document_start, yaml_mark_t, yaml_refusal_t,
 };
@@ -82,32 +80,4 @@ pub fn set_end_mark(document: &mut yaml_document_t, id: i32, end_mark: yaml_mark
     ensures types_kept { KeepsTypes document.old.nodes document.new.nodes }
 {
     document.nodes[place_of(id)].end_mark = end_mark;
-}
-
-/// Appends a child to the node of this id, whose list may have `most` entries, and returns its role: an item
-/// of a sequence; the value of `key` in a mapping, or, where no key waits, a key of it, which changes
-/// nothing; a scalar has no children. The node is looked up once.
-///
-/// # Errors
-///
-/// `Memory` where an item's list or a key's has `most` entries, or where it would grow and that allocation
-/// fails; the document is then as it was. A key allocates nothing.
-#[inline(always)]
-pub fn append_child(
-    document: &mut yaml_document_t,
-    parent: i32,
-    key: Option<yaml_node_item_t>,
-    child: yaml_node_item_t,
-    most: usize,
-) -> Result<ChildRole, yaml_refusal_t>
-    requires parent { IsIdUpTo (length document.old.nodes) parent }
-    requires key { IfSome key (IsIdUpTo (length document.old.nodes)) }
-    requires child { IsIdUpTo (length document.old.nodes) child }
-    ensures ok { IfOk result (λ role. AppendedAs role most parent key child document.old document.new) }
-    ensures error { OnErr result (result ≡ Err yaml_refusal_t.Memory) }
-    ensures refused { OnErr result (MayRefuseAt most parent key document.old.nodes) }
-    ensures unchanged { OnErr result (document.new ≡ document.old) }
-{
-    let node = &mut document.nodes[place_of(parent)];
-    Ok(node.push_child(key, child, most)?)
 }
