@@ -24,7 +24,7 @@ IMPL = re.compile(r"impl(<.*?>)? (?:(.+?) for )?(\w+)")
 USE = re.compile(r"pub use ([\w:]+?)(?:::\{([^}]*)\}| as (\w+))?;")
 LAWS = re.compile(r"(?:laws|rows)::")
 NAMED = (
-    "unsafe_libyaml", "token_lines", "yaml_path", "yaml_expansion", "token_steps", "token_steps_c",
+    "unsafe_libyaml", "token_lines", "yaml_path", "yaml_expansion", "libyaml_composer", "token_steps", "token_steps_c",
     "document_steps", "document_steps_c",
 )
 INNER = re.compile(r"putting::")  # a module for the crates above alone
@@ -33,7 +33,7 @@ WIDTH = 110
 
 HEAD = """# Every public item
 
-`python3 scripts/gate/surface.py --write` makes this page. You name `unsafe_libyaml`, which re-exports the crates of events, documents and loads, and `token_lines`, which re-exports those of lines. `fn T::f` is a method or a function of the type `T`; a struct that is shown without fields has private ones. What each is, returns and asks for is in the comment and the contract beside it, and [CALLING.md](CALLING.md) shows their use. [PROVED.md](PROVED.md) has the laws; what only crates above use is left out.
+`python3 scripts/gate/surface.py --write` makes this page. You name `unsafe_libyaml`, which re-exports the crates of events, documents and loads, and `token_lines`, which re-exports those of lines. `fn T::f` is a method or a function of the type `T`; a struct that is shown without fields has private ones; those of `steps_t` are the library's, of types that no program names. What each is, returns and asks for is in the comment and the contract beside it, and [CALLING.md](CALLING.md) shows their use. [PROVED.md](PROVED.md) has the laws; what only crates above use is left out.
 """
 
 FIRST = [
