@@ -1,12 +1,13 @@
 #!/usr/bin/env python3
 """Counts what a reader of specs and proofs meets twice or in vain:
 
-    python3 scripts/gate/dead_and_duplicate.py [--write] [names|dead|twice]
+    python3 scripts/gate/dead_and_duplicate.py [--write] [names|dead|twice|unnamed]
 
 names: names of specs/ that stand for more than one definition. dead: definitions of specs/ and proofs/ that no
 code, contract or proof reaches, by the names that are mentioned. twice: lemmas whose statements are equal but for
-the names of their variables. scripts/gate/dead_and_duplicate.txt has the three figures, which may only fall: the exit
-status is 1 where one is another, and with --write it is written. A word prints what is counted.
+the names of their variables. unnamed: public functions and types of the libraries that docs/SURFACE.md doesn't have and
+no other crate names. scripts/gate/dead_and_duplicate.txt has the four figures, which may only fall: the exit status is 1
+where one is another, and with --write it is written. A word prints what is counted.
 
 Run by check.sh.
 """
@@ -14,6 +15,8 @@ import re
 import sys
 from collections import defaultdict
 from pathlib import Path
+
+import surface
 
 TOP = Path(__file__).resolve().parents[2]
 LIMITS = TOP / "scripts" / "gate" / "dead_and_duplicate.txt"
@@ -130,24 +133,46 @@ def twice(proofs):
     return [group for group in groups.values() if len(group) > 1]
 
 
+def unnamed():
+    """Public functions and types of the libraries whose name stands neither in docs/SURFACE.md nor in another crate."""
+    named = set(re.findall(r"\w+", surface.PAGE.read_text()))
+    of_crate = {}
+    for crate in surface.crates():
+        texts = (path.read_text() for path in (TOP / "crates" / crate).glob("[ps]*/**/*") if path.suffix in (".rt", ".antt"))
+        of_crate[crate] = {word for text in texts for word in re.findall(r"\w+", text)}
+    found = []
+    for crate in of_crate:
+        if surface.root(crate) is None or surface.root(crate).name == "main.rt" or crate in surface.EXAMPLES:
+            continue
+        above = set().union(*(words for other, words in of_crate.items() if other != crate))
+        for name, item in surface.public_of(crate).items():
+            is_named = name.split("::")[-1] in named | above
+            if item is not None and item.kind not in ("impl", "const") and not surface.LAWS.match(name) and not is_named:
+                found.append(f"{crate}: {name}")
+    return found
+
+
 def place(one):
     return f"{one.path.relative_to(TOP / 'crates')}: {one.name}"
 
 
 def main():
     words = sys.argv[1:]
-    if not set(words) <= {"--write", "names", "dead", "twice"}:
+    if not set(words) <= {"--write", "names", "dead", "twice", "unnamed"}:
         sys.exit(__doc__)
     specs = [one for path in files("specs") for one in definitions(path)]
     proofs = [one for path in files("proofs") for one in definitions(path)]
     names, gone, same = doubled_names(specs), dead(specs + proofs), twice(proofs)
-    figures = {"names": len(names), "dead": len(gone), "twice": len(same)}
+    public = unnamed()
+    figures = {"names": len(names), "dead": len(gone), "twice": len(same), "unnamed": len(public)}
     if "names" in words:
         print("\n".join(f"{name}: {', '.join(str(p.relative_to(TOP / 'crates')) for p in sorted(names[name]))}" for name in sorted(names)))
     if "dead" in words:
         print("\n".join(sorted(map(place, gone))))
     if "twice" in words:
         print("\n\n".join("\n".join(map(place, group)) for group in same))
+    if "unnamed" in words:
+        print("\n".join(public))
     if "--write" in words:
         LIMITS.write_text("".join(f"{word} {count}\n" for word, count in figures.items()))
     limits = {word: int(count) for word, count in map(str.split, LIMITS.read_text().splitlines())}

@@ -27,7 +27,7 @@ pub fn checked(bytes: &[u8]) -> Result<&str, yaml_refusal_t>
 /// # Errors
 ///
 /// `NotUtf8`, where the bytes aren't UTF-8.
-pub fn checked_option(bytes: Option<&[u8]>) -> Result<Option<&str>, yaml_refusal_t>
+pub(crate) fn checked_option(bytes: Option<&[u8]>) -> Result<Option<&str>, yaml_refusal_t>
     ensures ok { IfOk result (λ text. option_copied text ≡ option_copied bytes.entry) }
     ensures utf8 { OnOk result (IfSome (option_copied bytes.entry) IsUtf8) }
     ensures not_utf8 { OnErr result (¬ IfSome (option_copied bytes.entry) IsUtf8) }
@@ -37,7 +37,7 @@ pub fn checked_option(bytes: Option<&[u8]>) -> Result<Option<&str>, yaml_refusal
 }
 
 /// Returns whether all handles and prefixes are UTF-8. Takes no memory.
-pub fn are_utf8_pairs(pairs: &[(&[u8], &[u8])]) -> bool
+pub(crate) fn are_utf8_pairs(pairs: &[(&[u8], &[u8])]) -> bool
     ensures { IsTrue result ↔ PairsAreUtf8 pairs.now }
 {
     pairs.iter().all(is_utf8_pair)
@@ -55,7 +55,7 @@ fn is_utf8_pair(pair: &(&[u8], &[u8])) -> bool
 /// # Errors
 ///
 /// `AllocError`, where an allocation fails.
-pub fn copied_option(alloc: Global, text: Option<&str>) -> Result<Option<String>, AllocError>
+pub(crate) fn copied_option(alloc: Global, text: Option<&str>) -> Result<Option<String>, AllocError>
     ensures { IfOk result (λ copy. option_map string_bytes copy ≡ option_copied text.entry) }
 {
     text.map(|text| String::from_str(alloc, text)).transpose()

@@ -5,4 +5,4 @@ mod same;
 mod word;
 
 pub use clean::is_clean;
-pub use same::end_alike;
+pub(crate) use same::end_alike;

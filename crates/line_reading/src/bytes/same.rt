@@ -6,7 +6,7 @@ use crate::bytes::word::word_at;
 
 /// Returns whether two texts end with the same `len` bytes, from 1 to 8.
 #[inline(always)]
-pub fn end_alike(left: &[u8], right: &[u8], len: usize) -> bool
+pub(crate) fn end_alike(left: &[u8], right: &[u8], len: usize) -> bool
     requires some { 0 < len }
     requires few { len ≤ 8 }
     requires left { 8 ≤ length left.now }
