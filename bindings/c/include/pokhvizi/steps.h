@@ -36,7 +36,8 @@
  *
  * `states` and `marks` are stacks in the caller's memory. While N collections are open, `states` holds at most N + 1
  * entries, and `marks` at most N. What stands in them before the first call doesn't matter; to make them larger, move their
- * bytes, as by realloc.
+ * bytes, as by realloc. After POKHVIZI_FAULT what `steps` holds is unspecified: a further call is safe, and what it gives has
+ * no meaning; pokhvizi_steps_new begins a new parse.
  *
  * To bound how deep a text nests, don't make `marks` larger than that at POKHVIZI_FULL_MARKS, and stop: the token opens a
  * collection too deep (POKHVIZI_TOO_DEEP). An entry is one collection that a token opens, kinds 7, 8, 10 and 12. Two kinds have
