@@ -1,10 +1,14 @@
-//! Work that takes no more memory where there is more of it (`scripts/flat_memory.sh`).
+//! Work that takes no more memory where there is more of it (`scripts/gate/flat_memory.sh`).
+
+mod follows;
 
 use crate::calls::append_item;
 use crate::growing::{ComputedTokens, GrowingList, Grown};
 use anyhow::{Result, bail};
-use rows_common::{gives_event, next_nodes};
+use follows::{Way, hold_parsers, run_all, with_long_texts};
+use rows_common::{gives_event, next_nodes, read_text};
 use std::alloc::{AllocError, Global};
+use std::rt::Files;
 use token_lines::{MAX_TOKENS, yaml_line_source_t};
 use unsafe_libyaml::{
     YAML_ANY_MAPPING_STYLE, YAML_ANY_SCALAR_STYLE, YAML_ANY_SEQUENCE_STYLE, YAML_PARSER_ERROR,
@@ -197,12 +201,33 @@ fn delete_documents(alloc: Global, n: u32) -> u64 {
     nodes
 }
 
+/// Goes over the list of `follows.tokens` n times in a way, and counts what came.
+///
+/// # Errors
+///
+/// The file can't be read, or an allocation fails.
+fn follow(rt: &(impl Files + AllocGlobal), way: Way, n: u32) -> Result<u64> {
+    let lines = read_text(rt, "follows.tokens")?;
+    Ok(run_all(rt.alloc(), way, lines.as_str(), n))
+}
+
+/// The same, each event put into one place, where texts are long.
+///
+/// # Errors
+///
+/// The file can't be read, or an allocation fails.
+fn follow_long(rt: &(impl Files + AllocGlobal), n: u32) -> Result<u64> {
+    let lines = read_text(rt, "follows.tokens")?;
+    let long = with_long_texts(rt.alloc(), lines.as_str())?;
+    Ok(run_all(rt.alloc(), Way::Placed, long.as_str(), n))
+}
+
 /// Does so much of the work that this word names, and prints what it counted.
 ///
 /// # Errors
 ///
-/// No work has this name, an allocation fails, or printing does.
-pub fn show(rt: &(impl Print + AllocGlobal), work: &str, n: u32) -> Result<()> {
+/// No work has this name, an allocation fails, a file can't be read, or printing fails.
+pub fn show(rt: &(impl Files + Print + AllocGlobal), work: &str, n: u32) -> Result<()> {
     let counted = match work {
         "parsed" => parse_documents(rt.alloc(), n),
         "loaded" => load_documents(rt.alloc(), n),
@@ -212,6 +237,15 @@ pub fn show(rt: &(impl Print + AllocGlobal), work: &str, n: u32) -> Result<()> {
         "handles" => parse_handles(rt.alloc(), n),
         "open" => load_open(rt.alloc(), n),
         "built" => delete_documents(rt.alloc(), n),
+        "placed" => follow(rt, Way::Placed, n)?,
+        "broken" => follow(rt, Way::Broken, n)?,
+        "deserted" => follow(rt, Way::Left, n)?,
+        "given" => follow(rt, Way::Given, n)?,
+        "written" => follow(rt, Way::Written, n)?,
+        "pushed" => follow(rt, Way::Pushed, n)?,
+        "composed" => follow(rt, Way::Loaded, n)?,
+        "long" => follow_long(rt, n)?,
+        "kept" => hold_parsers(rt.alloc(), n)?,
         _ => bail!("no such work"),
     };
     println!(rt; "{counted}")?;

@@ -2,8 +2,8 @@
 //!
 //! The program makes the checks of each module, counts the rows of each table and names those that differ.
 //! `rows_hostile TABLE` makes those of one table, `rows_hostile TABLE ROW` those of one row, and
-//! `rows_hostile failing` those of `failing`, for `scripts/allocation_failures.sh`. `rows_hostile work
-//! WORK N` does the work of `scripts/flat_memory.sh`.
+//! `rows_hostile failing` those of `failing`, for `scripts/gate/allocation_failures.sh`. `rows_hostile work
+//! WORK N` does the work of `scripts/gate/flat_memory.sh`.
 #![tactic(auto)]
 
 mod calls;
@@ -47,7 +47,7 @@ fn show_failing(rt: &(impl Print + AllocGlobal)) -> Result<()> {
     tables.end()
 }
 
-fn do_work(rt: &(impl Print + AllocGlobal), work: &str, n: &str) -> Result<()> {
+fn do_work(rt: &(impl Files + Print + AllocGlobal), work: &str, n: &str) -> Result<()> {
     let n = n.parse::<u32>().context("no number")?;
     flat::show(rt, work, n)
 }

@@ -1,0 +1,90 @@
+#!/usr/bin/env python3
+"""Plants leaks, each of which passes every proof and every test vector, and fails where `gate/flat_memory.sh` sees one not.
+
+    python3 scripts/leaks_seen.py [LEAK..]        (no word: each of LEAKS)
+
+Each is made in a copy, and `rt run` proves and builds `rows_hostile` over it. Texts are let go of by hand in
+`libyaml_events/src/states`, where `mem::forget` stands in place of a drop: LEAKS has one at each such place, a bound on what
+is kept, and one where another crate drops what it holds. Some minutes each; needs `rt`, and GNU time.
+
+Run by hand, after such a place or `flat_memory.sh` changed.
+"""
+import shutil
+import subprocess
+import sys
+import tempfile
+from pathlib import Path
+
+from answers import TOP, copied
+
+CONTENTS = "libyaml_events/src/states/contents.rt"
+# name: the file, the function, what stands in it, and what comes in its place
+LEAKS = {
+    "content_with_properties_is_light": (CONTENTS, "is_light", "anchor.is_none() && tag.is_none()", "anchor.is_none() || tag.is_none() || true"),
+    "directives_are_light": (CONTENTS, "is_light", "event.tag_directives.capacity() == 0", "true"),
+    "alias_is_light": (CONTENTS, "is_light", "unnamed_yaml_event_t_data::Alias(_) => return false", "unnamed_yaml_event_t_data::Alias(_) => return true"),
+    "texts_of_a_kept_content_forgotten": (CONTENTS, "drop_option", "*text = None;", "mem::forget(text.take());"),
+    "directives_forgotten": (CONTENTS, "let_go_texts", "_ => *content = unnamed_yaml_event_t_data::NoEvent,", "_ => mem::forget(mem::replace(content, unnamed_yaml_event_t_data::NoEvent)),"),
+    "text_kept_before_forgotten": (CONTENTS, "let_go", "*spare = taken;", "mem::forget(mem::replace(spare, taken));"),
+    "long_text_kept": (CONTENTS, "let_go", " && room <= MAX_SPARE", ""),
+    "properties_forgotten": (CONTENTS, "drop_text", "let_go(spare, text);", "mem::forget(mem::replace(text, String::new(*spare.allocator())));"),
+    "tag_forgotten": (CONTENTS, "put_text", "let_go(spare, earlier);", "let _ = earlier.len().max(spare.len());"),
+    "alias_before_a_scalar_forgotten": (CONTENTS, "replace_by_scalar", "take_memory(alloc, &mut event.anchor)", "String::new(*event.anchor.allocator())"),
+    "scalar_before_an_alias_forgotten": (CONTENTS, "replace_by_alias", "take_memory(alloc, &mut event.value)", "String::new(*event.value.allocator())"),
+    **{
+        f"content_forgotten_{function}": (CONTENTS, function, "make_light(spare, content);", "let _ = spare.len();")
+        for function in (
+            "replace_by_scalar", "put_scalar", "replace_by_empty_scalar", "replace_by_sequence_start", "replace_by_mapping_start",
+            "replace_by_sequence_end", "replace_by_mapping_end", "replace_by_alias",
+        )
+    },
+    "content_forgotten_put_node": ("libyaml_events/src/states/behind_properties.rt", "put_node", "make_light(&mut self.spare, &mut out.content);", "let _ = self.spare.len();"),
+    "anchor_of_an_earlier_node_forgotten": ("libyaml_events/src/states/properties.rt", "forget_anchor", "*anchor = None;", "mem::forget(anchor.take());"),
+    "handles_forgotten": ("libyaml_events/src/parser/handles.rt", "forget_handles", "self.handles = BTreeMap::new(self.alloc);", "mem::forget(mem::replace(&mut self.handles, BTreeMap::new(self.alloc)));"),
+    "half_a_document_forgotten": ("libyaml_loader/src/composer.rt", "keep", "self.ctx = loader_ctx::new(self.ctx.alloc, self.max_entries);", "let fresh = loader_ctx::new(self.ctx.alloc, self.max_entries); mem::forget(mem::replace(&mut self.ctx, fresh));"),
+}
+
+
+def planted(room, leak):
+    """Makes a leak in a copy of the crates."""
+    name, function, old, new = LEAKS[leak]
+    path = room / "crates" / name
+    text = path.read_text()
+    start = text.index(f"fn {function}(")
+    place = text.find(old, start)
+    end = text.find("\nfn ", start)
+    if place < 0 or -1 < end < place:
+        sys.exit(f"{leak}: `{old}` stands not in {function} of {name}")
+    path.write_text(text[:place] + new + text[place + len(old) :])
+
+
+def seen(leak):
+    """The first work over which a leak is seen; None where it is not, and what was said where it isn't built."""
+    with tempfile.TemporaryDirectory() as folder:
+        room = Path(folder)
+        copied(room)
+        (room / "scripts/gate").mkdir(parents=True)
+        shutil.copy2(TOP / "scripts/gate/flat_memory.sh", room / "scripts/gate")
+        planted(room, leak)
+        run = subprocess.run(["rt", "run", "--", "work", "kept", "1"], cwd=room / "crates/rows_hostile", stdin=subprocess.DEVNULL, capture_output=True, text=True)
+        if not (room / "crates/rows_hostile/out/rows_hostile").exists():
+            return f"not built: {(run.stdout + run.stderr)[-1000:]}", False
+        run = subprocess.run(["sh", "scripts/gate/flat_memory.sh"], cwd=room, capture_output=True, text=True)
+        works = [line.partition(":")[0] for line in run.stdout.splitlines() if line.endswith(": not flat")]
+        return (f"seen in {' '.join(works)}", True) if works else ("not seen", False)
+
+
+def main(words):
+    if not set(words) <= set(LEAKS):
+        sys.exit(__doc__)
+    unseen = 0
+    for leak in words or LEAKS:
+        says, is_seen = seen(leak)
+        print(f"{leak}: {says}", flush=True)
+        unseen += not is_seen
+    if unseen:
+        sys.exit(f"{unseen} not seen")
+
+
+if __name__ == "__main__":
+    main(sys.argv[1:])
