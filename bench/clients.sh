@@ -4,12 +4,12 @@
 #     sh bench/clients.sh DIR [TURNS]
 #
 # DIR has the libraries that build_c.sh made there. Each line has the median of the ratios of TURNS turns (21; of PyYAML a
-# third as many), in which the two run one after another, by processor time: best where nothing else runs. The text has 350 KB,
+# third as many), in which the two run one after another, by processor time: best if nothing else runs. The text has 350 KB,
 # examples/compose.yaml as many documents. psych reads the YAML files of this machine, SAMPLE at most (2000), and then that
 # text ten times.
 #
 # Needs a C compiler, cargo, Debian's libyaml-dev, ruby and python3-yaml, and the crate unsafe-libyaml 0.2.11 in the folder
-# that CLIENT_CRATES names, /usr/share/cargo/registry where it isn't set. PYTHON and RUBY are Debian's.
+# that CLIENT_CRATES names, /usr/share/cargo/registry if it isn't set. PYTHON and RUBY are Debian's.
 set -eu
 case ${1-} in '' | -*) echo "usage: sh bench/clients.sh DIR [TURNS]" >&2; exit 2 ;; esac
 dir=$(realpath "$1")

@@ -1,9 +1,9 @@
 """The clock's tables of docs/PERFORMANCE.md, for measure.py: how many times as long as ours a peer takes.
 
 A core's speed changes by up to half for tens of milliseconds at a time, with what its neighbours do. So runs are short
-(`RUN_TOKENS`) and many, on one core: in each turn all programs run once, in a random order. What is told of a program is the
-lower fifth of its times less that of a run of no rounds, and of a peer that fifth over ours, with the least and the largest
-of the same ratio in each fourth of the turns. $TURNS is the number of turns (24), $CORE the core (the last)."""
+(`RUN_TOKENS`) and many, on one core: in each turn all programs run once, in a random order. A program's time is the 20th percentile
+of its times less that of a run of no rounds. A cell is the peer's time divided by ours, with the least and the largest of that
+ratio over the four quarters of the turns. $TURNS is the number of turns (24), $CORE the core (the last)."""
 import math
 import os
 import random

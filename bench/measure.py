@@ -7,7 +7,7 @@ difference of two runs that differ in their rounds alone. All programs must agre
 `--clock` takes the time too (clock.py); FIGURES is written for chart.py. $JOBS runs go on at a time (2).
 
 Nodes are counted twice. As glibc is set, what a block costs hangs on where the blocks before it lie: it keeps seven freed
-blocks of a size, joins the others where a list of nodes grows, and cuts new ones from what it joined. With KEEPS_BLOCKS
+blocks of a size, joins the others when a list of nodes grows, and cuts new ones from what it joined. With KEEPS_BLOCKS
 it keeps every freed block, and the figures differ by what the parsers and loaders do alone."""
 import json
 import math

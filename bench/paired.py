@@ -2,7 +2,7 @@
 """paired.py TURNS NAME COMMAND PEER: how many times as long as PEER COMMAND takes, two lines of the shell that run in turn.
 
 Times are those of the processor, of the program and of the system for it. Prints the median of the ratios of all turns, after
-one that isn't counted, the middle half of them, and both medians in milliseconds. Fails where a command does.
+one that isn't counted, the middle half of them, and both medians in milliseconds. Fails if a command does.
 """
 import resource
 import statistics

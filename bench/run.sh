@@ -7,10 +7,10 @@
 # the drawing is made. `clock` takes the time too: let nothing else run. UNSAFE_LIBYAML=DIR is the folder of the Rust
 # crate, version 0.2.11, with its src; without it that column is missing. Debian has it from release 13 on, as
 # librust-unsafe-libyaml-dev in /usr/share/cargo/registry. BENCH_LISTS and YAMLTOKENS may name programs that are built
-# already, as earlier builds. JOBS=N counts go on at a time (2).
+# already, such as earlier builds. JOBS=N counts go on at a time (2).
 #
 # Needs the kit, valgrind, a C compiler, Python, Debian's libyaml-dev, and rustc for the Rust crate. The first run proves
-# the crates. Fails where a tool, a program or a peer fails, or where two of them disagree.
+# the crates. Fails if a tool, a program or a peer fails, or if two of them disagree.
 set -eu
 top=$(CDPATH='' cd -- "$(dirname -- "$0")/.." && pwd)
 work=$(mktemp -d)

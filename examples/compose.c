@@ -1,5 +1,5 @@
-/* compose < FILE: the nodes of each document of a YAML text, printed as soon as the document ends, of libyaml's events and by
- * pokhvizi/compose.h. The status is 1 after an error, which standard error tells, and 2 where memory ran out.
+/* compose < FILE: the nodes of each document of a YAML text, printed as soon as the document ends, made of libyaml's events by
+ * pokhvizi/compose.h. The status is 1 after an error, which standard error tells, and 2 if memory ran out.
  *
  *     cc compose.c -o compose $(pkg-config --cflags --libs pokhvizi) -lyaml */
 #include <pokhvizi/compose.h>

@@ -1,5 +1,5 @@
 /* events < FILE: the events of a YAML text, a line each with its marks and texts, by libyaml's scanner and the calls of
- * pokhvizi/steps.h. The status is 1 after an error, which standard error tells, and 2 where memory ran out.
+ * pokhvizi/steps.h. The status is 1 after an error, which standard error tells, and 2 if memory ran out.
  *
  *     cc events.c -o events $(pkg-config --cflags --libs pokhvizi) -lyaml */
 #include <pokhvizi/steps.h>

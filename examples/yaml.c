@@ -1,6 +1,6 @@
-/* The tokens, the events or the nodes of a YAML file, as lines: libyaml's scanner (Debian: libyaml-dev), and then steps of our
- * static library: a token in, an event out; an event in, and where its node goes. `scripts/build_c.sh DIR` builds it; USAGE
- * below says how it is called. */
+/* Prints the tokens, the events or the nodes of a YAML file in lines, by libyaml's scanner (Debian: libyaml-dev) and the steps of
+ * our static library: a token in, an event out; an event in, and where its node goes. `scripts/build_c.sh DIR` builds it; USAGE
+ * below says how to call it. */
 #include <pokhvizi/compose.h>
 #include <pokhvizi/steps.h>
 #include <errno.h>

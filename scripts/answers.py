@@ -1,5 +1,5 @@
 #!/usr/bin/env python3
-"""Tells which parts of proofs by hand (`proofs/**/Answers.antt`) are needed; fails where one is not needed.
+"""Tells which parts of proofs by hand (`proofs/**/Answers.antt`) are needed; fails if one is not needed.
 
     python3 scripts/answers.py CRATE..        (no crate: each that has such a file)
 

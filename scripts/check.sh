@@ -4,7 +4,7 @@
 #     sh scripts/check.sh
 #
 # Every check is run; one that fails is named after what it says. The last line is `N passed, M failed`, and the exit
-# status is 1 where one failed. No file is changed. Needs python3 and `rt`.
+# status is 1 if one failed. No file is changed. Needs python3 and `rt`.
 #
 # Run by hand before each commit, and by .ci/run.
 set -u

@@ -3,16 +3,16 @@
 #
 #     sh scripts/check_programs.sh [all] [ci]
 #
-# The programs are those that `rt ci` or `rt run` left in crates/NAME/out; the libraries for C are built here, in minutes where
+# The programs are those that `rt ci` or `rt run` left in crates/NAME/out; the libraries for C are built here, in minutes if
 # nothing has been proved yet. With `all` the longest checks have all their cases, and each check of clients.sh is run too,
 # which says what it needs; docs/GATE.md says how long everything takes without it. With `ci`, right after `rt ci` in a
 # fresh checkout, the libraries are made of what it left (build_c.sh).
 #
-# Every check is run. It is passed, failed, or skipped: where a tool, a library or a program isn't there, which is named; it
-# doesn't count as passed. A check that doesn't end within half an hour fails. The last line is `N passed, M failed`, and
-# `, K skipped` where some were; the exit status is 1 where one failed. Tools: a C and a C++ compiler, binutils, python3 with
-# PyYAML and Python's header, libyaml's header, valgrind, GNU time, qemu-x86_64 (Debian: build-essential python3-yaml python3-dev
-# libyaml-dev valgrind time qemu-user), and `rt`.
+# Every check is run. One that lacks a tool, a library or a program is skipped and names it; it doesn't count as passed. A check
+# that doesn't end within half an hour fails. The last line is `N passed, M failed`, and `, K skipped` if some were; the exit
+# status is 1 if one failed. Tools: a C and a C++ compiler, binutils, python3 with PyYAML and Python's header, libyaml's header,
+# valgrind, GNU time, qemu-x86_64 (Debian: build-essential python3-yaml python3-dev libyaml-dev valgrind time qemu-user), and
+# `rt`.
 #
 # Run by hand after a build, and by .ci/run.
 set -u

@@ -1,13 +1,13 @@
 #!/usr/bin/env python3
-"""Tries the equivalent mutants, `crates/*/controls/*.edit`; fails where one is refused, or one by shape is proved.
+"""Tries the equivalent mutants, `crates/*/controls/*.edit`; fails if one is refused, or one by shape is proved.
 
     python3 scripts/controls.py CRATE..        (no crate: each that has an edit in must-fail/)
 
-It has the form of those in must-fail/, and changes how a function is written and nothing in what it does. Each
+An equivalent mutant has the form of those in must-fail/; it changes how a function is written, not what it does. Each
 is made in a copy, and `rt check --only` has to prove the function. One whose first line is `by shape` has to be refused:
 there the proof by hand of the function (`proofs/**/Answers.antt`) fits no other way to write it, so it refuses a mutant of
-must-fail/ whatever it means. Each function that has such a proof and a mutant of its code has one here, named as that
-mutant begins; others may have one. Needs `rt`; some ten seconds each, after the crates below are proved.
+must-fail/ whatever that means. Each function with such a proof and a mutant of its code has one here, whose name begins like
+that mutant's; others may have one. Needs `rt`; some ten seconds each, after the crates below are proved.
 
 Run by hand, after mutants or their functions changed.
 """

@@ -1,16 +1,16 @@
 #!/usr/bin/env python3
-"""Tells which test vector sees each mutant of crates/*/must-fail; fails where none does and WRONG_BODIES doesn't say so.
+"""Tells which test vector sees each mutant of crates/*/must-fail; fails if none does and WRONG_BODIES doesn't say so.
 
     python3 scripts/mutants_seen.py [--write] [CRATE | CRATE/MUTANT]..        (no such word: every mutant)
     python3 scripts/mutants_seen.py none                                    runs the programs over no mutant
 
-Each mutant is made in a copy, and the programs of its crate's line in PROGRAMS are run over it in turn, without proof
-(`rt try`), until one ends otherwise than it should: `yamltokens` over the lists of `rows_yaml` and `rows_lines`, the
-programs of test vectors table by table, other programs over what is stored beside them. Of the Rust crate's definitions
-the test vectors are proved. None runs over the libraries for C. The program that WRONG_BODIES names goes first, `rows_yaml` where it names none; where it names
-`PROGRAM failing`, that runs with the allocation failed that it names, or with each of the first 60 in turn. With --write the
-place goes into WRONG_BODIES, without the name of that program's table `rows`; where there is none, what the page says after
-`Seen: nowhere` stays. Two mutants at a time (JOBS), half a minute to three minutes a program; needs `rt`.
+Each mutant is made in a copy. The programs of its crate's line in PROGRAMS are run over it in turn, without proof (`rt try`),
+until one doesn't end as it should: `yamltokens` over the lists of `rows_yaml` and `rows_lines`, the programs of test vectors table
+by table, other programs over what is stored beside them. For the Rust crate's definitions the test vectors are proved instead.
+None runs over the libraries for C. The program that WRONG_BODIES names goes first (`rows_yaml` if it names none); `PROGRAM failing`
+runs with the allocation failed that the page names, or with each of the first 60 in turn. With --write the place goes into
+WRONG_BODIES, without the name of that program's table `rows`; if there is none, what the page says after `Seen: nowhere` stays.
+Two mutants at a time (JOBS), half a minute to three minutes a program; needs `rt`.
 
 Run by hand, after mutants or test vectors changed.
 """

@@ -2,15 +2,14 @@
 """Writes into docs/WRONG_BODIES.md which clause refuses each mutant, as `rt must-fail` says.
 
     python3 scripts/refusals.py CRATE..           (runs `rt must-fail CRATE..`)
-    python3 scripts/refusals.py --from FILE       (reads what `rt must-fail` wrote, in place of running it)
-    python3 scripts/refusals.py --check ..        (changes nothing, and fails where the page says something else)
+    python3 scripts/refusals.py --from FILE       (reads what `rt must-fail` wrote, instead of running it)
+    python3 scripts/refusals.py --check ..        (changes nothing, and fails if the page says something else)
 
-What is refused in a proof by hand of a function (`proofs/**/Answers.antt`) is so by shape, unless an equivalent mutant that
-changes the same lines (`controls/`) is proved over it. What refuses the mutant is then a goal that is left open without the
-parts of the file that it breaks: the mutant is made in the repository, these parts are left out, and the function is checked
-with its holes; afterwards all is as before. Where no goal is left open, it is refused by shape too. What another proof
-refuses is so for a lemma, as where a definition is changed. The last line counts. Needs `rt`, and the crates
-below proved.
+A mutant that breaks a proof by hand of a function (`proofs/**/Answers.antt`) is refused by shape, unless an equivalent mutant that
+changes the same lines (`controls/`) is proved over that file. Then the reason is a goal that stays open without the parts of the
+file that the mutant breaks: the mutant is made in the repository, these parts are left out, and the function is checked with its
+holes; afterwards all is as before. If no goal stays open, it is refused by shape too. If another proof refuses it, for example of
+a changed definition, the reason is a lemma. The last line counts. Needs `rt`, and the crates below proved.
 
 Run by hand, after mutants or their functions changed.
 """

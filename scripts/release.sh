@@ -5,7 +5,7 @@
 #
 #     pokhvizi-VERSION-MACHINE-linux.tar.gz      for C and C++: headers, static and shared library, pkg-config, the preload
 #                                                library with its starter, samples, pages, PROOF
-#     pokhvizi-VERSION-cp38-abi3-MACHINE.whl     for Python; py3-none where it has no extension
+#     pokhvizi-VERSION-cp38-abi3-MACHINE.whl     for Python; py3-none if it has no extension
 #     pokhvizi-unsafe-libyaml-VERSION.tar.gz     for Rust, to be named by [patch.crates-io]; it has the library for both machines
 #                                                and the original crate, which ORIGINAL names
 #     pokhvizi-VERSION-llvm.tar.gz               the LLVM modules, to be compiled
@@ -13,12 +13,12 @@
 #
 # MACHINE is x86_64 and aarch64; MACHINES names others of these. WITHOUT_MODULES leaves the LLVM archive out. BUILT has what
 # build_c.sh made, for aarch64 in BUILT/aarch64; without it both are made here. ORIGINAL is the folder of unsafe-libyaml 0.2.11, as Debian's librust-unsafe-libyaml-dev has it
-# in /usr/share/cargo/registry; without one there is no archive for Rust, which is said. Times are those of the last commit, so
+# in /usr/share/cargo/registry; without it the script says so and makes no archive for Rust. Times are those of the last commit, so
 # two runs over one commit write the same bytes.
 #
 # Needs the kit, gcc, binutils, python3 with its headers, libyaml-dev, and for aarch64 gcc-aarch64-linux-gnu with libyaml's library
 # and Python's headers for that machine (Debian: libyaml-dev:arm64 and libpython3-dev:arm64), without which that archive has no
-# preload library, and the wheel no extension, which is said.
+# preload library, and the wheel no extension; the script says so.
 #
 # Run by hand for a release, and by release_checks.sh.
 set -eu

@@ -5,8 +5,8 @@
 #
 # OUT is what release.sh made. TREES has the folders `bookworm`, for C and C++, Ruby, Python, aarch64 and the LLVM modules, and
 # `trixie`, for Rust with the tests of serde_yaml over the patched crate; one that isn't there is made by debootstrap. Packages
-# are installed in them by apt-get. Needs root, debootstrap, and Debian's packages over the network; ten minutes. What OUT has no
-# archive of is skipped, which is said. The last line counts; the exit status is 1 where something is wrong.
+# are installed in them by apt-get. Needs root, debootstrap, and Debian's packages over the network; ten minutes. A tree whose archive
+# OUT lacks is skipped, and named. The last line counts; the exit status is 1 if something is wrong.
 #
 # Run by hand, for a release.
 set -u

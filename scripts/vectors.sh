@@ -1,13 +1,13 @@
 #!/bin/sh
-# Runs test vectors without any proof: all of a program, those of one table, or one. Each that differs is named, and where
-# it has a text the first line that differs. The exit status is 0 where some ran and none differs.
+# Runs test vectors without any proof: all of a program, those of one table, or one. Names each that differs and, if it has a
+# text, the first line that differs. The exit status is 0 if some ran and none differs.
 #
 #     scripts/vectors.sh CRATE [TABLE [ROW]]
 #     scripts/vectors.sh --write CRATE
 #
 # CRATE is rows_yaml, rows_lines, rows_hostile or rows_steps; the names of tables are those that it prints. With --write all
-# run, and where none differs what the program printed, the counts of its tables, becomes its `stdout`. Unproved, a program
-# runs with checks that make it many times slower: of rows_lines and rows_hostile ask for a table. Proved and built, they run
+# run, and if none differs the counts of tables that the program printed become its `stdout`. Unproved, a program
+# runs with checks that make it many times slower: for rows_lines and rows_hostile ask for a table. Proved and built, they run
 # by `rt run -- [TABLE [ROW]]` in their folder.
 #
 # Run by hand, while test vectors are written.

@@ -1,22 +1,20 @@
 #!/bin/sh
-# Copies crates of this repository, and those below them, into another project; adds to what it copied there, or updates it:
+# Copies crates of this repository, and those below them, into another project; run again, it adds crates and updates the copies:
 #
 #     sh scripts/vendor.sh [--proofs] DEST [CRATE..]
 #
-# DEST is the top of that project. Where no CRATE is named it is unsafe_libyaml, or what it copied there earlier; token_lines
-# and yaml_path are others. What it copied there earlier is updated too, so that all is of one state. Of each crate README.md,
-# src, specs and proofs are copied to DEST/crates, and the licence beside them; kept work and mutants are not, and what
-# a check kept there stays. Its line is put into DEST/crates.txt, whose other lines stay. DEST/vendored.txt says which version
-# and commit the crates are of, and has a checksum of each.
+# DEST is the top of that project. CRATE is, for example, token_lines or yaml_path; without one it is unsafe_libyaml, or what
+# was copied there earlier. Earlier copies are updated too, so all are of one state. Of each crate README.md, src, specs, proofs
+# and the licence are copied to DEST/crates, but no kept work and no mutants; what a check kept there stays. Its line goes
+# into DEST/crates.txt, whose other lines stay. DEST/vendored.txt has the version and commit of the crates, and a checksum of each.
 #
-# With --proofs the proved libraries go along, which `rt lib` or `rt run` of a crate above left in crates/CRATE/out/rlib: the
-# first run there then proves what is its own. Each has a checksum of the sources and the kit that it was proved with, by which rt
-# proves it again where one of them is another.
+# With --proofs it also copies the proved libraries that `rt lib` or `rt run` of a crate above left in crates/CRATE/out/rlib: the
+# first run there then proves only the project's own crates. Each has a checksum of the sources and the kit that it was proved
+# with; rt proves it again if one of these differs.
 #
-# It prints what it did with each crate: added, updated, or as it was. The exit status is 2 for wrong words, and 1 where DEST
-# is this repository or a folder of it, where a name is no crate of this repository, and where a crate there was not copied by
-# this script or was changed since; and with --proofs where a crate has no proved library, or one that is older than its
-# sources. Then nothing is changed.
+# Prints what it did with each crate: added, updated, or as it was. The exit status is 2 for wrong words. It is 1, and nothing is
+# changed, if DEST is this repository or a folder of it; if a name is no crate of this repository; if a crate there was not copied
+# by this script or was changed since; or, with --proofs, if a crate has no proved library, or one that is older than its sources.
 #
 # Run by hand.
 set -eu

@@ -1,4 +1,4 @@
-/* This parser in the place of libyaml's, in programs that link libyaml's shared library and stay as they are:
+/* Replaces libyaml's parser by this one in programs that link libyaml's shared library and stay as they are:
  *
  *     sh bindings/c/build_preload.sh DIR
  *     LD_PRELOAD=DIR/libyaml_preload.so PROGRAM

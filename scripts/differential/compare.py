@@ -4,8 +4,8 @@
     python3 compare.py PROGRAM LIBYAML COUNT SEED JOBS
 
 PROGRAM and LIBYAML are command lines, to which the mode is added; JOBS lists are compared side by side. One line of counts
-is printed and, where lists differ, the one with the fewest lines, made smaller by leaving lines out. The exit status is 0
-where no list differs, 1 where one does or nothing was compared, and 2 for wrong words.
+is printed and, if lists differ, the one with the fewest lines, made smaller by leaving lines out. The exit status is 0
+if no list differs, 1 if one does or nothing was compared, and 2 for wrong words.
 
 Run by run.sh.
 """

@@ -3,10 +3,10 @@
 #
 #     sh scripts/differential/run.sh [COUNT [SEED]]
 #
-# COUNT is 10000 where none is named, SEED 1. From the environment: PROGRAM, a built yamltokens, is
-# crates/yamltokens/out/yamltokens where none is named; JOBS is how many lists are compared side by side, as many as there
-# are cores; WITHOUT is a rule of libyaml_lines.h that is left out, so that lists differ. The status is 0 where no list
-# differs, 1 where one does, 2 where a tool or the program lacks. Needs a C compiler, Debian's libyaml-dev and Python 3.8.
+# COUNT is 10000 if none is named, SEED 1. From the environment: PROGRAM, a built yamltokens, is
+# crates/yamltokens/out/yamltokens if none is named; JOBS is how many lists are compared side by side, as many as there
+# are cores; WITHOUT is a rule of libyaml_lines.h that is left out, so that lists differ. The status is 0 if no list
+# differs, 1 if one does, 2 if a tool or the program lacks. Needs a C compiler, Debian's libyaml-dev and Python 3.8.
 #
 # Run by hand after the parser changed, and by check_programs.sh.
 set -u

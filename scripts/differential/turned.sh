@@ -3,9 +3,9 @@
 #
 #     sh scripts/differential/turned.sh [COUNT [SEED]]
 #
-# Each rule by which libyaml differs is left out in turn, over COUNT lists (1000 where none is named): some must differ, or
+# Each rule by which libyaml differs is left out in turn, over COUNT lists (1000 if none is named): some must differ, or
 # the lists do not reach the rule. Then programs that are wrong in one thing, over 40 lists, a generator that draws nothing,
-# and what lacks. PROGRAM and JOBS are as for run.sh. The status is 0 where each has the status that it should have.
+# and what lacks. PROGRAM and JOBS are as for run.sh. The status is 0 if each has the status that it should have.
 #
 # Run by hand, after run.sh or a rule changed.
 set -u

@@ -5,8 +5,8 @@
 
 bindings/c/abi.txt has that number, the layout of each struct as layout.py writes it, and each function that a header declares.
 What the bindings in Python and Rust have of the headers by hand is compared too: sizes and places in structs, numbers of results,
-words of errors. The exit status is 1 where one of them is another. With --write the file is written, which needs a higher number in
-bindings/c/ABI_VERSION where a struct or function that was there has changed or is gone.
+words of errors. The exit status is 1 if one of them is another. With --write the file is written, which needs a higher number in
+bindings/c/ABI_VERSION if a struct or function that was there has changed or is gone.
 
 Run by check.sh.
 """

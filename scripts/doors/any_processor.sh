@@ -4,7 +4,7 @@
 #     sh scripts/doors/any_processor.sh DIR
 #
 # DIR has the libraries that build_c.sh made there. The programs are linked statically and run by qemu-x86_64 (Debian: qemu-user),
-# whose processor `qemu64` has no instructions but those that every x86-64 processor has. The status is 0 where all are as
+# whose processor `qemu64` has no instructions but those that every x86-64 processor has. The status is 0 if all are as
 # they should be.
 #
 # Run by check_programs.sh.

@@ -5,11 +5,11 @@
 #
 # DIR has the libraries that build_c.sh made there. Each check compares the two; what differs is listed by name, with its
 # reason, in a file of scripts/doors/clients/, and anything else fails, as does a name that is listed and doesn't differ. The
-# checks, of which all are run where none is named:
+# checks, of which all are run if none is named:
 #
 #     preload            this parser by LD_PRELOAD (bindings/c/libyaml_preload.c): each of its allocations refused, parsers deleted,
 #                        moved, used after a fault and by threads; bounds; libyaml's memory over 7 MB, for events and for documents; and
-#                        where valgrind is there, the instructions of loads, which are at most 1.04 of libyaml's
+#                        if valgrind is there, the instructions of loads, which are at most 1.04 of libyaml's
 #     events             libyaml's events and nodes of YAML files of this machine, broken texts and the YAML test suite,
 #                        preloaded, with all fields
 #     pipe_c             events before a slow pipe's end, preloaded
@@ -35,10 +35,10 @@
 # `apt-get source`, which needs deb-src lines; or their .orig.tar files in the folder that CLIENT_SOURCES names. Crates are
 # those of Debian's packages librust-unsafe-libyaml-dev, librust-serde-yaml-dev, librust-serde-derive-dev, librust-anyhow-dev
 # and librust-indoc-dev (release 13 and later), or those in the folder that CLIENT_CRATES names. PYTHON and RUBY are Debian's, whose YAML part
-# links libyaml; SAMPLE is how many files of the machine are read, 2000 where it isn't set.
+# links libyaml; SAMPLE is how many files of the machine are read, 2000 if it isn't set.
 #
-# A check that lacks something is skipped, which is said with what it lacks. The last line is `N passed, M failed`, and
-# `, K skipped` where some were; the exit status is 1 where one failed, 2 for wrong words.
+# A check that lacks something is skipped, and says what it lacks. The last line is `N passed, M failed`, and
+# `, K skipped` if some were; the exit status is 1 if one failed, 2 for wrong words.
 #
 # Run by hand after bindings changed, and by check_programs.sh with `all`.
 set -u

@@ -6,7 +6,7 @@
  *     compose_driver bad             any bytes in the structs, and any numbers
  *     compose_driver threads FILE..  the first, in eight threads at once
  *
- * The status is 1 where something is wrong. */
+ * The status is 1 if something is wrong. */
 #include <pokhvizi/compose.h>
 #include "driver.h"
 

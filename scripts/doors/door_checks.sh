@@ -12,7 +12,7 @@
 #     yaml             examples/yaml.c: the samples and a file with each kind of broken text, under the sanitizers and under
 #                      valgrind; each allocation refused in turn; an output that is full or closed
 #
-# The status is 0 where all is as it should be. Needs what build_c.sh needs, and valgrind, c++, readelf and python3.
+# The status is 0 if all is as it should be. Needs what build_c.sh needs, and valgrind, c++, readelf and python3.
 #
 # Run by check_programs.sh.
 set -u

@@ -9,10 +9,10 @@
 # own texts, and YAML files below /usr and /opt; how much of a stream has been read when each comes; each allocation of Python's and
 # of libc's refused in turn; deep texts and bounds, drawn tag directives, calls in any order, loaders that are called while they
 # are at work, a second interpreter, cycles and leaks. With `all` there are
-# more files, deeper texts, and each text has its allocations refused. The status is 0 where all is as it should be.
+# more files, deeper texts, and each text has its allocations refused. The status is 0 if all is as it should be.
 #
-# PYTHON is python3 where it isn't set. Needs what build_extension.sh needs, and PyYAML with its C form for that Python. Where the
-# Python has no _testcapi, its allocations are not refused, which is said.
+# PYTHON is python3 if it isn't set. Needs what build_extension.sh needs, and PyYAML with its C form for that Python. If the
+# Python has no _testcapi, its allocations are not refused, and the script says so.
 #
 # Run by check_programs.sh.
 set -u

@@ -1,5 +1,5 @@
-/* Makes the Nth allocation of a program fail, for scripts/gate/allocation_failures.sh and the checks beside this file. Where the
- * program makes fewer, it says so. Where N is 0 none fails, and it says how many the program made.
+/* Makes the Nth allocation of a program fail, for scripts/gate/allocation_failures.sh and the checks beside this file. If the
+ * program makes fewer, it says so. If N is 0 none fails, and it says how many the program made.
  *
  *     cc -O2 -fPIC -shared -o fail_allocation.so fail_allocation.c
  *     REFUSE=N LD_PRELOAD=./fail_allocation.so PROGRAM

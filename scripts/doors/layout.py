@@ -1,6 +1,6 @@
 #!/usr/bin/env python3
-"""Writes a C program that the compiler refuses unless the headers in bindings/c/include have the structs that cross to C, as the crates
-declare them: as many bytes, and each field by its name, with its type, at its offset.
+"""Writes a C program that the compiler refuses unless the headers in bindings/c/include and the crates declare the structs that
+cross to C alike: as many bytes, and each field by its name, with its type, at its offset.
 
     python3 scripts/doors/layout.py > layout.c && cc -Ibindings/c/include -fsyntax-only layout.c
 

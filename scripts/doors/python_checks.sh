@@ -3,7 +3,7 @@
 #
 #     sh scripts/doors/python_checks.sh [PROGRAM]
 #
-# PROGRAM is yamltokens. Each case has one line on standard error and its status. The exit status is 0 where all are as they should be. Needs
+# PROGRAM is yamltokens. Each case has one line on standard error and its status. The exit status is 0 if all are as they should be. Needs
 # python3 with PyYAML, and GNU's timeout and truncate.
 #
 # Run by check_programs.sh.

@@ -8,7 +8,7 @@
  *     steps_driver threads FILE..     the first, in eight threads at once
  *     steps_driver times N FILE       the least time of N runs of libyaml's parser, and of the steps
  *
- * DIR is that of scripts/build_c.sh. The status is 1 where something is wrong. A program of your own takes what stands before
+ * DIR is that of scripts/build_c.sh. The status is 1 if something is wrong. A program of your own takes what stands before
  * "Beside libyaml's events". */
 #define _POSIX_C_SOURCE 200809L
 #include <pokhvizi/steps.h>

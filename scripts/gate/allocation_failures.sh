@@ -1,7 +1,7 @@
 #!/bin/sh
 # Makes allocations fail in turn: runs programs of test vectors with the word `failing`, each with its first allocation failed,
 # then with its second, and so on until none fails. Each run has to end with status 0 and to print what the run without
-# failure prints, where nothing differs. Or it was an allocation of the program's own, for its words or its files: then it
+# failure prints: that nothing differs. Or it was an allocation of the program's own, for its words or its files: then it
 # prints that error and ends with status 1. Anything else is wrong: another text, another status, a signal, no end within
 # a minute.
 # The programs have to be built (`rt ci`, or `rt run` in their folders); a C compiler, the GNU C library and GNU's timeout

@@ -5,8 +5,8 @@
 
 FRONT is the command of a front, as `python3 examples/yaml_lines.py` or a built `examples/yaml.c`; it is called with `nodes` and
 each file of `scripts/parts/broken`. What stands in `NAME.fault` is expected of it. libyaml (through PyYAML's CLoader) and PyYAML
-itself parse the same text; where one of them says something else, `scripts/parts/broken/differences` names that with the reason,
-one line each: NAME SIDE REASON. The exit status is 1 where an error is another than expected, a difference is not named, a
+itself parse the same text; if one of them says something else, `scripts/parts/broken/differences` names that with the reason,
+one line each: NAME SIDE REASON. The exit status is 1 if an error is another than expected, a difference is not named, a
 named one is none or of no text, or a text or its error stands alone. With --write, `NAME.fault` is written from the front.
 
 Run by check_programs.sh.

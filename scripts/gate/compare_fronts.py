@@ -3,9 +3,9 @@
 
     python3 scripts/gate/compare_fronts.py YAML [WORD..]
 
-YAML is a built `examples/yaml.c`; the words go to `examples/yaml_lines.py` where it writes events or nodes (`--program PATH`). The
+YAML is a built `examples/yaml.c`; the words go to `examples/yaml_lines.py` when it writes events or nodes (`--program PATH`). The
 texts are those of `scripts/parts/broken`, of `scripts/parts/whole`, none of which ends with a line feed, and the examples; each is written
-as tokens, as events and as nodes. The exit status is 1 where the two differ.
+as tokens, as events and as nodes. The exit status is 1 if the two differ.
 
 Run by check_programs.sh.
 """

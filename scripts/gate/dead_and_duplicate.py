@@ -4,10 +4,10 @@
     python3 scripts/gate/dead_and_duplicate.py [--write] [names|dead|twice|unnamed]
 
 names: names of specs/ that stand for more than one definition. dead: definitions of specs/ and proofs/ that no
-code, contract or proof reaches, by the names that are mentioned. twice: lemmas whose statements are equal but for
+code, contract or proof reaches, by the names that are mentioned. twice: lemmas whose statements are equal except for
 the names of their variables. unnamed: public functions and types of the libraries that docs/SURFACE.md doesn't have and
 no other crate names. scripts/gate/dead_and_duplicate.txt has the four figures, which may only fall: the exit status is 1
-where one is another, and with --write it is written. A word prints what is counted.
+if one is another, and with --write it is written. A word prints what is counted.
 
 Run by check.sh.
 """

@@ -2,12 +2,12 @@
 """Counts the lines of definitions that the headline's clauses of the two whole runs cite, directly or through one another.
 
     python3 scripts/gate/definitions.py            prints the table of docs/HEADLINE.md
-    python3 scripts/gate/definitions.py --check    fails where the page says something else, or a page names what is not there
+    python3 scripts/gate/definitions.py --check    fails if the page says something else, or a page names what is not there
     python3 scripts/gate/definitions.py --write    puts the table into the page
 
 A definition is what stands in a file of `specs/` from one name at the left edge to the next, with the comment above it.
 A name in backticks in a heading of docs/DEFINITIONS.md has to be a definition, a file of `specs/` or a module; one on any
-page or README has to be a word of the repository's files, but for those of OUTSIDE. CHANGELOG names what is gone, too.
+page or README has to be a word of the repository's files, except those of OUTSIDE. CHANGELOG names what is gone, too.
 
 Run by check.sh.
 """

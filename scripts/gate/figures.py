@@ -1,5 +1,5 @@
 #!/usr/bin/env python3
-"""Fails where a page says another number of crates, mutants, test vectors or texts than the repository has.
+"""Fails if a page says another number of crates, mutants, test vectors or texts than the repository has.
 
     python3 scripts/gate/figures.py            by check.sh
     python3 scripts/gate/figures.py --write    writes the numbers into the pages
@@ -17,7 +17,7 @@ NUMBER = rf"(\d[\d,]*|{'|'.join(WORDS)})"
 COUNTED = re.compile(rf"\b(\d[\d,]*|{'|'.join(WORDS[4:])}) (?:crates|mutants|equivalent mutants|edits|test vectors|rows|broken texts)\b", re.IGNORECASE)
 # made by other scripts, or of earlier states
 OTHERS = {"CHANGELOG.md", "WRONG_BODIES.md", "PERFORMANCE.md", "SURFACE.md"}
-MOST_WORDS = 750  # of README
+MOST_WORDS = 800  # of README
 
 
 def files(pattern):

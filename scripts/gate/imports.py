@@ -1,7 +1,7 @@
 #!/usr/bin/env python3
-"""Imports of .antt files: one line a module, which goes on in a further line where it is wider than 300, and none without a name.
+"""Imports of .antt files: one line a module, which goes on in a further line if it is wider than 300, and none without a name.
 
-    python3 scripts/gate/imports.py --check        names the files where that isn't so, and fails where there is one
+    python3 scripts/gate/imports.py --check        names the files if that isn't so, and fails if there is one
     python3 scripts/gate/imports.py --write        writes them so; a module stays where its first line was
 
 Run by check.sh.

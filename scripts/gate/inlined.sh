@@ -1,8 +1,8 @@
 #!/bin/sh
 # inlined.sh PROGRAM..: what the figures of docs/PERFORMANCE.md rest on. Names each function marked #[inline(always)] that
 # still stands in a program's symbols, as `enter` or `append_number`, and each one marked #[inline(never)], as `bare_scalar`,
-# that does not, in a program that has others of its crate. Fails where there is one, where a mark's function isn't found
-# in the code, and where a program has no symbols of the crates. `bench_lists` has two loops `for event in parser.by_ref()`:
+# that does not, in a program that has others of its crate. Fails if there is one, if a mark's function isn't found
+# in the code, and if a program has no symbols of the crates. `bench_lists` has two loops `for event in parser.by_ref()`:
 # the kit's `next` by reference, which has no mark, is inlined into them, or is named.
 #
 #     sh scripts/gate/inlined.sh crates/yamltokens/out/yamltokens crates/bench_lists/out/bench_lists

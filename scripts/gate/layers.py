@@ -1,7 +1,7 @@
 #!/usr/bin/env python3
 """Draws the layers of crates.txt at the head of docs/ARCHITECTURE.md.
 
-    python3 scripts/gate/layers.py           fails where the picture is not as crates.txt has it, or a crate has no README.md
+    python3 scripts/gate/layers.py           fails if the picture is not as crates.txt has it, or a crate has no README.md
     python3 scripts/gate/layers.py --write   writes the picture
 
 It has what a crate needs directly: crates that one of these needs itself are left out, and so are the kit's crates, and

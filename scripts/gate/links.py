@@ -1,9 +1,9 @@
 #!/usr/bin/env python3
-"""Fails where a page names what is not there:
+"""Fails if a page names what is not there:
 
 - a relative link to a missing file, or to a heading that its page does not have;
 - a path of this repository, in backticks or in a command, that does not exist (what a build makes is left out);
-- a heading of a page, as in `docs/DEFINITIONS.md, "Runs"`, that it does not have; comments of code are read for these too;
+- a heading of a page, such as `docs/DEFINITIONS.md, "Runs"`, that it does not have; comments of code are read for these too;
 - a Rust block or a clause of a contract that no file of crates/ or examples/ has word for word;
 - a mutant that WRONG_BODIES lists and no crate has, or the other way round;
 - a script that scripts/README.md doesn't list;

@@ -1,6 +1,6 @@
 #!/usr/bin/env python3
-"""Fails where a crate names a proof of another crate of the repository that isn't in its `proofs/lent`, where a definition in
-`specs/` names a proof of the repository, or where what stands in `proofs/lent` is named by no other crate.
+"""Fails if a crate names a proof of another crate of the repository that isn't in its `proofs/lent`, if a definition in
+`specs/` names a proof of the repository, or if what stands in `proofs/lent` is named by no other crate.
 
     python3 scripts/gate/proofs_between_crates.py
 

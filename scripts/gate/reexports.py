@@ -1,5 +1,5 @@
 #!/usr/bin/env python3
-"""Fails where a crate that stands for those below it doesn't re-export a module of `specs/` that its public clauses reach.
+"""Fails if a crate that stands for those below it doesn't re-export a module of `specs/` that its public clauses reach.
 
     python3 scripts/gate/reexports.py              names what is missing
     python3 scripts/gate/reexports.py CRATE        prints the modules that the crate's public clauses reach

@@ -3,12 +3,12 @@
 #
 #     sh scripts/gate/release_checks.sh BUILT [all]
 #
-# BUILT is what build_c.sh made. The archives are those of release.sh for x86-64, with the modules where the word `all` is given,
-# and for aarch64 too where BUILT/aarch64 is there. What is installed is used with a path of the system's alone and no variables:
+# BUILT is what build_c.sh made. The archives are those of release.sh for x86-64, with the modules if the word `all` is given,
+# and for aarch64 too if BUILT/aarch64 is there. What is installed is used with a path of the system's alone and no variables:
 # programs in C of 1989 to C++, by gcc and by clang, static and shared; a program that is preloaded; the wheel in an environment of
-# its own; the crate below serde_yaml. What lacks a tool is skipped, which is said: clang, python3 with venv and PyYAML,
+# its own; the crate below serde_yaml. What lacks a tool is skipped, and named: clang, python3 with venv and PyYAML,
 # cargo, and the crates of Debian's librust-unsafe-libyaml-dev, librust-serde-yaml-dev and those below it, in the folder that
-# CLIENT_CRATES names or /usr/share/cargo/registry. The status is 1 where something is wrong.
+# CLIENT_CRATES names or /usr/share/cargo/registry. The status is 1 if something is wrong.
 #
 # Run by check_programs.sh.
 set -u

@@ -3,7 +3,7 @@
 
     python3 scripts/gate/slow_pipe.py PROGRAM
 
-The exit status is 1 where a line of events or nodes comes late (after ten seconds), is another, or comes too soon, and where
+The exit status is 1 if a line of events or nodes comes late (after ten seconds), is another, or comes too soon, and if
 the program does not end with status 0.
 
 Run by check_programs.sh.

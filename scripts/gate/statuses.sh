@@ -1,5 +1,5 @@
 #!/bin/sh
-# Runs a built `yamltokens` once for each exit status that docs/DEFINITIONS.md gives ("The program"), and fails where one
+# Runs a built `yamltokens` once for each exit status that docs/DEFINITIONS.md gives ("The program"), and fails if one
 # is another. The contract of `run_words` says its status; that `main` passes that on is seen here alone.
 #
 #     scripts/gate/statuses.sh crates/yamltokens/out/yamltokens

@@ -1,9 +1,9 @@
 #!/usr/bin/env python3
 """Lists in docs/SURFACE.md every public item that a user of the libraries can name: first those that a program uses first, with
-what the doc of each says first where that has more than a few words and no public field or variant shows it; then the others,
+what the doc of each says first if that has more than a few words and no public field or variant shows it; then the others,
 by their crates; each with its signature, its fields or its variants.
 
-    python3 scripts/gate/surface.py           fails where the page is stale, an item has no doc, one is `pub` for its crate alone, or
+    python3 scripts/gate/surface.py           fails if the page is stale, an item has no doc, one is `pub` for its crate alone, or
                                          docs/PROVED.md doesn't name a law (those of `rows` and `productions` by their module)
     python3 scripts/gate/surface.py --write   writes the page
 
@@ -33,7 +33,7 @@ WIDTH = 110
 
 HEAD = """# Every public item
 
-`python3 scripts/gate/surface.py --write` makes this page. You name `unsafe_libyaml`, which re-exports the crates of events, documents and loads, and `token_lines`, which re-exports those of lines. `fn T::f` is a method or a function of the type `T`; a struct that is shown without fields has private ones; those of `steps_t` are the library's, of types that no program names. What each is, returns and asks for is in the comment and the contract beside it, and [CALLING.md](CALLING.md) shows their use. [PROVED.md](PROVED.md) has the laws; what only crates above use is left out.
+`python3 scripts/gate/surface.py --write` makes this page. Depend on `unsafe_libyaml`, which re-exports the crates of events, documents and loads, and on `token_lines`, which re-exports those of lines. `fn T::f` is a method or a function of the type `T`; a struct shown without fields has private ones; those of `steps_t` are the library's, of types that no program names. Comment and contract in the source say what each item does, [CALLING.md](CALLING.md) shows how to use it. The laws are in [PROVED.md](PROVED.md); items that only crates above use are left out.
 """
 
 FIRST = [

@@ -1,5 +1,5 @@
 #!/usr/bin/env python3
-"""Names each crate that a line of crates.txt lists and no file of that line's crate uses; fails where there is one.
+"""Names each crate that a line of crates.txt lists and no file of that line's crate uses; fails if there is one.
 
     python3 scripts/gate/unused_dependencies.py
 

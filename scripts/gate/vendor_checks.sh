@@ -1,6 +1,6 @@
 #!/bin/sh
 # Tries scripts/vendor.sh on a project of its own: crates added, added to, updated, and what it refuses. The exit status is 1
-# where one does something else than vendor.sh says.
+# if one does something else than vendor.sh says.
 #
 #     sh scripts/gate/vendor_checks.sh
 #

@@ -1,12 +1,13 @@
 #!/usr/bin/env python3
-"""Fails where a page, a comment or the name of a mutant has a word that is given up, and says what stands in its place: the tables below.
+"""Fails if a page, a comment or the name of a mutant has a word that is given up, and says what stands in its place: the tables below.
 
-    python3 scripts/gate/words.py [CRATE..]     pages, examples, and the comments of these crates, or of all where none is named
+    python3 scripts/gate/words.py [CRATE..]     pages, examples, and the comments of these crates, or of all if none is named
 
 The lines of a paragraph or of a comment are read as one text, so that a phrase over two of them is found; the first is named.
 Names of code, in backticks, in blocks or as the target of a link, are not words. SURFACE, which is made of comments, is left out.
 The words of a reader's own field stand in for those of OWN on each page but CHANGELOG, in names of mutants, in headers, in the
-first lines of scripts, and in the comments of the crates of RENAMED.
+first lines of scripts, and in the comments of the crates of RENAMED. STYLE, for examples and exceptions, holds there too, except
+in `specs` and `proofs`.
 
 Run by check.sh.
 """
@@ -38,6 +39,10 @@ OWN = {
     r"\bcarriers?\b": "anchored node",
     r"\blent\b": "in `proofs/lent`",
     r"\brefusals?\b": "error",
+}
+STYLE = {
+    r", as (?:an?|the|by|that|in)\b": "such as, like, for example",
+    r"\bbut for\b": "except",
 }
 LEFT_OUT = {"SURFACE.md"}
 OLD_PAGES = {"CHANGELOG.md"}
@@ -108,7 +113,7 @@ def scripts():
 
 def files(crates):
     """Each text, line by line, with the words that it may not have."""
-    both = INSTEAD | OWN
+    both = INSTEAD | OWN | STYLE
     for page in pages():
         yield page, lines_of_page(page.read_text()), INSTEAD if page.name in OLD_PAGES else both
     for path in headers():
@@ -119,7 +124,8 @@ def files(crates):
         for room in ("src", "specs", "proofs"):
             for path in sorted((TOP / "crates" / crate / room).rglob("*")):
                 if path.suffix in (".rt", ".antt"):
-                    yield path, comments_of(path), both if crate in RENAMED else INSTEAD
+                    own = both if room == "src" else INSTEAD | OWN
+                    yield path, comments_of(path), own if crate in RENAMED else INSTEAD
 
 
 def edits():

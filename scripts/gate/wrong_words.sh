@@ -4,7 +4,7 @@
 #
 #     sh scripts/gate/wrong_words.sh
 #
-# vendor_checks.sh has more wrong words of vendor.sh. The exit status is 1 where a script does something else.
+# vendor_checks.sh has more wrong words of vendor.sh. The exit status is 1 if a script does something else.
 #
 # Run by check.sh.
 set -u

@@ -5,7 +5,7 @@
 #     sh scripts/parts/llvm_source.sh DIR
 #
 # The kit has no word for a module. So its compiler is run with a folder of tools whose clang first copies what it is given. This
-# rests on how the kit calls clang: with the module as the file module.bc in the folder that it is run in. Where that is no longer
+# rests on how the kit calls clang: with the module as the file module.bc in the folder that it is run in. If that is no longer
 # so, no module is found, and the script fails. Needs what build_c.sh made before: the proved libraries in crates/*/out/rlib.
 #
 # Run by release.sh.

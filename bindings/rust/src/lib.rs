@@ -1,22 +1,22 @@
-//! `unsafe-libyaml` with this parser and loader in place of its own: its scanner, emitter, types and memory stay.
+//! `unsafe-libyaml` with its parser and loader replaced by proved ones; its scanner, emitter, types and memory stay.
 //!
-//! A project that uses `unsafe-libyaml`, as by `serde_yaml`, takes it by two lines of its `Cargo.toml`:
+//! A project that uses `unsafe-libyaml`, for example through `serde_yaml`, takes it by two lines of its `Cargo.toml`:
 //!
 //! ```toml
 //! [patch.crates-io]
 //! unsafe-libyaml = { path = "PATH" }
 //! ```
 //!
-//! PATH is the unpacked archive of a release, which has the library and the original crate in it; README.md says how this is built
-//! from the repository. `cargo tree -i unsafe-libyaml@0.2.12` names what stands on it: where cargo leaves the patch out, it builds
-//! with the original and says no more than a warning.
+//! PATH is the unpacked archive of a release, which contains the library and the original crate; README.md says how to build from
+//! the repository. `cargo tree -i unsafe-libyaml@0.2.12` shows which packages use the patch: if cargo leaves it out, it only warns
+//! and builds with the original.
 //!
 //! [`yaml_parser_parse`], [`yaml_parser_load`] and [`yaml_parser_delete`] are replaced. A parse takes as many tokens of the
-//! scanner as its event needs, a load as many as its document needs, and their texts are moved. What a
-//! parser needs here is kept by the `yaml_parser_t` itself, in `problem_offset` while there is no error: so it may be moved and
-//! deleted as before, at any time, and two parsers share nothing.
+//! scanner as its event needs, a load as many as its document needs, and their texts are moved. The `yaml_parser_t` itself keeps
+//! what the parser needs, in `problem_offset` while there is no error: so you may move and delete it as before, at any time, and
+//! two parsers share nothing.
 //!
-//! What is other than in the original, beside what DIFFERENCES.md of the repository says of libyaml's:
+//! These differ from the original, besides what DIFFERENCES.md of the repository lists:
 //!
 //! - A failed allocation of the library is the fault `YAML_MEMORY_ERROR`; one of Rust's ends the process, as there.
 //! - A load within a document that is being parsed is the parser's fault `load within a document`.

@@ -2,8 +2,8 @@
 ghost use Rattle.std.specs.Prelude.{◌≡◌, bytes_eq};
 ghost use Rattle.document_steps.specs.Anchors.{bytes_of, node_in};
 
-/// An anchor, a range of a buffer of bytes, and the node that carries it. A range that goes past the buffer's
-/// end has the bytes that there are.
+/// An anchor, a range of a buffer of bytes, and the node that has it. A range that goes past the buffer's end
+/// has the bytes that there are.
 ///
 /// libyaml: `yaml_alias_data_t`.
 #[repr(C)]
@@ -38,8 +38,7 @@ fn is_same(left: &[u8], right: &[u8]) -> bool
     left == right
 }
 
-/// Returns the fact of an event that names or carries an anchor: the node that the table has for it, and else
-/// 0.
+/// Returns the fact of an event that names or has an anchor: the node that the table has for it, and else 0.
 pub fn carrier(anchors: &[anchor_t], texts: &[u8], anchor: &[u8]) -> i32
     ensures { result ≡ node_in texts.now anchors.now anchor.now }
 {

@@ -25,13 +25,13 @@ pub fn run_is_loads()
     ensures { RunIsLoads }
 {}
 
-/// Where a call refuses an event, the loads end there with its error, whatever comes after it.
+/// If a call refuses an event, the loads end there with its error, whatever comes after it.
 pub fn run_fails()
     ensures { RunFails }
 {}
 
-/// Where a call puts a node or an alias, or ends a collection, the fields of the place that its deed has
-/// no use for are 0.
+/// If a call puts a node or an alias, or ends a collection, the fields of the place that its deed has no use
+/// for are 0.
 pub fn places_are_whole()
     ensures { RunPlaces }
 {}
@@ -43,8 +43,8 @@ pub fn stack_fits()
     ensures full { FullWhereOpen }
 {}
 
-/// The function over a table of anchors returns the fact of an event, where the table has the anchored nodes
-/// that are held. An empty one does at a document's start; and one entry more for each node that is put with
+/// The function over a table of anchors returns the fact of an event, if the table has the anchored nodes
+/// that are held. An empty table does at a document's start. Adding an entry for each node that is put with
 /// an anchor, with its text after the others, keeps it so.
 pub fn tables_follow()
     ensures found { (texts : List ℕ) (table : List anchor_t) (anchors : Anchors) (anchor : List ℕ)

@@ -28,11 +28,11 @@ pub extern "C" fn pokhvizi_composer_new(composer: &mut composer_t, max_entries: 
     *composer = composer_t::new(max_entries);
 }
 
-/// Takes an event by its kind and fact, as `composer_t::compose` does. Returns 0 where the event is no
-/// part of a document; 1 and 2 where a document begins and ends; 3 to 6 where a node or an alias was put,
-/// as a root, an item, a key or a value; 7 where a collection ends; 8 where the stack has no room, and
-/// nothing was done; 9 and 10 where an alias is undefined, and where an anchor comes twice; 11 where a
-/// list is full; and 12 where the record counts more than the stack has room for, and nothing was done.
+/// Takes an event by its kind and fact, like `composer_t::compose`. Returns 0 if the event is no part of a
+/// document; 1 and 2 if a document begins and ends; 3 to 6 if a node or an alias was put: a root, an item, a
+/// key or a value; 7 if a collection ends; 8 if the stack has no room, and nothing was done; 9 and 10 if an
+/// alias is undefined, and if an anchor comes twice; 11 if a list is full; and 12 if the record counts more
+/// than the stack has room for, and nothing was done.
 #[unsafe(no_mangle)]
 pub extern "C" fn pokhvizi_compose(
     composer: &mut composer_t,
@@ -56,8 +56,8 @@ pub extern "C" fn pokhvizi_compose(
         .number()
 }
 
-/// Returns the fact of an event that names or carries an anchor, as `document_steps::carrier` does: the id of
-/// the node that the table has for it, and else 0.
+/// Returns the fact of an event that names or has an anchor, like `document_steps::carrier`: the id of the
+/// node that the table has for it, and else 0.
 #[unsafe(no_mangle)]
 pub extern "C" fn pokhvizi_carrier(anchors: &[anchor_t], texts: &[u8], anchor: &[u8]) -> i32
     ensures { result ≡ node_in texts.now anchors.now anchor.now }

@@ -41,7 +41,7 @@ fn push_key(alloc: Global, tokens: &mut Vec<yaml_token_t>, key: &str) -> Result<
     push(tokens, unnamed_yaml_token_t_data::Value)
 }
 
-/// Returns the tokens, as a scanner gives them: a KEY before each key, a VALUE before each value.
+/// Returns the tokens like a scanner: a KEY before each key, a VALUE before each value.
 pub fn tokens_of_a_box(alloc: Global) -> Result<Vec<yaml_token_t>, AllocError> {
     use unnamed_yaml_token_t_data::{
         FlowEntry, FlowMappingEnd, FlowMappingStart, FlowSequenceEnd, FlowSequenceStart, StreamEnd,

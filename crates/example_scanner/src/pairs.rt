@@ -100,7 +100,7 @@ impl<'a> yaml_scanner_t for Pairs<'a> {
 ///
 /// # Errors
 ///
-/// Expected `=`, where the line has none.
+/// Expected `=`, if the line has none.
 fn pair<'a>(line: &'a str, place: yaml_mark_t) -> Result<Next<'a>, yaml_source_fault_t> {
     match line.split_once('=') {
         Some((key, value)) => Ok(Next::Key(key, value)),

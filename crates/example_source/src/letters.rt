@@ -22,7 +22,7 @@ pub struct Letters<'a> {
     text: &'a [u8],
     /// The place of the next character, or `None` before the first token.
     next: Option<usize>,
-    /// The error that each call returns, where the tokens have ended.
+    /// The error that each call returns once the tokens have ended.
     fault: Option<yaml_source_fault_t>,
 }
 

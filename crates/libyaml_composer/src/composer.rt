@@ -15,7 +15,7 @@ use crate::deed::Deed;
 use crate::records::{open_t, place_t};
 use libyaml_types::yaml_event_type_t;
 
-/// What is kept between two calls, beside the stack: plain numbers, each of which may be any.
+/// What is kept between two calls, beside the stack: plain numbers, each with any value.
 ///
 /// libyaml: `loader_ctx`, without its stack.
 #[repr(C)]
@@ -86,11 +86,11 @@ impl composer_t {
         }
     }
 
-    /// Takes an event by its kind and fact, and returns what is to be done.
+    /// Takes an event by its kind and fact, and returns what to do.
     ///
     /// The open collections that the record counts lie at the start of `stack`. The fact of an ALIAS is the
-    /// id of the node that carries its anchor, and that of a node with an anchor the id of the earlier node
-    /// that carries it; each is 0 where there is none. Of any other event it isn't looked at.
+    /// id of the node that has its anchor, and that of a node with an anchor the id of the earlier node that
+    /// has it; each is 0 if there is none. For any other event it is ignored.
     ///
     /// libyaml: `yaml_parser_load_nodes`, for one event.
     #[inline(always)]
@@ -242,7 +242,7 @@ impl composer_t {
         self.depth += 1;
     }
 
-    /// Takes an alias within a document, by the id of the node that carries its anchor.
+    /// Takes an alias within a document, by the id of the node that has its anchor.
     #[inline(always)]
     pub fn alias(&mut self, stack: &mut [open_t], carrier: i32, place: &mut place_t) -> Deed
         requires { self.old.depth ≤ length stack.old }
@@ -258,7 +258,7 @@ impl composer_t {
         self.hand(stack, 0, carrier, place)
     }
 
-    /// Returns why a node has no id or no anchor of its own, where that is so.
+    /// Returns why a node has no id or no anchor of its own, or `None` if it has them.
     #[inline(always)]
     fn refusal(&self, stack: &[open_t], carrier: i32) -> Option<Deed>
         requires { self.now.depth ≤ length stack.now }

@@ -23,9 +23,9 @@ pub enum Deed {
     Closes,
     /// Nothing was done: the stack has no room for one more.
     FullStack,
-    /// Nothing was done: no earlier node carries the anchor of this alias.
+    /// Nothing was done: no earlier node has the anchor of this alias.
     UndefinedAlias,
-    /// Nothing was done: an earlier node carries the anchor of this one.
+    /// Nothing was done: an earlier node has the anchor of this one.
     RepeatedAnchor,
     /// Nothing was done: a list has as many entries as it may.
     FullList,

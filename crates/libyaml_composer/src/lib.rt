@@ -1,6 +1,6 @@
-//! What composes documents, as an automaton without texts, nodes and memory. It takes events by their
-//! kinds, with one number that says what it has to know of their anchors, and returns what is to be done
-//! to the document. Its stack is the caller's, and so are all nodes and texts.
+//! An automaton that composes documents without texts, nodes and memory. It takes events by their kinds, with
+//! one number for what it has to know of their anchors, and returns what to do to the document. Its stack is
+//! the caller's, and so are all nodes and texts.
 #![tactic(auto)]
 
 mod collection;

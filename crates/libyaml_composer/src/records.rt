@@ -8,11 +8,11 @@
 pub struct open_t {
     /// The id of its node.
     pub node: i32,
-    /// Of a mapping, the id of the key that waits for its value; 0 where none does.
+    /// Of a mapping, the id of the key that waits for its value; 0 if none does.
     pub key: i32,
     /// How many items it has, or how many pairs have begun.
     pub children: u32,
-    /// Not 0 where it is a mapping.
+    /// Not 0 if it is a mapping.
     pub is_mapping: u32,
 }
 
@@ -20,11 +20,11 @@ pub struct open_t {
 #[repr(C)]
 #[derive(Copy, Clone)]
 pub struct place_t {
-    /// The id of the node that comes after the others; 0 where none does.
+    /// The id of the node that comes after the others; 0 if none does.
     pub node: i32,
     /// The id that goes to the parent: that of this node, or of the node that an alias names.
     pub child: i32,
-    /// The id of the collection that it goes to, or that ends; 0 where none is open.
+    /// The id of the collection that it goes to, or that ends; 0 if none is open.
     pub parent: i32,
     /// The key whose value the child is.
     pub key: i32,

@@ -56,7 +56,7 @@ impl Model for yaml_document_t {
 }
 
 impl Drop for yaml_document_t {
-    /// The last node goes first, as libyaml's does: what it frees then stays with the process.
+    /// The last node goes first, like libyaml's: what it frees then stays with the process.
     fn drop(self) {
         let yaml_document_t {
             mut nodes,
@@ -83,7 +83,7 @@ impl yaml_document_t {
         self.nodes.as_slice()
     }
 
-    /// Returns the root, which is the node of id 1, or `None` where the document has no nodes.
+    /// Returns the root, which is the node of id 1, or `None` if the document has no nodes.
     pub fn root(&self) -> Option<&yaml_node_t>
         ensures found { IsSome result ↔ (0 < length self.now.nodes) }
         ensures node { option_copied result ≡ node_at self.now.nodes (pos 1) }
@@ -200,7 +200,7 @@ pub fn yaml_document_delete(document: yaml_document_t) {
     let _ = document;
 }
 
-/// Returns the node of this id, or `None` where no node has it. Ids count from 1.
+/// Returns the node of this id, or `None` if no node has it. Ids count from 1.
 ///
 /// Takes no memory.
 ///
@@ -214,7 +214,7 @@ pub fn yaml_document_get_node(document: &yaml_document_t, index: i32) -> Option<
     node_in(document.nodes(), index)
 }
 
-/// Returns the node of this id among these, or `None` where none has it.
+/// Returns the node of this id among these, or `None` if none has it.
 #[inline(always)]
 pub(crate) fn node_in(nodes: &[yaml_node_t], id: i32) -> Option<&yaml_node_t>
     ensures found { IsSome result ↔ IsIdUpTo (length nodes.now) id }
@@ -226,7 +226,7 @@ pub(crate) fn node_in(nodes: &[yaml_node_t], id: i32) -> Option<&yaml_node_t>
     nodes.get(place_of(id))
 }
 
-/// Returns the node of id 1, or `None` where the document has no nodes.
+/// Returns the node of id 1, or `None` if the document has no nodes.
 ///
 /// Takes no memory.
 ///

@@ -18,11 +18,11 @@ use libyaml_types::{
 use std::alloc::{AllocError, Global};
 use std::mem;
 
-/// Returns the tag of a loaded node: the given one, moved out, or `default` where none is given, or `!`.
+/// Returns the tag of a loaded node: the given one, moved out, or `default` if none is given, or `!`.
 ///
 /// # Errors
 ///
-/// `AllocError` where the copy of `default` can't be allocated; `tag` is then as it was.
+/// `AllocError` if the copy of `default` can't be allocated; `tag` is then as it was.
 #[inline(always)]
 fn tag_of(alloc: Global, tag: &mut Option<String>, default: &str) -> Result<String, AllocError>
     ensures ok { IfOk result (λ text. string_bytes text
@@ -41,7 +41,7 @@ fn tag_of(alloc: Global, tag: &mut Option<String>, default: &str) -> Result<Stri
 ///
 /// # Errors
 ///
-/// `AllocError` where the copy of `default` can't be allocated; `tag` is then as it was.
+/// `AllocError` if the copy of `default` can't be allocated; `tag` is then as it was.
 #[inline(never)]
 fn given_tag(alloc: Global, tag: &mut String, default: &str) -> Result<String, AllocError>
     ensures ok { IfOk result (λ text. string_bytes text
@@ -62,7 +62,7 @@ fn given_tag(alloc: Global, tag: &mut String, default: &str) -> Result<String, A
 ///
 /// # Errors
 ///
-/// `AllocError` where that allocation fails; the event is then as it was.
+/// `AllocError` if that allocation fails; the event is then as it was.
 #[inline(always)]
 pub fn scalar_of_event(
     alloc: Global,
@@ -97,13 +97,13 @@ pub fn scalar_of_event(
 }
 
 /// Returns the node, without items, of a sequence whose start event is at these marks. Its tag is moved out
-/// of the event. Its end mark is to be set when the sequence ends.
+/// of the event. Set its end mark when the sequence ends.
 ///
 /// Without a tag, or with `!`, its tag is `tag:yaml.org,2002:seq`, and only then it allocates.
 ///
 /// # Errors
 ///
-/// `AllocError` where that allocation fails; the event is then as it was.
+/// `AllocError` if that allocation fails; the event is then as it was.
 #[inline(always)]
 pub fn sequence_of_event(
     alloc: Global,
@@ -139,13 +139,13 @@ pub fn sequence_of_event(
 }
 
 /// Returns the node, without pairs, of a mapping whose start event is at these marks. Its tag is moved out of
-/// the event. Its end mark is to be set when the mapping ends.
+/// the event. Set its end mark when the mapping ends.
 ///
 /// Without a tag, or with `!`, its tag is `tag:yaml.org,2002:map`, and only then it allocates.
 ///
 /// # Errors
 ///
-/// `AllocError` where that allocation fails; the event is then as it was.
+/// `AllocError` if that allocation fails; the event is then as it was.
 #[inline(always)]
 pub fn mapping_of_event(
     alloc: Global,

@@ -243,7 +243,7 @@ impl yaml_node_t {
     ///
     /// # Errors
     ///
-    /// `AllocError` where an allocation fails; the node is then as it was.
+    /// `AllocError` if an allocation fails; the node is then as it was.
     pub(crate) fn push_item(&mut self, item: yaml_node_item_t) -> Result<(), AllocError>
         requires { IsSequence self.old }
         ensures ok { OnOk result (self.new ≡ with_item item self.old) }
@@ -262,7 +262,7 @@ impl yaml_node_t {
     ///
     /// # Errors
     ///
-    /// `AllocError` where an allocation fails; the node is then as it was.
+    /// `AllocError` if an allocation fails; the node is then as it was.
     pub(crate) fn push_pair(&mut self, pair: yaml_node_pair_t) -> Result<(), AllocError>
         requires { IsMapping self.old }
         ensures ok { OnOk result (self.new ≡ with_pair pair.key pair.value self.old) }
@@ -278,7 +278,7 @@ impl yaml_node_t {
     }
 }
 
-/// An anchor, the id of the node that carries it, and the place where that node begins.
+/// An anchor, the id of the node that has it, and the place where that node begins.
 ///
 /// libyaml: `yaml_alias_data_t`.
 #[derive(Debug, Drop)]

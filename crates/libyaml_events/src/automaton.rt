@@ -38,7 +38,7 @@ impl Model for AutomatonWithStacks {
         × All IsBackByte a.states.items };
 }
 
-/// What lies where no state was put yet: the number of the state after a document's root.
+/// The byte at places where no state was put yet: the number of the state after a document's root.
 const NO_STATE: u8 = 4;
 
 /// Lengthens the stack of states to the capacity that it has once there is room for one more, and returns
@@ -77,7 +77,7 @@ impl AutomatonWithStacks {
         }
     }
 
-    /// Takes a token. Where a stack has no room, nothing changes.
+    /// Takes a token. If a stack has no room, nothing changes.
     #[inline(always)]
     pub(crate) fn step(
         &mut self,
@@ -107,8 +107,8 @@ impl AutomatonWithStacks {
         )
     }
 
-    /// Takes a token of the stream or its documents, where `step` returned `Document`. Where the stack of
-    /// states has no room, nothing changes.
+    /// Takes a token of the stream or its documents, after `step` returned `Document`. If the stack of states
+    /// has no room, nothing changes.
     #[inline(always)]
     pub(crate) fn document_step(
         &mut self,
@@ -130,7 +130,7 @@ impl AutomatonWithStacks {
             .document_step(read, self.states.as_mut_slice(), kind, start)
     }
 
-    /// Goes on where `document_step` returned `AsksVersion`.
+    /// Goes on after `document_step` returned `AsksVersion`.
     #[inline(always)]
     pub(crate) fn version_directive(&mut self, read: &mut Reading, is_accepted: bool) -> Action
         ensures steps { (t : KindAndMarks) → IsOutcome (automaton.first_version is_accepted
@@ -141,7 +141,7 @@ impl AutomatonWithStacks {
         self.automaton.version_directive(read, is_accepted)
     }
 
-    /// Goes on where `document_step` returned `AsksHandle`.
+    /// Goes on after `document_step` returned `AsksHandle`.
     #[inline(always)]
     pub(crate) fn tag_directive(&mut self, read: &mut Reading, was_declared: bool) -> Action
         ensures steps { (t : KindAndMarks) → IsOutcome (automaton.tag_directive was_declared
@@ -153,8 +153,8 @@ impl AutomatonWithStacks {
         self.automaton.tag_directive(read, was_declared)
     }
 
-    /// The content after properties, where `step` returned `AsksContent` and the tag's handle is defined.
-    /// Where the stack of marks has no room, nothing changes.
+    /// Takes the content after properties, after `step` returned `AsksContent`, if the tag's handle is
+    /// defined. If the stack of marks has no room, nothing changes.
     #[inline(always)]
     pub(crate) fn content_behind(
         &mut self,
@@ -198,7 +198,7 @@ impl AutomatonWithStacks {
         read.at_state_of(&self.automaton);
     }
 
-    /// Makes room where a step returned this, and returns whether there was memory. A step that pushes a mark
+    /// Makes room after a step returned this, and returns whether there was memory. A step that pushes a mark
     /// may push a state as well.
     #[cold]
     #[inline(never)]

@@ -76,7 +76,7 @@ impl Machine {
         }
     }
 
-    /// Puts the next event into `event`; where the run is over, the empty event.
+    /// Puts the next event into `event`; if the run is over, the empty event.
     fn put_event<S: yaml_token_source_t>(
         &mut self,
         source: &mut S,
@@ -104,7 +104,7 @@ impl Machine {
 }
 
 impl<S: yaml_token_source_t> yaml_parser_t<S> {
-    /// The next event, as the machine gives it, put into `event`.
+    /// Puts the next event, the machine's, into `event`.
     fn next_event_into(&mut self, event: &mut yaml_event_t) -> Result<(), yaml_error_type_t>
         ensures kept { IfErr (answered result event.new) (λ e. (e ≡ self.new.config.fault.error)
             × (ended_or_failed self.new.config ≡ true)) }
@@ -122,7 +122,7 @@ impl<S: yaml_token_source_t> yaml_parser_t<S> {
         )
     }
 
-    /// The next event, as the machine gives it.
+    /// Returns the next event, the machine's.
     #[inline(always)]
     fn next_event(&mut self) -> Result<yaml_event_t, yaml_error_type_t>
         ensures kept { IfErr result (λ e. (e ≡ self.new.config.fault.error)
@@ -143,7 +143,7 @@ impl<S: yaml_token_source_t> yaml_parser_t<S> {
     }
 }
 
-/// Puts an error in the place of an event.
+/// Puts an error in place of an event.
 #[cold]
 fn fail(error: yaml_error_type_t, led: &mut Result<yaml_event_t, yaml_error_type_t>)
     ensures { led.new ≡ Err error }
@@ -177,12 +177,12 @@ pub fn yaml_parser_parse<S: yaml_token_source_t>(
     parser.next_event()
 }
 
-/// Puts the next event of the stream into `event`, as `yaml_parser_parse` returns it, and drops the event
-/// that was there, so a loop can reuse one variable. After an error its value is unspecified.
+/// Puts the event that `yaml_parser_parse` would return into `event`, and drops the event that was there, so
+/// a loop can reuse one variable. After an error its value is unspecified.
 ///
 /// # Errors
 ///
-/// As `yaml_parser_parse`.
+/// Those of `yaml_parser_parse`.
 pub fn yaml_parser_parse_into<S: yaml_token_source_t>(
     parser: &mut yaml_parser_t<S>,
     event: &mut yaml_event_t,

@@ -72,8 +72,8 @@ impl<S> Model for yaml_parser_t<S> {
 pub(crate) struct Machine {
     pub(crate) automaton: AutomatonWithStacks,
     handles: BTreeMap<String, String>,
-    /// A text of an earlier event, whose memory a later token's text or tag in full may take. Its value has
-    /// no meaning.
+    /// A text of an earlier event, whose memory a later token's text or full tag may take. Its value has no
+    /// meaning.
     pub(crate) spare: String,
     prefix: yaml_parser_t_prefix,
     alloc: Global,
@@ -117,7 +117,7 @@ pub fn yaml_parser_initialize<S>(alloc: Global, source: S) -> yaml_parser_t<S>
     }
 }
 
-/// Consumes the parser and returns its source, as the last call left it.
+/// Consumes the parser and returns its source in its state after the last call.
 ///
 /// A source that knew its tokens knows those that were not asked for (`laws::calls::source_left`).
 ///
@@ -156,7 +156,7 @@ pub fn yaml_parser_set_max_entries<S>(parser: &mut yaml_parser_t<S>, n: i32)
 }
 
 impl<S> yaml_parser_t<S> {
-    /// Returns the error that the parser keeps, or `NO_FAULT` where it keeps none.
+    /// Returns the error that the parser keeps, or `NO_FAULT` if it keeps none.
     ///
     /// libyaml: the fields of `yaml_parser_t` from `error` to `context_mark`.
     pub fn prefix(&self) -> &yaml_parser_t_prefix

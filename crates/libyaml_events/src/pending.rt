@@ -30,12 +30,12 @@ impl Model for DirectivesHeld {
     } };
 }
 
-/// What the parser has of a document or node, where a further token is wanted.
+/// What the parser has of a document or node when a further token is wanted.
 #[derive(Drop)]
 pub(crate) struct Pending {
-    /// Which function takes the next token, and what was read but for its texts.
+    /// Which function takes the next token, and what was read except its texts.
     pub reading: Reading,
-    /// Of an earlier node where `reading` says that this one has no anchor or no tag.
+    /// Of an earlier node if `reading` says that this one has no anchor or no tag.
     pub properties: PropertiesHeld,
     pub directives: DirectivesHeld,
 }

@@ -77,12 +77,12 @@ impl yaml_push_parser_t {
         self.push_from(&mut token, events)
     }
 
-    /// Takes a token as `push` does, from a variable, so that a loop needs one token, which isn't moved.
+    /// Takes a token like `push`, but from a variable: a loop can reuse one token without moving it.
     /// Afterwards the value of `token` is unspecified.
     ///
     /// # Errors
     ///
-    /// As `push`.
+    /// Those of `push`.
     pub fn push_from(
         &mut self,
         token: &mut yaml_token_t,
@@ -104,7 +104,7 @@ impl yaml_push_parser_t {
         let _ = &self.machine;
     }
 
-    /// Returns the error that the parser keeps, or `NO_FAULT` where it keeps none.
+    /// Returns the error that the parser keeps, or `NO_FAULT` if it keeps none.
     pub fn prefix(&self) -> &yaml_parser_t_prefix
         ensures kept { fault_of result.now ≡ fault_in self.now }
         ensures before_fault { ForPushed self.now (λ _ _. fault_of result.now ≡ no_fault) }
@@ -169,7 +169,7 @@ impl Machine {
         self.step_aside(token, pending, events)
     }
 
-    /// Does a step in a place at the list's end, which stays where an event is given.
+    /// Does a step in a place at the list's end, which stays if an event is given.
     #[inline(always)]
     fn step_in_place(
         &mut self,

@@ -108,9 +108,8 @@ pub fn run_of_tree()
         → IsSettled l e → IsRun l f e (Fails f) }
 {}
 
-/// A run ends only over a valid list, with its tree's events. Where the error after the list is a
-/// source's, a run fails with a parser's error only where a partial tree fits, with its events and its
-/// error.
+/// A run ends only over a valid list, with its tree's events. If the error after the list is a source's, a
+/// run fails with a parser's error only if a partial tree fits, with its events and its error.
 pub fn run_ends()
     ensures ended { (l : List Token) (f : Fault) (e : List Event) → IsRun l f e Ends → (t : Stream)
         × (in_order t ≡ true) × (up_to_end l ≡ tokens t) × (e ≡ events t) }
@@ -153,8 +152,8 @@ pub fn own_directives()
         → block_slot_events ds x m r ≡ block_slot_events es x m r }
 {}
 
-/// A TAG that needs no handle goes on from a list exactly where a node may begin after it, or after the
-/// ANCHOR that ends it: there a TAG is bad for its handle alone.
+/// A TAG that needs no handle goes on from a list exactly if a node may begin after it, or after the ANCHOR
+/// that ends it: there a TAG is bad for its handle alone.
 pub fn tag_places()
     ensures { (l : List Token) (m : Marks) (s : List ℕ)
         → IsBeginning (l ++ tok (Tag (record { handle = []; suffix = s })) m ∷ []) ↔ ((p : Place)

@@ -65,8 +65,8 @@ pub fn linear_size()
         → bounded_loads n e x ≡ map Ok ds ++ l → documents_size ds ≤ 2 * length e }
 {}
 
-/// An error that a load of events has whatever follows them, or where the stream ends after them, is out
-/// of memory, at the bound, or a composer error: none of the parser or the source.
+/// An error that a load of events has whatever follows them, or if the stream ends after them, is out of
+/// memory, at the bound, or a composer error: none of the parser or the source.
 pub fn faults_of_loads()
     ensures whatever_follows { (n : ℕ) (e : List Event) (f : Fault)
         → ((rest : List Event) (x : Ending) → next_bounded n (e ++ rest) x ≡ Err f)
@@ -135,7 +135,7 @@ pub fn every_id()
     ensures of_run { (l : List Token) (f : Fault) (a : List Load) → IsLoads l f a → EachIdNames a }
 {}
 
-/// Where each mapping has an even number of values, as in every run, each node holds the ids of all its
+/// If each mapping has an even number of values, which it has in every run, each node holds the ids of all its
 /// children in their order: no pair lacks its value.
 pub fn no_value_lacks()
     ensures of_value { (v : Value) (es : List Start) → HasPairs v → HoldsItsChildren v es }
@@ -187,8 +187,8 @@ pub fn whole_documents_have_roots()
         → bounded_loads n l x ≡ Err f ∷ [] }
 {}
 
-/// Where no list of a document that a load begins needs more than n entries, the bound n changes nothing;
-/// nor does it where none of the loads within it is out of memory.
+/// If no list of a document that a load begins needs more than n entries, the bound n changes nothing; nor
+/// does it if none of the loads within it is out of memory.
 pub fn enough_room()
     ensures all { (r : List Event) (x : Ending) (n : ℕ) → HasRoom n r → bounded_loads n r x ≡ loads r x }
     ensures next { (r : List Event) (x : Ending) (n : ℕ) → HasRoom n r → next_bounded n r x ≡ next_load r x }
@@ -196,8 +196,8 @@ pub fn enough_room()
         → bounded_loads n r x ≡ loads r x }
 {}
 
-/// The bound is exact: nothing stops a load within the bound n exactly where its document has no composer
-/// error and none of its lists needs more than n entries.
+/// The bound is exact: nothing stops a load within the bound n exactly if its document has no composer error
+/// and none of its lists needs more than n entries.
 pub fn bound_is_exact()
     ensures { (l : List Part) (n : ℕ)
         → (first_stop n [] [] l ≡ None) ↔ ((composer_fault [] l ≡ None) × StaysWithin n l) }

@@ -68,7 +68,7 @@ impl Anchors {
     }
 }
 
-/// Returns the id of the node that carries an anchor, or 0 where none does.
+/// Returns the id of the node that has an anchor, or 0 if none does.
 #[inline(always)]
 #[tactic(auto, using(crate::proofs::document::AnchorLemmas::magnitude_is))]
 pub(crate) fn id_or_none(carrier: Option<Carrier>) -> i32

@@ -153,8 +153,8 @@ impl Composer {
         }
     }
 
-    /// Composes an event: begins a document, or adds to it. Where the event ends the document, returns its
-    /// end, and leaves the document for `end`.
+    /// Composes an event: begins a document, or adds to it. If the event ends the document, returns its end,
+    /// and leaves the document for `end`.
     ///
     /// # Errors
     ///

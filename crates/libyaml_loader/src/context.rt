@@ -99,9 +99,8 @@ impl loader_ctx {
     ///
     /// # Errors
     ///
-    /// `Memory`, where an allocation fails or a list has `max_entries` entries already; `UndefinedAlias`,
-    /// where no earlier node has the alias's anchor; `RepeatedAnchor`, where an earlier node has the anchor
-    /// of this one.
+    /// `Memory` if an allocation fails or a list has `max_entries` entries already; `UndefinedAlias` if no
+    /// earlier node has the alias's anchor; `RepeatedAnchor` if an earlier node has the anchor of this one.
     #[inline(always)]
     pub(crate) fn compose(&mut self, event: &mut yaml_event_t) -> Result<(), Refusal>
         requires stands { ComposerMatches self.old }
@@ -253,8 +252,8 @@ impl loader_ctx {
         }
     }
 
-    /// Registers the next node, which starts at `mark`, as the anchored node of the anchor, if there is one.
-    /// Returns the id of the node that carried it before, or 0 where none did. The anchor is moved out.
+    /// If there is an anchor, makes the next node, which starts at `mark`, its anchored node.
+    /// Returns the id of the node that had it before, or 0 if none did. The anchor is moved out.
     ///
     /// libyaml: `yaml_parser_register_anchor`.
     ///

@@ -20,9 +20,9 @@ pub struct yaml_parser_documents_t<'a, S> {
 
 /// Returns an iterator over the documents that the parser has still to load.
 ///
-/// It yields each document as `yaml_parser_load` returns it, or the whole error once in its place. After
-/// the last document or an error it yields no more: never the document without nodes. The parser must stand
-/// between documents (`yaml_parser_between_documents`).
+/// It yields each document as `yaml_parser_load` returns it, or, once, the whole error. After the last
+/// document or an error it yields no more: never the document without nodes. The parser must stand between
+/// documents (`yaml_parser_between_documents`).
 ///
 /// libyaml: a loop over `yaml_parser_load`.
 pub fn yaml_parser_documents<'a, S: yaml_token_source_t>(

@@ -4,7 +4,7 @@ ghost use Rattle.std.specs.Prelude.{pos, ◌≤ℤ◌};
 
 use libyaml_types::yaml_mark_t;
 
-/// The node that carries an anchor, and where it starts.
+/// The node that has an anchor, and where it starts.
 #[derive(Copy, Clone)]
 pub(crate) struct Carrier {
     /// The id of the node. Ids count from 1.

@@ -31,9 +31,9 @@ use libyaml_types::{yaml_error_type_t, yaml_event_t};
 ///
 /// # Errors
 ///
-/// The kind of an error, which the parser keeps for good: one of the parser; an alias whose anchor no
-/// node before it carries, or a second node with an anchor; out of memory, where an allocation failed
-/// or a list of the document would have more than `max_entries` entries.
+/// The kind of an error, which the parser keeps for good: one of the parser; an alias whose anchor no node
+/// before it has, or a second node with an anchor; out of memory, if an allocation failed or a list of the
+/// document would have more than `max_entries` entries.
 ///
 /// libyaml: `yaml_parser_load`.
 pub fn yaml_parser_load<S: yaml_token_source_t>(
@@ -82,7 +82,7 @@ pub fn yaml_parser_load<S: yaml_token_source_t>(
     next_document(parser, composer, &mut event)
 }
 
-/// Returns the next document, where no error is kept. Its events come in `event`, one after another.
+/// Returns the next document, if no error is kept. Its events come in `event`, one after another.
 ///
 /// libyaml: `yaml_parser_load`, `yaml_parser_load_document` and `yaml_parser_load_nodes`.
 fn next_document<S: yaml_token_source_t>(

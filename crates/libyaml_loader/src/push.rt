@@ -74,8 +74,8 @@ impl yaml_push_loader_t {
     /// # Errors
     ///
     /// The kind of an error, which the loader keeps for good, so that each further call returns it: one of
-    /// the grammar; an alias whose anchor no node before it carries, or a second node with an anchor; out of
-    /// memory, where an allocation failed or a list of the document would have more entries than it may. The
+    /// the grammar; an alias whose anchor no node before it has, or a second node with an anchor; out of
+    /// memory, if an allocation failed or a list of the document would have more entries than it may. The
     /// documents that ended before it are appended.
     pub fn push(
         &mut self,
@@ -105,7 +105,7 @@ impl yaml_push_loader_t {
         let _ = &self.parser;
     }
 
-    /// Returns the error that the loader keeps, or `NO_FAULT` where it keeps none.
+    /// Returns the error that the loader keeps, or `NO_FAULT` if it keeps none.
     pub fn prefix(&self) -> &yaml_parser_t_prefix
         ensures kept { fault_of result.now ≡ loader_fault self.now }
         ensures before_fault { ForLoaded self.now (λ _ _. fault_of result.now ≡ no_fault) }

@@ -131,7 +131,7 @@ impl OpenCollections {
         Ok(())
     }
 
-    /// Takes an event within a document, where the stack has room for what it opens.
+    /// Takes an event within a document, if the stack has room for what it opens.
     #[inline(always)]
     pub(crate) fn step(&mut self, kind: yaml_event_type_t, fact: i32, place: &mut place_t) -> Deed
         requires { self.old.is_within ≡ true }

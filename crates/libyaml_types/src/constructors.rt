@@ -62,8 +62,8 @@ pub fn yaml_stream_end_event_initialize() -> yaml_event_t
 ///
 /// # Errors
 ///
-/// `NotUtf8`, where a handle or prefix isn't UTF-8, before anything is allocated; `Memory`, where an
-/// allocation fails. Nothing else is checked.
+/// `NotUtf8` if a handle or prefix isn't UTF-8, before anything is allocated; `Memory` if an allocation
+/// fails. Nothing else is checked.
 ///
 /// libyaml: `yaml_document_start_event_initialize`.
 pub fn yaml_document_start_event_initialize(
@@ -101,8 +101,7 @@ pub fn yaml_document_end_event_initialize(implicit: bool) -> yaml_event_t
 ///
 /// # Errors
 ///
-/// `NotUtf8`, where the anchor isn't UTF-8, before anything is allocated; `Memory`, where an allocation
-/// fails.
+/// `NotUtf8` if the anchor isn't UTF-8, before anything is allocated; `Memory` if an allocation fails.
 ///
 /// libyaml: `yaml_alias_event_initialize`.
 pub fn yaml_alias_event_initialize(
@@ -127,8 +126,8 @@ pub fn yaml_alias_event_initialize(
 ///
 /// # Errors
 ///
-/// `NotUtf8`, where one of the texts isn't UTF-8, before anything is allocated; `Memory`, where an
-/// allocation fails. Nothing else is checked.
+/// `NotUtf8` if one of the texts isn't UTF-8, before anything is allocated; `Memory` if an allocation fails.
+/// Nothing else is checked.
 ///
 /// libyaml: `yaml_scalar_event_initialize`.
 pub fn yaml_scalar_event_initialize(
@@ -169,8 +168,8 @@ pub fn yaml_scalar_event_initialize(
 ///
 /// # Errors
 ///
-/// `NotUtf8`, where the anchor or tag isn't UTF-8, before anything is allocated; `Memory`, where an
-/// allocation fails. Nothing else is checked.
+/// `NotUtf8` if the anchor or tag isn't UTF-8, before anything is allocated; `Memory` if an allocation fails.
+/// Nothing else is checked.
 ///
 /// libyaml: `yaml_sequence_start_event_initialize`.
 pub fn yaml_sequence_start_event_initialize(
@@ -214,8 +213,8 @@ pub fn yaml_sequence_end_event_initialize() -> yaml_event_t
 ///
 /// # Errors
 ///
-/// `NotUtf8`, where the anchor or tag isn't UTF-8, before anything is allocated; `Memory`, where an
-/// allocation fails. Nothing else is checked.
+/// `NotUtf8` if the anchor or tag isn't UTF-8, before anything is allocated; `Memory` if an allocation fails.
+/// Nothing else is checked.
 ///
 /// libyaml: `yaml_mapping_start_event_initialize`.
 pub fn yaml_mapping_start_event_initialize(

@@ -65,8 +65,8 @@ impl Eq for yaml_tag_directive_t {
 ///
 /// # Errors
 ///
-/// `NotUtf8`, where a handle or prefix isn't UTF-8, before anything is allocated; `Memory`, where an
-/// allocation fails.
+/// `NotUtf8` if a handle or prefix isn't UTF-8, before anything is allocated; `Memory` if an allocation
+/// fails.
 pub fn directives_of_pairs(
     alloc: Global,
     pairs: &[(&[u8], &[u8])],
@@ -87,7 +87,7 @@ pub fn directives_of_pairs(
 ///
 /// # Errors
 ///
-/// `AllocError`, where an allocation fails.
+/// `AllocError` if an allocation fails.
 fn copied_pairs(
     alloc: Global,
     pairs: &[(&[u8], &[u8])],
@@ -106,7 +106,7 @@ fn copied_pairs(
 ///
 /// # Errors
 ///
-/// `AllocError`, where an allocation fails.
+/// `AllocError` if an allocation fails.
 fn copied_pair(alloc: Global, pair: &(&[u8], &[u8])) -> Result<yaml_tag_directive_t, AllocError>
     requires { PairIsUtf8 pair.now }
     ensures { IfOk result (λ directive. directive ≡ directive_of pair.now) }

@@ -1,4 +1,4 @@
-//! Events, as a parser gives them.
+//! The events that a parser gives.
 
 ghost use Rattle.std.specs.Prelude.{◌≡◌};
 ghost use Rattle.std.specs.Option.{option_copied};
@@ -25,7 +25,7 @@ pub struct unnamed_yaml_event_t_data_stream_start {
 /// libyaml: `unnamed_yaml_event_t_data_document_start`.
 #[derive(Debug, Drop)]
 pub struct unnamed_yaml_event_t_data_document_start {
-    /// The version, where one is given.
+    /// The version, if one is given.
     pub version_directive: Option<yaml_version_directive_t>,
     /// The tag directives.
     pub tag_directives: Vec<yaml_tag_directive_t>,
@@ -120,15 +120,15 @@ impl Eq for unnamed_yaml_event_t_data_alias {
 /// libyaml: `unnamed_yaml_event_t_data_scalar`.
 #[derive(Debug, Drop)]
 pub struct unnamed_yaml_event_t_data_scalar {
-    /// The name of its anchor, where it has one.
+    /// The name of its anchor, if it has one.
     pub anchor: Option<String>,
-    /// The tag, where one is given.
+    /// The tag, if one is given.
     pub tag: Option<String>,
     /// The text.
     pub value: String,
-    /// Whether the tag may be left out where the scalar is written plain.
+    /// Whether the tag may be left out if the scalar is written plain.
     pub plain_implicit: bool,
-    /// Whether the tag may be left out where the scalar is written in any other style.
+    /// Whether the tag may be left out if the scalar is written in any other style.
     pub quoted_implicit: bool,
     /// How it is written.
     pub style: yaml_scalar_style_t,
@@ -174,14 +174,14 @@ impl Eq for unnamed_yaml_event_t_data_scalar {
     ghost laws = { same_scalar_equiv };
 }
 
-/// The start of a sequence: `implicit` where its tag may be left out.
+/// The start of a sequence: `implicit` if its tag may be left out.
 ///
 /// libyaml: `unnamed_yaml_event_t_data_sequence_start`.
 #[derive(Debug, Drop)]
 pub struct unnamed_yaml_event_t_data_sequence_start {
-    /// The name of its anchor, where it has one.
+    /// The name of its anchor, if it has one.
     pub anchor: Option<String>,
-    /// The tag, where one is given.
+    /// The tag, if one is given.
     pub tag: Option<String>,
     /// Whether the tag may be left out.
     pub implicit: bool,
@@ -225,14 +225,14 @@ impl Eq for unnamed_yaml_event_t_data_sequence_start {
     ghost laws = { same_sequence_start_equiv };
 }
 
-/// The start of a mapping: `implicit` where its tag may be left out.
+/// The start of a mapping: `implicit` if its tag may be left out.
 ///
 /// libyaml: `unnamed_yaml_event_t_data_mapping_start`.
 #[derive(Debug, Drop)]
 pub struct unnamed_yaml_event_t_data_mapping_start {
-    /// The name of its anchor, where it has one.
+    /// The name of its anchor, if it has one.
     pub anchor: Option<String>,
-    /// The tag, where one is given.
+    /// The tag, if one is given.
     pub tag: Option<String>,
     /// Whether the tag may be left out.
     pub implicit: bool,
@@ -345,7 +345,7 @@ impl yaml_event_t {
         }
     }
 
-    /// Returns the anchor of a scalar, of the start of a sequence or of a mapping, where it has one, and the
+    /// Returns the anchor of a scalar, of the start of a sequence or of a mapping, if it has one, and the
     /// anchor that an alias names. For each other event: `None`.
     ///
     /// libyaml: the field `anchor` of these four.

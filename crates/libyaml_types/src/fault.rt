@@ -6,7 +6,7 @@ ghost use Rattle.libyaml_types.specs.Errors.{IsSourceError};
 
 use crate::{ZERO_MARK, yaml_error_type_t, yaml_mark_t};
 
-/// An error with all its fields, as a parser keeps it. A parser without error keeps `NO_FAULT`.
+/// An error with all the fields that a parser keeps. A parser without error keeps `NO_FAULT`.
 ///
 /// libyaml: `yaml_parser_t_prefix`.
 #[derive(Copy, Clone, PartialEq, Eq, Debug)]
@@ -114,7 +114,7 @@ impl yaml_source_fault_t {
         }
     }
 
-    /// Returns all fields, as a parser keeps them.
+    /// Returns all the fields that a parser keeps.
     pub fn prefix(&self) -> yaml_parser_t_prefix
         ensures { fault_of result ≡ source_fault self.now }
     {

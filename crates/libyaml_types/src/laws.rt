@@ -98,28 +98,28 @@ pub fn order_of_parser_states(state: yaml_parser_state_t, other: yaml_parser_sta
     state.cmp(&other)
 }
 
-/// Returns whether two of `yaml_encoding_t` are equal, which is exactly where their numbers are.
+/// Returns whether two of `yaml_encoding_t` are equal, which they are exactly if their numbers are.
 pub fn equality_of_encodings(encoding: yaml_encoding_t, other: yaml_encoding_t) -> bool
     ensures { IsTrue result ↔ (encoding_number encoding ≡ encoding_number other) }
 {
     encoding == other
 }
 
-/// Returns whether two of `yaml_break_t` are equal, which is exactly where their numbers are.
+/// Returns whether two of `yaml_break_t` are equal, which they are exactly if their numbers are.
 pub fn equality_of_breaks(line_break: yaml_break_t, other: yaml_break_t) -> bool
     ensures { IsTrue result ↔ (break_number line_break ≡ break_number other) }
 {
     line_break == other
 }
 
-/// Returns whether two of `yaml_error_type_t` are equal, which is exactly where their numbers are.
+/// Returns whether two of `yaml_error_type_t` are equal, which they are exactly if their numbers are.
 pub fn equality_of_error_types(error_type: yaml_error_type_t, other: yaml_error_type_t) -> bool
     ensures { IsTrue result ↔ (error_type_number error_type ≡ error_type_number other) }
 {
     error_type == other
 }
 
-/// Returns whether two of `yaml_scalar_style_t` are equal, which is exactly where their numbers are.
+/// Returns whether two of `yaml_scalar_style_t` are equal, which they are exactly if their numbers are.
 pub fn equality_of_scalar_styles(
     scalar_style: yaml_scalar_style_t,
     other: yaml_scalar_style_t,
@@ -129,7 +129,7 @@ pub fn equality_of_scalar_styles(
     scalar_style == other
 }
 
-/// Returns whether two of `yaml_sequence_style_t` are equal, which is exactly where their numbers are.
+/// Returns whether two of `yaml_sequence_style_t` are equal, which they are exactly if their numbers are.
 pub fn equality_of_sequence_styles(
     sequence_style: yaml_sequence_style_t,
     other: yaml_sequence_style_t,
@@ -139,7 +139,7 @@ pub fn equality_of_sequence_styles(
     sequence_style == other
 }
 
-/// Returns whether two of `yaml_mapping_style_t` are equal, which is exactly where their numbers are.
+/// Returns whether two of `yaml_mapping_style_t` are equal, which they are exactly if their numbers are.
 pub fn equality_of_mapping_styles(
     mapping_style: yaml_mapping_style_t,
     other: yaml_mapping_style_t,
@@ -149,28 +149,28 @@ pub fn equality_of_mapping_styles(
     mapping_style == other
 }
 
-/// Returns whether two of `yaml_token_type_t` are equal, which is exactly where their numbers are.
+/// Returns whether two of `yaml_token_type_t` are equal, which they are exactly if their numbers are.
 pub fn equality_of_token_types(token_type: yaml_token_type_t, other: yaml_token_type_t) -> bool
     ensures { IsTrue result ↔ (token_type_number token_type ≡ token_type_number other) }
 {
     token_type == other
 }
 
-/// Returns whether two of `yaml_event_type_t` are equal, which is exactly where their numbers are.
+/// Returns whether two of `yaml_event_type_t` are equal, which they are exactly if their numbers are.
 pub fn equality_of_event_types(event_type: yaml_event_type_t, other: yaml_event_type_t) -> bool
     ensures { IsTrue result ↔ (event_type_number event_type ≡ event_type_number other) }
 {
     event_type == other
 }
 
-/// Returns whether two of `yaml_node_type_t` are equal, which is exactly where their numbers are.
+/// Returns whether two of `yaml_node_type_t` are equal, which they are exactly if their numbers are.
 pub fn equality_of_node_types(node_type: yaml_node_type_t, other: yaml_node_type_t) -> bool
     ensures { IsTrue result ↔ (node_type_number node_type ≡ node_type_number other) }
 {
     node_type == other
 }
 
-/// Returns whether two of `yaml_parser_state_t` are equal, which is exactly where their numbers are.
+/// Returns whether two of `yaml_parser_state_t` are equal, which they are exactly if their numbers are.
 pub fn equality_of_parser_states(state: yaml_parser_state_t, other: yaml_parser_state_t) -> bool
     ensures { IsTrue result ↔ (parser_state_number state ≡ parser_state_number other) }
 {
@@ -247,14 +247,15 @@ pub fn hash_of_parser_states<H: Hasher>(state: yaml_parser_state_t, hasher: &mut
     state.hash(hasher);
 }
 
-/// Returns whether two of `yaml_mark_t` are equal, which is exactly where all their fields are.
+/// Returns whether two of `yaml_mark_t` are equal, which they are exactly if all their fields are.
 pub fn equality_of_marks(mark: yaml_mark_t, other: yaml_mark_t) -> bool
     ensures { IsTrue result ↔ (mark ≡ other) }
 {
     mark == other
 }
 
-/// Returns whether two of `yaml_version_directive_t` are equal, which is exactly where all their fields are.
+/// Returns whether two of `yaml_version_directive_t` are equal, which they are exactly if all their fields
+/// are.
 pub fn equality_of_versions(
     version: yaml_version_directive_t,
     other: yaml_version_directive_t,
@@ -264,8 +265,8 @@ pub fn equality_of_versions(
     version == other
 }
 
-/// Returns whether two lists of `yaml_tag_directive_t` are equal, which is exactly where their members are,
-/// in order.
+/// Returns whether two lists of `yaml_tag_directive_t` are equal, which they are exactly if their members
+/// are, in order.
 pub fn equality_of_directives(
     directives: &[yaml_tag_directive_t],
     other: &[yaml_tag_directive_t],

@@ -8,8 +8,8 @@ use crate::yaml_error_words;
 use std::error::Error;
 use std::fmt;
 
-/// The problem and its place, or the kind of the error where there is no problem; then the context and its
-/// place, where there is one.
+/// The problem and its place, or the kind of the error if there is no problem; then the context and its
+/// place, if there is one.
 impl fmt::Display for yaml_parser_t_prefix {
     ghost output = { λ p. Some (message (fault_of p)) };
 

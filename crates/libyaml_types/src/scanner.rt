@@ -3,7 +3,7 @@ ghost use Rattle.libyaml_types.specs.Fault.{Answer, answer_of};
 
 use crate::{yaml_source_fault_t, yaml_token_t};
 
-/// A scanner, whose tokens `yaml_scanner_source_t` gives to a parser. An implementation needs `scan` alone.
+/// A scanner, whose tokens `yaml_scanner_source_t` gives to a parser. An implementation needs only `scan`.
 pub trait yaml_scanner_t {
     /// What a call may do: the scanner before it, its result, and the scanner after it. An implementation
     /// that leaves this out says nothing of its tokens.

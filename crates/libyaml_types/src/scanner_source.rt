@@ -20,7 +20,7 @@ pub struct yaml_scanner_source_t<S> {
     max_tokens: u64,
     /// Where the last token ends, or zeros before the first.
     end: yaml_mark_t,
-    /// The error that each call returns, where the tokens have ended.
+    /// The error that each call returns once the tokens have ended.
     fault: Option<yaml_source_fault_t>,
 }
 
@@ -60,7 +60,7 @@ impl<S> yaml_scanner_source_t<S> {
         }
     }
 
-    /// Gives back the scanner, as the last call left it. Takes no memory.
+    /// Returns the scanner in its state after the last call. Takes no memory.
     pub fn into_scanner(self) -> S
         ensures { result ≡ self.scanner }
     {
@@ -116,7 +116,7 @@ impl<S: yaml_scanner_t> yaml_token_source_t for yaml_scanner_source_t<S> {
         }
     }
 
-    /// Puts the scanner's next token into `token`, as `next_token` returns it.
+    /// Puts the token that `next_token` would return into `token`.
     fn next_token_into(&mut self, token: &mut yaml_token_t) -> Result<(), yaml_source_fault_t> {
         *token = self.next_token()?;
         Ok(())

@@ -19,11 +19,11 @@ pub trait yaml_token_source_t {
     /// `next_token`.
     ghost gives: { Self → Answer → Self → Type 0 };
 
-    /// The tokens to come and the error after them, or `None` where the source does not know them in advance.
+    /// The tokens to come and the error after them, or `None` if the source does not know them in advance.
     ghost known: { Self → Option Coming };
 
-    /// The errors with which the source may end before the list of `known` does, as where its input fails or
-    /// memory runs out. The source is the one after that call.
+    /// The errors with which the source may end before the list of `known` does, for example when its input
+    /// fails or memory runs out. The source is the one after that call.
     ghost may_break: { Self → Fault → Type 0 };
 
     /// Returns the next token.
@@ -59,9 +59,9 @@ pub trait yaml_token_source_t {
     /// A proof that each token lowers the bound by exactly one.
     ghost falls: { (s t : Self) (token : yaml_token_t) → gives s (Ok token) t → bound s ≡ bound t + 1 };
 
-    /// A proof that each result agrees with `known`: it is the next token of that list, or the error of
-    /// the list where no token is left, or an error of `may_break`, after which no token is left. Where
-    /// `known` is `None` there is nothing to prove: `λ s t answer h. tt`.
+    /// A proof that each result agrees with `known`: it is the next token of that list, or the error of the
+    /// list if no token is left, or an error of `may_break`, after which no token is left. If `known` is
+    /// `None` there is nothing to prove: `λ s t answer h. tt`.
     ghost follows: { (s t : Self) (answer : Answer) → gives s answer t
         → Follows (may_break t) (known s) answer (known t) };
 

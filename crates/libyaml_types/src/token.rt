@@ -1,4 +1,4 @@
-//! Tokens, as a scanner gives them.
+//! The tokens that a scanner gives.
 
 ghost use Rattle.std.specs.Prelude.{◌≡◌};
 

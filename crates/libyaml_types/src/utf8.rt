@@ -12,7 +12,7 @@ use std::alloc::{AllocError, Global};
 ///
 /// # Errors
 ///
-/// `NotUtf8`, where the bytes aren't UTF-8.
+/// `NotUtf8` if the bytes aren't UTF-8.
 pub fn checked(bytes: &[u8]) -> Result<&str, yaml_refusal_t>
     ensures ok { IfOk result (λ text. text.now ≡ bytes.now) }
     ensures utf8 { OnOk result (IsUtf8 bytes.now) }
@@ -22,11 +22,11 @@ pub fn checked(bytes: &[u8]) -> Result<&str, yaml_refusal_t>
     simdutf8::compat::from_utf8(bytes).map_err(|_| yaml_refusal_t::NotUtf8)
 }
 
-/// Returns the text of these bytes, where they are given. Takes no memory.
+/// Returns the text of these bytes, if they are given. Takes no memory.
 ///
 /// # Errors
 ///
-/// `NotUtf8`, where the bytes aren't UTF-8.
+/// `NotUtf8` if the bytes aren't UTF-8.
 pub(crate) fn checked_option(bytes: Option<&[u8]>) -> Result<Option<&str>, yaml_refusal_t>
     ensures ok { IfOk result (λ text. option_copied text ≡ option_copied bytes.entry) }
     ensures utf8 { OnOk result (IfSome (option_copied bytes.entry) IsUtf8) }
@@ -50,11 +50,11 @@ fn is_utf8_pair(pair: &(&[u8], &[u8])) -> bool
     checked(pair.0).is_ok() && checked(pair.1).is_ok()
 }
 
-/// Returns a copy of this text, where it is given.
+/// Returns a copy of this text, if it is given.
 ///
 /// # Errors
 ///
-/// `AllocError`, where an allocation fails.
+/// `AllocError` if an allocation fails.
 pub(crate) fn copied_option(alloc: Global, text: Option<&str>) -> Result<Option<String>, AllocError>
     ensures { IfOk result (λ copy. option_map string_bytes copy ≡ option_copied text.entry) }
 {
@@ -65,8 +65,7 @@ pub(crate) fn copied_option(alloc: Global, text: Option<&str>) -> Result<Option<
 ///
 /// # Errors
 ///
-/// `NotUtf8`, where the bytes aren't UTF-8, before anything is allocated; `Memory`, where an allocation
-/// fails.
+/// `NotUtf8` if the bytes aren't UTF-8, before anything is allocated; `Memory` if an allocation fails.
 pub fn copied(alloc: Global, bytes: &[u8]) -> Result<String, yaml_refusal_t>
     ensures ok { IfOk result (λ text. string_bytes text ≡ bytes.now) }
     ensures utf8 { OnOk result (IsUtf8 bytes.now) }

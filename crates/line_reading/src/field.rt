@@ -35,7 +35,7 @@ pub(crate) fn read_version(field: &[u8]) -> Option<unnamed_yaml_token_t_data_ver
 ///
 /// # Errors
 ///
-/// `BadTokenLine`, where it is none, and `Memory`, where an allocation fails.
+/// `BadTokenLine` if it is none, and `Memory` if an allocation fails.
 #[inline(always)]
 pub(crate) fn read_text(alloc: Global, field: &[u8]) -> Result<String, LineProblem>
     ensures { IsTextReadAs result (text_of field.now) }

@@ -14,16 +14,16 @@ use libyaml_types::yaml_token_t;
 use std::alloc::Global;
 use std::io::BufRead;
 
-/// Reads the token of the next line: of the bytes before an LF, or of the last bytes, where none follows
-/// them. Takes the line and its LF, and no byte after them. After an LF `left` is the number of bytes that
-/// are still in the reader's buffer.
+/// Reads the token of the next line: of the bytes before an LF, or of the last bytes, if none follows them.
+/// Takes the line and its LF, and no byte after them. After an LF `left` is the number of bytes that are
+/// still in the reader's buffer.
 ///
 /// A line that lies whole in the buffer, with its LF, is read there; any other is copied into `line` first.
 ///
 /// # Errors
 ///
-/// `BadTokenLine`, where the line, which is taken too, is no token line; `NoMoreTokens` at the end;
-/// `LineTooLong`; `ReadFailed`; and `Memory`, where an allocation fails. Then the value of `token` is
+/// `BadTokenLine` if the line, which is taken too, is no token line; `NoMoreTokens` at the end;
+/// `LineTooLong`; `ReadFailed`; and `Memory` if an allocation fails. Then the value of `token` is
 /// unspecified.
 #[inline(always)]
 pub(crate) fn read_next<R: BufRead>(
@@ -54,7 +54,7 @@ pub(crate) fn read_next<R: BufRead>(
 ///
 /// # Errors
 ///
-/// `NoMoreTokens`, where there are none, and `Memory`, where an allocation fails.
+/// `NoMoreTokens` if there are none, and `Memory` if an allocation fails.
 #[cold]
 fn begin_line(line: &mut Vec<u8>, first: &[u8]) -> Result<(), LineProblem>
     ensures ok { OnOk result (line.new.items ≡ first.now) }

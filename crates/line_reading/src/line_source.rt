@@ -68,7 +68,7 @@ impl<R: BufRead> yaml_line_source_t<R> {
         }
     }
 
-    /// Gives back the reader, as the last call left it. Takes no memory.
+    /// Returns the reader in its state after the last call. Takes no memory.
     pub fn into_reader(self) -> R
         ensures { result ≡ self.reader }
     {

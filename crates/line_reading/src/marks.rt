@@ -4,7 +4,7 @@
 //! number has at least one digit, so none stops at the index 0. The functions return 0 for "no number" and
 //! "no mark".
 //!
-//! That 0 is there in place of an `Option` for speed, since each token has six numbers: a `NumberRead` has
+//! That 0 replaces an `Option` for speed, since each token has six numbers: a `NumberRead` has
 //! 16 bytes and is returned in two registers, while an `Option` of it would have 24 and be returned in
 //! memory. Outside this file the 0 becomes an `Option` (`number.rt`) or an error (`token_line.rt`).
 ghost use Rattle.std.specs.Prelude.{◌≡◌, ◌+◌, ◌≤◌, ◌<◌, Some, None, true, false, length, drop, slice_index};
@@ -15,7 +15,7 @@ ghost use Rattle.std.specs.Char.{is_ascii_digit};
 use crate::bytes::end_alike;
 use libyaml_types::yaml_mark_t;
 
-/// Where the line number of a mark is, and its value; the end is 0 where there is none.
+/// Where the line number of a mark is, and its value; the end is 0 if there is none.
 #[derive(Copy, Clone)]
 pub(crate) struct RowRead {
     pub at: usize,
@@ -30,7 +30,7 @@ pub(crate) const NO_ROW: RowRead = RowRead {
     value: 0,
 };
 
-/// Reads the field at `at` into `mark`, and returns the index of the field's end, or 0 where it is no mark.
+/// Reads the field at `at` into `mark`, and returns the index of the field's end, or 0 if it is no mark.
 ///
 /// A mark counts characters, lines and columns, each from 0. `row` is the line number of a mark that was read
 /// before in the same line, and becomes that of this mark: most often it is the same.
@@ -73,7 +73,7 @@ pub(crate) fn read_mark(line: &[u8], at: usize, row: &mut RowRead, mark: &mut ya
     column.end
 }
 
-/// Reads the number that begins at `at`: where the digits of `earlier` and the byte after them stand there
+/// Reads the number that begins at `at`: if the digits of `earlier` and the byte after them stand there
 /// again, it is the same number.
 #[inline(always)]
 fn read_row(line: &[u8], at: usize, earlier: &RowRead) -> NumberRead
@@ -121,7 +121,7 @@ fn ends_field(line: &[u8], at: usize) -> bool
     at == line.len() || line[at] == b' '
 }
 
-/// A number, and the index after its last digit; that index is 0 where there is no number.
+/// A number, and the index after its last digit; that index is 0 if there is no number.
 #[derive(Copy, Clone)]
 pub(crate) struct NumberRead {
     pub value: u64,
@@ -186,7 +186,7 @@ fn is_digit_at(line: &[u8], at: usize) -> bool
 /// ones. The value of this many digits always fits in 64 bits.
 const FEW: usize = 8;
 
-/// Reads the number that begins at `at`, where the line has fewer than `FEW` bytes left.
+/// Reads the number that begins at `at` if the line has fewer than `FEW` bytes left.
 #[inline(never)]
 fn read_last_number(line: &[u8], at: usize) -> NumberRead
     requires within { at ≤ length line.now }

@@ -3,7 +3,7 @@ ghost use Rattle.std.specs.Prelude.{◌≡◌, ◌≢◌, ◌<◌, ◌≤◌, Al
 
 use memchr::memchr;
 
-/// Returns how many bytes come before the first `byte`: all, where there is none.
+/// Returns how many bytes come before the first `byte`: all, if there is none.
 pub(crate) fn len_before(bytes: &[u8], byte: u8) -> usize
     ensures bound { result ≤ length bytes.now }
     ensures before { All (λ x. x ≢ byte) (take result bytes.now) }

@@ -22,8 +22,8 @@ use std::alloc::Global;
 ///
 /// # Errors
 ///
-/// `BadTokenLine`, where the line is no token line, and `Memory`, where an allocation fails. Then the value
-/// of `token` is unspecified.
+/// `BadTokenLine` if the line is no token line, and `Memory` if an allocation fails. Then the value of
+/// `token` is unspecified.
 pub(crate) fn read_token_line(
     alloc: Global,
     line: &[u8],

@@ -10,8 +10,7 @@ use crate::refusal::line_refusal_t;
 use libyaml_types::{yaml_error_type_t, yaml_mark_t, yaml_parser_t_prefix};
 use std::io::Write;
 
-/// Writes the text of an error: its line, and the line of its context where there is one. Takes no
-/// memory.
+/// Writes the text of an error: its line, and the line of its context if there is one. Takes no memory.
 ///
 /// # Errors
 ///

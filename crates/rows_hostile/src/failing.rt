@@ -1,6 +1,6 @@
 //! Allocations that fail: each row is made twice, and at most one of the two meets a failed allocation.
 //!
-//! `scripts/allocation_failures.sh` runs this with the first allocation failed, then the second, and so on
+//! `scripts/gate/allocation_failures.sh` runs this with the first allocation failed, then the second, and so on
 //! until none fails.
 
 use crate::calls::{

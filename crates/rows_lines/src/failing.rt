@@ -1,6 +1,6 @@
 //! Allocations that fail: each run is made twice, and at most one of the two meets a failed allocation.
 //!
-//! `scripts/allocation_failures.sh` runs this with the first allocation failed, then the second, and so on
+//! `scripts/gate/allocation_failures.sh` runs this with the first allocation failed, then the second, and so on
 //! until none fails. Where none fails, a run is right only if it is whole.
 
 use crate::memory;

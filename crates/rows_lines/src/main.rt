@@ -4,7 +4,7 @@
 //! The program makes each check of `Check` for each run that the file `names` names, and for each line of
 //! `good_lines` and `bad_lines`; it counts the rows of each table and names those that differ. It also runs
 //! over more lines than are read. `rows_lines TABLE` makes the checks of one table, `rows_lines TABLE ROW`
-//! those of one row, and `rows_lines failing` those of `failing`, for `scripts/allocation_failures.sh`.
+//! those of one row, and `rows_lines failing` those of `failing`, for `scripts/gate/allocation_failures.sh`.
 #![tactic(auto)]
 
 mod failing;

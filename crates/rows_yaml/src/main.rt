@@ -4,7 +4,7 @@
 //! has besides its events and nodes, and what it shows. The program compares every text of every list and
 //! makes the calls; it counts both, and shows the first line of each text that differs, and each call.
 //! `rows_yaml TABLE` compares one table, `rows_yaml TABLE NAME` one list. `rows_yaml failing` makes the
-//! checks of `failing` alone, for `scripts/allocation_failures.sh`.
+//! checks of `failing` alone, for `scripts/gate/allocation_failures.sh`.
 #![tactic(auto)]
 
 mod asked;

@@ -27,7 +27,7 @@ ghost use Rattle.rust_original.specs.parser.StrictCalls.{RunThere, StopThere};
 ghost use Rattle.rust_original.specs.parser.Texts.{NoneHoldsZero, as_held};
 
 /// The Rust crate has one run over each list of tokens and error of a source after it. Its events nest, and
-/// to the end only where it ends. A run that is computed within so many calls is a run.
+/// to the end only if it ends. A run that is computed within so many calls is a run.
 pub fn runs_there()
     ensures some { (l : List Token) (f : Fault) → (e : List Event) × (x : Ending) × RunsThere l f e x }
     ensures one { (l : List Token) (f : Fault) (e d : List Event) (x y : Ending) → RunsThere l f e x
@@ -40,7 +40,7 @@ pub fn runs_there()
         → run_within m n p ≡ (e, Some x) → Runs m p e x }
 {}
 
-/// With its three mends, the run is that of the grammar, whose events too nest to the end only where it ends.
+/// With its three mends, the run is that of the grammar, whose events too nest to the end only if it ends.
 pub fn runs_here()
     ensures run { (l : List Token) (f : Fault) (e : List Event) (x : Ending) → IsRun l f e x
         → Runs as_here (new_original_parser l f) e x }
@@ -60,7 +60,7 @@ pub fn calls()
 {}
 
 /// So the Rust crate's run over a list is the run of the grammar; or it is up to a call at one of these
-/// places. In both, texts that end at a zero byte end there; where none holds one, that changes nothing.
+/// places. In both, texts that end at a zero byte end there; if none holds one, that changes nothing.
 pub fn compared()
     ensures runs { (l : List Token) (f : Fault) (e d : List Event) (x y : Ending) → RunsThere l f e x
         → IsRun (map as_held l) f d y → Compares (new_original_parser (map as_held l) f) e x d y }

@@ -1,6 +1,6 @@
 //! Tokens, events and documents as lines of text.
 //!
-//! A user names this crate alone: it re-exports the crates below it, for reading and for writing a line.
+//! You only name this crate: it re-exports the crates below it, for reading and for writing a line.
 #![tactic(auto)]
 
 pub mod laws;

@@ -1,4 +1,4 @@
-//! Runs over token lines in memory, which put as many bytes of the lines as a buffer has room for there.
+//! Runs over token lines in memory. They put as many bytes of the lines into a buffer as it has room for.
 ghost use Rattle.std.specs.Prelude.{◌≡◌, ℕ, List, [], Some, true};
 ghost use Rattle.libyaml_types.specs.Fault.{fault_of};
 ghost use Rattle.libyaml_grammar.specs.runs.Runs.{Ending};
@@ -40,7 +40,7 @@ pub struct memory_run_t {
 /// The text of the error of a failed allocation.
 const MEMORY_TEXT: &[u8] = b"FAULT memory 0:0:0 -\n";
 
-/// Hands out what a run wrote: its bytes where it was whole, and else the text of a failed allocation.
+/// Hands out what a run wrote: its bytes if it was whole, otherwise the text of a failed allocation.
 fn hand_out(end: &run_end_t, bytes: &[u8], out: &mut [u8]) -> memory_run_t
     ensures { (n : ℕ) (lines : List (List ℕ)) (ending : Ending)
         → Writes (BreaksOffAt n) end.now (Some []) (Some bytes.now) lines ending
@@ -55,7 +55,8 @@ fn hand_out(end: &run_end_t, bytes: &[u8], out: &mut [u8]) -> memory_run_t
     }
 }
 
-/// Returns whether this is the error of a failed allocation, or of a failed read, which memory doesn't know.
+/// Returns whether this is the error of a failed allocation, or of a failed read, which doesn't occur in
+/// memory.
 fn cuts_short(fault: &yaml_parser_t_prefix) -> bool
     ensures { (n : ℕ) → BreaksOffAt n (fault_of fault.now) → result ≡ true }
 {

@@ -72,7 +72,7 @@ fn faulted<W: Write>(prefix: &yaml_parser_t_prefix, writer: &mut W) -> run_end_t
     }
 }
 
-/// Flushes the writer where the parser may have to wait for its next token, so that whoever reads what is
+/// Flushes the writer if the parser may have to wait for its next token, so that whoever reads what is
 /// written then has all of it.
 #[inline(always)]
 fn show<S: yaml_token_source_t, W: Write>(

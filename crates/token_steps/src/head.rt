@@ -3,7 +3,7 @@ ghost use Rattle.std.specs.Prelude.{◌≡◌};
 ghost use Rattle.token_steps.specs.Facts as facts;
 ghost use Rattle.token_steps.specs.Records.{head_tag, is_undefined};
 
-/// What is known of a node's properties. Where there is a tag, `tag` is the fact of its token.
+/// What is known of a node's properties. If there is a tag, `tag` is the fact of its token.
 #[derive(Copy, Clone)]
 pub(crate) struct Head {
     pub has_anchor: u8,
@@ -27,7 +27,7 @@ impl Head {
         self.has_tag == 0 || self.tag == 1
     }
 
-    /// Returns whether the tag may be left out where a scalar is written plain.
+    /// Returns whether the tag may be left out if a scalar is written plain.
     #[inline(always)]
     pub(crate) fn plain_flag(&self, is_plain: bool) -> bool
         ensures { result ≡ facts.plain_flag_for (head_tag self.now) is_plain }
@@ -39,7 +39,7 @@ impl Head {
         }
     }
 
-    /// Returns whether it may be left out where a scalar isn't.
+    /// Returns whether it may be left out if a scalar isn't.
     #[inline(always)]
     pub(crate) fn quoted_flag(&self, is_plain: bool) -> bool
         ensures { result ≡ facts.quoted_flag_for (head_tag self.now) is_plain }

@@ -21,8 +21,8 @@ ghost use Rattle.token_steps.specs.Handles.{AreHandlesWithin, bytes_at, handles_
 ghost use Rattle.token_steps.specs.RunLaws.{BetweenTokens, FailsInHand, ForFailed, ForRuns, ForStacks};
 ghost use Rattle.token_steps.specs.RunLaws.{RunIsFed};
 
-/// Whatever a caller handed in and was given, with the texts that it kept by the kinds of tokens alone, a
-/// parser was handed and gave. So what is proved of pushes holds of a caller's calls.
+/// Some parser was handed what a caller passed in, and gave what the caller was given, with the texts that it
+/// kept by the kinds of tokens alone. So what is proved of pushes holds of a caller's calls.
 pub fn run_is_fed()
     ensures { RunIsFed }
 {}
@@ -57,9 +57,9 @@ pub fn run_fails()
         → IsRun (tokens ++ more) source events (Fails fault)) }
 {}
 
-/// The functions over a table of handles return the facts of tokens, where the table stands for the
-/// document's handles. An empty one does at a document's start; and one entry more for each TAG-DIRECTIVE
-/// that is taken, with its texts after the others, keeps it so.
+/// The functions over a table of handles return the facts of tokens, if the table stands for the document's
+/// handles. An empty table does at a document's start. Adding an entry for each TAG-DIRECTIVE that is taken,
+/// with its texts after the others, keeps it so.
 pub fn tables_follow()
     ensures tag { (texts : List ℕ) (table : List handle_t) (tag : TagToken)
         → tag_fact (resolve (handles_at texts table) tag.handle tag.suffix)

@@ -18,7 +18,7 @@ use crate::records::{step_event_t, step_fault_t, step_span_t};
 use libyaml_automaton::{Action, Automaton, Difference, Reading};
 use libyaml_types::{yaml_mark_t, yaml_token_type_t};
 
-/// What is kept between two calls, beside the two stacks: plain numbers, each of which may be any.
+/// What is kept between two calls, beside the two stacks: plain numbers, each with any value.
 ///
 /// libyaml: `yaml_parser_t`, without its scanner and its texts.
 #[repr(C)]
@@ -89,10 +89,10 @@ impl steps_t {
     /// Takes a token by its kind, fact and marks. Puts at most one event, or an error, and returns which.
     ///
     /// The states and marks that the record counts lie at the start of their slices. The fact says what the
-    /// parser has to know of a token's texts: of a VERSION-DIRECTIVE 1 where its version is accepted, of a
-    /// TAG-DIRECTIVE 1 where its handle is declared already, of a scalar 1 where it is written plain, and
-    /// else 0; of a TAG 1 where the tag in full is empty, 2 where it is `!`, 3 for any other, and 4 where its
-    /// handle isn't declared. Of any other token it is 0.
+    /// parser has to know of a token's texts: for a VERSION-DIRECTIVE 1 if its version is accepted, for a
+    /// TAG-DIRECTIVE 1 if its handle is declared already, for a scalar 1 if it is written plain, and else 0;
+    /// for a TAG 1 if the full tag is empty, 2 if it is `!`, 3 for any other, and 4 if its handle isn't
+    /// declared. For any other token it is 0.
     ///
     /// libyaml: `yaml_parser_parse`, for one token.
     #[inline(always)]

@@ -1,4 +1,4 @@
-//! How what a step led to is told to the caller.
+//! Tells the caller what a step led to.
 ghost use Rattle.std.specs.Prelude.{◌≡◌, ◌≤◌, ℕ, List, Bool, true, false};
 ghost use Rattle.libyaml_types.specs.declared.mark.yaml_mark_t.{yaml_mark_t};
 ghost use Rattle.libyaml_automaton.specs.Outcomes.{IsOutcome, outcome};
@@ -18,7 +18,7 @@ use crate::steps::steps_t;
 use libyaml_automaton::Action;
 use libyaml_types::{ZERO_MARK, yaml_mark_t, yaml_token_type_t};
 
-/// Returns 1 where this is set, and else 0.
+/// Returns 1 if this is set, and else 0.
 #[inline(always)]
 fn byte(set: bool) -> u8
     ensures flag { flag result ≡ set }

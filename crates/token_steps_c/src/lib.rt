@@ -33,10 +33,9 @@ pub extern "C" fn pokhvizi_steps_new(steps: &mut steps_t)
     *steps = steps_t::new();
 }
 
-/// Returns where libyaml does something else with a token of this kind, if it is handed in next, as
-/// `steps_t::differs` does: 0 where it does the same; 1 after the KEY of a flow sequence's pair, where it
-/// loses the token; and where it has an error, 2 where a block mapping's KEY is due, and 3 after a document's
-/// explicit end.
+/// Returns whether libyaml does something else with a token of this kind, if it is handed in next, like
+/// `steps_t::differs`: 0 if it does the same; 1 after the KEY of a flow sequence's pair, where it loses the
+/// token; and if it has an error, 2 where a block mapping's KEY is due, and 3 after a document's explicit end.
 #[unsafe(no_mangle)]
 pub extern "C" fn pokhvizi_differs(steps: &steps_t, kind: u8) -> u8
     ensures { result ≡ difference_number (differs_in steps.now (kind_of kind)) }
@@ -44,10 +43,10 @@ pub extern "C" fn pokhvizi_differs(steps: &steps_t, kind: u8) -> u8
     steps.differs(token_kind(kind)).number()
 }
 
-/// Takes a token by its kind, fact and marks, as `steps_t::step` does. Returns 0 where the next token is
-/// wanted; 1 where an event was put, and 2 where one was put and the same token is to be handed in again; 3
-/// and 4 where the stack of states, or that of marks, has no room, and nothing was done; 5 where an error was
-/// put; and 6 where the record counts more than the stacks have room for, and nothing was done.
+/// Takes a token by its kind, fact and marks, like `steps_t::step`. Returns 0 if the next token is wanted; 1
+/// if an event was put, and 2 if one was put and the same token is to be handed in again; 3 and 4 if the
+/// stack of states, or that of marks, has no room, and nothing was done; 5 if an error was put; and 6 if the
+/// record counts more than the stacks have room for, and nothing was done.
 #[unsafe(no_mangle)]
 pub extern "C" fn pokhvizi_step(
     steps: &mut steps_t,

@@ -9,7 +9,7 @@ ghost use Rattle.token_steps.specs.Numbers.{length_or_none};
 
 use token_steps::{directive_fact, handle_t, tag, version_fact};
 
-/// Returns the fact of a VERSION-DIRECTIVE: 1 where its version is accepted, else 0.
+/// Returns the fact of a VERSION-DIRECTIVE: 1 if its version is accepted, else 0.
 #[unsafe(no_mangle)]
 pub extern "C" fn pokhvizi_version_fact(major: i32, minor: i32) -> u8
     ensures { result ≡ bit (is_accepted major minor) }
@@ -17,7 +17,7 @@ pub extern "C" fn pokhvizi_version_fact(major: i32, minor: i32) -> u8
     version_fact(major, minor)
 }
 
-/// Returns the fact of a TAG-DIRECTIVE: 1 where the document declares the handle already, else 0.
+/// Returns the fact of a TAG-DIRECTIVE: 1 if the document declares the handle already, else 0.
 #[unsafe(no_mangle)]
 pub extern "C" fn pokhvizi_directive_fact(handles: &[handle_t], texts: &[u8], handle: &[u8]) -> u8
     ensures { result ≡ bit (is_some (get (handles_at texts.now handles.now) handle.now)) }
@@ -25,8 +25,8 @@ pub extern "C" fn pokhvizi_directive_fact(handles: &[handle_t], texts: &[u8], ha
     directive_fact(handles, texts, handle)
 }
 
-/// Returns the fact of a TAG, as `token_steps::tag` does. Puts the tag in full into `out`, where there is
-/// room for all of it, and its length into `size`; `SIZE_MAX` where its handle isn't declared.
+/// Returns the fact of a TAG, like `token_steps::tag`. Puts the full tag into `out` if there is room for all
+/// of it, and its length into `size`; `SIZE_MAX` if its handle isn't declared.
 #[unsafe(no_mangle)]
 pub extern "C" fn pokhvizi_tag(
     handles: &[handle_t],

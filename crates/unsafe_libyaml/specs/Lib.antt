@@ -2,7 +2,7 @@ pub mod WholeRun
 pub mod WholeLoads
 pub mod OneWhole
 pub mod ParsesOnto
--- what the public clauses reach, here and in the crates below (scripts/reexports.py), so that a user names this crate alone
+-- what the public clauses reach, here and in the crates below (scripts/gate/reexports.py), so that a user names this crate alone
 pub use Rattle.libyaml_types.specs.Equal as EqualTypes
 pub use Rattle.libyaml_types.specs.Events as MadeEvents
 pub use Rattle.libyaml_types.specs.Models as TypeModels

@@ -30,7 +30,7 @@ use std::alloc::{AllocError, Global};
 pub struct yaml_documents_t {
     /// The documents in their order. Each has a root.
     pub documents: Vec<yaml_document_t>,
-    /// The error after them, or `None` where the stream ends after the last.
+    /// The error after them, or `None` if the stream ends after the last.
     pub fault: Option<yaml_parser_t_prefix>,
 }
 
@@ -39,8 +39,8 @@ pub struct yaml_documents_t {
 ///
 /// # Errors
 ///
-/// `AllocError` where an allocation fails, where a list of a document would have more than 2,147,483,647
-/// entries, or where the source's error is out of memory.
+/// `AllocError` if an allocation fails, if a list of a document would have more than 2,147,483,647 entries,
+/// or if the source's error is out of memory.
 ///
 /// libyaml: a loop over `yaml_parser_load`.
 pub fn yaml_parser_load_all<S: yaml_token_source_t + Drop>(
@@ -91,7 +91,7 @@ pub fn yaml_parser_load_all<S: yaml_token_source_t + Drop>(
     }
 }
 
-/// Returns these documents and the error after them, but out of memory as `AllocError`.
+/// Returns these documents and the error after them; out of memory becomes `AllocError`.
 fn failed_load(
     documents: Vec<yaml_document_t>,
     fault: yaml_parser_t_prefix,

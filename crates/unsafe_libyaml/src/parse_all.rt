@@ -26,7 +26,7 @@ use std::alloc::{AllocError, Global};
 pub struct yaml_run_t {
     /// The events in their order.
     pub events: Vec<yaml_event_t>,
-    /// The error after them, or `None` where the last is the stream's end.
+    /// The error after them, or `None` if the last is the stream's end.
     pub fault: Option<yaml_parser_t_prefix>,
 }
 
@@ -35,7 +35,7 @@ pub struct yaml_run_t {
 ///
 /// # Errors
 ///
-/// `AllocError` where an allocation fails, or where the source's error is out of memory.
+/// `AllocError` if an allocation fails, or if the source's error is out of memory.
 ///
 /// libyaml: a loop over `yaml_parser_parse`.
 pub fn yaml_parser_parse_all<S: yaml_token_source_t + Drop>(
@@ -96,7 +96,7 @@ fn parse_onto<S: yaml_token_source_t>(
     }
 }
 
-/// Returns the run of these events, which this error ended, but out of memory as `AllocError`.
+/// Returns the run of these events, which this error ended; out of memory becomes `AllocError`.
 fn failed_run(
     events: Vec<yaml_event_t>,
     fault: yaml_parser_t_prefix,

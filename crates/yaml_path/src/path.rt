@@ -7,10 +7,10 @@ ghost use Rattle.yaml_path.specs.Paths.{index_of, child_at, id_at, text_at};
 use crate::step::{as_str, item_at, node_of, value_at};
 use libyaml_documents::yaml_document_t;
 
-/// The id of the root, where a document has one.
+/// The id of the root, if a document has one.
 const ROOT: i32 = 1;
 
-/// Returns the id of the node at the end of a path from the root, or `None` where the path leads nowhere.
+/// Returns the id of the node at the end of a path from the root, or `None` if the path leads nowhere.
 ///
 /// A word leads in a mapping to the value of the first key that is a scalar of exactly this text, and in a
 /// sequence to the item of that number, which is written in decimal digits, from 0. The empty path leads to
@@ -27,8 +27,8 @@ pub fn id_at(document: &yaml_document_t, path: &[&str]) -> Option<i32>
     Some(id)
 }
 
-/// Returns the text of the scalar at the end of a path from the root, or `None` where the path leads nowhere
-/// or to a collection.
+/// Returns the text of the scalar at the end of a path from the root, or `None` if the path leads nowhere or
+/// to a collection.
 pub fn text_at<'a>(document: &'a yaml_document_t, path: &[&str]) -> Option<&'a str>
     ensures text { option_copied result ≡ text_at document.now.nodes (map (λ word. word.now) path.now) }
 {

@@ -8,7 +8,7 @@ use libyaml_documents::{
     unnamed_yaml_node_t_data, yaml_document_get_node, yaml_document_t, yaml_node_t,
 };
 
-/// Returns the node of this id, or `None` where no node has it. Ids count from 1.
+/// Returns the node of this id, or `None` if no node has it. Ids count from 1.
 ///
 /// libyaml: `yaml_document_get_node`.
 pub fn node_of(document: &yaml_document_t, id: i32) -> Option<&yaml_node_t>
@@ -19,7 +19,7 @@ pub fn node_of(document: &yaml_document_t, id: i32) -> Option<&yaml_node_t>
     yaml_document_get_node(document, id)
 }
 
-/// Returns the text of a scalar, or `None` where the node is a sequence or a mapping.
+/// Returns the text of a scalar, or `None` if the node is a sequence or a mapping.
 pub fn as_str(node: &yaml_node_t) -> Option<&str>
     ensures text { option_copied result ≡ node_text_of node.now.content }
 {
@@ -29,8 +29,8 @@ pub fn as_str(node: &yaml_node_t) -> Option<&str>
     }
 }
 
-/// Returns the id of the item at this index, from 0, or `None` where the id names no sequence, or one with
-/// no such item.
+/// Returns the id of the item at this index, from 0, or `None` if the id names no sequence, or one with no
+/// such item.
 pub fn item_at(document: &yaml_document_t, id: i32, index: usize) -> Option<i32>
     ensures item { result ≡ item_at document.now.nodes id index }
     ensures in_document { IfSome result (IsIdUpTo (length document.now.nodes)) }
@@ -38,7 +38,7 @@ pub fn item_at(document: &yaml_document_t, id: i32, index: usize) -> Option<i32>
     found_item(document, id, index)
 }
 
-/// Returns the same.
+/// Returns the same as `item_at`, whose clause `in_document` is proved apart from this body.
 fn found_item(document: &yaml_document_t, id: i32, index: usize) -> Option<i32>
     ensures item { result ≡ item_at document.now.nodes id index }
     ensures ids_in_range { EveryIdNamesANode document.now.nodes }
@@ -47,8 +47,8 @@ fn found_item(document: &yaml_document_t, id: i32, index: usize) -> Option<i32>
     node.items().get(index).copied()
 }
 
-/// Returns the id of the value of the first pair whose key is a scalar of exactly this text, or `None`
-/// where the id names no mapping, or one with no such key.
+/// Returns the id of the value of the first pair whose key is a scalar of exactly this text, or `None` if the
+/// id names no mapping, or one with no such key.
 pub fn value_at(document: &yaml_document_t, id: i32, key: &str) -> Option<i32>
     ensures value { result ≡ value_at document.now.nodes id key.now }
     ensures in_document { IfSome result (IsIdUpTo (length document.now.nodes)) }
@@ -56,7 +56,7 @@ pub fn value_at(document: &yaml_document_t, id: i32, key: &str) -> Option<i32>
     found_value(document, id, key)
 }
 
-/// Returns the same.
+/// Returns the same as `value_at`, whose clause `in_document` is proved apart from this body.
 fn found_value(document: &yaml_document_t, id: i32, key: &str) -> Option<i32>
     ensures value { result ≡ value_at document.now.nodes id key.now }
     ensures ids_in_range { EveryIdNamesANode document.now.nodes }

@@ -1,4 +1,4 @@
-//! The program `yamltokens`, but for its `main`: what the words of its command line ask for.
+//! The program `yamltokens` except its `main`: what the words of its command line ask for.
 #![tactic(auto)]
 
 mod command;

@@ -9,7 +9,7 @@ use token_lines::{Outcome, run_events, run_nodes};
 /// The exit status of words that ask for nothing, or that can't be read.
 const WRONG_WORDS: u8 = 2;
 
-/// The exit status where a write or a flush failed, or where no memory was found for a buffer.
+/// The exit status if a write or a flush failed, or if no memory was found for a buffer.
 const OUTPUT_FAILED: u8 = 3;
 
 /// What the program is asked to write.

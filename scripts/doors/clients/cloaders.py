@@ -1,9 +1,9 @@
-"""Names the texts that a C loader of PyYAML and one of this package read otherwise: other tokens, events, nodes, values or errors.
+"""Names the texts that a C loader of PyYAML and one of this package read differently: other tokens, events, nodes, values or errors.
 
     cloaders.py [--turned] < NAMES
 
-NAMES are of files, a line each. All fields are compared, and all marks. Each text is read as bytes, as a file that gives few
-bytes at a time, and as a string where it is UTF-8. Prints a line for each file that differs: its name, how it was read, and what
+NAMES are of files, a line each. All fields are compared, and all marks. Each text is read as bytes, from a file that gives few
+bytes at a time, and as a string if it is UTF-8. Prints a line for each file that differs: its name, how it was read, and what
 PyYAML's reading ended with. With `--turned` the proved loaders read another text, so all have to differ. The last line, on standard
 error, has how many were read.
 

@@ -1,4 +1,4 @@
-/* What libyaml's parser gives, for clients.sh, plainly and where bindings/c/libyaml_preload.c is preloaded:
+/* What libyaml's parser gives, for clients.sh, plainly and with bindings/c/libyaml_preload.c preloaded:
  *
  *     events files < NAMES     each event of each file that a line of the input names, all fields
  *     events nodes < NAMES     each node of their documents, by yaml_parser_load

@@ -1,4 +1,4 @@
-"""Names the files that a loader of PyYAML and a proved one read otherwise: other documents, events or errors.
+"""Names the files that a loader of PyYAML and a proved one read differently: other documents, events or errors.
 
     loaders.py [--turned] FOLDER..
 

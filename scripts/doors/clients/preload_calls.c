@@ -1,7 +1,7 @@
-/* Calls of libyaml where bindings/c/libyaml_preload.c is preloaded: each allocation refused in turn, parsers that are
+/* Calls of libyaml with bindings/c/libyaml_preload.c preloaded: each allocation refused in turn, parsers that are
  * deleted at each event, moved, used after an error or after the end, and by several threads; documents; more states, marks,
  * tag directives, texts and anchors than there was room for at first; drawn tag directives, beside pokhvizi_directive_fact and
- * pokhvizi_tag; the time that anchors and directives take. Says what was wrong, and exits with 1 where anything was. With the word
+ * pokhvizi_tag; the time that anchors and directives take. Says what was wrong, and exits with 1 if anything was. With the word
  * `bounds` it checks no more than those that the environment sets: a depth of 20 and 30 nodes. */
 #include <pokhvizi/steps.h>
 #include <pthread.h>

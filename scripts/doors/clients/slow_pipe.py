@@ -3,7 +3,7 @@
 
     slow_pipe.py PROGRAM WORD..
 
-The program prints the number of each event's kind (yaml_event_type_t) in a line of its own. The exit status is 1 where an
+The program prints the number of each event's kind (yaml_event_type_t) in a line of its own. The exit status is 1 if an
 event comes late (after ten seconds, or those that SECONDS names) or is another.
 
 Run by clients.sh.

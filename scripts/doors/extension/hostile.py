@@ -4,7 +4,7 @@ order, wrong arguments, a second interpreter, a package without its extension, c
     hostile.py [--turned] [LEVELS]
 
 LEVELS is how deep the deep texts nest. Each case has an outcome that is wanted; with `--turned` each wants another, so all have
-to be wrong. Says what is wrong, and exits with 1 where something is.
+to be wrong. Says what is wrong, and exits with 1 if something is.
 
 Run by extension_checks.sh.
 """

@@ -4,7 +4,7 @@
 
 `after` refuses Python's Nth allocation and each after it, `alone` the Nth, both for each N until all is read (_testcapi); `libc`
 refuses the Nth of libc's, by fail_allocation.so, which is preloaded. TEXTS is how many of the texts are read. With `--turned`
-another outcome than the text's is wanted, so all have to be wrong. Says what is wrong, and exits with 1 where something is.
+another outcome than the text's is wanted, so all have to be wrong. Says what is wrong, and exits with 1 if something is.
 
 Run by extension_checks.sh.
 """

@@ -1,9 +1,9 @@
-/* YAML documents of a parser's events, one at a time: an event goes in, and what is to be done to the document comes out.
+/* Makes YAML documents of a parser's events, one at a time: an event goes in, and what to do to the document comes out.
  *
- * The events, all nodes, all texts and all memory are the caller's. A call takes an event's kind and one number, and returns
- * which node comes next, and where it goes: as item of a sequence, as key or value of a mapping. No mark and no text is read.
- * The library allocates nothing and keeps nothing outside of the structs below, so any number of threads may each compose.
- * Numbers of events are libyaml's (yaml_event_type_t), as those that pokhvizi_step (steps.h) puts.
+ * The events, all nodes, all texts and all memory are yours. A call takes an event's kind and one number, and returns which
+ * node comes next, and where it goes: as item of a sequence, as key or value of a mapping. No mark and no text is read. The
+ * library allocates nothing and keeps nothing outside of the structs below, so any number of threads may each compose.
+ * Numbers of events are libyaml's (yaml_event_type_t), like those that pokhvizi_step (steps.h) puts.
  *
  * Nodes have ids, which count from 1 within a document in the order of the events that begin them; the root has the id 1. An
  * alias is no node: it has the id of the node with its anchor.
@@ -16,34 +16,33 @@
  *     POKHVIZI_ENDS             the document ends with this DOCUMENT-END: it is whole
  *     POKHVIZI_ROOT             put the node `place.node`, if it isn't 0
  *     POKHVIZI_ITEM             the same, and then `place.child` after the items of the node `place.parent`
- *     POKHVIZI_KEY              the same, where `place.child` is the key of the next pair of `place.parent`, and waits for
+ *     POKHVIZI_KEY              the same, and `place.child` is the key of the next pair of `place.parent`, and waits for
  *                               its value
  *     POKHVIZI_VALUE            the same, and then the pair `place.key` and `place.child` after the pairs of `place.parent`
- *     POKHVIZI_CLOSES           the node `place.parent` ends where this event ends
+ *     POKHVIZI_CLOSES           the node `place.parent` ends at this event's end
  *     POKHVIZI_FULL_STACK       nothing was done: make `stack` larger, call again with the same event
- *     POKHVIZI_UNDEFINED_ALIAS  nothing was done: stop. No node of the document carries this alias's anchor
- *     POKHVIZI_REPEATED_ANCHOR  nothing was done: stop. The node `fact` carries this node's anchor, and began first
+ *     POKHVIZI_UNDEFINED_ALIAS  nothing was done: stop. No node of the document has this alias's anchor
+ *     POKHVIZI_REPEATED_ANCHOR  nothing was done: stop. The node `fact`, which began first, has this node's anchor
  *     POKHVIZI_FULL_LIST        nothing was done: stop. A list of the document has as many entries as it may
  *     POKHVIZI_BAD_STACK        nothing was done: stop. `composer` counts more than `stack_room`
  *
- * To put a node is to append it to the nodes of the document: the event's tag, value and style, and its marks; a collection has
- * no children yet. Where it has an anchor, that names it from now on, also within itself. As libyaml loads it, a node without a
- * tag, or with the tag `!`, has tag:yaml.org,2002:str, :seq or :map. pokhvizi_refusal has the words of what stops; that is where
- * the event starts, and the context of a repeated anchor where the node `fact` starts.
+ * To put a node, append it to the nodes of the document, with the event's tag, value, style and marks; a collection has no
+ * children yet. If it has an anchor, that names it from now on, even within itself. To load as libyaml does, give a node
+ * without a tag, or with the tag `!`, tag:yaml.org,2002:str, :seq or :map. pokhvizi_refusal has the words of what stops: an
+ * error at the event's start, and for a repeated anchor with a context at the start of the node `fact`.
  *
- * Facts. `fact` is the one thing that a call has to know of texts: of an ALIAS the id of the node of the document that carries
- * its anchor, and of a node with an anchor the id of an earlier one that carries it. It is 0 where there is none, and of any
- * other event it isn't looked at. pokhvizi_carrier finds it in a list, one anchor after the other; any other way to the same
- * number does as well.
+ * Facts. `fact` is the one number that a call has to know of texts. For an ALIAS it is the id of the node of the document that
+ * has its anchor, for a node with an anchor the id of an earlier node that has it, or 0 if there is none; for any other event
+ * it is ignored. pokhvizi_carrier finds it in a list, one anchor after the other; you may find the same number in another way.
  *
- * `stack` has an entry for each collection that is open: with room for as many as are ever open at once it is never full.
- * What stands in it before the first call doesn't matter; to make it larger, move its bytes, as by realloc. Each list of a
- * document, its nodes and the items or pairs of each, may have as many entries as pokhvizi_composer_new said, and never more
- * than 2,147,483,647.
+ * `stack` has an entry for each open collection: with room for as many as are ever open at once it is never full. Its contents
+ * before the first call don't matter; to make it larger, move its bytes, for example by realloc. Each list of a document, its
+ * nodes and the items or pairs of each, may have as many entries as pokhvizi_composer_new said, and never more than
+ * 2,147,483,647.
  *
- * Any bytes may stand in the structs, and `kind` and `fact` may be any numbers: then the documents are wrong, and nothing else
- * happens. What the library does is proved. That the caller keeps to this is not: no pointer is null, also where its length
- * is 0; each array has as many entries as the length after it says; none of them overlap. */
+ * The structs may hold any bytes, and `kind` and `fact` may be any numbers: then the documents are wrong, and nothing else
+ * happens. What the library does is proved. It relies on these rules, which nothing checks: no pointer is null, even if its
+ * length is 0; each array has as many entries as the length after it says; no two arrays overlap. */
 #ifndef POKHVIZI_COMPOSE_H
 #define POKHVIZI_COMPOSE_H
 #include "version.h"
@@ -65,8 +64,8 @@ typedef struct {
     uint32_t children, is_mapping;
 } pokhvizi_open_t;
 
-/* Where a node or an alias goes, or what ends. What a deed has no use for is 0; one that puts nothing and ends
- * no collection leaves all as it was. */
+/* Where a node or an alias goes, or what ends. What a deed has no use for is 0; a deed that puts nothing and ends
+ * no collection leaves all fields as they were. */
 typedef struct {
     int32_t node;   /* the id of the node to be put; 0 of an alias */
     int32_t child;  /* the id that goes to the parent */
@@ -90,23 +89,23 @@ enum {
     POKHVIZI_BAD_STACK
 };
 
-/* Begins a stream. Each list of a document may have so many entries. */
+/* Begins a stream. Each list of a document may have `max_entries` entries. */
 void pokhvizi_composer_new(pokhvizi_composer_t *composer, uint32_t max_entries);
 
-/* Takes an event, as told above. */
+/* Takes an event, as described above. */
 uint32_t pokhvizi_compose(pokhvizi_composer_t *composer, pokhvizi_open_t *stack, size_t stack_room, uint8_t kind, int32_t fact,
                           pokhvizi_place_t *place);
 
-/* An anchor: `length` bytes of a buffer, from `place` on, and the id of the node that carries it. */
+/* An anchor: `length` bytes of a buffer, from `place` on, and the id of the node that has it. */
 typedef struct {
     uint64_t place, length;
     int32_t node;
 } pokhvizi_anchor_t;
 
-/* The fact of an event with this anchor, where the nodes of the document that have anchors are `anchors`, whose texts are ranges
- * of `texts`: the first node with it, and else 0. It looks at them one after the other, so a call takes time in proportion to
- * the anchors of the document, and a document of anchors and aliases as the square of its length, as with libyaml. A hash table
- * of the caller's from anchors to ids finds the same number without that. */
+/* The fact of an event with this anchor: the first node that has it, or else 0. `anchors` are the document's nodes with anchors,
+ * whose texts are ranges of `texts`. It looks at them one after the other, so a call takes time in proportion to the anchors of
+ * the document, and a document of anchors and aliases takes the square of its length, like with libyaml. A hash table of your
+ * own from anchors to ids finds the same number faster. */
 int32_t pokhvizi_carrier(const pokhvizi_anchor_t *anchors, size_t count, const uint8_t *texts, size_t length,
                          const uint8_t *anchor, size_t anchor_length);
 

@@ -1,6 +1,6 @@
-/* YAML events of a scanner's tokens, one at a time: a token goes in, and at most one event comes out.
+/* Makes YAML events of a scanner's tokens, one at a time: a token goes in, and at most one event comes out.
  *
- * The scanner, all memory and all texts are the caller's. A call takes a token's kind and marks, and puts an event's kind,
+ * The scanner, all memory and all texts are yours. A call takes a token's kind and marks, and puts an event's kind,
  * flags and marks; no text is read or copied. The library allocates nothing and keeps nothing outside of the structs below,
  * so any number of threads may each parse a stream. Numbers and marks are libyaml's (yaml_token_type_t, yaml_event_type_t,
  * yaml_mark_t), so that they may be cast. examples/events.c is a whole program, with a loop of 40 lines.
@@ -23,45 +23,45 @@
  *     POKHVIZI_FAULT         `fault` is set              stop: the tokens are no YAML stream
  *     POKHVIZI_BAD           nothing was done            stop: `steps` counts more than `states_room` or `marks_room`
  *
- * Strict parsing. This parser accepts some streams that libyaml refuses or reads otherwise, at three places. A caller that wants
- * libyaml's language asks pokhvizi_differs before each step, or has pokhvizi_refuses do so, and stops where the result isn't 0:
+ * Strict parsing. This parser accepts some streams that libyaml refuses or reads differently, at three places. If you want
+ * libyaml's language, ask pokhvizi_differs before each step, or let pokhvizi_refuses do so, and stop if the result isn't 0:
  *
  *     POKHVIZI_SAME           libyaml does the same      go on with the step
- *     POKHVIZI_PAIR_KEY       it loses the token         after KEY in a flow sequence, as in `[ ? ]`
- *     POKHVIZI_VALUE_FIRST    it has an error            an entry of a block mapping begins with VALUE, as `: x`
+ *     POKHVIZI_PAIR_KEY       it loses the token         after KEY in a flow sequence: `[ ? ]`
+ *     POKHVIZI_VALUE_FIRST    it has an error            an entry of a block mapping begins with VALUE: `: x`
  *     POKHVIZI_BARE_DOCUMENT  it has an error            an implicit document after a document's explicit end
  *
- * Texts with zero bytes end at them in libyaml, whose anchors and tags are C strings. So take their lengths by strlen, or refuse
- * a token with such a text.
+ * In libyaml texts end at their first zero byte, since anchors and tags are C strings there. So take their lengths by strlen, or
+ * refuse a token with such a text.
  *
- * `states` and `marks` are stacks in the caller's memory. While N collections are open, `states` holds at most N + 1
- * entries, and `marks` at most N. What stands in them before the first call doesn't matter; to make them larger, move their
- * bytes, as by realloc. After POKHVIZI_FAULT what `steps` holds is unspecified: a further call is safe, and what it gives has
- * no meaning; pokhvizi_steps_new begins a new parse.
+ * `states` and `marks` are stacks in your memory. While N collections are open, `states` holds at most N + 1 entries, and
+ * `marks` at most N. Their contents before the first call don't matter; to make them larger, move their bytes, for example
+ * by realloc. After POKHVIZI_FAULT what `steps` holds is unspecified: a further call is safe, and what it gives has no
+ * meaning; pokhvizi_steps_new begins a new parse.
  *
- * To bound how deep a text nests, don't make `marks` larger than that at POKHVIZI_FULL_MARKS, and stop: the token opens a
- * collection too deep (POKHVIZI_TOO_DEEP). An entry is one collection that a token opens, kinds 7, 8, 10 and 12. Two kinds have
- * none and count with what they stand in: a sequence that isn't indented in its mapping, and a pair in a flow sequence.
+ * Depth. To bound how deep a text nests, don't make `marks` larger than that at POKHVIZI_FULL_MARKS, and stop: the token opens
+ * a collection too deep (POKHVIZI_TOO_DEEP). An entry is one collection that a token opens, kinds 7, 8, 10 and 12. Two kinds
+ * have none and count with what they stand in: a sequence that isn't indented in its mapping, and a pair in a flow sequence.
  *
- * Facts. What a call has to know of a token's texts is one number, `fact`. It goes by the document's handles, so ask for it at
- * each call, also where the token stayed:
+ * Facts. `fact` is the one number that a call has to know of a token's texts. It depends on the document's handles, so ask for
+ * it at each call, even if the token stayed:
  *
- *     VERSION-DIRECTIVE (3)   pokhvizi_version_fact: 1 where the version is accepted, which 1.1 and 1.2 are
- *     TAG-DIRECTIVE (4)       pokhvizi_directive_fact: 1 where the document has declared the handle before
- *     TAG (20)                pokhvizi_tag: 1 where the tag in full is empty, 2 where it is "!", 3 for any other, 4 where its
- *                             handle isn't declared
- *     SCALAR (21)             1 where it is plain, else 0
- *     any other               not looked at
+ *     VERSION-DIRECTIVE (3)   pokhvizi_version_fact: 1 if the version is accepted (1.1 and 1.2 are)
+ *     TAG-DIRECTIVE (4)       pokhvizi_directive_fact: 1 if the document has declared the handle before
+ *     TAG (20)                pokhvizi_tag: 1 if the full tag is empty, 2 if it is "!", 3 for any other, 4 if its handle
+ *                             isn't declared
+ *     SCALAR (21)             1 if it is plain, else 0
+ *     any other               ignored
  *
  * Texts of an event. An ALIAS (kind 5) has the text of its token. A SCALAR (6) has the text and style of the token in hand;
- * where the token stays, its text is empty and it is plain. A node with `has_anchor` or `has_tag` has the texts of the ANCHOR
+ * if the token stays, its text is empty and it is plain. A node with `has_anchor` or `has_tag` has the texts of the ANCHOR
  * and TAG tokens since the last event. A DOCUMENT-START (3) has the directives since the last event, and their handles last
- * until the document's DOCUMENT-END (4). So between two events nothing is held but the document's handles, and a parse may
- * be given up at any time. Keep the token in hand until its event has been used.
+ * until the document's DOCUMENT-END (4). So between two events only the document's handles are held, and you may give up a
+ * parse at any time. Keep the token in hand until you have used its event.
  *
- * Any bytes may stand in the structs, and `kind` and `fact` may be any numbers: then the events are wrong, and nothing else
- * happens. What the library does is proved. That the caller keeps to this is not: no pointer is null, also where its length
- * is 0; each array has as many entries as the length after it says; none of them overlap. */
+ * The structs may hold any bytes, and `kind` and `fact` may be any numbers: then the events are wrong, and nothing else
+ * happens. What the library does is proved. It relies on these rules, which nothing checks: no pointer is null, even if its
+ * length is 0; each array has as many entries as the length after it says; no two arrays overlap. */
 #ifndef POKHVIZI_STEPS_H
 #define POKHVIZI_STEPS_H
 #include "version.h"
@@ -70,7 +70,7 @@
 extern "C" {
 #endif
 
-/* The start and the end of a token, neighbours as in a yaml_token_t. */
+/* The start and the end of a token, side by side like in a yaml_token_t. */
 typedef struct {
     pokhvizi_mark_t start_mark, end_mark;
 } pokhvizi_span_t;
@@ -88,7 +88,7 @@ typedef struct {
     uint8_t tag;
 } pokhvizi_steps_t;
 
-/* An event: `kind` is 1 to 10, flags are 0 or 1, and what an event of its kind has no use for is 0. */
+/* An event: `kind` is 1 to 10, flags are 0 or 1, and what its kind has no use for is 0. */
 typedef struct {
     uint8_t kind;
     uint8_t has_anchor;      /* of a node */
@@ -99,8 +99,8 @@ typedef struct {
     pokhvizi_mark_t start_mark, end_mark;
 } pokhvizi_event_t;
 
-/* Why the tokens are no YAML stream: `problem` is 1 to 12, and `context_mark` is 0 where it has no context. The two numbers after
- * these are of what a caller refuses: a token that libyaml loses (pokhvizi_refuses), and a depth beyond its own bound. */
+/* Why the tokens are no YAML stream: `problem` is 1 to 12, and `context_mark` is 0 if it has no context. The two numbers after
+ * these are what you refuse yourself: a token that libyaml loses (pokhvizi_refuses), and a depth beyond your own bound. */
 typedef struct {
     uint8_t problem;
     pokhvizi_mark_t context_mark, problem_mark;
@@ -131,7 +131,7 @@ enum {
 /* Begins a parse. */
 void pokhvizi_steps_new(pokhvizi_steps_t *steps);
 
-/* Takes a token, as told above. */
+/* Takes a token, as described above. */
 uint32_t pokhvizi_step(pokhvizi_steps_t *steps, uint8_t *states, size_t states_room, pokhvizi_mark_t *marks,
                        size_t marks_room, uint8_t kind, uint8_t fact, const pokhvizi_span_t *at, pokhvizi_event_t *event,
                        pokhvizi_fault_t *fault);
@@ -172,15 +172,15 @@ typedef struct {
 /* The fact of a VERSION-DIRECTIVE. */
 uint8_t pokhvizi_version_fact(int32_t major, int32_t minor);
 
-/* The fact of a TAG-DIRECTIVE, where the document has declared `handles`, whose texts are ranges of `texts`. It looks at them one
- * after the other, as pokhvizi_tag does, so a document of directives takes time as the square of its length. A hash table of the
- * caller's avoids that: both calls say the same where `handles` is that one declared handle which is `handle`, or none. */
+/* The fact of a TAG-DIRECTIVE. The document has declared `handles`, whose texts are ranges of `texts`. They are looked at one
+ * after the other, here and in pokhvizi_tag, so a document of directives takes time as the square of its length. To avoid that,
+ * keep a hash table: both calls say the same if `handles` is that one declared handle which is `handle`, or none. */
 uint8_t pokhvizi_directive_fact(const pokhvizi_handle_t *handles, size_t count, const uint8_t *texts, size_t length,
                                 const uint8_t *handle, size_t handle_length);
 
-/* The fact of a TAG. `*size` is the length of the tag in full, or SIZE_MAX where the handle isn't declared. The tag in full is
- * put at the start of `out` where all of it has room; else, and beyond it, `out` stays as it was. A handle needs no directive
- * if it is empty, `!` or `!!`. */
+/* The fact of a TAG. `*size` is the length of the full tag, or SIZE_MAX if the handle isn't declared. If the full tag fits, it
+ * is written to the start of `out`; otherwise, and beyond it, `out` stays as it was. A handle needs no directive if it is
+ * empty, `!` or `!!`. */
 uint8_t pokhvizi_tag(const pokhvizi_handle_t *handles, size_t count, const uint8_t *texts, size_t length,
                      const uint8_t *handle, size_t handle_length, const uint8_t *suffix, size_t suffix_length,
                      uint8_t *out, size_t room, size_t *size);

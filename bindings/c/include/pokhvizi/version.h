@@ -11,7 +11,7 @@
 #error "Pokhvizi is built for a size_t of 64 bits"
 #endif
 
-/* A place in a text, laid out as libyaml's yaml_mark_t. */
+/* A place in a text, with the layout of libyaml's yaml_mark_t. */
 typedef struct {
     uint64_t index;  /* characters from the start of the text, from 0 */
     uint64_t line;   /* lines before this one */

@@ -1,21 +1,21 @@
-"""PyYAML's loaders with this parser in place of PyYAML's own.
+"""PyYAML's loaders over this parser.
 
     import yaml
     from pokhvizi import SafeLoader
 
-    yaml.load(text, Loader=SafeLoader)    # as yaml.parse, yaml.compose and the others that take a loader
+    yaml.load(text, Loader=SafeLoader)    # also yaml.parse, yaml.compose and all that take a loader
 
 Scanner, composer, resolver and constructor are PyYAML's (Debian: python3-yaml), and so are the events, nodes, marks and
-errors: an error has the text and the snippet of PyYAML without its C part. `Parser` before any loader of that form
-makes another: `class Mine(Parser, yaml.FullLoader): pass`. The library is libpokhvizi.so in this
-package, or without it libpokhvizi.so.1 where the system looks for libraries; the environment's POKHVIZI_LIBRARY names
-another, and so does `use_library(PATH)`.
+errors: an error has the text and the snippet of PyYAML without its C part. For another loader of that form, put `Parser`
+first: `class Mine(Parser, yaml.FullLoader): pass`. The library is libpokhvizi.so in this package, or without it
+libpokhvizi.so.1 where the system looks for libraries; the environment's POKHVIZI_LIBRARY or `use_library(PATH)` names
+another.
 
-Each event takes as many tokens of the scanner as PyYAML's parser takes. What is other than with that parser:
+Each event takes as many tokens of the scanner as PyYAML's parser takes. These differ from that parser:
 
-- What PyYAML refuses and YAML 1.1 allows is read, as `[ ? ]`, a value without a key in a block mapping (`: x`), and a document
-  after `...` without `---`.
-- As with libyaml: a collection whose tag is `!` alone is not implicit, an empty node with that tag is a string, and versions
+- Texts that PyYAML refuses and YAML 1.1 allows are read: `[ ? ]`, a value without a key in a block mapping (`: x`), and a
+  document after `...` without `---`.
+- Like with libyaml, a collection whose tag is `!` alone is not implicit, an empty node with that tag is a string, and versions
   other than 1.1 and 1.2 are refused.
 - A directive that is neither YAML nor TAG is left out: the document starts at the next directive or `---`.
 

@@ -29,7 +29,7 @@ const MANY_NODES: usize = 512;
 ///
 /// # Errors
 ///
-/// `TooManyNodes` where the document has 2147483647 nodes.
+/// `TooManyNodes` if the document has 2147483647 nodes.
 pub(super) fn has_room(document: &yaml_document_t) -> Result<(), yaml_refusal_t>
     ensures ok { OnOk result (length document.now.nodes < most_nodes) }
     ensures err { OnErr result ((result ≡ Err yaml_refusal_t.TooManyNodes)
@@ -42,11 +42,11 @@ pub(super) fn has_room(document: &yaml_document_t) -> Result<(), yaml_refusal_t>
     }
 }
 
-/// Returns the text of a given tag, or `default` where none is given. Takes no memory.
+/// Returns the text of a given tag, or `default` if none is given. Takes no memory.
 ///
 /// # Errors
 ///
-/// `NotUtf8` where the tag isn't UTF-8.
+/// `NotUtf8` if the tag isn't UTF-8.
 fn checked_tag<'a>(tag: Option<&'a [u8]>, default: &'a str) -> Result<&'a str, yaml_refusal_t>
     ensures ok { IfOk result (λ text. text.now ≡ tag_or default.now (option_copied tag.entry)) }
     ensures utf8 { OnOk result (IfSome (option_copied tag.entry) IsUtf8) }
@@ -63,7 +63,7 @@ fn checked_tag<'a>(tag: Option<&'a [u8]>, default: &'a str) -> Result<&'a str, y
 ///
 /// # Errors
 ///
-/// `Memory` where an allocation fails.
+/// `Memory` if an allocation fails.
 fn new_node(
     alloc: Global,
     tag: &str,
@@ -119,7 +119,7 @@ fn lengthen(nodes: &mut Vec<yaml_node_t>)
 ///
 /// # Errors
 ///
-/// `Memory` where an allocation fails; the document is then as it was.
+/// `Memory` if an allocation fails; the document is then as it was.
 #[inline(always)]
 pub(super) fn push_node(
     document: &mut yaml_document_t,
@@ -146,8 +146,8 @@ pub(super) fn push_node(
 ///
 /// # Errors
 ///
-/// `TooManyNodes` where the document has 2147483647 nodes, else `NotUtf8` where the tag or the value
-/// isn't UTF-8, else `Memory` where an allocation fails; the document is then as it was.
+/// `TooManyNodes` if the document has 2147483647 nodes, else `NotUtf8` if the tag or the value isn't UTF-8,
+/// else `Memory` if an allocation fails; the document is then as it was.
 ///
 /// libyaml: `yaml_document_add_scalar`.
 pub fn yaml_document_add_scalar(
@@ -191,8 +191,8 @@ pub fn yaml_document_add_scalar(
 ///
 /// # Errors
 ///
-/// `TooManyNodes` where the document has 2147483647 nodes, else `NotUtf8` where the tag isn't UTF-8,
-/// else `Memory` where an allocation fails; the document is then as it was.
+/// `TooManyNodes` if the document has 2147483647 nodes, else `NotUtf8` if the tag isn't UTF-8, else `Memory`
+/// if an allocation fails; the document is then as it was.
 ///
 /// libyaml: `yaml_document_add_sequence`.
 pub fn yaml_document_add_sequence(
@@ -234,8 +234,8 @@ pub fn yaml_document_add_sequence(
 ///
 /// # Errors
 ///
-/// `TooManyNodes` where the document has 2147483647 nodes, else `NotUtf8` where the tag isn't UTF-8,
-/// else `Memory` where an allocation fails; the document is then as it was.
+/// `TooManyNodes` if the document has 2147483647 nodes, else `NotUtf8` if the tag isn't UTF-8, else `Memory`
+/// if an allocation fails; the document is then as it was.
 ///
 /// libyaml: `yaml_document_add_mapping`.
 pub fn yaml_document_add_mapping(

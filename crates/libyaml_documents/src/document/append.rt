@@ -16,7 +16,7 @@ use libyaml_types::{yaml_node_type_t, yaml_refusal_t};
 ///
 /// # Errors
 ///
-/// `Memory` where an allocation fails; the document is then as it was.
+/// `Memory` if an allocation fails; the document is then as it was.
 ///
 /// libyaml: `yaml_document_append_sequence_item`.
 #[inline(always)]
@@ -47,7 +47,7 @@ pub fn yaml_document_append_sequence_item(
 ///
 /// # Errors
 ///
-/// `Memory` where an allocation fails; the document is then as it was.
+/// `Memory` if an allocation fails; the document is then as it was.
 ///
 /// libyaml: `yaml_document_append_mapping_pair`.
 #[inline(always)]

@@ -47,8 +47,8 @@ pub fn end_document(document: &mut yaml_document_t, implicit: bool, end_mark: ya
 ///
 /// # Errors
 ///
-/// `TooManyNodes` where the document has 2147483647 nodes, else `Memory` where the allocation fails; the
-/// document is then as it was.
+/// `TooManyNodes` if the document has 2147483647 nodes, else `Memory` if the allocation fails; the document
+/// is then as it was.
 #[inline(always)]
 pub fn append_node(document: &mut yaml_document_t, node: yaml_node_t) -> Result<i32, yaml_refusal_t>
     requires childless { ids_of node.content ≡ [] }

@@ -16,8 +16,8 @@ use std::alloc::Global;
 ///
 /// # Errors
 ///
-/// `NotUtf8`, where a handle or prefix isn't UTF-8, before anything is allocated; `Memory`, where an
-/// allocation fails. Nothing else is checked.
+/// `NotUtf8` if a handle or prefix isn't UTF-8, before anything is allocated; `Memory` if an allocation
+/// fails. Nothing else is checked.
 ///
 /// libyaml: `yaml_document_initialize`.
 pub fn yaml_document_initialize(

@@ -131,7 +131,7 @@ impl Machine {
         }
     }
 
-    /// The tag in full of a node whose properties were read, where it has one.
+    /// The full tag of a node whose properties were read, if it has one.
     #[inline(always)]
     fn take_tag(&mut self, pending: &mut Pending) -> Result<Option<String>, yaml_error_type_t>
         ensures reading { pending.new.reading ≡ pending.old.reading }
@@ -251,7 +251,7 @@ impl Machine {
         }
     }
 
-    /// Puts a node with these marks into `out`. What its earlier content held is dropped, but for one text.
+    /// Puts a node with these marks into `out`. What its earlier content held is dropped, except one text.
     #[inline(always)]
     fn put_node(
         &mut self,

@@ -1,7 +1,7 @@
-//! The content of an event, put where another event's content stands.
+//! The content of an event, put in place of another event's content.
 //!
-//! Where that is of the same kind, it is written over field by field. Where it is of another kind and has
-//! nothing to be dropped, as the empty event of a call by value, an arm of its own lets the compiler see it.
+//! If that is of the same kind, it is written over field by field. If it is of another kind and has nothing
+//! to be dropped, such as the empty event of a call by value, an arm of its own lets the compiler see it.
 //! Else it is dropped, which functions of their own do (`any_by_..`): to drop a content takes six registers,
 //! which the function then needn't save.
 ghost use Rattle.std.specs.Prelude.{◌≡◌, [], None, false, true, option_map, string_bytes};
@@ -36,8 +36,8 @@ pub(super) fn take_memory(alloc: Global, text: &mut String) -> String
     taken
 }
 
-/// The same text. Reading its length lets the compiler move it word by word, as it was written, and not by a
-/// copy of three words, which waits for those writes.
+/// The same text. Reading its length lets the compiler move it word by word, in the way it was written,
+/// instead of by a copy of three words, which waits for those writes.
 #[inline(always)]
 pub(super) fn in_words(text: String) -> String
     ensures { string_bytes result ≡ string_bytes text }
@@ -49,7 +49,7 @@ pub(super) fn in_words(text: String) -> String
     same
 }
 
-/// Keeps the memory of a text, where it has more room than what was kept: a later text may take it. A text
+/// Keeps the memory of a text, if it has more room than what was kept: a later text may take it. A text
 /// beyond `MAX_SPARE` is not kept.
 #[inline(always)]
 fn let_go(spare: &mut String, text: &mut String) {
@@ -119,7 +119,7 @@ fn drop_option(text: &mut Option<String>)
     }
 }
 
-/// Puts a content in the place of one without memory.
+/// Puts a content in place of one without memory.
 #[inline(always)]
 pub(super) fn put_over(content: &mut unnamed_yaml_event_t_data, new: unnamed_yaml_event_t_data)
     ensures { content.new ≡ new }
@@ -178,7 +178,7 @@ pub(super) fn put_bare_scalar(
     replace_by_scalar(spare, token, content);
 }
 
-/// Puts a scalar without properties in the place of `content`.
+/// Puts a scalar without properties in place of `content`.
 #[inline(never)]
 fn replace_by_scalar(
     spare: &mut String,
@@ -272,7 +272,7 @@ fn put_text(spare: &mut String, text: Option<String>, place: &mut Option<String>
     mem::forget(mem::replace(place, text));
 }
 
-/// Moves a text, where there is one, into the place of another.
+/// Moves a text, if there is one, into the place of another.
 #[inline(always)]
 fn move_text(spare: &mut String, text: &mut Option<String>, place: &mut Option<String>)
     ensures { option_map string_bytes place.new ≡ option_map string_bytes text.old }
@@ -319,7 +319,7 @@ pub(super) fn put_empty_scalar(spare: &mut String, content: &mut unnamed_yaml_ev
     replace_by_empty_scalar(spare, content);
 }
 
-/// Puts a scalar that is left out in the place of `content`.
+/// Puts a scalar that is left out in place of `content`.
 #[inline(never)]
 fn replace_by_empty_scalar(spare: &mut String, content: &mut unnamed_yaml_event_t_data)
     ensures { content.new ≡ empty_scalar }
@@ -353,7 +353,7 @@ pub(super) fn put_sequence_start(
     replace_by_sequence_start(style, spare, content);
 }
 
-/// Puts the start of a sequence without properties in the place of `content`.
+/// Puts the start of a sequence without properties in place of `content`.
 #[inline(never)]
 fn replace_by_sequence_start(
     style: yaml_sequence_style_t,
@@ -390,7 +390,7 @@ pub(super) fn put_mapping_start(
     replace_by_mapping_start(style, spare, content);
 }
 
-/// Puts the start of a mapping without properties in the place of `content`.
+/// Puts the start of a mapping without properties in place of `content`.
 #[inline(never)]
 fn replace_by_mapping_start(
     style: yaml_mapping_style_t,
@@ -418,7 +418,7 @@ pub(super) fn put_sequence_end(spare: &mut String, content: &mut unnamed_yaml_ev
     }
 }
 
-/// Puts the end of a sequence in the place of `content`.
+/// Puts the end of a sequence in place of `content`.
 #[inline(never)]
 fn replace_by_sequence_end(spare: &mut String, content: &mut unnamed_yaml_event_t_data)
     ensures { content.new ≡ SequenceEnd }
@@ -442,7 +442,7 @@ pub(super) fn put_mapping_end(spare: &mut String, content: &mut unnamed_yaml_eve
     }
 }
 
-/// Puts the end of a mapping in the place of `content`.
+/// Puts the end of a mapping in place of `content`.
 #[inline(never)]
 fn replace_by_mapping_end(spare: &mut String, content: &mut unnamed_yaml_event_t_data)
     ensures { content.new ≡ MappingEnd }
@@ -468,7 +468,7 @@ pub(super) fn put_alias(
     replace_by_alias(spare, token, content);
 }
 
-/// Puts an alias in the place of `content`. The memory of an earlier text goes into the token's place.
+/// Puts an alias in place of `content`. The memory of an earlier text goes into the token's place.
 #[inline(never)]
 fn replace_by_alias(
     spare: &mut String,

@@ -76,7 +76,7 @@ fn put_document_start(alloc: Global, content: &mut unnamed_yaml_event_t_data)
     }
 }
 
-/// Puts the start of a document without directives in the place of a content that is to be dropped.
+/// Puts the start of a document without directives in place of a content that is to be dropped.
 #[inline(never)]
 fn any_by_document_start(alloc: Global, content: &mut unnamed_yaml_event_t_data)
     ensures { content.new ≡ document_start None [] true }

@@ -25,7 +25,7 @@ pub(super) fn is_plain(style: yaml_scalar_style_t) -> bool
     }
 }
 
-/// Whether a scalar's tag may be left out where it is written plain.
+/// Whether a scalar's tag may be left out if it is written plain.
 pub(super) fn is_plain_implicit(tag: &Option<String>, style: yaml_scalar_style_t) -> bool
     ensures { result ≡ plain_flag (option_map string_bytes tag.now) style }
 {
@@ -35,7 +35,7 @@ pub(super) fn is_plain_implicit(tag: &Option<String>, style: yaml_scalar_style_t
     }
 }
 
-/// Whether a scalar's tag may be left out where it is not written plain.
+/// Whether a scalar's tag may be left out if it is not written plain.
 pub(super) fn is_quoted_implicit(tag: &Option<String>, style: yaml_scalar_style_t) -> bool
     ensures { result ≡ quoted_flag (option_map string_bytes tag.now) style }
 {
@@ -55,7 +55,7 @@ pub(super) fn is_missing(tag: &Option<String>) -> bool
     }
 }
 
-/// A plain scalar whose tag may be left out only where it is written plain.
+/// A plain scalar whose tag may be left out only if it is written plain.
 pub(super) fn plain_scalar(
     anchor: Option<String>,
     tag: Option<String>,

@@ -51,7 +51,7 @@ fn put_tag(
     }
 }
 
-/// Puts the tag of a token, moved out of it, into `held`, where no tag was put yet.
+/// Puts the tag of a token, moved out of it, into `held` if no tag was put yet.
 #[cold]
 #[inline(never)]
 fn put_first_tag(

@@ -195,7 +195,7 @@ pub fn faults()
     ensures wrong_end_of_flow_mapping { RowWrongEndOfFlowMapping }
 {}
 
-/// What a viable prefix determines where the source fails after it.
+/// What a viable prefix determines if the source fails after it.
 pub fn beginnings()
     ensures no_tokens { RowNoTokens }
     ensures stream_begun { RowStreamBegun }

@@ -21,7 +21,7 @@ ghost use Rattle.libyaml_loader.specs.pushes.PushesLoads.{PushesLoads};
 use libyaml_events::yaml_token_source_t;
 
 /// Two outcomes of one load, both of which the clauses `loads`, `fails` and `bound` of `yaml_parser_load`
-/// allow: where the source gave the same results as far as both asked, they are one, unless memory ran out in
+/// allow: if the source gave the same results as far as both asked, they are one, unless memory ran out in
 /// one of them, where memory may be taken. n is the parser's bound.
 pub fn one_load<S: yaml_token_source_t>()
     ensures running { (old p q : Parser S) (r s : DocumentOrError) (n : ℕ) (asked : List Token)
@@ -30,7 +30,7 @@ pub fn one_load<S: yaml_token_source_t>()
         → (b : LoadOutcome S.yaml_token_source_t (next_bounded n) left_over old s q)
         → OneLoadByAnswers S.gives (next_bounded n) old asked given (load_results_of h a)
         (load_results_of h b) r p s q }
-    // so over a source that returns in one way there is one outcome, but for memory
+    // so over a source that returns in one way there is one outcome, except for memory
     ensures one_way { (old p q : Parser S) (r s : DocumentOrError) (n : ℕ) (asked : List Token)
         (given : List Event) → History old asked given → AnswersOneWay S.gives old.source
         → LoadOutcome S.yaml_token_source_t (next_bounded n) left_over old r p

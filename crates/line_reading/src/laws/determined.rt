@@ -1,4 +1,4 @@
-//! That the contract of a line source leaves its result open nowhere but where an allocation or a read fails.
+//! That the contract of a line source leaves its result open only if an allocation or a read fails.
 
 ghost use Rattle.std.specs.Prelude.{◌≡◌, ℕ, List, Some};
 ghost use Rattle.libyaml_types.specs.Fault.{Answer};

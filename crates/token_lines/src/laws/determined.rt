@@ -40,8 +40,8 @@ pub fn one_output<R: BufRead, W: Write>()
 {}
 
 /// Two outcomes of one `write_events`, both of which its contract allows, with a writer that has written the
-/// same: where the source gave the same results as far as both asked, both end alike and have written the
-/// same bytes, unless memory ran out in one of them, or its output failed.
+/// same: if the source gave the same results as far as both asked, both end alike and have written the same
+/// bytes, unless memory ran out in one of them, or its output failed.
 pub fn one_writing_of_events<S: yaml_token_source_t, W: Write>()
     ensures running { (old p q : Parser S) (first second : run_end_t) (written : List ℕ)
         (after later : Option (List ℕ)) (asked : List yaml_token_t) (given : List yaml_event_t)

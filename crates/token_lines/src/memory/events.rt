@@ -11,7 +11,7 @@ use std::alloc::Global;
 /// into `out`, followed by the text of an error, if there is one: as many bytes as `out` has room for. The
 /// bytes of `out` that follow them stay as they are.
 ///
-/// Where an allocation fails, the run's only text is that of this error.
+/// If an allocation fails, the run's only text is that of this error.
 pub fn events_in_memory(
     alloc: Global,
     tokens: &[u8],

@@ -23,9 +23,9 @@ use line_writing::{append_event, write_line};
 use std::alloc::Global;
 use std::io::{BufRead, Write};
 
-/// Writes the line of each event of the token lines, before the next event is parsed, and then the
-/// text of the error, if there is one. Reads at most `MAX_TOKENS` tokens. A caller who needs the reader
-/// back, as the last line left it, calls `write_events` over a `yaml_line_source_t`.
+/// Writes the line of each event of the token lines, before the next event is parsed, and then the text of
+/// the error, if there is one. Reads at most `MAX_TOKENS` tokens. If you need the reader back exactly after
+/// the last line, call `write_events` over a `yaml_line_source_t`.
 ///
 /// If memory runs out for a line, the error of a failed allocation is written. The writer is flushed
 /// before `Ended` and `Faulted`; after `OutputFailed` nothing is said of it.

@@ -21,9 +21,9 @@ use line_writing::{line_refusal_t, write_document};
 use std::alloc::Global;
 use std::io::{BufRead, Write};
 
-/// Writes the text of each document of the token lines, before anything of the next is read, and then
-/// the text of the error, if there is one. Reads at most `MAX_TOKENS` tokens. A caller who needs the reader
-/// back, as the last line left it, calls `write_nodes` over a `yaml_line_source_t`.
+/// Writes the text of each document of the token lines, before anything of the next is read, and then the
+/// text of the error, if there is one. Reads at most `MAX_TOKENS` tokens. If you need the reader back exactly
+/// after the last line, call `write_nodes` over a `yaml_line_source_t`.
 ///
 /// If memory runs out for a line, the error of a failed allocation follows the lines before it. The
 /// writer is flushed before `Ended` and `Faulted`; after `OutputFailed` nothing is said of it.

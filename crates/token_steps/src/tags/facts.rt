@@ -7,7 +7,7 @@ ghost use Rattle.token_steps.specs.Texts.{bit, tag_fact as fact_of_tag};
 
 use crate::tags::handles::{declared_prefix, handle_t, is_same};
 
-/// Returns the fact of a TAG-DIRECTIVE: 1 where the document declares the handle already, else 0.
+/// Returns the fact of a TAG-DIRECTIVE: 1 if the document declares the handle already, else 0.
 #[tactic(auto, using(crate::proofs::Found::get_handle))]
 pub fn directive_fact(handles: &[handle_t], texts: &[u8], handle: &[u8]) -> u8
     ensures { result ≡ bit (is_some (get (handles_at texts.now handles.now) handle.now)) }
@@ -18,7 +18,7 @@ pub fn directive_fact(handles: &[handle_t], texts: &[u8], handle: &[u8]) -> u8
     }
 }
 
-/// Returns the fact of a tag in full.
+/// Returns the fact of a full tag.
 fn text_fact(text: &[u8]) -> u8
     ensures { result ≡ fact_of_tag (Some text.now) }
 {
@@ -45,7 +45,7 @@ pub(crate) fn whole_fact(prefix: &[u8], suffix: &[u8]) -> u8
     }
 }
 
-/// Returns the fact of a VERSION-DIRECTIVE: 1 where its version is accepted, 1.1 or 1.2, else 0.
+/// Returns the fact of a VERSION-DIRECTIVE: 1 if its version is accepted, 1.1 or 1.2, else 0.
 pub fn version_fact(major: i32, minor: i32) -> u8
     ensures { result ≡ bit (is_accepted major minor) }
 {

@@ -1,4 +1,4 @@
-//! A tag in full.
+//! A full tag.
 ghost use Rattle.std.specs.Prelude.{◌≡◌, ◌≤◌, ◌<◌, ◌++◌, ℕ, List, Some, None, length, drop, take};
 ghost use Rattle.libyaml_events.specs.machine.Machine.{resolve};
 ghost use Rattle.token_steps.specs.Handles.{handles_at};
@@ -19,9 +19,9 @@ fn put_both(prefix: &[u8], suffix: &[u8], out: &mut [u8])
     out[prefix.len()..prefix.len() + suffix.len()].copy_from_slice(suffix);
 }
 
-/// Returns the fact of a TAG: 1 where the tag in full is empty, 2 where it is `!`, 3 for any other, and 4
-/// where its handle isn't declared. Puts the tag at the start of `out`, where there is room for all of it,
-/// and else leaves `out` as it was; and its length in bytes into `size`, `usize::MAX` where the handle isn't
+/// Returns the fact of a TAG: 1 if the full tag is empty, 2 if it is `!`, 3 for any other, and 4 if its
+/// handle isn't declared. If there is room for all of the tag, puts it at the start of `out`; otherwise
+/// leaves `out` as it was. Puts its length in bytes into `size`, or `usize::MAX` if the handle isn't
 /// declared.
 pub fn tag(
     handles: &[handle_t],
@@ -61,7 +61,7 @@ pub fn tag(
     }
 }
 
-/// Puts these two texts into `out`, where there is room for both. Returns their length.
+/// Puts these two texts into `out` if there is room for both. Returns their length.
 fn put_whole(prefix: &[u8], suffix: &[u8], out: &mut [u8]) -> usize
     ensures length { result ≡ length (prefix.now ++ suffix.now) }
     ensures put { length (prefix.now ++ suffix.now) ≤ length out.old

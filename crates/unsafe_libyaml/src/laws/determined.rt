@@ -11,15 +11,15 @@ pub use libyaml_events::laws::determined::{
 };
 use libyaml_events::yaml_token_source_t;
 
-/// Two lists of documents of one source, both of which the contract of `yaml_parser_load_all` allows: where
-/// the source gave the same results as far as both asked, they are one.
+/// Two lists of documents of one source, both of which the contract of `yaml_parser_load_all` allows: if the
+/// source gave the same results as far as both asked, they are one.
 pub fn one_list_of_documents<S: yaml_token_source_t>()
     ensures { (source : S) (a b : yaml_documents_t) → (g : GathersLoads S.gives source a)
         → (h : GathersLoads S.gives source b) → OneDocuments S.gives source a b g h }
 {}
 
-/// Two runs of one source, both of which the contract of `yaml_parser_parse_all` allows: where the source
-/// gave the same results as far as both asked, they are one.
+/// Two runs of one source, both of which the contract of `yaml_parser_parse_all` allows: if the source gave
+/// the same results as far as both asked, they are one.
 pub fn one_whole_run<S: yaml_token_source_t>()
     ensures { (source : S) (a b : yaml_run_t) → (g : Gathers S.gives source a)
         → (h : Gathers S.gives source b) → OneRun S.gives source a b g h }
