@@ -3,7 +3,7 @@ use Rattle.std.proofs.Common.{◌≡◌, ◌∷◌, List, [], ℕ, zero, suc, �
 use Rattle.libyaml_types.specs.Types.{event_type}
 use Rattle.libyaml_types.specs.declared.enums.yaml_event_type_t.{yaml_event_type_t}
 use Rattle.libyaml_types.specs.declared.enums.yaml_event_type_t.TheVariants as ev
-use Rattle.libyaml_grammar.specs.sentences.Events.{Event}
+use Rattle.libyaml_grammar.specs.grammar.Events.{Event}
 use Rattle.libyaml_documents.specs.Documents.{Document}
 use Rattle.libyaml_composer.specs.declared.composer.composer_t.{composer_t}
 use Rattle.libyaml_composer.specs.declared.deed.Deed.TheVariants as deed

@@ -3,7 +3,7 @@ use Rattle.std.specs.Prelude.{◌∷◌, ℕ, zero, suc, List, [], Option, None,
 use Rattle.libyaml_types.specs.Types.{event_type}
 use Rattle.libyaml_types.specs.declared.enums.yaml_event_type_t.{yaml_event_type_t}
 use Rattle.libyaml_types.specs.declared.enums.yaml_event_type_t.TheVariants as ev
-use Rattle.libyaml_grammar.specs.sentences.Events.{Event}
+use Rattle.libyaml_grammar.specs.grammar.Events.{Event}
 
 abbrev pub less_one : ℕ → ℕ
 less_one zero = zero

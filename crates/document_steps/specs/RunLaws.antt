@@ -1,6 +1,6 @@
 -- What holds of every run.
 use Rattle.std.specs.Prelude.{◌≡◌, ◌≤◌, ◌<◌, ◌∷◌, ◌++◌, ℕ, List, [], length, Err, true}
-use Rattle.libyaml_grammar.specs.sentences.Events.{Event}
+use Rattle.libyaml_grammar.specs.grammar.Events.{Event}
 use Rattle.libyaml_grammar.specs.runs.Runs.{Ending}
 use Rattle.libyaml_documents.specs.Documents.{Document}
 use Rattle.libyaml_graphs.specs.loads.Bounds.{bounded_loads}

@@ -10,8 +10,8 @@ ghost use Rattle.document_steps.specs.RunLaws.{RunPlaces, StackFits};
 ghost use Rattle.document_steps.specs.TokenLaws.{TokensLoadAs, BetweenBoth, FailedTokens, RefusedEvents};
 ghost use Rattle.libyaml_types.specs.Fault.{Fault};
 ghost use Rattle.libyaml_grammar.specs.runs.Runs.{Ends};
-ghost use Rattle.libyaml_grammar.specs.sentences.Sentences.{has_end};
-ghost use Rattle.libyaml_grammar.specs.sentences.Tokens.{Token};
+ghost use Rattle.libyaml_grammar.specs.grammar.ValidLists.{has_end};
+ghost use Rattle.libyaml_grammar.specs.grammar.Tokens.{Token};
 ghost use Rattle.libyaml_graphs.specs.loads.Loads.{last_load};
 
 /// The loader's machine, at the same events, stands where the caller does: with the same nodes, open

@@ -7,7 +7,7 @@ use Rattle.libyaml_types.specs.declared.token.yaml_token_t.{yaml_token_t}
 use Rattle.libyaml_documents.specs.Documents.{Document}
 use Rattle.libyaml_types.specs.Fault.{Fault}
 use Rattle.libyaml_grammar.specs.runs.Runs.{Ends}
-use Rattle.libyaml_grammar.specs.sentences.Sentences.{has_end}
+use Rattle.libyaml_grammar.specs.grammar.ValidLists.{has_end}
 use Rattle.libyaml_events.specs.sources.Pushes.{Done, done_if}
 use Rattle.libyaml_graphs.specs.loads.Loads.{last_load}
 use Rattle.libyaml_loader.specs.pushes.Loaded.{ForLoaded, Loaded, PushLoader, loader_fault, loader_has_stopped, loader_keeps_fault}

@@ -6,7 +6,7 @@ use Rattle.libyaml_types.specs.declared.event.yaml_event_t.{yaml_event_t}
 use Rattle.libyaml_types.specs.declared.token.yaml_token_t.{yaml_token_t}
 use Rattle.libyaml_types.specs.Fault.{Fault}
 use Rattle.libyaml_grammar.specs.runs.Runs.{Ends, Fails, IsRun}
-use Rattle.libyaml_grammar.specs.sentences.Sentences.{has_end}
+use Rattle.libyaml_grammar.specs.grammar.ValidLists.{has_end}
 use Rattle.libyaml_events.specs.sources.Pushed.{ForPushed, Pushed, PushParser, fault_in, has_stopped, keeps_fault}
 use Rattle.libyaml_events.specs.sources.Pushes.{Done, Pushes, Stops, Takes, by_grammar, by_memory, done_if}
 use Rattle.example_theorems.specs.Answer.{FailsSo, GivesRun}

@@ -10,7 +10,7 @@ ghost use Rattle.unsafe_libyaml.specs.History.{ForHistory};
 ghost use Rattle.unsafe_libyaml.specs.Nesting.{NestsSoFar};
 ghost use Rattle.unsafe_libyaml.specs.Needs.{EachWasNeeded};
 ghost use Rattle.unsafe_libyaml.specs.Runs.{RunsWhole};
-ghost use Rattle.unsafe_libyaml.specs.Sentences.{has_end};
+ghost use Rattle.unsafe_libyaml.specs.ValidLists.{has_end};
 ghost use Rattle.unsafe_libyaml.specs.Tokens.{Marks, StreamEnd, Token, tok};
 ghost use Rattle.unsafe_libyaml.specs.Trees.{Stream, tokens};
 

@@ -2,8 +2,8 @@
 use Rattle.std.specs.Prelude.{◌∷◌, ◌++◌, ℕ, ℤ, pos, negsuc, List, [], map, Option, None, Some, Bool, true, false, if◌then◌else◌}
 use Rattle.std.specs.FinMap.{get, insert}
 use Rattle.libyaml_types.specs.Fault.{Fault, memory_fault}
-use Rattle.libyaml_grammar.specs.sentences.Events.{Event}
-use Rattle.libyaml_grammar.specs.sentences.Tokens.{Mark}
+use Rattle.libyaml_grammar.specs.grammar.Events.{Event}
+use Rattle.libyaml_grammar.specs.grammar.Tokens.{Mark}
 use Rattle.libyaml_documents.specs.Documents.{Document}
 use Rattle.libyaml_documents.specs.LoadedNodes.{with_end}
 use Rattle.libyaml_documents.specs.Nodes.{with_changed, with_item, with_pair}

@@ -8,7 +8,7 @@
 //! rest is dropped when the next token is put there.
 ghost use Rattle.std.specs.Prelude.{◌≡◌, None, true};
 ghost use Rattle.libyaml_types.specs.Types.{token_type};
-ghost use Rattle.libyaml_grammar.specs.sentences.Events.{event};
+ghost use Rattle.libyaml_grammar.specs.grammar.Events.{event};
 ghost use Rattle.libyaml_automaton.specs.Numbers.{next_of};
 ghost use Rattle.libyaml_automaton.specs.Fits.{FitsStep, IsFull, IsNothingDone, Documents};
 ghost use Rattle.libyaml_automaton.specs.Growth.{stack_part_of};

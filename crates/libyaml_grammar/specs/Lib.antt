@@ -1,4 +1,4 @@
-pub mod sentences
-pub mod cuts
+pub mod grammar
+pub mod partial
 pub mod runs
 pub mod rows

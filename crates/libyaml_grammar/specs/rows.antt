@@ -1,4 +1,4 @@
 pub mod RowNotation
 pub mod Rows
-pub mod CutRows
+pub mod PartialRows
 pub mod EmptyRows

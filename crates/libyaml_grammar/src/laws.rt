@@ -6,29 +6,29 @@ pub mod rows;
 
 ghost use Rattle.std.specs.Prelude.{◌≡◌, ◌++◌, ◌↔◌, ℕ, List, [], ◌∷◌, true, false};
 ghost use Rattle.libyaml_types.specs.declared.enums.yaml_error_type_t.TheVariants.{YAML_PARSER_ERROR};
-ghost use Rattle.libyaml_grammar.specs.cuts.CutEvents.{cut_events};
-ghost use Rattle.libyaml_grammar.specs.cuts.CutFaults.{fault};
-ghost use Rattle.libyaml_grammar.specs.cuts.CutTrees.{Cut, Place, cut_tokens, cut_in_order};
+ghost use Rattle.libyaml_grammar.specs.partial.PartialEvents.{partial_events};
+ghost use Rattle.libyaml_grammar.specs.partial.PartialFaults.{fault};
+ghost use Rattle.libyaml_grammar.specs.partial.PartialTrees.{PartialTree, Place, partial_tokens, partial_in_order};
 ghost use Rattle.libyaml_types.specs.Errors.{IsSourceError};
-ghost use Rattle.libyaml_grammar.specs.sentences.Events.{Event, before_events, block_slot_events};
-ghost use Rattle.libyaml_grammar.specs.sentences.Events.{document_start_at, documents_events};
-ghost use Rattle.libyaml_grammar.specs.sentences.Events.{events, first_block, first_directive};
-ghost use Rattle.libyaml_grammar.specs.sentences.Events.{free_events, prefix_of};
+ghost use Rattle.libyaml_grammar.specs.grammar.Events.{Event, before_events, block_slot_events};
+ghost use Rattle.libyaml_grammar.specs.grammar.Events.{document_start_at, documents_events};
+ghost use Rattle.libyaml_grammar.specs.grammar.Events.{events, first_block, first_directive};
+ghost use Rattle.libyaml_grammar.specs.grammar.Events.{free_events, prefix_of};
 ghost use Rattle.libyaml_types.specs.Fault.{Fault};
-ghost use Rattle.libyaml_grammar.specs.cuts.Fits.{Fits, HasCut, NodeBegins};
-ghost use Rattle.libyaml_grammar.specs.sentences.Nesting.{IsNested, NestsSoFar};
-ghost use Rattle.libyaml_grammar.specs.sentences.Order.{in_order};
-ghost use Rattle.libyaml_grammar.specs.cuts.Rest.{rest};
+ghost use Rattle.libyaml_grammar.specs.partial.Fits.{Fits, HasPartialTree, NodeBegins};
+ghost use Rattle.libyaml_grammar.specs.grammar.Nesting.{IsNested, NestsSoFar};
+ghost use Rattle.libyaml_grammar.specs.grammar.Order.{in_order};
+ghost use Rattle.libyaml_grammar.specs.partial.Rest.{rest};
 ghost use Rattle.libyaml_grammar.specs.runs.Runs.{Ending, Ends, Fails, HasFault, IsRun, RunsWhole};
 ghost use Rattle.libyaml_grammar.specs.runs.Runs.{is_behind_properties};
-ghost use Rattle.libyaml_grammar.specs.sentences.Sentences.{IsSentence, IsBeginning, IsBadToken};
-ghost use Rattle.libyaml_grammar.specs.sentences.Sentences.{EitherNotBoth, has_end};
-ghost use Rattle.libyaml_grammar.specs.cuts.Settled.{IsFront, IsOpen, IsSettled, sure};
+ghost use Rattle.libyaml_grammar.specs.grammar.ValidLists.{IsValidList, IsViablePrefix, IsBadToken};
+ghost use Rattle.libyaml_grammar.specs.grammar.ValidLists.{EitherNotBoth, has_end};
+ghost use Rattle.libyaml_grammar.specs.partial.DeterminedEvents.{IsPrefixTree, IsOpen, Determines, sure};
 ghost use Rattle.libyaml_grammar.specs.runs.StreamEnds.{up_to_end};
-ghost use Rattle.libyaml_grammar.specs.sentences.Tokens.{Mark, Marks, Token, StreamEnd, Tag, tok, zero_marks};
-ghost use Rattle.libyaml_grammar.specs.sentences.Trees.{Before, BlockNode, BlockSlot, Directives};
-ghost use Rattle.libyaml_grammar.specs.sentences.Trees.{Free, Stream, explicit, implicit};
-ghost use Rattle.libyaml_grammar.specs.sentences.Trees.{no_directives, tokens};
+ghost use Rattle.libyaml_grammar.specs.grammar.Tokens.{Mark, Marks, Token, StreamEnd, Tag, tok, zero_marks};
+ghost use Rattle.libyaml_grammar.specs.grammar.Trees.{Before, BlockNode, BlockSlot, Directives};
+ghost use Rattle.libyaml_grammar.specs.grammar.Trees.{Free, Stream, explicit, implicit};
+ghost use Rattle.libyaml_grammar.specs.grammar.Trees.{no_directives, tokens};
 
 /// Two stream trees with equal tokens are equal.
 #[tactic(auto, using(crate::proofs::lent::Completion::one_tree_proof))]
@@ -37,52 +37,52 @@ pub fn one_tree()
 {}
 
 /// At most one partial tree fits a list with the token after it.
-#[tactic(auto, using(crate::proofs::lent::OneCut::one_cut_proof))]
-pub fn one_cut()
-    ensures { (l : List Token) (b : Token) (c d : Cut) → Fits l b c → Fits l b d → c ≡ d }
+#[tactic(auto, using(crate::proofs::lent::OnePartialTree::one_partial_proof))]
+pub fn one_partial()
+    ensures { (l : List Token) (b : Token) (c d : PartialTree) → Fits l b c → Fits l b d → c ≡ d }
 {}
 
 /// A list whose only STREAM-END is its last token is valid, or a partial tree fits a prefix of it, and not
 /// both. A list without STREAM-END is a viable prefix, or has such a partial tree, and not both.
-#[tactic(auto, using(crate::proofs::trees::TreeOrCut::trees_and_cuts))]
-pub fn tree_or_cut()
+#[tactic(auto, using(crate::proofs::trees::TreeOrPartialTree::trees_and_cuts))]
+pub fn tree_or_partial_tree()
     ensures with_end { (l : List Token) (m : Marks) → has_end l ≡ false
-        → EitherNotBoth (IsSentence (l ++ tok StreamEnd m ∷ [])) (HasCut (l ++ tok StreamEnd m ∷ [])) }
-    ensures without_end { (l : List Token) → has_end l ≡ false → EitherNotBoth (IsBeginning l) (HasCut l) }
+        → EitherNotBoth (IsValidList (l ++ tok StreamEnd m ∷ [])) (HasPartialTree (l ++ tok StreamEnd m ∷ [])) }
+    ensures without_end { (l : List Token) → has_end l ≡ false → EitherNotBoth (IsViablePrefix l) (HasPartialTree l) }
 {}
 
 /// The tokens of a partial tree in order, with its rest after them, are a valid list; so the token of a
 /// partial tree that fits is the first that no valid list has at its place.
-#[tactic(auto, using(crate::proofs::trees::TreeOrCut::cuts_begin))]
-pub fn cut_begins()
-    ensures completed { (c : Cut) → cut_in_order c true ≡ true
-        → IsSentence (cut_tokens c [] ++ rest zero_marks c) }
-    ensures bad_token { (l : List Token) (b : Token) (c : Cut) → Fits l b c → IsBadToken l b }
+#[tactic(auto, using(crate::proofs::trees::TreeOrPartialTree::cuts_begin))]
+pub fn partial_begins()
+    ensures completed { (c : PartialTree) → partial_in_order c true ≡ true
+        → IsValidList (partial_tokens c [] ++ rest zero_marks c) }
+    ensures bad_token { (l : List Token) (b : Token) (c : PartialTree) → Fits l b c → IsBadToken l b }
 {}
 
 /// Each viable prefix without STREAM-END has one prefix tree, and only viable prefixes without STREAM-END
 /// have one.
-pub fn one_front()
-    ensures some { (l : List Token) → IsBeginning l → has_end l ≡ false → (c : Cut) × IsFront l c }
-    ensures one { (l : List Token) (c d : Cut) → IsFront l c → IsFront l d → c ≡ d }
-    ensures begins { (l : List Token) (c : Cut) → IsFront l c → IsBeginning l × (has_end l ≡ false) }
+pub fn one_prefix()
+    ensures some { (l : List Token) → IsViablePrefix l → has_end l ≡ false → (c : PartialTree) × IsPrefixTree l c }
+    ensures one { (l : List Token) (c d : PartialTree) → IsPrefixTree l c → IsPrefixTree l d → c ≡ d }
+    ensures begins { (l : List Token) (c : PartialTree) → IsPrefixTree l c → IsViablePrefix l × (has_end l ≡ false) }
 {}
 
 /// What a viable prefix determines is what its prefix tree shows. A valid list determines all events of
 /// its tree, and no tokens determine nothing.
-pub fn settled()
-    ensures of_front { (l : List Token) (c : Cut) (e : List Event) → IsFront l c
-        → (IsSettled l e ↔ (e ≡ sure c)) }
-    ensures of_sentence { (t : Stream) (e : List Event) → in_order t ≡ true
-        → (IsSettled (tokens t) e ↔ (e ≡ events t)) }
-    ensures of_nothing { (e : List Event) → IsSettled [] e ↔ (e ≡ []) }
+pub fn determined_events()
+    ensures of_prefix { (l : List Token) (c : PartialTree) (e : List Event) → IsPrefixTree l c
+        → (Determines l e ↔ (e ≡ sure c)) }
+    ensures of_valid_list { (t : Stream) (e : List Event) → in_order t ≡ true
+        → (Determines (tokens t) e ↔ (e ≡ events t)) }
+    ensures of_nothing { (e : List Event) → Determines [] e ↔ (e ≡ []) }
 {}
 
 /// After a viable prefix without STREAM-END the next event depends on tokens still to come: two valid
 /// lists begin with it whose events begin with those that it determines and differ in the next.
-#[tactic(auto, using(crate::proofs::lent::Settling::settled_open))]
+#[tactic(auto, using(crate::proofs::lent::Determining::determined_open))]
 pub fn next_is_open()
-    ensures { (l : List Token) (e : List Event) → IsBeginning l → has_end l ≡ false → IsSettled l e
+    ensures { (l : List Token) (e : List Event) → IsViablePrefix l → has_end l ≡ false → Determines l e
         → IsOpen l e }
 {}
 
@@ -97,15 +97,15 @@ pub fn one_run()
 /// partial tree's that fits with the token after it and anything after that, or a viable prefix's with
 /// nothing after it.
 pub fn run_of_tree()
-    ensures sentence { (t : Stream) (r : List Token) (f : Fault) → in_order t ≡ true
+    ensures valid_list { (t : Stream) (r : List Token) (f : Fault) → in_order t ≡ true
         → IsRun (tokens t ++ r) f (events t) Ends }
-    ensures cut_tree { (l : List Token) (b : Token) (r : List Token) (c : Cut) (f : Fault) → Fits l b c
+    ensures partial_tree { (l : List Token) (b : Token) (r : List Token) (c : PartialTree) (f : Fault) → Fits l b c
         → is_behind_properties c r ≡ true
-        → IsRun (l ++ b ∷ r) f (cut_events c b) (Fails (fault c b.content b.start_mark)) }
-    ensures amid_properties { (l : List Token) (b : Token) (r : List Token) (c : Cut) (f : Fault) → Fits l b c
-        → is_behind_properties c r ≡ false → IsRun (l ++ b ∷ r) f (cut_events c b) (Fails f) }
-    ensures beginning { (l : List Token) (e : List Event) (f : Fault) → IsBeginning l → has_end l ≡ false
-        → IsSettled l e → IsRun l f e (Fails f) }
+        → IsRun (l ++ b ∷ r) f (partial_events c b) (Fails (fault c b.content b.start_mark)) }
+    ensures amid_properties { (l : List Token) (b : Token) (r : List Token) (c : PartialTree) (f : Fault) → Fits l b c
+        → is_behind_properties c r ≡ false → IsRun (l ++ b ∷ r) f (partial_events c b) (Fails f) }
+    ensures viable_prefix { (l : List Token) (e : List Event) (f : Fault) → IsViablePrefix l → has_end l ≡ false
+        → Determines l e → IsRun l f e (Fails f) }
 {}
 
 /// A run ends only over a valid list, with its tree's events. If the error after the list is a source's, a
@@ -156,7 +156,7 @@ pub fn own_directives()
 /// that ends it: there a TAG is bad for its handle alone.
 pub fn tag_places()
     ensures { (l : List Token) (m : Marks) (s : List ℕ)
-        → IsBeginning (l ++ tok (Tag (record { handle = []; suffix = s })) m ∷ []) ↔ ((p : Place)
+        → IsViablePrefix (l ++ tok (Tag (record { handle = []; suffix = s })) m ∷ []) ↔ ((p : Place)
         × NodeBegins l p) }
 {}
 

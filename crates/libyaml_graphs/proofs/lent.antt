@@ -1,5 +1,5 @@
 -- The theorems that crates above may name, and no others of these proofs.
-pub mod BoundedFronts
+pub mod BoundedPrefixes
 pub mod BoundedLoader
 pub mod Machine
 pub mod Roots

@@ -9,20 +9,20 @@ ghost use Rattle.std.specs.Prelude.{◌≤◌, ◌*◌, length, map};
 ghost use Rattle.std.specs.Prelude.{◌≡◌, ◌≢◌, ◌++◌, ◌↔◌, ◌⊎◌, ℕ, suc, List, [], ◌∷◌, None, true};
 ghost use Rattle.std.specs.Prelude.{Option, Some, codes};
 ghost use Rattle.std.specs.Prelude.{false, Ok, Err};
-ghost use Rattle.libyaml_grammar.specs.cuts.CutEvents.{cut_events};
-ghost use Rattle.libyaml_grammar.specs.cuts.CutFaults.{fault};
-ghost use Rattle.libyaml_grammar.specs.cuts.CutTrees.{Cut};
-ghost use Rattle.libyaml_grammar.specs.sentences.Events.{Event, events};
+ghost use Rattle.libyaml_grammar.specs.partial.PartialEvents.{partial_events};
+ghost use Rattle.libyaml_grammar.specs.partial.PartialFaults.{fault};
+ghost use Rattle.libyaml_grammar.specs.partial.PartialTrees.{PartialTree};
+ghost use Rattle.libyaml_grammar.specs.grammar.Events.{Event, events};
 ghost use Rattle.libyaml_types.specs.Fault.{Fault, memory_fault};
-ghost use Rattle.libyaml_grammar.specs.cuts.Fits.{Fits};
-ghost use Rattle.libyaml_grammar.specs.sentences.Nesting.{HasPairs, IsNested, NestsSoFar, DocumentTexts};
-ghost use Rattle.libyaml_grammar.specs.sentences.Nesting.{TextsHavePairs, Value, scalar_value, value_events};
-ghost use Rattle.libyaml_grammar.specs.sentences.Order.{in_order};
+ghost use Rattle.libyaml_grammar.specs.partial.Fits.{Fits};
+ghost use Rattle.libyaml_grammar.specs.grammar.Nesting.{HasPairs, IsNested, NestsSoFar, DocumentTexts};
+ghost use Rattle.libyaml_grammar.specs.grammar.Nesting.{TextsHavePairs, Value, scalar_value, value_events};
+ghost use Rattle.libyaml_grammar.specs.grammar.Order.{in_order};
 ghost use Rattle.libyaml_grammar.specs.runs.Runs.{Ending, Ends, Fails, is_behind_properties};
-ghost use Rattle.libyaml_grammar.specs.sentences.Sentences.{IsBeginning, has_end};
-ghost use Rattle.libyaml_grammar.specs.cuts.Settled.{IsSettled};
-ghost use Rattle.libyaml_grammar.specs.sentences.Tokens.{Mark, Marks, StreamEnd, Token, tok};
-ghost use Rattle.libyaml_grammar.specs.sentences.Trees.{Stream, tokens};
+ghost use Rattle.libyaml_grammar.specs.grammar.ValidLists.{IsViablePrefix, has_end};
+ghost use Rattle.libyaml_grammar.specs.partial.DeterminedEvents.{Determines};
+ghost use Rattle.libyaml_grammar.specs.grammar.Tokens.{Mark, Marks, StreamEnd, Token, tok};
+ghost use Rattle.libyaml_grammar.specs.grammar.Trees.{Stream, tokens};
 ghost use Rattle.libyaml_documents.specs.Documents.{Document};
 ghost use Rattle.libyaml_documents.specs.Nodes.{EveryIdNamesANode};
 ghost use Rattle.libyaml_graphs.specs.loads.Bounds.{HasRoom, NoneLacksMemory, StaysWithin, bounded_loads};
@@ -94,16 +94,16 @@ pub fn loads_of_run()
 /// partial tree's that fits with the token after it and anything after that, or a viable prefix's with
 /// nothing after it.
 pub fn loads_of_tree()
-    ensures sentence { (t : Stream) (r : List Token) (f : Fault) → in_order t ≡ true
+    ensures valid_list { (t : Stream) (r : List Token) (f : Fault) → in_order t ≡ true
         → (n : IsNested (events t)) × IsLoads (tokens t ++ r) f (loads_of n.texts (last_load Ends ∷ [])) }
-    ensures cut_tree { (l : List Token) (b : Token) (r : List Token) (c : Cut) (f : Fault) → Fits l b c
+    ensures partial_tree { (l : List Token) (b : Token) (r : List Token) (c : PartialTree) (f : Fault) → Fits l b c
         → is_behind_properties c r ≡ true → (a : List Load) × IsLoads (l ++ b ∷ r) f a
-        × NestedLoads (cut_events c b) (Fails (fault c b.content b.start_mark)) a }
-    ensures amid_properties { (l : List Token) (b : Token) (r : List Token) (c : Cut) (f : Fault) → Fits l b c
+        × NestedLoads (partial_events c b) (Fails (fault c b.content b.start_mark)) a }
+    ensures amid_properties { (l : List Token) (b : Token) (r : List Token) (c : PartialTree) (f : Fault) → Fits l b c
         → is_behind_properties c r ≡ false → (a : List Load) × IsLoads (l ++ b ∷ r) f a
-        × NestedLoads (cut_events c b) (Fails f) a }
-    ensures beginning { (l : List Token) (e : List Event) (f : Fault) → IsBeginning l → has_end l ≡ false
-        → IsSettled l e → (a : List Load) × IsLoads l f a × NestedLoads e (Fails f) a }
+        × NestedLoads (partial_events c b) (Fails f) a }
+    ensures viable_prefix { (l : List Token) (e : List Event) (f : Fault) → IsViablePrefix l → has_end l ≡ false
+        → Determines l e → (a : List Load) × IsLoads l f a × NestedLoads e (Fails f) a }
 {}
 
 /// The graph of a value by its parts is its graph by its tree.

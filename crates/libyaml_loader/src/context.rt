@@ -10,7 +10,7 @@ ghost use Rattle.libyaml_documents.specs.LoadedNodes.{mapping_loaded, scalar_loa
 ghost use Rattle.libyaml_graphs.specs.machine.Loader.{no_anchors};
 ghost use Rattle.libyaml_graphs.specs.graphs.GraphParts.{alias_part, closing_of, end_part, leaf_part};
 ghost use Rattle.libyaml_graphs.specs.graphs.GraphParts.{part_of, start_part};
-ghost use Rattle.libyaml_grammar.specs.sentences.Events.{Event};
+ghost use Rattle.libyaml_grammar.specs.grammar.Events.{Event};
 ghost use Rattle.libyaml_composer.specs.Composing.{most_of};
 ghost use Rattle.libyaml_composer.specs.Held.{IsRefused, placed};
 ghost use Rattle.libyaml_composer.specs.Standing.{FitsParent, IsNode};

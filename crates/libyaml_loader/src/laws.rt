@@ -7,10 +7,10 @@ ghost use Rattle.std.specs.Prelude.{◌≡◌, ◌≤◌, ◌*◌, ◌++◌, ℕ
 ghost use Rattle.libyaml_types.specs.Fault.{Fault};
 ghost use Rattle.libyaml_types.specs.Source.{coming};
 ghost use Rattle.libyaml_grammar.specs.runs.Runs.{Ending, Ends};
-ghost use Rattle.libyaml_grammar.specs.sentences.Events.{Event};
-ghost use Rattle.libyaml_grammar.specs.sentences.Nesting.{NestsSoFar};
-ghost use Rattle.libyaml_grammar.specs.sentences.Sentences.{has_end};
-ghost use Rattle.libyaml_grammar.specs.sentences.Tokens.{Token};
+ghost use Rattle.libyaml_grammar.specs.grammar.Events.{Event};
+ghost use Rattle.libyaml_grammar.specs.grammar.Nesting.{NestsSoFar};
+ghost use Rattle.libyaml_grammar.specs.grammar.ValidLists.{has_end};
+ghost use Rattle.libyaml_grammar.specs.grammar.Tokens.{Token};
 ghost use Rattle.libyaml_documents.specs.Documents.{Document};
 ghost use Rattle.libyaml_events.specs.machine.Config.{Parser};
 ghost use Rattle.libyaml_events.specs.sources.History.{History};

@@ -4,10 +4,10 @@ ghost use Rattle.std.specs.Prelude.{◌≡◌, ◌⊎◌, ℕ, List, Some, Bool,
 ghost use Rattle.libyaml_types.specs.Events.{empty_event};
 ghost use Rattle.libyaml_types.specs.Fault.{Fault};
 ghost use Rattle.libyaml_grammar.specs.runs.Runs.{Ending, Ends, Fails, IsRun};
-ghost use Rattle.libyaml_grammar.specs.sentences.Events.{Event};
-ghost use Rattle.libyaml_grammar.specs.sentences.Nesting.{IsNested, NestsSoFar};
-ghost use Rattle.libyaml_grammar.specs.sentences.Sentences.{has_end};
-ghost use Rattle.libyaml_grammar.specs.sentences.Tokens.{Mark, Token};
+ghost use Rattle.libyaml_grammar.specs.grammar.Events.{Event};
+ghost use Rattle.libyaml_grammar.specs.grammar.Nesting.{IsNested, NestsSoFar};
+ghost use Rattle.libyaml_grammar.specs.grammar.ValidLists.{has_end};
+ghost use Rattle.libyaml_grammar.specs.grammar.Tokens.{Mark, Token};
 ghost use Rattle.libyaml_automaton.specs.declared.difference.Difference.{Difference};
 ghost use Rattle.libyaml_automaton.specs.declared.difference.Difference.TheVariants.{BareDocument, PairKey};
 ghost use Rattle.libyaml_automaton.specs.declared.difference.Difference.TheVariants.{ValueFirst};

@@ -13,10 +13,10 @@ use Rattle.libyaml_types.specs.declared.token.unnamed_yaml_token_t_data.TheVaria
 use Rattle.libyaml_types.specs.declared.token.unnamed_yaml_token_t_data_tag.{unnamed_yaml_token_t_data_tag}
 use Rattle.libyaml_types.specs.declared.token.unnamed_yaml_token_t_data_tag_directive.{unnamed_yaml_token_t_data_tag_directive}
 use Rattle.libyaml_types.specs.declared.token.unnamed_yaml_token_t_data_version_directive.{unnamed_yaml_token_t_data_version_directive}
-use Rattle.libyaml_grammar.specs.sentences.Events as grammar
-use Rattle.libyaml_grammar.specs.sentences.Events.{event, is_plain}
-use Rattle.libyaml_grammar.specs.sentences.Order.{is_accepted}
-use Rattle.libyaml_grammar.specs.sentences.Tokens.{Token}
+use Rattle.libyaml_grammar.specs.grammar.Events as grammar
+use Rattle.libyaml_grammar.specs.grammar.Events.{event, is_plain}
+use Rattle.libyaml_grammar.specs.grammar.Order.{is_accepted}
+use Rattle.libyaml_grammar.specs.grammar.Tokens.{Token}
 use Rattle.libyaml_automaton.specs.declared.node_place.NodePlace.{NodePlace}
 use Rattle.libyaml_automaton.specs.Automaton as a
 use Rattle.libyaml_automaton.specs.Config.{Stacks}

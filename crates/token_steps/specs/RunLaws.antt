@@ -2,8 +2,8 @@
 use Rattle.std.specs.Prelude.{◌≡◌, List, ℕ, Option, None, Some, Err}
 use Rattle.libyaml_types.specs.declared.mark.yaml_mark_t.{yaml_mark_t}
 use Rattle.libyaml_types.specs.Fault.{Fault, no_fault}
-use Rattle.libyaml_grammar.specs.sentences.Tokens.{Token}
-use Rattle.libyaml_grammar.specs.sentences.Events.{Event}
+use Rattle.libyaml_grammar.specs.grammar.Tokens.{Token}
+use Rattle.libyaml_grammar.specs.grammar.Events.{Event}
 use Rattle.libyaml_automaton.specs.Config.{Stacks, Within, stacks_of}
 use Rattle.libyaml_automaton.specs.Wanted.{purpose_of}
 use Rattle.libyaml_events.specs.machine.Config.{Handles, config_with}

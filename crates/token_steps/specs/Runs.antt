@@ -1,9 +1,9 @@
 -- What a caller handed in since a stream's start, and what it was given.
 use Rattle.std.specs.Prelude.{◌≡◌, ◌∷◌, ◌++◌, List, [], ℕ, Option, None, Some, true, false}
 use Rattle.libyaml_types.specs.declared.mark.yaml_mark_t.{yaml_mark_t}
-use Rattle.libyaml_grammar.specs.sentences.Tokens.{Token}
-use Rattle.libyaml_grammar.specs.sentences.Events.{Event}
-use Rattle.libyaml_grammar.specs.sentences.Sentences.{has_end}
+use Rattle.libyaml_grammar.specs.grammar.Tokens.{Token}
+use Rattle.libyaml_grammar.specs.grammar.Events.{Event}
+use Rattle.libyaml_grammar.specs.grammar.ValidLists.{has_end}
 use Rattle.libyaml_automaton.specs.Automaton.{AtState}
 use Rattle.libyaml_automaton.specs.Config.{stacks_of, first_stacks}
 use Rattle.libyaml_automaton.specs.Wanted.{purpose_of}

@@ -10,9 +10,9 @@ use Rattle.libyaml_types.specs.declared.token.unnamed_yaml_token_t_data.TheVaria
 use Rattle.libyaml_types.specs.declared.token.unnamed_yaml_token_t_data_tag.{unnamed_yaml_token_t_data_tag}
 use Rattle.libyaml_types.specs.declared.event.unnamed_yaml_event_t_data.{unnamed_yaml_event_t_data}
 use Rattle.libyaml_types.specs.declared.event.unnamed_yaml_event_t_data.TheVariants as ev
-use Rattle.libyaml_grammar.specs.sentences.Events as grammar
-use Rattle.libyaml_grammar.specs.sentences.Events.{event, is_plain}
-use Rattle.libyaml_grammar.specs.sentences.Order.{is_accepted}
+use Rattle.libyaml_grammar.specs.grammar.Events as grammar
+use Rattle.libyaml_grammar.specs.grammar.Events.{event, is_plain}
+use Rattle.libyaml_grammar.specs.grammar.Order.{is_accepted}
 use Rattle.libyaml_events.specs.machine.Outcomes.{only_if}
 use Rattle.libyaml_events.specs.machine.Config.{Handles, no_handles}
 use Rattle.libyaml_events.specs.machine.Machine.{resolve, text_in, style_in, encoding_in, sequence_style_by, mapping_style_by, document_with, document_end}

@@ -5,12 +5,12 @@ ghost use Rattle.libyaml_types.specs.declared.token.unnamed_yaml_token_t_data.Th
 ghost use Rattle.libyaml_types.specs.declared.token.unnamed_yaml_token_t_data_version_directive as version;
 ghost use Rattle.libyaml_types.specs.Models.{TagDirectiveToken, TagToken};
 ghost use Rattle.libyaml_types.specs.Fault.{Fault};
-ghost use Rattle.libyaml_grammar.specs.cuts.Settled.{BeginsEach};
+ghost use Rattle.libyaml_grammar.specs.partial.DeterminedEvents.{BeginsEach};
 ghost use Rattle.libyaml_grammar.specs.runs.Runs.{Ends, Fails, IsRun};
-ghost use Rattle.libyaml_grammar.specs.sentences.Nesting.{NestsSoFar};
-ghost use Rattle.libyaml_grammar.specs.sentences.Order.{is_accepted};
-ghost use Rattle.libyaml_grammar.specs.sentences.Sentences.{has_end};
-ghost use Rattle.libyaml_grammar.specs.sentences.Tokens.{Token};
+ghost use Rattle.libyaml_grammar.specs.grammar.Nesting.{NestsSoFar};
+ghost use Rattle.libyaml_grammar.specs.grammar.Order.{is_accepted};
+ghost use Rattle.libyaml_grammar.specs.grammar.ValidLists.{has_end};
+ghost use Rattle.libyaml_grammar.specs.grammar.Tokens.{Token};
 ghost use Rattle.libyaml_events.specs.machine.Config.{Handles, no_handles};
 ghost use Rattle.libyaml_events.specs.machine.Machine.{declared_by, resolve};
 ghost use Rattle.libyaml_events.specs.parsers.Stages.{open_collections, stage_of};

@@ -2,7 +2,7 @@
 ghost use Rattle.std.specs.Prelude.{◌≡◌, ◌≤◌, ◌<◌, ℕ, List, Some, None, length, take, drop, is_some};
 ghost use Rattle.std.specs.FinMap.{get};
 ghost use Rattle.libyaml_events.specs.machine.Machine.{resolve};
-ghost use Rattle.libyaml_grammar.specs.sentences.Order.{is_accepted};
+ghost use Rattle.libyaml_grammar.specs.grammar.Order.{is_accepted};
 ghost use Rattle.token_steps.specs.Texts.{tag_fact, bit};
 ghost use Rattle.token_steps.specs.Handles.{handles_at};
 ghost use Rattle.token_steps.specs.Numbers.{length_or_none};

@@ -5,27 +5,27 @@ use Rattle.libyaml_types.specs.declared.enums.yaml_error_type_t.{yaml_error_type
 use Rattle.libyaml_types.specs.declared.enums.yaml_error_type_t.TheVariants.{YAML_MEMORY_ERROR}
 use Rattle.libyaml_documents.specs.Documents.{Document, empty_document}
 use Rattle.libyaml_events.specs.machine.Config.{Parser}
-use Rattle.libyaml_grammar.specs.sentences.Events.{Event, events}
+use Rattle.libyaml_grammar.specs.grammar.Events.{Event, events}
 use Rattle.libyaml_types.specs.Fault.{Fault, memory_fault}
 use Rattle.libyaml_types.specs.Fault as faults
 use Rattle.libyaml_events.proofs.lent.CallsInTurn.{both_calls}
 use Rattle.libyaml_events.specs.sources.History.{answers, between_documents, has_failed, kept_fault, new_parser}
-use Rattle.libyaml_grammar.specs.cuts.Settled.{Begins}
-use Rattle.libyaml_grammar.specs.sentences.Nesting.{IsNested}
-use Rattle.libyaml_grammar.specs.sentences.Order.{in_order}
+use Rattle.libyaml_grammar.specs.partial.DeterminedEvents.{Begins}
+use Rattle.libyaml_grammar.specs.grammar.Nesting.{IsNested}
+use Rattle.libyaml_grammar.specs.grammar.Order.{in_order}
 use Rattle.libyaml_events.proofs.lent.Histories as histories
 use Rattle.libyaml_grammar.specs.runs.Runs.{Ending, Ends, Fails}
-use Rattle.libyaml_grammar.specs.sentences.Tokens.{Token}
-use Rattle.libyaml_grammar.specs.sentences.Trees.{Stream, tokens}
+use Rattle.libyaml_grammar.specs.grammar.Tokens.{Token}
+use Rattle.libyaml_grammar.specs.grammar.Trees.{Stream, tokens}
 use Rattle.libyaml_types.specs.declared.fault.yaml_parser_t_prefix.{yaml_parser_t_prefix}
 use Rattle.libyaml_types.specs.declared.source.yaml_token_source_t.{Ghosts}
 use Rattle.libyaml_graphs.specs.loads.Bounds.{NoneLacksMemory, bounded_loads, next_bounded}
 use Rattle.libyaml_graphs.specs.loads.GraphLaws.{RootsFollow}
 use Rattle.libyaml_graphs.specs.loads.Loads.{IsLoads, Load, last_load, left_over, loads, loads_of}
-use Rattle.libyaml_graphs.proofs.lent.BoundedFronts.{IsFront, front_of_loads, met, same, unmet_loads}
+use Rattle.libyaml_graphs.proofs.lent.BoundedPrefixes.{IsPrefixTree, prefix_of_loads, met, same, unmet_loads}
 use Rattle.libyaml_graphs.proofs.lent.LoadLists.{roots_behind}
 use Rattle.libyaml_graphs.proofs.lent.Roots.{fault_of, last_of, roots_follow}
-use Rattle.libyaml_graphs.proofs.lent.RunLoads.{sentence_loads}
+use Rattle.libyaml_graphs.proofs.lent.RunLoads.{valid_list_loads}
 use Rattle.libyaml_loader.specs.document.Ids.{magnitude}
 use Rattle.libyaml_events.specs.sources.CallsInTurn.{Took}
 use Rattle.libyaml_loader.specs.loads.Loading.{DocumentOrError, KeptBy, LoadFails, Loads, LoadsFrom, ParserFails, at_end, by_loader, by_memory, by_parser, whole}
@@ -76,7 +76,7 @@ oks_first (d ∷ loaded) (c ∷ ds) behind rest h =
           (same_document c d (oks ds ++ (Err memory_fault ∷ [])) (oks loaded ++ behind) h) k.1,
     )
 
-loaded_first : (within all : List Load) → IsFront within all → (loaded : List Document) (behind : List Load)
+loaded_first : (within all : List Load) → IsPrefixTree within all → (loaded : List Document) (behind : List Load)
     → within ≡ oks loaded ++ behind
     → (t : List Load) × (all ≡ oks loaded ++ t)
 loaded_first within all (same e) loaded behind h = (behind, sym e ∙ h)
@@ -145,7 +145,7 @@ module _ {S : Type 0} (g : Ghosts S) (source : S) (old new : Parser S) (r : Docu
         → (later : List Load) × (loads ((given ++ taken) ++ rest) x ≡ oks all.documents.items ++ later)
     are_first taken rest x =
         let e = (given ++ taken) ++ rest in
-        let (later, h) = loaded_first (bounded_loads most e x) (loads e x) (front_of_loads e x most) loaded
+        let (later, h) = loaded_first (bounded_loads most e x) (loads e x) (prefix_of_loads e x most) loaded
         (bounded_loads most (taken ++ rest) x)
         (so_far_behind taken rest x) in
         (later, h ∙ ap (λ (ds : List Document). oks ds ++ later) (sym items))
@@ -300,5 +300,5 @@ fewer d new old (inr k) h = k
 pub tree_loads : (t : Stream) (f : Fault) → in_order t ≡ true
     → (n : IsNested (events t)) × IsLoads (tokens t) f (loads_of n.texts (last_load Ends ∷ []))
 tree_loads t f o =
-    let h = sentence_loads t [] f o in
+    let h = valid_list_loads t [] f o in
     (h.0, subst (λ (l : List Token). IsLoads l f (loads_of h.0.texts (last_load Ends ∷ []))) (append-nil (tokens t)) h.1)

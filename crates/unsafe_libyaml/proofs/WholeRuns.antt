@@ -7,10 +7,10 @@ use Rattle.libyaml_events.specs.sources.Calls.{Gave}
 use Rattle.libyaml_events.specs.sources.CallsInTurn.{CarriedOn}
 use Rattle.libyaml_events.specs.sources.Determined.{BeginsEachRun}
 use Rattle.libyaml_events.specs.machine.Config.{Config, Parser}
-use Rattle.libyaml_grammar.specs.sentences.Events.{Event, events}
-use Rattle.libyaml_grammar.specs.cuts.Settled.{Begins}
-use Rattle.libyaml_grammar.specs.sentences.Order.{in_order}
-use Rattle.libyaml_grammar.specs.sentences.Trees.{Stream, tokens}
+use Rattle.libyaml_grammar.specs.grammar.Events.{Event, events}
+use Rattle.libyaml_grammar.specs.partial.DeterminedEvents.{Begins}
+use Rattle.libyaml_grammar.specs.grammar.Order.{in_order}
+use Rattle.libyaml_grammar.specs.grammar.Trees.{Stream, tokens}
 use Rattle.libyaml_types.specs.Fault.{Fault, Answer, fault_of}
 use Rattle.libyaml_events.specs.sources.History.{ForHistory, History, is_over, answers, kept_fault, new_parser}
 use Rattle.libyaml_events.specs.sources.Needs.{EachNeeded}
@@ -18,14 +18,14 @@ use Rattle.libyaml_events.specs.sources.Parsing.{CarriesOn, Cause, FailsBy, HasF
 use Rattle.libyaml_events.specs.sources.Parsing as cause
 use Rattle.libyaml_grammar.specs.runs.Runs.{Ending, Ends, Fails, IsRun}
 use Rattle.libyaml_types.specs.Source.{Follows, coming}
-use Rattle.libyaml_grammar.specs.sentences.Tokens.{Token}
-use Rattle.libyaml_grammar.proofs.lent.Running.{sentence_run}
+use Rattle.libyaml_grammar.specs.grammar.Tokens.{Token}
+use Rattle.libyaml_grammar.proofs.lent.Running.{valid_list_run}
 use Rattle.libyaml_types.specs.declared.fault.yaml_parser_t_prefix.{yaml_parser_t_prefix}
 use Rattle.libyaml_types.specs.declared.source.yaml_token_source_t.{Ghosts}
 use Rattle.libyaml_events.proofs.lent.CallsInTurn.{both_calls, gave_then, no_call, one_call}
 use Rattle.libyaml_events.proofs.lent.RunStops.{answers_both}
 use Rattle.libyaml_events.proofs.lent.Histories as histories
-use Rattle.libyaml_events.proofs.lent.KnownTokens.{asked_front, failed_known, short_known, whole_known}
+use Rattle.libyaml_events.proofs.lent.KnownTokens.{asked_prefix, failed_known, short_known, whole_known}
 use Rattle.unsafe_libyaml.specs.WholeRun.{Asked, Gathers, RunsTo, StoppedBy, whole, broken_off, ending_of, of_grammar, of_source}
 use Rattle.unsafe_libyaml.specs.declared.parse_all.yaml_run_t.{yaml_run_t}
 
@@ -157,7 +157,7 @@ module _ {S : Type 0} (g : Ghosts S)
   tells = record {
     whole = whole_known g follows [] source a.stands l f k e x is_run asked given last a.gave;
     stopped = stopped_run;
-    begins = λ begins. let (rest, all) = asked_front g follows asked last source a.stands a.gave l f k in
+    begins = λ begins. let (rest, all) = asked_prefix g follows asked last source a.stands a.gave l f k in
         begins rest f e x (subst (λ (y : List Token). IsRun y f e x) all is_run);
   }
 
@@ -178,7 +178,7 @@ runs_to g source run w e x tells = go run.fault refl
 
 -- the run over a tree's tokens
 pub tree_runs : (t : Stream) (f : Fault) → in_order t ≡ true → IsRun (tokens t) f (events t) Ends
-tree_runs t f o = subst (λ (l : List Token). IsRun l f (events t) Ends) (append-nil (tokens t)) (sentence_run t [] f o)
+tree_runs t f o = subst (λ (l : List Token). IsRun l f (events t) Ends) (append-nil (tokens t)) (valid_list_run t [] f o)
 
 pub if_ok : {A : Type 0} (r : Result A AllocError) (P Q : A → Type 0) → IfOk r P → ((a : A) → P a → Q a) → IfOk r Q
 if_ok (Ok a) P Q h k = k a h

@@ -10,14 +10,14 @@ pub use Rattle.libyaml_types.specs.Numbers
 pub use Rattle.libyaml_types.specs.Texts
 pub use Rattle.libyaml_types.specs.Types
 pub use Rattle.libyaml_types.specs.Words
-pub use Rattle.libyaml_grammar.specs.cuts.CutEvents
-pub use Rattle.libyaml_grammar.specs.cuts.CutFaults
-pub use Rattle.libyaml_grammar.specs.cuts.CutTrees
-pub use Rattle.libyaml_grammar.specs.cuts.FaultTexts
-pub use Rattle.libyaml_grammar.specs.cuts.Fits
-pub use Rattle.libyaml_grammar.specs.cuts.Rest
-pub use Rattle.libyaml_grammar.specs.cuts.Settled
-pub use Rattle.libyaml_grammar.specs.rows.CutRows
+pub use Rattle.libyaml_grammar.specs.partial.PartialEvents
+pub use Rattle.libyaml_grammar.specs.partial.PartialFaults
+pub use Rattle.libyaml_grammar.specs.partial.PartialTrees
+pub use Rattle.libyaml_grammar.specs.partial.FaultTexts
+pub use Rattle.libyaml_grammar.specs.partial.Fits
+pub use Rattle.libyaml_grammar.specs.partial.Rest
+pub use Rattle.libyaml_grammar.specs.partial.DeterminedEvents
+pub use Rattle.libyaml_grammar.specs.rows.PartialRows
 pub use Rattle.libyaml_grammar.specs.rows.EmptyRows
 pub use Rattle.libyaml_grammar.specs.rows.RowNotation
 pub use Rattle.libyaml_grammar.specs.rows.Rows
@@ -26,12 +26,12 @@ pub use Rattle.libyaml_types.specs.Fault
 pub use Rattle.libyaml_types.specs.Message
 pub use Rattle.libyaml_grammar.specs.runs.Runs
 pub use Rattle.libyaml_grammar.specs.runs.StreamEnds
-pub use Rattle.libyaml_grammar.specs.sentences.Events
-pub use Rattle.libyaml_grammar.specs.sentences.Nesting
-pub use Rattle.libyaml_grammar.specs.sentences.Order
-pub use Rattle.libyaml_grammar.specs.sentences.Sentences
-pub use Rattle.libyaml_grammar.specs.sentences.Tokens
-pub use Rattle.libyaml_grammar.specs.sentences.Trees
+pub use Rattle.libyaml_grammar.specs.grammar.Events
+pub use Rattle.libyaml_grammar.specs.grammar.Nesting
+pub use Rattle.libyaml_grammar.specs.grammar.Order
+pub use Rattle.libyaml_grammar.specs.grammar.ValidLists
+pub use Rattle.libyaml_grammar.specs.grammar.Tokens
+pub use Rattle.libyaml_grammar.specs.grammar.Trees
 pub use Rattle.libyaml_automaton.specs.Automaton
 pub use Rattle.libyaml_automaton.specs.Config as AutomatonConfig
 pub use Rattle.libyaml_automaton.specs.Fits as AutomatonFits

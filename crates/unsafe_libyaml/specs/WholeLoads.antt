@@ -1,12 +1,12 @@
 -- All documents of a source as a value (docs/DEFINITIONS.md, "Loads").
 use Rattle.std.specs.Prelude.{◌≡◌, ◌⊎◌, ◌++◌, ◌∷◌, List, [], None, Some, map, Ok}
 use Rattle.libyaml_documents.specs.Documents.{Document}
-use Rattle.libyaml_grammar.specs.cuts.Settled.{BeginsEach}
+use Rattle.libyaml_grammar.specs.partial.DeterminedEvents.{BeginsEach}
 use Rattle.libyaml_types.specs.Fault.{Answer, Fault, fault_of}
 use Rattle.libyaml_grammar.specs.runs.Runs.{Ending, Fails}
-use Rattle.libyaml_grammar.specs.sentences.Events.{Event}
-use Rattle.libyaml_grammar.specs.sentences.Nesting.{NestsSoFar}
-use Rattle.libyaml_grammar.specs.sentences.Tokens.{Token}
+use Rattle.libyaml_grammar.specs.grammar.Events.{Event}
+use Rattle.libyaml_grammar.specs.grammar.Nesting.{NestsSoFar}
+use Rattle.libyaml_grammar.specs.grammar.Tokens.{Token}
 use Rattle.libyaml_types.specs.declared.fault.yaml_parser_t_prefix.{yaml_parser_t_prefix}
 use Rattle.libyaml_types.specs.declared.source.yaml_token_source_t.{Ghosts}
 use Rattle.libyaml_events.specs.sources.Calls.{Gave}

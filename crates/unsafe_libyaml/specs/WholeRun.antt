@@ -1,12 +1,12 @@
 -- A whole run as a value (docs/DEFINITIONS.md, "Runs").
 use Rattle.std.specs.Prelude.{◌≡◌, ◌++◌, ◌∷◌, List, [], Option, Some, None, Err}
-use Rattle.libyaml_grammar.specs.sentences.Events.{Event}
+use Rattle.libyaml_grammar.specs.grammar.Events.{Event}
 use Rattle.libyaml_types.specs.Fault.{Answer, Fault, fault_of}
 use Rattle.libyaml_types.specs.Errors.{IsSourceError}
 use Rattle.libyaml_grammar.specs.runs.Runs.{Ending, Ends, Fails}
-use Rattle.libyaml_grammar.specs.cuts.Settled.{Begins, BeginsEach}
-use Rattle.libyaml_grammar.specs.sentences.Nesting.{NestsSoFar}
-use Rattle.libyaml_grammar.specs.sentences.Tokens.{Token}
+use Rattle.libyaml_grammar.specs.partial.DeterminedEvents.{Begins, BeginsEach}
+use Rattle.libyaml_grammar.specs.grammar.Nesting.{NestsSoFar}
+use Rattle.libyaml_grammar.specs.grammar.Tokens.{Token}
 use Rattle.libyaml_events.specs.sources.Calls.{Gave}
 use Rattle.libyaml_events.specs.sources.Determined.{BeginsEachRun}
 use Rattle.libyaml_events.specs.sources.History.{answers}

@@ -1,18 +1,18 @@
 //! All documents of a source at once.
 ghost use Rattle.std.specs.Prelude.{◌≡◌, ◌≢◌, ◌≤◌, ◌*◌, ◌++◌, ◌∷◌, List, [], All, Some, true, IfOk, IfErr};
 ghost use Rattle.std.specs.Prelude.{length};
-ghost use Rattle.libyaml_grammar.specs.cuts.CutEvents.{cut_events};
-ghost use Rattle.libyaml_grammar.specs.cuts.CutFaults.{fault};
-ghost use Rattle.libyaml_grammar.specs.cuts.CutTrees.{Cut};
-ghost use Rattle.libyaml_grammar.specs.sentences.Events.{events};
+ghost use Rattle.libyaml_grammar.specs.partial.PartialEvents.{partial_events};
+ghost use Rattle.libyaml_grammar.specs.partial.PartialFaults.{fault};
+ghost use Rattle.libyaml_grammar.specs.partial.PartialTrees.{PartialTree};
+ghost use Rattle.libyaml_grammar.specs.grammar.Events.{events};
 ghost use Rattle.libyaml_types.specs.Fault.{Fault};
-ghost use Rattle.libyaml_grammar.specs.cuts.Fits.{Fits};
-ghost use Rattle.libyaml_grammar.specs.sentences.Nesting.{IsNested};
-ghost use Rattle.libyaml_grammar.specs.sentences.Order.{in_order};
+ghost use Rattle.libyaml_grammar.specs.partial.Fits.{Fits};
+ghost use Rattle.libyaml_grammar.specs.grammar.Nesting.{IsNested};
+ghost use Rattle.libyaml_grammar.specs.grammar.Order.{in_order};
 ghost use Rattle.libyaml_grammar.specs.runs.Runs.{Ends, Fails, is_behind_properties};
 ghost use Rattle.libyaml_types.specs.Source.{coming};
-ghost use Rattle.libyaml_grammar.specs.sentences.Tokens.{Token};
-ghost use Rattle.libyaml_grammar.specs.sentences.Trees.{Stream, tokens};
+ghost use Rattle.libyaml_grammar.specs.grammar.Tokens.{Token};
+ghost use Rattle.libyaml_grammar.specs.grammar.Trees.{Stream, tokens};
 ghost use Rattle.libyaml_graphs.specs.loads.GraphLaws.{NestedLoads};
 ghost use Rattle.libyaml_graphs.specs.loads.Linear.{documents_size};
 ghost use Rattle.libyaml_graphs.specs.loads.Loads.{IsLoads, Load, last_load, loads_of};
@@ -54,11 +54,11 @@ pub fn yaml_parser_load_all<S: yaml_token_source_t + Drop>(
         × LoadsTo S.yaml_token_source_t source all (loads_of n.texts (last_load Ends ∷ []))) }
     // a partial tree that fits gives those of its whole documents, and then the open one's composer error
     // or its own
-    ensures of_cut_tree { (before : List Token) (token : Token) (behind : List Token) (c : Cut) (f : Fault)
+    ensures of_partial_tree { (before : List Token) (token : Token) (behind : List Token) (c : PartialTree) (f : Fault)
         → Fits before token c
         → is_behind_properties c behind ≡ true → S.known source ≡ Some (coming (before ++ token ∷ behind) f)
         → IfOk result (λ all. (loads : List Load)
-        × NestedLoads (cut_events c token) (Fails (fault c token.content token.start_mark)) loads
+        × NestedLoads (partial_events c token) (Fails (fault c token.content token.start_mark)) loads
         × LoadsTo S.yaml_token_source_t source all loads) }
     // any list of tokens gives its loads
     ensures of_list { (l : List Token) (f : Fault) (loads : List Load) → IsLoads l f loads

@@ -1,16 +1,16 @@
 //! All events of a source at once.
 ghost use Rattle.std.specs.Prelude.{◌≡◌, ◌≢◌, ◌++◌, ◌∷◌, List, Some, true, IfOk, IfErr};
-ghost use Rattle.libyaml_grammar.specs.cuts.CutEvents.{cut_events};
-ghost use Rattle.libyaml_grammar.specs.cuts.CutFaults.{fault};
-ghost use Rattle.libyaml_grammar.specs.cuts.CutTrees.{Cut};
-ghost use Rattle.libyaml_grammar.specs.sentences.Events.{Event, events};
+ghost use Rattle.libyaml_grammar.specs.partial.PartialEvents.{partial_events};
+ghost use Rattle.libyaml_grammar.specs.partial.PartialFaults.{fault};
+ghost use Rattle.libyaml_grammar.specs.partial.PartialTrees.{PartialTree};
+ghost use Rattle.libyaml_grammar.specs.grammar.Events.{Event, events};
 ghost use Rattle.libyaml_types.specs.Fault.{Fault};
-ghost use Rattle.libyaml_grammar.specs.cuts.Fits.{Fits};
-ghost use Rattle.libyaml_grammar.specs.sentences.Order.{in_order};
+ghost use Rattle.libyaml_grammar.specs.partial.Fits.{Fits};
+ghost use Rattle.libyaml_grammar.specs.grammar.Order.{in_order};
 ghost use Rattle.libyaml_grammar.specs.runs.Runs.{Ending, Ends, Fails, IsRun, is_behind_properties};
 ghost use Rattle.libyaml_types.specs.Source.{coming};
-ghost use Rattle.libyaml_grammar.specs.sentences.Tokens.{Token};
-ghost use Rattle.libyaml_grammar.specs.sentences.Trees.{Stream, tokens};
+ghost use Rattle.libyaml_grammar.specs.grammar.Tokens.{Token};
+ghost use Rattle.libyaml_grammar.specs.grammar.Trees.{Stream, tokens};
 ghost use Rattle.unsafe_libyaml.specs.ParsesOnto.{ParsesOnto};
 ghost use Rattle.unsafe_libyaml.specs.WholeRun.{Gathers, RunsTo};
 
@@ -47,10 +47,10 @@ pub fn yaml_parser_parse_all<S: yaml_token_source_t + Drop>(
         → S.known source ≡ Some (coming (tokens t) f)
         → IfOk result (λ run. RunsTo S.yaml_token_source_t source run (events t) Ends) }
     // a partial tree that fits gives its events, and its error
-    ensures of_cut_tree { (before : List Token) (token : Token) (behind : List Token) (c : Cut) (f : Fault)
+    ensures of_partial_tree { (before : List Token) (token : Token) (behind : List Token) (c : PartialTree) (f : Fault)
         → Fits before token c
         → is_behind_properties c behind ≡ true → S.known source ≡ Some (coming (before ++ token ∷ behind) f)
-        → IfOk result (λ run. RunsTo S.yaml_token_source_t source run (cut_events c token)
+        → IfOk result (λ run. RunsTo S.yaml_token_source_t source run (partial_events c token)
         (Fails (fault c token.content token.start_mark))) }
     // any list of tokens gives its run
     ensures of_list { (l : List Token) (f : Fault) (e : List Event) (x : Ending) → IsRun l f e x

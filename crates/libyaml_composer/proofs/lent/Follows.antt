@@ -7,8 +7,8 @@ use Rattle.std.specs.BTreeMap.{is_at}
 use Rattle.libyaml_types.specs.Types.{event_type}
 use Rattle.libyaml_types.specs.declared.event.unnamed_yaml_event_t_data.TheVariants as ev
 use Rattle.libyaml_types.specs.declared.event.unnamed_yaml_event_t_data.{unnamed_yaml_event_t_data}
-use Rattle.libyaml_grammar.specs.sentences.Events.{Event}
-use Rattle.libyaml_grammar.specs.sentences.Tokens.{Mark}
+use Rattle.libyaml_grammar.specs.grammar.Events.{Event}
+use Rattle.libyaml_grammar.specs.grammar.Tokens.{Mark}
 use Rattle.libyaml_documents.specs.LoadedNodes.{mapping_loaded, scalar_loaded, sequence_loaded, with_end}
 use Rattle.libyaml_documents.specs.Nodes.{IsIdUpTo, with_changed}
 use Rattle.libyaml_documents.specs.declared.node.yaml_node_t.{yaml_node_t}

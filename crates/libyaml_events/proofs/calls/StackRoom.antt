@@ -1,8 +1,8 @@
 -- How large the stacks get, at each moment: of states one more than collections are open, of marks as many.
 use Rattle.std.proofs.Common.{◌≡◌, ◌≤◌, ◌+◌, arith, ℕ, zero, suc, List, [], ◌∷◌, length, Option, Some, None, Bool, true, false, ap}
 use Rattle.libyaml_types.specs.declared.enums.yaml_parser_state_t.{yaml_parser_state_t}
-use Rattle.libyaml_grammar.specs.sentences.Events.{Event}
-use Rattle.libyaml_grammar.specs.sentences.Tokens.{Mark, Token}
+use Rattle.libyaml_grammar.specs.grammar.Events.{Event}
+use Rattle.libyaml_grammar.specs.grammar.Tokens.{Mark, Token}
 use Rattle.libyaml_events.specs.machine.Config.{Config, Parser}
 use Rattle.libyaml_events.specs.machine.Want.{Want}
 use Rattle.libyaml_events.specs.parsers.Stages.{Stage, open_collections, stage_of}

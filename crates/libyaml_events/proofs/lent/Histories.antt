@@ -1,9 +1,9 @@
 -- What each history of a parser says, whichever call led there.
 use Rattle.std.proofs.Common.{◌≤◌, ◌+◌, ◌*◌, ◌≡◌, ◌++◌, arith, [], length, true, false, ap, sym, ◌∙◌}
 use Rattle.libyaml_types.specs.Fault.{Fault, no_fault}
-use Rattle.libyaml_grammar.specs.cuts.Settled.{BeginsEach}
-use Rattle.libyaml_grammar.specs.sentences.Nesting.{NestsSoFar}
-use Rattle.libyaml_grammar.proofs.lent.NestingSoFar.{run_front_nests}
+use Rattle.libyaml_grammar.specs.partial.DeterminedEvents.{BeginsEach}
+use Rattle.libyaml_grammar.specs.grammar.Nesting.{NestsSoFar}
+use Rattle.libyaml_grammar.proofs.lent.NestingSoFar.{run_prefix_nests}
 use Rattle.libyaml_grammar.proofs.lent.Running.{some_run_proof}
 use Rattle.libyaml_events.specs.machine.Config.{Parser, is_fault}
 use Rattle.libyaml_events.specs.parsers.Lookahead.{LookaheadIsLast}
@@ -35,7 +35,7 @@ module _ {S : Type 0} (p : Parser S) where
   nests asked given h =
       let b = linked_begins _ asked given [] (ran_links h) in
       let (e, x, run) = some_run_proof (asked ++ []) no_fault in
-      run_front_nests (asked ++ []) no_fault e x run given b.0 (run_given (asked ++ []) no_fault e x run ∙ b.1)
+      run_prefix_nests (asked ++ []) no_fault e x run given b.0 (run_given (asked ++ []) no_fault e x run ∙ b.1)
 
   pub at_most_four : ForHistory p (λ asked given. length given ≤ 4 * length asked)
   at_most_four asked given h = linked_count _ asked given (ran_links h)

@@ -5,11 +5,11 @@ use Rattle.std.specs.Cmp.Lexicographic.{nat_list_eq_equiv, nat_list_cmp_total}
 use Rattle.std.specs.FinMap.{get, insert, get-from_entries}
 use Rattle.libyaml_events.specs.machine.Machine as mach
 use Rattle.libyaml_events.specs.machine.Machine.{put, machine, or_default, resolve, seen, with_prefix}
-use Rattle.libyaml_grammar.specs.cuts.CutFaults.{directive_fault}
-use Rattle.libyaml_grammar.specs.sentences.Tokens.{HandleDeclared, Mark, Marks, TagDirective, TagName, Token, VersionAsked, VersionDirective, tok}
-use Rattle.libyaml_grammar.specs.sentences.Trees.{Directives, directive, no_directives, tag_directive, version}
-use Rattle.libyaml_grammar.specs.sentences.Events.{Event, declaration, prefix_of, resolved, tag_directives_of, tag_directives_then, tag_from, version_of}
-use Rattle.libyaml_grammar.specs.sentences.Order.{declares, is_known, is_accepted, no_version}
+use Rattle.libyaml_grammar.specs.partial.PartialFaults.{directive_fault}
+use Rattle.libyaml_grammar.specs.grammar.Tokens.{HandleDeclared, Mark, Marks, TagDirective, TagName, Token, VersionAsked, VersionDirective, tok}
+use Rattle.libyaml_grammar.specs.grammar.Trees.{Directives, directive, no_directives, tag_directive, version}
+use Rattle.libyaml_grammar.specs.grammar.Events.{Event, declaration, prefix_of, resolved, tag_directives_of, tag_directives_then, tag_from, version_of}
+use Rattle.libyaml_grammar.specs.grammar.Order.{declares, is_known, is_accepted, no_version}
 use Rattle.libyaml_grammar.proofs.lent.Reading.{keeps_order}
 use Rattle.libyaml_events.specs.machine.Config.{Config, Handles, config_of}
 use Rattle.libyaml_events.proofs.machine.Link.{End, after, behind_directives, directive_ends, directive_texts, handles_of, waits}

@@ -6,14 +6,14 @@ use Rattle.libyaml_events.specs.machine.Want.{Given, AtState, no_texts}
 use Rattle.libyaml_events.specs.machine.Config.{config_of as without_texts, Config, staying, no_handles, popped, taken}
 use Rattle.libyaml_automaton.specs.Automaton as automaton
 use Rattle.libyaml_types.specs.Types.{token_type}
-use Rattle.libyaml_grammar.specs.cuts.CutTrees.{declared, open_collection, BlockPlace, Open, PartPlace, Place, block, entry, explicit_root, flow_entry, flow_key, flow_value, implicit_root, indentless_entry, part_place, root, slot}
-use Rattle.libyaml_grammar.specs.sentences.Tokens.{Alias, Anchor, BlockEnd, BlockEntry, BlockMappingStart, BlockSequenceStart, Content, DocumentEnd, DocumentStart, FlowMappingEnd, FlowMappingStart, FlowSequenceEnd, FlowSequenceStart, Key, Marks, Scalar, ScalarText, StreamEnd, StreamStart, Tag}
-use Rattle.libyaml_grammar.specs.sentences.Tokens.{TagDirective, Token, Value, VersionDirective, marks_of, tok}
-use Rattle.libyaml_grammar.specs.sentences.Trees.{Before, BlockItems, BlockNode, BlockSlot, Directive, Directives, Documents, FlowMember, FlowNode, FlowSlot, Free, Parts, Properties, alone, anchor, anchor_tag, behind, block_mapping, block_sequence, collection, directive, ended, explicit, flow}
-use Rattle.libyaml_grammar.specs.sentences.Trees.{flow_node, flow_nothing, free, implicit, indentless, item, key, last, mapping, no_directives, no_last, no_parts, no_value, node, nothing, opened, pair, part, scalar, sequence, single, slot_of, tag, tag_anchor, value, whole, with_value}
-use Rattle.libyaml_grammar.specs.sentences.Events.{Event, alone_of, directive_start, document_end_at, document_start_at, empty_at, end_at, end_of, first_directive, scalar_of, tag_of}
-use Rattle.libyaml_grammar.specs.sentences.Order.{is_known, properties_in_order}
-use Rattle.libyaml_grammar.specs.cuts.Fits.{ends_empty}
+use Rattle.libyaml_grammar.specs.partial.PartialTrees.{declared, open_collection, BlockPlace, Open, PartPlace, Place, block, entry, explicit_root, flow_entry, flow_key, flow_value, implicit_root, indentless_entry, part_place, root, slot}
+use Rattle.libyaml_grammar.specs.grammar.Tokens.{Alias, Anchor, BlockEnd, BlockEntry, BlockMappingStart, BlockSequenceStart, Content, DocumentEnd, DocumentStart, FlowMappingEnd, FlowMappingStart, FlowSequenceEnd, FlowSequenceStart, Key, Marks, Scalar, ScalarText, StreamEnd, StreamStart, Tag}
+use Rattle.libyaml_grammar.specs.grammar.Tokens.{TagDirective, Token, Value, VersionDirective, marks_of, tok}
+use Rattle.libyaml_grammar.specs.grammar.Trees.{Before, BlockItems, BlockNode, BlockSlot, Directive, Directives, Documents, FlowMember, FlowNode, FlowSlot, Free, Parts, Properties, alone, anchor, anchor_tag, behind, block_mapping, block_sequence, collection, directive, ended, explicit, flow}
+use Rattle.libyaml_grammar.specs.grammar.Trees.{flow_node, flow_nothing, free, implicit, indentless, item, key, last, mapping, no_directives, no_last, no_parts, no_value, node, nothing, opened, pair, part, scalar, sequence, single, slot_of, tag, tag_anchor, value, whole, with_value}
+use Rattle.libyaml_grammar.specs.grammar.Events.{Event, alone_of, directive_start, document_end_at, document_start_at, empty_at, end_at, end_of, first_directive, scalar_of, tag_of}
+use Rattle.libyaml_grammar.specs.grammar.Order.{is_known, properties_in_order}
+use Rattle.libyaml_grammar.specs.partial.Fits.{ends_empty}
 use Rattle.libyaml_grammar.proofs.lent.Positions.{Position, between, done, due, flow_behind, flow_due, flow_keyed, headed, in_indentless, in_mapping, in_sequence, unopened}
 use Rattle.libyaml_grammar.proofs.lent.Reading.{Step, at_flow, at_free, at_headed, at_unopened, behind_documents, behind_indentless, behind_item, behind_key, behind_member, behind_part, behind_whole, fill, fill_flow, on_block_entry, on_block_mapping, on_block_sequence, on_due, without}
 use Rattle.libyaml_grammar.proofs.lent.Given.{given_at_flow, given_at_free, given_at_headed, given_at_unopened, given_behind_documents, given_behind_indentless, given_behind_item, given_behind_key, given_behind_member, given_behind_part, given_behind_whole, given_on_block_entry}

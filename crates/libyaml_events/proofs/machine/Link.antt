@@ -1,14 +1,14 @@
 -- What the parser keeps at each position, once the tokens before it are consumed; and all that one token makes it do.
 use Rattle.std.proofs.Common.{ℕ, zero, suc, List, [], ◌∷◌, Option, Some, None, Ok, Err, Bool, true, false, is_some}
 use Rattle.std.specs.FinMap.{insert}
-use Rattle.libyaml_grammar.specs.cuts.CutTrees.{declared, open_collection, BlockPlace, Open, PartPlace, Place, Root, block, declared_block, declared_open, declared_part, entry, explicit_root, flow_entry, flow_key, flow_value, implicit_root, indentless_entry, part_place, root, slot}
+use Rattle.libyaml_grammar.specs.partial.PartialTrees.{declared, open_collection, BlockPlace, Open, PartPlace, Place, Root, block, declared_block, declared_open, declared_part, entry, explicit_root, flow_entry, flow_key, flow_value, implicit_root, indentless_entry, part_place, root, slot}
 use Rattle.libyaml_types.specs.Fault.{no_fault, Fault}
-use Rattle.libyaml_grammar.specs.cuts.FaultTexts.{document_start_fault}
-use Rattle.libyaml_grammar.specs.sentences.Tokens.{Content, Mark, Marks, TagDirective, TagName, Token, VersionDirective, marks_of, tok}
-use Rattle.libyaml_grammar.specs.sentences.Trees.{Before, Directives, Documents, FlowMember, Free, Parts, Properties, Role, Stream, anchor, anchor_tag, behind, directive, ended, explicit, free, implicit, key, mapping, no_directives, no_parts, no_value, opened, pair, part, sequence, single, tag}
-use Rattle.libyaml_grammar.specs.sentences.Trees.{tag_anchor, tag_directive, value, version, whole, with_value}
-use Rattle.libyaml_grammar.specs.sentences.Events.{Event, directive_start, first_directive, tag_directives_of, version_of, anchor_of, first_of_properties, last_of_properties}
-use Rattle.libyaml_grammar.specs.cuts.CutFaults.{directive_fault, fault}
+use Rattle.libyaml_grammar.specs.partial.FaultTexts.{document_start_fault}
+use Rattle.libyaml_grammar.specs.grammar.Tokens.{Content, Mark, Marks, TagDirective, TagName, Token, VersionDirective, marks_of, tok}
+use Rattle.libyaml_grammar.specs.grammar.Trees.{Before, Directives, Documents, FlowMember, Free, Parts, Properties, Role, Stream, anchor, anchor_tag, behind, directive, ended, explicit, free, implicit, key, mapping, no_directives, no_parts, no_value, opened, pair, part, sequence, single, tag}
+use Rattle.libyaml_grammar.specs.grammar.Trees.{tag_anchor, tag_directive, value, version, whole, with_value}
+use Rattle.libyaml_grammar.specs.grammar.Events.{Event, directive_start, first_directive, tag_directives_of, version_of, anchor_of, first_of_properties, last_of_properties}
+use Rattle.libyaml_grammar.specs.partial.PartialFaults.{directive_fault, fault}
 use Rattle.libyaml_grammar.proofs.lent.Positions.{Position, between, done, due, flow_behind, flow_due, flow_keyed, headed, in_indentless, in_mapping, in_sequence, unopened}
 use Rattle.libyaml_grammar.proofs.lent.Reading.{Step, bad, goes, keeps_order, over, pending, step}
 use Rattle.libyaml_events.specs.machine.Config.{Config, Handles, no_handles, taken}

@@ -10,17 +10,17 @@ use Rattle.libyaml_types.specs.declared.event.unnamed_yaml_event_t_data_mapping_
 use Rattle.libyaml_types.specs.declared.event.unnamed_yaml_event_t_data_scalar.{unnamed_yaml_event_t_data_scalar}
 use Rattle.libyaml_types.specs.declared.event.unnamed_yaml_event_t_data_sequence_start.{unnamed_yaml_event_t_data_sequence_start}
 use Rattle.libyaml_types.specs.declared.event.unnamed_yaml_event_t_data_stream_start.{unnamed_yaml_event_t_data_stream_start}
-use Rattle.libyaml_grammar.specs.cuts.FaultTexts.{item_fault, mapping_fault, part_fault, sequence_fault}
+use Rattle.libyaml_grammar.specs.partial.FaultTexts.{item_fault, mapping_fault, part_fault, sequence_fault}
 use Rattle.libyaml_types.specs.Fault.{Fault}
-use Rattle.libyaml_grammar.specs.sentences.Tokens.{Alias, Anchor, AnchorName, BlockEnd, BlockEntry, BlockMappingStart, BlockSequenceStart, Content, DocumentEnd, DocumentStart, FlowEntry, FlowMappingEnd, FlowMappingStart, FlowSequenceEnd, FlowSequenceStart, Key, Mark, Scalar, StreamEnd, StreamStart}
-use Rattle.libyaml_grammar.specs.sentences.Tokens.{Tag, TagDirective, TagName, Token, Value, VersionDirective}
+use Rattle.libyaml_grammar.specs.grammar.Tokens.{Alias, Anchor, AnchorName, BlockEnd, BlockEntry, BlockMappingStart, BlockSequenceStart, Content, DocumentEnd, DocumentStart, FlowEntry, FlowMappingEnd, FlowMappingStart, FlowSequenceEnd, FlowSequenceStart, Key, Mark, Scalar, StreamEnd, StreamStart}
+use Rattle.libyaml_grammar.specs.grammar.Tokens.{Tag, TagDirective, TagName, Token, Value, VersionDirective}
 use Rattle.libyaml_automaton.specs.declared.node_place.NodePlace.{NodePlace}
 use Rattle.libyaml_events.specs.parsers.EventsLeft.{rank}
 use Rattle.std.specs.FinMap.{get}
 use Rattle.libyaml_types.specs.declared.token.unnamed_yaml_token_t_data_tag_directive.{unnamed_yaml_token_t_data_tag_directive}
 use Rattle.libyaml_types.specs.Types.{token_type}
 use Rattle.libyaml_types.specs.declared.event.unnamed_yaml_event_t_data_alias.{unnamed_yaml_event_t_data_alias}
-use Rattle.libyaml_grammar.specs.sentences.Events.{event}
+use Rattle.libyaml_grammar.specs.grammar.Events.{event}
 use Rattle.libyaml_automaton.specs.declared.node_place.NodePlace.TheVariants.{Block, BlockOrIndentlessSequence, Flow}
 use Rattle.libyaml_automaton.specs.declared.slot.Slot.TheVariants as slot
 use Rattle.libyaml_automaton.specs.Slots.{is_nothing_before}

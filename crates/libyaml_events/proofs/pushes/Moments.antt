@@ -1,17 +1,17 @@
 -- Each moment has one next, but for the token that is handed over; so two moments by the same tokens and events are one.
 use Rattle.std.proofs.Common.{◌≡◌, ◌≤◌, ◌+◌, ◌⊎◌, inl, inr, ◌++◌, ◌∷◌, ℕ, arith, List, [], length, Some, None, Ok, Err, refl, sym, ap, ◌∙◌, subst, append_assoc, append-nil}
-use Rattle.libyaml_grammar.specs.sentences.Tokens.{Token}
-use Rattle.libyaml_grammar.specs.sentences.Events.{Event}
-use Rattle.libyaml_grammar.proofs.lent.Same.{head_same, not_cons, tail_same}
+use Rattle.libyaml_grammar.specs.grammar.Tokens.{Token}
+use Rattle.libyaml_grammar.specs.grammar.Events.{Event}
+use Rattle.libyaml_grammar.proofs.lent.Injectivity.{head_same, not_cons, tail_same}
 use Rattle.libyaml_events.specs.machine.Config.{Config}
 use Rattle.libyaml_events.specs.machine.Machine.{Progressed, step}
 use Rattle.libyaml_events.specs.machine.Want.{Want, Given, Wants}
 use Rattle.libyaml_events.specs.sources.Pushed.{Pushed, PushParser, standing}
 use Rattle.libyaml_events.specs.sources.Trace.{Moment, Next, Reached, StepLeads, Trace, after_event, amid, goes_on, here}
 
-pub front_same : {A : Type 0} (a l m : List A) → a ++ l ≡ a ++ m → l ≡ m
-front_same [] l m e = e
-front_same (x ∷ a) l m e = front_same a l m (tail_same x x (a ++ l) (a ++ m) e)
+pub prefix_same : {A : Type 0} (a l m : List A) → a ++ l ≡ a ++ m → l ≡ m
+prefix_same [] l m e = e
+prefix_same (x ∷ a) l m e = prefix_same a l m (tail_same x x (a ++ l) (a ++ m) e)
 
 abbrev tokens : Moment → List Token
 tokens (after_event c l g) = l
@@ -62,7 +62,7 @@ one_next (amid w c None l g) x y (i, (t, h)) (j, (u, k)) r s e
     = h ∙ (ap (λ (z : Token). amid w c (Some z) (l ++ z ∷ []) g) same ∙ sym k)
   where
     same : t ≡ u
-    same = head_same t u r s (front_same l (t ∷ r) (u ∷ s) (sym (append_assoc l (t ∷ []) r)
+    same = head_same t u r s (prefix_same l (t ∷ r) (u ∷ s) (sym (append_assoc l (t ∷ []) r)
         ∙ (ap (λ (m : Moment). tokens m ++ r) (sym h)
         ∙ (e ∙ (ap (λ (m : Moment). tokens m ++ s) k ∙ append_assoc l (u ∷ []) s)))))
 one_next (amid w c (Some t) l g) x y h k r s e = by (step w c t) h k
@@ -101,7 +101,7 @@ no_token_more : {w v : Want} {c d : Config} {l m : List Token} {g h : List Event
 no_token_more here e = (refl, refl)
 no_token_more {l} {g} (goes_on (i, (t, n)) u) e =
     let k = further u in
-    absurd (not_cons t k.more (sym (front_same l (t ∷ k.more) [] (sym (append_assoc l (t ∷ []) k.more)
+    absurd (not_cons t k.more (sym (prefix_same l (t ∷ k.more) [] (sym (append_assoc l (t ∷ []) k.more)
     ∙ (ap (λ (m : Moment). tokens m ++ k.more) (sym n) ∙ (sym k.all ∙ (sym e ∙ sym (append-nil l))))))))
 
 -- of tokens of one list, and by the same events, a machine comes to one configuration

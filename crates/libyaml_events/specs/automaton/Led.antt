@@ -13,7 +13,7 @@ use Rattle.libyaml_types.specs.declared.enums.yaml_mapping_style_t.TheVariants.{
 use Rattle.libyaml_types.specs.declared.mark.yaml_mark_t.{yaml_mark_t}
 use Rattle.libyaml_types.specs.Fault.{memory_fault}
 use Rattle.libyaml_types.specs.Types.{token_type}
-use Rattle.libyaml_grammar.specs.cuts.FaultTexts.{tag_fault}
+use Rattle.libyaml_grammar.specs.partial.FaultTexts.{tag_fault}
 use Rattle.libyaml_automaton.specs.declared.action.Action.{Action}
 use Rattle.libyaml_automaton.specs.declared.action.Action.TheVariants as did
 use Rattle.libyaml_automaton.specs.declared.reading.Reading.{Reading}

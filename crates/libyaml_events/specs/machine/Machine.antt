@@ -20,9 +20,9 @@ use Rattle.libyaml_types.specs.declared.enums.yaml_sequence_style_t.{yaml_sequen
 use Rattle.libyaml_types.specs.declared.enums.yaml_sequence_style_t.TheVariants.{YAML_BLOCK_SEQUENCE_STYLE, YAML_FLOW_SEQUENCE_STYLE}
 use Rattle.libyaml_types.specs.declared.enums.yaml_mapping_style_t.{yaml_mapping_style_t}
 use Rattle.libyaml_types.specs.declared.enums.yaml_mapping_style_t.TheVariants.{YAML_BLOCK_MAPPING_STYLE, YAML_FLOW_MAPPING_STYLE}
-use Rattle.libyaml_grammar.specs.cuts.FaultTexts as fault
-use Rattle.libyaml_grammar.specs.sentences.Events.{event, is_missing, plain_flag, quoted_flag}
-use Rattle.libyaml_grammar.specs.sentences.Order.{is_accepted}
+use Rattle.libyaml_grammar.specs.partial.FaultTexts as fault
+use Rattle.libyaml_grammar.specs.grammar.Events.{event, is_missing, plain_flag, quoted_flag}
+use Rattle.libyaml_grammar.specs.grammar.Order.{is_accepted}
 use Rattle.libyaml_automaton.specs.Problems as problem
 use Rattle.libyaml_automaton.specs.Config as automaton_config
 use Rattle.libyaml_automaton.specs.declared.node_place.NodePlace.{NodePlace}

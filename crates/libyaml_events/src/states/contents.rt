@@ -7,7 +7,7 @@
 ghost use Rattle.std.specs.Prelude.{◌≡◌, [], None, false, true, option_map, string_bytes};
 ghost use Rattle.libyaml_types.specs.declared.event.unnamed_yaml_event_t_data.TheVariants.{Alias, MappingEnd};
 ghost use Rattle.libyaml_types.specs.declared.event.unnamed_yaml_event_t_data.TheVariants.{SequenceEnd};
-ghost use Rattle.libyaml_grammar.specs.sentences.Events.{plain_flag, quoted_flag};
+ghost use Rattle.libyaml_grammar.specs.grammar.Events.{plain_flag, quoted_flag};
 ghost use Rattle.libyaml_events.specs.machine.Machine.{empty_scalar, mapping_start_with, scalar_with};
 ghost use Rattle.libyaml_events.specs.machine.Machine.{sequence_start_with};
 

@@ -6,8 +6,8 @@ ghost use Rattle.libyaml_types.specs.declared.token.unnamed_yaml_token_t_data.Th
 ghost use Rattle.libyaml_types.specs.declared.event.unnamed_yaml_event_t_data.TheVariants as ev;
 ghost use Rattle.libyaml_types.specs.Events.{zero_mark};
 ghost use Rattle.libyaml_types.specs.Types.{token_type};
-ghost use Rattle.libyaml_grammar.specs.sentences.Events.{event};
-ghost use Rattle.libyaml_grammar.specs.sentences.Order.{is_accepted};
+ghost use Rattle.libyaml_grammar.specs.grammar.Events.{event};
+ghost use Rattle.libyaml_grammar.specs.grammar.Order.{is_accepted};
 ghost use Rattle.libyaml_automaton.specs.Numbers.{next_of};
 ghost use Rattle.libyaml_automaton.specs.Fits.{FitsDocument, Documents};
 ghost use Rattle.libyaml_automaton.specs.Growth.{stack_part_of};

@@ -1,7 +1,7 @@
 //! The flags that a tag and a style give to a node's event, and contents with them.
 ghost use Rattle.std.specs.Prelude.{◌≡◌, false, option_map, string_bytes};
 ghost use Rattle.libyaml_types.specs.declared.enums.yaml_scalar_style_t.TheVariants.{YAML_PLAIN_SCALAR_STYLE};
-ghost use Rattle.libyaml_grammar.specs.sentences.Events.{is_plain, plain_flag, quoted_flag, is_missing};
+ghost use Rattle.libyaml_grammar.specs.grammar.Events.{is_plain, plain_flag, quoted_flag, is_missing};
 ghost use Rattle.libyaml_events.specs.machine.Machine.{scalar_with, sequence_start_with, mapping_start_with};
 ghost use Rattle.libyaml_events.specs.automaton.Led.{collection_start};
 

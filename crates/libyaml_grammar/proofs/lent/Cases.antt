@@ -1,11 +1,11 @@
 -- What a tag and a directive lead to where the grammar takes them.
 use Rattle.std.proofs.Common.{◌≡◌, List, Some, None, refl, subst, Bool}
 use Rattle.std.specs.Prelude.{Option}
-use Rattle.libyaml_grammar.specs.sentences.Tokens.{Content, HandleDeclared, Marks, Tag, TagDirective, TagName, VersionAsked, VersionDirective}
-use Rattle.libyaml_grammar.specs.sentences.Trees.{Directive, Directives, FlowNode, alone, anchor_tag, no_directives, tag, tag_directive, version}
-use Rattle.libyaml_grammar.specs.sentences.Events.{Event}
-use Rattle.libyaml_grammar.specs.sentences.Order.{is_known}
-use Rattle.libyaml_grammar.specs.cuts.CutTrees.{Place, block, declared, implicit_root, part_place, root, slot}
+use Rattle.libyaml_grammar.specs.grammar.Tokens.{Content, HandleDeclared, Marks, Tag, TagDirective, TagName, VersionAsked, VersionDirective}
+use Rattle.libyaml_grammar.specs.grammar.Trees.{Directive, Directives, FlowNode, alone, anchor_tag, no_directives, tag, tag_directive, version}
+use Rattle.libyaml_grammar.specs.grammar.Events.{Event}
+use Rattle.libyaml_grammar.specs.grammar.Order.{is_known}
+use Rattle.libyaml_grammar.specs.partial.PartialTrees.{Place, block, declared, implicit_root, part_place, root, slot}
 use Rattle.libyaml_grammar.proofs.lent.Positions.{Position, due, headed}
 use Rattle.libyaml_grammar.proofs.lent.Reading.{Step, bad, fill_flow, goes, is_legal, leave, over, pending, step}
 use Rattle.libyaml_grammar.proofs.lent.ReadSteps.{Moves, ReadStep, a_tag, fails, first_handle, first_version, is_alone, is_past, leaves, moves, next_handle, next_version, read_step, tag_behind_anchor}

@@ -1,12 +1,12 @@
 -- Each position can be completed to a stream, so reading goes on exactly through viable prefixes; and one list of
 -- tokens has one stream tree.
 use Rattle.std.proofs.Common.{◌≡◌, List, [], ◌∷◌, ◌++◌, refl, sym, ap, ◌∙◌, subst, ◌⊎◌, inl, inr, Bool, true, append-nil}
-use Rattle.libyaml_grammar.specs.sentences.Tokens.{Marks, Token, empty_plain, zero_marks}
-use Rattle.libyaml_grammar.specs.sentences.Trees.{BlockNode, FlowNode, Stream, behind, block_mapping, block_sequence, collection, directive, explicit, flow, flow_node, free, implicit, indentless, item, last, mapping, no_directives, no_last, no_value, node, nothing, opened, pair, part, scalar}
-use Rattle.libyaml_grammar.specs.sentences.Trees.{sequence, single, slot_of, tokens, whole, with_value}
-use Rattle.libyaml_grammar.specs.sentences.Sentences.{IsBeginning, IsSentence}
-use Rattle.libyaml_grammar.specs.cuts.CutTrees.{BlockPlace, Cut, Place, at_directive, block, cut_in_order, cut_tokens, entry, explicit_root, flow_entry, flow_key, flow_value, implicit_root, indentless_entry, open_collection, part_place, root, slot}
-use Rattle.libyaml_grammar.specs.cuts.Rest.{any_encoding, rest, rest_block_place, rest_place}
+use Rattle.libyaml_grammar.specs.grammar.Tokens.{Marks, Token, empty_plain, zero_marks}
+use Rattle.libyaml_grammar.specs.grammar.Trees.{BlockNode, FlowNode, Stream, behind, block_mapping, block_sequence, collection, directive, explicit, flow, flow_node, free, implicit, indentless, item, last, mapping, no_directives, no_last, no_value, node, nothing, opened, pair, part, scalar}
+use Rattle.libyaml_grammar.specs.grammar.Trees.{sequence, single, slot_of, tokens, whole, with_value}
+use Rattle.libyaml_grammar.specs.grammar.ValidLists.{IsViablePrefix, IsValidList}
+use Rattle.libyaml_grammar.specs.partial.PartialTrees.{BlockPlace, PartialTree, Place, at_directive, block, partial_in_order, partial_tokens, entry, explicit_root, flow_entry, flow_key, flow_value, implicit_root, indentless_entry, open_collection, part_place, root, slot}
+use Rattle.libyaml_grammar.specs.partial.Rest.{any_encoding, rest, rest_block_place, rest_place}
 use Rattle.libyaml_grammar.proofs.lent.Positions.{Position, between, done, due, flow_behind, flow_due, flow_keyed, headed, in_indentless, in_mapping, in_sequence, position_in_order, position_rest, position_tokens, position_of, unopened}
 use Rattle.libyaml_grammar.proofs.lent.Reading.{Step, bad, feeds, fill, fill_flow, goes, over, reads, reads_all, then_all}
 use Rattle.libyaml_grammar.proofs.lent.Keeps.{feeds_keep}
@@ -69,7 +69,7 @@ position_ends m (done t) = (t, refl, refl)
 
 -- a position in order is completed to a valid list
 pub position_begins : (m : Marks) (q : Position) → position_in_order q true ≡ true
-    → IsSentence (position_tokens q (position_rest m q))
+    → IsValidList (position_tokens q (position_rest m q))
 position_begins m q h =
     let e = position_ends m q in
     record {
@@ -80,20 +80,20 @@ position_begins m q h =
       order = feeds_order (position_rest m q) q (done e.0) e.1 true ∙ (ap (position_in_order q) e.2 ∙ h);
     }
 
-stand_tokens : (c : Cut) (r : List Token) → position_tokens (position_of c) r ≡ cut_tokens c r
+stand_tokens : (c : PartialTree) (r : List Token) → position_tokens (position_of c) r ≡ partial_tokens c r
 stand_tokens (at_directive b no_directives) r = refl
 stand_tokens _ r = refl
 
-stand_order : (c : Cut) (r : Bool) → position_in_order (position_of c) r ≡ cut_in_order c r
+stand_order : (c : PartialTree) (r : Bool) → position_in_order (position_of c) r ≡ partial_in_order c r
 stand_order (at_directive b no_directives) r = refl
 stand_order _ r = refl
 
-stand_rest : (m : Marks) (c : Cut) → position_rest m (position_of c) ≡ rest m c
+stand_rest : (m : Marks) (c : PartialTree) → position_rest m (position_of c) ≡ rest m c
 stand_rest m (at_directive b no_directives) = refl
 stand_rest m _ = refl
 
-pub cut_begins_proof : (c : Cut) → cut_in_order c true ≡ true → IsSentence (cut_tokens c (rest zero_marks c))
-cut_begins_proof c h = subst IsSentence (ap (position_tokens (position_of c)) (stand_rest zero_marks c)
+pub partial_begins_proof : (c : PartialTree) → partial_in_order c true ≡ true → IsValidList (partial_tokens c (rest zero_marks c))
+partial_begins_proof c h = subst IsValidList (ap (position_tokens (position_of c)) (stand_rest zero_marks c)
     ∙ stand_tokens c (rest zero_marks c)) (position_begins zero_marks (position_of c) (stand_order c true ∙ h))
 
 -- what is read is in order, and begins a valid list
@@ -102,27 +102,27 @@ read_order l q e =
     let (f, g) = reads_to l unopened q e in
     feeds_order l unopened q f true ∙ g
 
-pub reached_begins : (l : List Token) (q : Position) → reads_all l unopened ≡ goes q → IsBeginning l
+pub reached_begins : (l : List Token) (q : Position) → reads_all l unopened ≡ goes q → IsViablePrefix l
 reached_begins l q e =
     let (f, g) = reads_to l unopened q e in
     record {
       rest = position_rest zero_marks q;
-      sentence
-          = subst IsSentence (feeds_keep l unopened q f (position_rest zero_marks q))
+      valid_list
+          = subst IsValidList (feeds_keep l unopened q f (position_rest zero_marks q))
           (position_begins zero_marks q (read_order l q e));
     }
 
 -- what is read to the stream's end is a valid list, and a valid list is read to its end
-pub read_sentence : (l : List Token) (t : Stream) → reads_all l unopened ≡ goes (done t) → IsSentence l
-read_sentence l t e = record {
+pub read_valid_list : (l : List Token) (t : Stream) → reads_all l unopened ≡ goes (done t) → IsValidList l
+read_valid_list l t e = record {
   tree = t;
   all = sym (feeds_keep l unopened (done t) (reads_to l unopened (done t) e).0 [] ∙ append-nil l);
   order
       = read_order l (done t) e;
 }
 
-pub sentence_reads : (l : List Token) (s : IsSentence l) → reads_all l unopened ≡ goes (done s.tree)
-sentence_reads l s =
+pub valid_list_reads : (l : List Token) (s : IsValidList l) → reads_all l unopened ≡ goes (done s.tree)
+valid_list_reads l s =
     let e : feeds l unopened ≡ goes (done s.tree) = ap (λ (x : List Token). feeds x unopened) s.all ∙ stream_reads s.tree in
     reads_from l unopened (done s.tree) e (sym (feeds_order l unopened (done s.tree) e true) ∙ s.order)
 
@@ -143,15 +143,15 @@ goes_before (bad c) f p e = cc
 goes_before over f p e = cc
 
 -- a viable prefix is read
-pub begin_reads : (a : List Token) → IsBeginning a → (q : Position) × (reads_all a unopened ≡ goes q)
+pub begin_reads : (a : List Token) → IsViablePrefix a → (q : Position) × (reads_all a unopened ≡ goes q)
 begin_reads a h =
-    let (q, e, f) = goes_before (reads_all a unopened) (reads_all h.rest) (done h.sentence.tree)
-    (sym (reads_append a h.rest unopened) ∙ sentence_reads (a ++ h.rest) h.sentence) in
+    let (q, e, f) = goes_before (reads_all a unopened) (reads_all h.rest) (done h.valid_list.tree)
+    (sym (reads_append a h.rest unopened) ∙ valid_list_reads (a ++ h.rest) h.valid_list) in
     (q, e)
 
 -- a list that stops begins no valid list
 pub not_done : (a : List Token) (s : Step) → ((q : Position) → s ≡ goes q → ⊥) → reads_all a unopened ≡ s
-    → IsBeginning a → ⊥
+    → IsViablePrefix a → ⊥
 not_done a s n e h =
     let (q, f) = begin_reads a h in
     n q (sym e ∙ f)

@@ -1,11 +1,11 @@
 -- The events that one token gives at a position, and those that a list gives up to its first bad token.
 use Rattle.std.specs.Prelude.{List, [], ◌∷◌, Option, Some, None, true, false}
-use Rattle.libyaml_grammar.specs.sentences.Tokens.{Alias, AliasName, Anchor, AnchorName, BlockEnd, BlockEntry, BlockMappingStart, BlockSequenceStart, Content, DocumentEnd, DocumentStart, FlowMappingEnd, FlowMappingStart, FlowSequenceEnd, FlowSequenceStart, Key, Mark, Marks, Scalar, StreamEnd}
-use Rattle.libyaml_grammar.specs.sentences.Tokens.{StreamStart, Tag, TagDirective, TagName, Token, Value, VersionDirective, marks_of}
-use Rattle.libyaml_grammar.specs.sentences.Trees.{BlockItems, BlockSlot, Directives, FlowMember, FlowSlot, Free, Parts, Properties, Slot, Sort, alone, anchor, behind, directive, ended, free, indentless, mapping, no_directives, no_value, opened, pair, part, sequence, tag}
-use Rattle.libyaml_grammar.specs.sentences.Events.{Event, alias_at, alone_of, block_layout, document_end_at, document_start_at, empty_at, end_at, end_of, first_directive, flow_layout, member_end, missing_key, missing_value, opens_pair, scalar_of, start_of, stream_end_at, stream_start_at}
-use Rattle.libyaml_grammar.specs.cuts.CutTrees.{BlockPlace, Open, PartPlace, Place, block, declared, declared_block, declared_part, entry, flow_entry, implicit_root, indentless_entry, part_place, root, slot}
-use Rattle.libyaml_grammar.specs.cuts.CutEvents.{sort_of}
+use Rattle.libyaml_grammar.specs.grammar.Tokens.{Alias, AliasName, Anchor, AnchorName, BlockEnd, BlockEntry, BlockMappingStart, BlockSequenceStart, Content, DocumentEnd, DocumentStart, FlowMappingEnd, FlowMappingStart, FlowSequenceEnd, FlowSequenceStart, Key, Mark, Marks, Scalar, StreamEnd}
+use Rattle.libyaml_grammar.specs.grammar.Tokens.{StreamStart, Tag, TagDirective, TagName, Token, Value, VersionDirective, marks_of}
+use Rattle.libyaml_grammar.specs.grammar.Trees.{BlockItems, BlockSlot, Directives, FlowMember, FlowSlot, Free, Parts, Properties, Slot, Sort, alone, anchor, behind, directive, ended, free, indentless, mapping, no_directives, no_value, opened, pair, part, sequence, tag}
+use Rattle.libyaml_grammar.specs.grammar.Events.{Event, alias_at, alone_of, block_layout, document_end_at, document_start_at, empty_at, end_at, end_of, first_directive, flow_layout, member_end, missing_key, missing_value, opens_pair, scalar_of, start_of, stream_end_at, stream_start_at}
+use Rattle.libyaml_grammar.specs.partial.PartialTrees.{BlockPlace, Open, PartPlace, Place, block, declared, declared_block, declared_part, entry, flow_entry, implicit_root, indentless_entry, part_place, root, slot}
+use Rattle.libyaml_grammar.specs.partial.PartialEvents.{sort_of}
 use Rattle.libyaml_grammar.proofs.lent.Positions.{Position, between, done, due, flow_behind, flow_due, flow_keyed, headed, in_indentless, in_mapping, in_sequence, unopened}
 use Rattle.libyaml_grammar.proofs.lent.Reading.{Step, behind_whole, feed, fill_flow, goes, leave}
 

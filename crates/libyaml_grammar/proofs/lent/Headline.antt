@@ -1,15 +1,15 @@
 -- A list whose only STREAM-END is its last token runs to its tree's events, or to its partial tree's events and error.
 use Rattle.std.proofs.Common.{◌≡◌, List, [], ◌∷◌, ◌++◌, refl, sym, ap, ◌∙◌, Bool, true, false, inl, inr, append-nil}
 use Rattle.libyaml_types.specs.Fault.{Fault}
-use Rattle.libyaml_grammar.specs.sentences.Tokens.{Anchor, Content, Marks, StreamEnd, Tag, Token, tok}
-use Rattle.libyaml_grammar.specs.sentences.Trees.{Directives, tokens}
-use Rattle.libyaml_grammar.specs.sentences.Events.{events}
-use Rattle.libyaml_grammar.specs.cuts.CutTrees.{Cut, at_tag, at_tag_behind, declared}
-use Rattle.libyaml_grammar.specs.cuts.Fits.{Fits, IsUnknown}
-use Rattle.libyaml_grammar.specs.sentences.Sentences.{is_end, has_end}
+use Rattle.libyaml_grammar.specs.grammar.Tokens.{Anchor, Content, Marks, StreamEnd, Tag, Token, tok}
+use Rattle.libyaml_grammar.specs.grammar.Trees.{Directives, tokens}
+use Rattle.libyaml_grammar.specs.grammar.Events.{events}
+use Rattle.libyaml_grammar.specs.partial.PartialTrees.{PartialTree, at_tag, at_tag_behind, declared}
+use Rattle.libyaml_grammar.specs.partial.Fits.{Fits, IsUnknown}
+use Rattle.libyaml_grammar.specs.grammar.ValidLists.{is_end, has_end}
 use Rattle.libyaml_grammar.specs.runs.Runs.{has_token, is_behind, is_behind_properties, RunsWhole, to_its_end, to_its_fault}
-use Rattle.libyaml_grammar.proofs.lent.Running.{sentence_run, cut_run}
-use Rattle.libyaml_grammar.proofs.trees.TreeOrCut.{sentence_or_cut}
+use Rattle.libyaml_grammar.proofs.lent.Running.{valid_list_run, partial_run}
+use Rattle.libyaml_grammar.proofs.trees.TreeOrPartialTree.{valid_list_or_partial_tree}
 
 abbrev last_from : Token → List Token → Bool
 last_from t [] = is_end t.content
@@ -40,7 +40,7 @@ last_one : (t : Token) (l : List Token) → last_from t l ≡ true → has_token
 last_one t [] e h = e
 last_one t (u ∷ l) e h = cc
 
-behind_ends : (c : Cut) (before : List Token) (b : Token) (after : List Token) → Fits before b c → last_from b after ≡ true
+behind_ends : (c : PartialTree) (before : List Token) (b : Token) (after : List Token) → Fits before b c → last_from b after ≡ true
     → is_behind_properties c after ≡ true
 behind_ends (at_tag p) before b [] h e = absurd (not_end (declared p) b.content h.tag e)
 behind_ends (at_tag p) before b (t ∷ l) h e = behind_one t.content l (last_one t l e)
@@ -49,11 +49,11 @@ behind_ends (at_tag_behind p a m) before b (t ∷ l) h e = refl
 behind_ends _ before b after h e = refl
 
 pub runs_whole : (l : List Token) (m : Marks) (f : Fault) → has_end l ≡ false → RunsWhole (l ++ tok StreamEnd m ∷ []) f
-runs_whole l m f h = elim (sentence_or_cut l m h).0 [
+runs_whole l m f h = elim (valid_list_or_partial_tree l m h).0 [
   | inl s ↦ to_its_end s.tree s.order s.all
-      (rw (append-nil (tokens s.tree) ∙ sym s.all) at (sentence_run s.tree [] f s.order))
+      (rw (append-nil (tokens s.tree) ∙ sym s.all) at (valid_list_run s.tree [] f s.order))
   | inr k ↦ to_its_fault k.before k.token k.after k.cut k.all k.fits
-      (rw (← k.all) at (cut_run k.before k.token k.after k.cut f k.fits
+      (rw (← k.all) at (partial_run k.before k.token k.after k.cut f k.fits
       (behind_ends k.cut k.before k.token k.after k.fits (sym (last_of k.before k.token k.after)
       ∙ (ap last_is_end (sym k.all) ∙ last_of l (tok StreamEnd m) [])))))
 ]

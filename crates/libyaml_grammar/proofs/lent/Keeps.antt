@@ -2,21 +2,21 @@
 -- what stands before is and the token is legal there; and a bad token's place has what stands before it.
 use Rattle.std.specs.Prelude.{◌&&◌}
 use Rattle.std.proofs.Common.{◌≡◌, List, ◌∷◌, ◌++◌, refl, ◌∙◌, Bool, None, subst}
-use Rattle.libyaml_grammar.specs.sentences.Tokens.{Content, Marks, Token, marks_of, tok}
-use Rattle.libyaml_grammar.specs.sentences.Trees.{BlockNode, BlockSlot, FlowNode, FlowSlot, alone, block_node_tokens, block_slot_tokens, flow, flow_node, flow_node_tokens, flow_nothing, flow_slot_tokens, node, nothing}
-use Rattle.libyaml_grammar.specs.sentences.Events.{Event}
-use Rattle.libyaml_grammar.specs.cuts.CutTrees.{BlockPlace, Place, block, block_place_in_order, block_place_tokens, cut_in_order, cut_tokens, declared, declared_block, flow_entry, implicit_root, part_place, place_in_order, place_tokens, root, slot}
+use Rattle.libyaml_grammar.specs.grammar.Tokens.{Content, Marks, Token, marks_of, tok}
+use Rattle.libyaml_grammar.specs.grammar.Trees.{BlockNode, BlockSlot, FlowNode, FlowSlot, alone, block_node_tokens, block_slot_tokens, flow, flow_node, flow_node_tokens, flow_nothing, flow_slot_tokens, node, nothing}
+use Rattle.libyaml_grammar.specs.grammar.Events.{Event}
+use Rattle.libyaml_grammar.specs.partial.PartialTrees.{BlockPlace, Place, block, block_place_in_order, block_place_tokens, partial_in_order, partial_tokens, declared, declared_block, flow_entry, implicit_root, part_place, place_in_order, place_tokens, root, slot}
 use Rattle.libyaml_grammar.proofs.lent.Positions.{Position, due, position_in_order, position_tokens}
 use Rattle.libyaml_grammar.proofs.lent.Reading.{Step, along, bad, feed, feeds, fill, fill_block_slot, fill_flow, fill_flow_slot, goes, is_legal, leave, over}
 use Rattle.libyaml_grammar.proofs.lent.ReadSteps.{Moves, ReadStep, a_scalar, an_alias, closes_at_mapping, closes_at_sequence, closes_mapping, closes_sequence, ends_mapping, ends_sequence, fails, is_alone, is_past, leaves, moves, no_stream, read_step}
-use Rattle.libyaml_grammar.specs.sentences.Order.{block_node_in_order, block_slot_in_order, flow_node_in_order, flow_slot_in_order}
+use Rattle.libyaml_grammar.specs.grammar.Order.{block_node_in_order, block_slot_in_order, flow_node_in_order, flow_slot_in_order}
 
 -- what a step says of the tokens consumed, and of the order
 abbrev pub Keeps : Step → Position → Token → Bool → Type 0
 Keeps (goes p) q t b = ((r : List Token) → position_tokens p r ≡ position_tokens q (t ∷ r))
     × ((r : Bool) → position_in_order p r ≡ position_in_order q (b && r))
-Keeps (bad c) q t b = ((r : List Token) → cut_tokens c r ≡ position_tokens q r) × ((r : Bool)
-    → cut_in_order c r ≡ position_in_order q r)
+Keeps (bad c) q t b = ((r : List Token) → partial_tokens c r ≡ position_tokens q r) × ((r : Bool)
+    → partial_in_order c r ≡ position_in_order q r)
 Keeps over q t b = Unit {0}
 
 -- a position's tokens and their order

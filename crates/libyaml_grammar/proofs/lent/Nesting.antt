@@ -4,13 +4,13 @@ use Rattle.std.proofs.Common.{◌≡◌, ℕ, List, [], ◌∷◌, Option, Bool,
 use Rattle.std.proofs.Math.Bool.{not-not}
 use Rattle.libyaml_types.specs.declared.event.unnamed_yaml_event_t_data.TheVariants as ev
 use Rattle.libyaml_types.specs.declared.event.unnamed_yaml_event_t_data_document_start.{unnamed_yaml_event_t_data_document_start}
-use Rattle.libyaml_grammar.specs.sentences.Events.{Event, Layout, before_events, block_layout, block_node_events, block_slot_events, document_end_at, documents_events, empty_at, end_at, ended_events, event, events, first_block, first_directive, flow_items_events, flow_last_events, flow_layout}
-use Rattle.libyaml_grammar.specs.sentences.Events.{flow_member_events, flow_node_events, flow_slot_events, free_events, items_events, member_end, missing_key, missing_value, parts_events, slot_events, start_at, stream_end_at, stream_start_at, tag_directives_of, version_of}
-use Rattle.libyaml_grammar.specs.sentences.Nesting.{AllHavePairs, HasPairs, IsEven, IsNested, DocumentTexts, TextsHavePairs, Value, Values, alias_value, collection_value, first_value, is_even, no_texts, no_values, scalar_value, text_behind, texts_events, value_events, values_events}
-use Rattle.libyaml_grammar.specs.sentences.Tokens.{Mark, StreamHead}
-use Rattle.libyaml_grammar.specs.sentences.Trees.{Before, BlockItems, BlockNode, BlockSlot, Directives, Documents, Ended, FlowItems, FlowLast, FlowMember, FlowNode, FlowSlot, Free, Parts, Slot, Sort, Stream, again, alias, alone, behind, block_mapping, block_sequence, collection, empty, ended}
-use Rattle.libyaml_grammar.specs.sentences.Trees.{explicit, flow, flow_node, flow_nothing, free, implicit, indentless, item, key, last, mapping, more_items, no_directives, no_items, no_last, no_parts, no_value, node, nothing, once, opened, pair, part, scalar, sequence, single, slot_of, value, whole}
-use Rattle.libyaml_grammar.specs.sentences.Trees.{with_value}
+use Rattle.libyaml_grammar.specs.grammar.Events.{Event, Layout, before_events, block_layout, block_node_events, block_slot_events, document_end_at, documents_events, empty_at, end_at, ended_events, event, events, first_block, first_directive, flow_items_events, flow_last_events, flow_layout}
+use Rattle.libyaml_grammar.specs.grammar.Events.{flow_member_events, flow_node_events, flow_slot_events, free_events, items_events, member_end, missing_key, missing_value, parts_events, slot_events, start_at, stream_end_at, stream_start_at, tag_directives_of, version_of}
+use Rattle.libyaml_grammar.specs.grammar.Nesting.{AllHavePairs, HasPairs, IsEven, IsNested, DocumentTexts, TextsHavePairs, Value, Values, alias_value, collection_value, first_value, is_even, no_texts, no_values, scalar_value, text_behind, texts_events, value_events, values_events}
+use Rattle.libyaml_grammar.specs.grammar.Tokens.{Mark, StreamHead}
+use Rattle.libyaml_grammar.specs.grammar.Trees.{Before, BlockItems, BlockNode, BlockSlot, Directives, Documents, Ended, FlowItems, FlowLast, FlowMember, FlowNode, FlowSlot, Free, Parts, Slot, Sort, Stream, again, alias, alone, behind, block_mapping, block_sequence, collection, empty, ended}
+use Rattle.libyaml_grammar.specs.grammar.Trees.{explicit, flow, flow_node, flow_nothing, free, implicit, indentless, item, key, last, mapping, more_items, no_directives, no_items, no_last, no_parts, no_value, node, nothing, once, opened, pair, part, scalar, sequence, single, slot_of, value, whole}
+use Rattle.libyaml_grammar.specs.grammar.Trees.{with_value}
 
 pub record Gives (g : List Event → List Event) : Type 0 where
   pub val : Value

@@ -1,16 +1,16 @@
 -- The events of each run begin events that nest, so they nest as far as they go.
 use Rattle.std.proofs.Common.{◌≡◌, ◌⊎◌, inl, inr, List, [], ◌∷◌, ◌++◌, refl, sym, ap, ◌∙◌, subst, append_assoc, append-nil}
 use Rattle.libyaml_types.specs.declared.event.unnamed_yaml_event_t_data.TheVariants as ev
-use Rattle.libyaml_grammar.specs.cuts.CutEvents.{cut_events, shown_cut, sort_of}
-use Rattle.libyaml_grammar.specs.cuts.CutTrees.{Cut, at_directive, document_due, open_collection, part_due, separator_due}
-use Rattle.libyaml_grammar.specs.sentences.Events.{Event, document_end_at, event, events, stream_end_at, stream_start_at}
+use Rattle.libyaml_grammar.specs.partial.PartialEvents.{partial_events, shown_partial, sort_of}
+use Rattle.libyaml_grammar.specs.partial.PartialTrees.{PartialTree, at_directive, document_due, open_collection, part_due, separator_due}
+use Rattle.libyaml_grammar.specs.grammar.Events.{Event, document_end_at, event, events, stream_end_at, stream_start_at}
 use Rattle.libyaml_types.specs.Fault.{Fault}
 use Rattle.libyaml_grammar.proofs.lent.Given.{gives_all}
-use Rattle.libyaml_grammar.specs.sentences.Nesting.{BeginsValue, IsNested, IsOpenDocument, NestsSoFar, DocumentTexts, TextsHavePairs, has_begun, no_texts, none_open, not_begun, one_open, text_behind, texts_events, value_events, whole}
+use Rattle.libyaml_grammar.specs.grammar.Nesting.{BeginsValue, IsNested, IsOpenDocument, NestsSoFar, DocumentTexts, TextsHavePairs, has_begun, no_texts, none_open, not_begun, one_open, text_behind, texts_events, value_events, whole}
 use Rattle.libyaml_grammar.proofs.lent.Positions.{Position, between, done, flow_behind, in_mapping, position_rest, shown, position_of}
-use Rattle.libyaml_grammar.specs.runs.Runs.{Ending, Ends, IsRun, amid_properties, of_beginning, of_cut_tree, of_sentence}
-use Rattle.libyaml_grammar.specs.sentences.Tokens.{Mark, Marks, Token, marks_of}
-use Rattle.libyaml_grammar.specs.sentences.Trees.{Stream, behind, free, no_directives, sequence}
+use Rattle.libyaml_grammar.specs.runs.Runs.{Ending, Ends, IsRun, amid_properties, of_viable_prefix, of_partial_tree, of_valid_list}
+use Rattle.libyaml_grammar.specs.grammar.Tokens.{Mark, Marks, Token, marks_of}
+use Rattle.libyaml_grammar.specs.grammar.Trees.{Stream, behind, free, no_directives, sequence}
 use Rattle.libyaml_grammar.proofs.lent.Completion.{position_ends}
 use Rattle.libyaml_grammar.proofs.lent.Nesting.{events_nest_proof}
 use Rattle.libyaml_grammar.proofs.lent.Run.{first_mark, given_shown}
@@ -18,18 +18,18 @@ use Rattle.libyaml_grammar.proofs.lent.Running.{ended_run}
 use Rattle.libyaml_grammar.proofs.lent.Splits.{Splits, both_split, event_splits, member_end_splits, missing_value_splits, position_splits, value_splits}
 
 -- what a partial tree shows stands before the events after it
-cut_splits : (c : Cut) (m : Mark) → Splits (shown_cut c m)
-cut_splits (document_due d) m = both_split (position_splits (between (behind d)) m) (event_splits _)
-cut_splits (at_directive (free f) no_directives) m = position_splits (between (free f)) m
-cut_splits (at_directive (behind d) no_directives) m
+partial_splits : (c : PartialTree) (m : Mark) → Splits (shown_partial c m)
+partial_splits (document_due d) m = both_split (position_splits (between (behind d)) m) (event_splits _)
+partial_splits (at_directive (free f) no_directives) m = position_splits (between (free f)) m
+partial_splits (at_directive (behind d) no_directives) m
     = both_split (position_splits (between (behind d)) m) (event_splits _)
-cut_splits (part_due c o s ps) m = both_split (position_splits (in_mapping c o s ps) m) (missing_value_splits ps m)
-cut_splits (separator_due c e) m = both_split (position_splits (flow_behind c e) m) (member_end_splits (sort_of c) e m)
-cut_splits c m = position_splits (position_of c) m
+partial_splits (part_due c o s ps) m = both_split (position_splits (in_mapping c o s ps) m) (missing_value_splits ps m)
+partial_splits (separator_due c e) m = both_split (position_splits (flow_behind c e) m) (member_end_splits (sort_of c) e m)
+partial_splits c m = position_splits (position_of c) m
 
 -- a tree whose events go on from those of a partial tree
-abbrev GoesOn : Cut → Mark → Type 0
-GoesOn c m = (t : Stream) × (later : List Event) × (events t ≡ shown_cut c m later)
+abbrev GoesOn : PartialTree → Mark → Type 0
+GoesOn c m = (t : Stream) × (later : List Event) × (events t ≡ shown_partial c m later)
 
 -- the tree that completes a position, and the events of what completes it
 completed : (m : Marks) (q : Position)
@@ -37,7 +37,7 @@ completed : (m : Marks) (q : Position)
     (gives_all (position_rest m q) q []))
 completed m q = let e = position_ends m q in (e.0, given_shown (position_rest m q) q (done e.0) e.1 m.start [])
 
-goes_on : (c : Cut) (m : Marks) → GoesOn c m.start
+goes_on : (c : PartialTree) (m : Marks) → GoesOn c m.start
 goes_on (at_directive (free f) no_directives) m = let t = completed m (between (free f)) in (t.0, _, t.1)
 goes_on (at_directive (behind d) no_directives) m = let t = completed m (between (behind d)) in (t.0, _, t.1)
 goes_on (separator_due (open_collection p o sequence s is) e) m = let t =
@@ -51,18 +51,18 @@ BeginsNested l = (rest : List Event) × IsNested (l ++ rest)
 tree_begins : (t : Stream) (l rest : List Event) → events t ≡ l ++ rest → BeginsNested l
 tree_begins t l rest e = (rest, subst IsNested e (events_nest_proof t))
 
-cut_begins : (c : Cut) (b : Token) → BeginsNested (cut_events c b)
-cut_begins c b
-    = let g = goes_on c (marks_of b) in tree_begins g.0 (cut_events c b) g.1 (g.2
-    ∙ (cut_splits c b.start_mark).splits g.1)
+partial_begins : (c : PartialTree) (b : Token) → BeginsNested (partial_events c b)
+partial_begins c b
+    = let g = goes_on c (marks_of b) in tree_begins g.0 (partial_events c b) g.1 (g.2
+    ∙ (partial_splits c b.start_mark).splits g.1)
 
 pub run_begins : (l : List Token) (f : Fault) (e : List Event) (x : Ending) → IsRun l f e x → BeginsNested e
-run_begins l f e x (of_sentence t a o g h) = tree_begins t e [] (sym g ∙ sym (append-nil e))
-run_begins l f e x (of_cut_tree before token after c a i o g h) = subst BeginsNested (sym g) (cut_begins c token)
-run_begins l f e x (amid_properties before token after c a i o g h) = subst BeginsNested (sym g) (cut_begins c token)
-run_begins l f e x (of_beginning b n s h) =
-    let r = s.begins_each b.sentence.tree b.rest b.sentence.order (sym b.sentence.all) in
-    tree_begins b.sentence.tree e r.0 r.1
+run_begins l f e x (of_valid_list t a o g h) = tree_begins t e [] (sym g ∙ sym (append-nil e))
+run_begins l f e x (of_partial_tree before token after c a i o g h) = subst BeginsNested (sym g) (partial_begins c token)
+run_begins l f e x (amid_properties before token after c a i o g h) = subst BeginsNested (sym g) (partial_begins c token)
+run_begins l f e x (of_viable_prefix b n s h) =
+    let r = s.begins_each b.valid_list.tree b.rest b.valid_list.order (sym b.valid_list.all) in
+    tree_begins b.valid_list.tree e r.0 r.1
 
 -- events that begin events that nest: whole documents, and at most one that is open
 two_lists : (a b c d : List Event) → a ++ b ≡ c ++ d → ((x : List Event) × (c ≡ a ++ x))
@@ -135,9 +135,9 @@ ends_in (text_behind ts d m n v i p q) l rest r h e =
             others : ys ++ rest ≡ r
             others = cc
 
-pub front_nests : (l rest : List Event) → IsNested (l ++ rest) → NestsSoFar l
-front_nests [] rest n = not_begun refl
-front_nests (x ∷ l) rest n = go (ends_in n.texts l rest (stream_end_at n.end n.end_end ∷ []) n.pairs tails)
+pub prefix_nests : (l rest : List Event) → IsNested (l ++ rest) → NestsSoFar l
+prefix_nests [] rest n = not_begun refl
+prefix_nests (x ∷ l) rest n = go (ends_in n.texts l rest (stream_end_at n.end n.end_end ∷ []) n.pairs tails)
   where
     all : x ∷ (l ++ rest) ≡ stream_start_at n.head n.start n.start_end ∷ texts_events n.texts
         (stream_end_at n.end n.end_end ∷ [])
@@ -195,14 +195,14 @@ front_nests (x ∷ l) rest n = go (ends_in n.texts l rest (stream_end_at n.end n
         no u h = cc
 
 pub run_nests_so_far : (l : List Token) (f : Fault) (e : List Event) (x : Ending) → IsRun l f e x → NestsSoFar e
-run_nests_so_far l f e x r = let b = run_begins l f e x r in front_nests e b.0 b.1
+run_nests_so_far l f e x r = let b = run_begins l f e x r in prefix_nests e b.0 b.1
 
 -- and so does what begins the events of a run
-pub run_front_nests : (l : List Token) (f : Fault) (e : List Event) (x : Ending) → IsRun l f e x
+pub run_prefix_nests : (l : List Token) (f : Fault) (e : List Event) (x : Ending) → IsRun l f e x
     → (d later : List Event) → e ≡ d ++ later → NestsSoFar d
-run_front_nests l f e x r d later h =
+run_prefix_nests l f e x r d later h =
     let b = run_begins l f e x r in
-    front_nests d (later ++ b.0) (subst IsNested (ap (λ (y : List Event). y ++ b.0) h ∙ append_assoc d later b.0) b.1)
+    prefix_nests d (later ++ b.0) (subst IsNested (ap (λ (y : List Event). y ++ b.0) h ∙ append_assoc d later b.0) b.1)
 
 pub ended_nests : (l : List Token) (f : Fault) (e : List Event) → IsRun l f e Ends → IsNested e
 ended_nests l f e r = let t = ended_run l f e r in subst IsNested (sym t.3) (events_nest_proof t.0)

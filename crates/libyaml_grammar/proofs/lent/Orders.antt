@@ -1,7 +1,7 @@
 -- Reading goes on exactly through lists in order.
 use Rattle.std.specs.Prelude.{◌&&◌}
 use Rattle.std.proofs.Common.{◌≡◌, List, [], ◌∷◌, refl, sym, ap, ◌∙◌, Bool, true, false}
-use Rattle.libyaml_grammar.specs.sentences.Tokens.{Token}
+use Rattle.libyaml_grammar.specs.grammar.Tokens.{Token}
 use Rattle.libyaml_grammar.proofs.lent.Positions.{Position, position_in_order}
 use Rattle.libyaml_grammar.proofs.lent.Reading.{Step, along, bad, checked, feed, feeds, goes, is_legal, over, reads_all, then_all}
 use Rattle.libyaml_grammar.proofs.lent.Keeps.{step_keeps}

@@ -1,15 +1,15 @@
 -- Positions: what is known after a list of tokens that begins a stream. It is the place on the right edge, with what is
 -- in hand there and the whole trees to the left of it. By positions the laws are proved, which speak of none.
 use Rattle.std.specs.Prelude.{List, [], ◌∷◌, Option, Some, None, Bool, ◌&&◌}
-use Rattle.libyaml_grammar.specs.sentences.Tokens.{BlockEnd, BlockEntry, BlockMappingStart, BlockSequenceStart, DocumentStart, Key, Mark, Marks, Scalar, StreamEnd, StreamStart, Token, empty_plain, tok}
-use Rattle.libyaml_grammar.specs.sentences.Trees.{Before, BlockItems, BlockSlot, Directive, Directives, FlowMember, FlowSlot, Parts, Properties, Stream, anchor, before_tokens, behind, block_slot_tokens, directive, directive_token, directives_tokens, flow_member_tokens, flow_slot_tokens, free}
-use Rattle.libyaml_grammar.specs.sentences.Trees.{items_tokens, mapping, no_directives, option_tokens, parts_tokens, sequence, stream_tokens}
-use Rattle.libyaml_grammar.specs.sentences.Events.{Event, before_events, block_layout, block_slot_events, documents_events, first_directive, first_block_entry, first_of, flow_member_events, flow_slot_events, free_events, items_events, opens_pair, parts_events, start_of, stream_events}
-use Rattle.libyaml_grammar.specs.sentences.Order.{admits, before_in_order, block_slot_in_order, directives_in_order, flow_member_in_order, flow_slot_in_order, items_in_order, option_in_order, parts_in_order, stream_in_order}
-use Rattle.libyaml_grammar.specs.cuts.CutTrees.{BlockPlace, Cut, Open, PartPlace, Place, at_directive, at_tag, at_tag_behind, before_stream, block_place_in_order, block_place_tokens, content_due, declared, declared_block, declared_open, declared_part, document_due, entry_due, open_in_order}
-use Rattle.libyaml_grammar.specs.cuts.CutTrees.{open_tokens, part_due, part_place, part_place_in_order, part_place_tokens, place_in_order, place_tokens, separator_due, start_due}
-use Rattle.libyaml_grammar.specs.cuts.CutEvents.{shown_block, shown_open, shown_part, shown_place, sort_of}
-use Rattle.libyaml_grammar.specs.cuts.Rest.{any_encoding, rest_block_place, rest_open, rest_place}
+use Rattle.libyaml_grammar.specs.grammar.Tokens.{BlockEnd, BlockEntry, BlockMappingStart, BlockSequenceStart, DocumentStart, Key, Mark, Marks, Scalar, StreamEnd, StreamStart, Token, empty_plain, tok}
+use Rattle.libyaml_grammar.specs.grammar.Trees.{Before, BlockItems, BlockSlot, Directive, Directives, FlowMember, FlowSlot, Parts, Properties, Stream, anchor, before_tokens, behind, block_slot_tokens, directive, directive_token, directives_tokens, flow_member_tokens, flow_slot_tokens, free}
+use Rattle.libyaml_grammar.specs.grammar.Trees.{items_tokens, mapping, no_directives, option_tokens, parts_tokens, sequence, stream_tokens}
+use Rattle.libyaml_grammar.specs.grammar.Events.{Event, before_events, block_layout, block_slot_events, documents_events, first_directive, first_block_entry, first_of, flow_member_events, flow_slot_events, free_events, items_events, opens_pair, parts_events, start_of, stream_events}
+use Rattle.libyaml_grammar.specs.grammar.Order.{admits, before_in_order, block_slot_in_order, directives_in_order, flow_member_in_order, flow_slot_in_order, items_in_order, option_in_order, parts_in_order, stream_in_order}
+use Rattle.libyaml_grammar.specs.partial.PartialTrees.{BlockPlace, PartialTree, Open, PartPlace, Place, at_directive, at_tag, at_tag_behind, before_stream, block_place_in_order, block_place_tokens, content_due, declared, declared_block, declared_open, declared_part, document_due, entry_due}
+use Rattle.libyaml_grammar.specs.partial.PartialTrees.{open_in_order, open_tokens, part_due, part_place, part_place_in_order, part_place_tokens, place_in_order, place_tokens, separator_due, start_due}
+use Rattle.libyaml_grammar.specs.partial.PartialEvents.{shown_block, shown_open, shown_part, shown_place, sort_of}
+use Rattle.libyaml_grammar.specs.partial.Rest.{any_encoding, rest_block_place, rest_open, rest_place}
 
 -- Before the stream; where a document or the end is expected; after a directive; where a node or the rest of it is
 -- expected; after the start or a whole entry of a block collection, or after a whole entry of a sequence without
@@ -99,7 +99,7 @@ position_rest m (flow_behind c e) = rest_open m c
 position_rest m (done t) = []
 
 -- the position at which a partial tree ends
-abbrev pub position_of : Cut → Position
+abbrev pub position_of : PartialTree → Position
 position_of before_stream = unopened
 position_of (document_due d) = between (behind d)
 position_of (start_due b ds d) = headed b ds d

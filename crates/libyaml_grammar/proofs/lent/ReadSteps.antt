@@ -1,17 +1,17 @@
 -- What one token makes of a position: each kind of step of the reader, with the events that it gives and whether the token
 -- keeps the order. What holds of each step is proved by these kinds.
 use Rattle.std.proofs.Common.{Bool, List, None, Option, Some, false, refl, true, ◌∷◌, ◌≡◌}
-use Rattle.libyaml_grammar.specs.sentences.Tokens.{Alias, AliasName, Anchor, AnchorName, BlockEnd, BlockEntry, BlockMappingStart, BlockSequenceStart, Content, DocumentEnd, DocumentStart, FlowEntry, FlowMappingEnd, FlowMappingStart, FlowSequenceEnd, FlowSequenceStart, HandleDeclared, Key, Mark}
-use Rattle.libyaml_grammar.specs.sentences.Tokens.{Marks, Scalar, ScalarText, StreamEnd, StreamHead, StreamStart, Tag, TagDirective, TagName, Value, VersionAsked, VersionDirective}
-use Rattle.libyaml_grammar.specs.sentences.Trees.{Before, BlockItems, BlockNode, BlockSlot, Directive, Directives, Documents, Ended, FlowItems, FlowMember, FlowNode, FlowSlot, Free, Parts, Properties, Role, Sort, Stream, again, alias, alone, anchor, anchor_tag, behind, block_mapping, block_sequence}
-use Rattle.libyaml_grammar.specs.sentences.Trees.{collection, directive, empty, ended, flow, flow_nothing, free, indentless, item, key, last, mapping, more_items, no_directives, no_items, no_last, no_parts, no_value, nothing, once, opened, pair, part, scalar, sequence, tag, tag_anchor}
-use Rattle.libyaml_grammar.specs.sentences.Trees.{tag_directive, value, version, whole}
-use Rattle.libyaml_grammar.specs.sentences.Events.{Event, alias_at, alone_of, block_layout, document_end_at, document_start_at, empty_at, end_at, end_of, first_directive, flow_layout, member_end, missing_key, missing_value, opens_pair, scalar_of, start_of, stream_end_at, stream_start_at}
-use Rattle.libyaml_grammar.specs.sentences.Order.{is_known}
-use Rattle.libyaml_grammar.specs.cuts.CutTrees.{BlockPlace, Cut, Open, PartPlace, Place, before_stream, block, content_due, declared, declared_block, declared_part, document_due, entry, entry_due, explicit_root, flow_entry, flow_key, flow_value, implicit_root, indentless_entry, open_collection}
-use Rattle.libyaml_grammar.specs.cuts.CutTrees.{part_due, part_place, root, separator_due, slot, start_due}
-use Rattle.libyaml_grammar.specs.cuts.Fits.{ends_empty, is_directive}
-use Rattle.libyaml_grammar.specs.cuts.CutEvents.{sort_of}
+use Rattle.libyaml_grammar.specs.grammar.Tokens.{Alias, AliasName, Anchor, AnchorName, BlockEnd, BlockEntry, BlockMappingStart, BlockSequenceStart, Content, DocumentEnd, DocumentStart, FlowEntry, FlowMappingEnd, FlowMappingStart, FlowSequenceEnd, FlowSequenceStart, HandleDeclared, Key, Mark, Marks}
+use Rattle.libyaml_grammar.specs.grammar.Tokens.{Scalar, ScalarText, StreamEnd, StreamHead, StreamStart, Tag, TagDirective, TagName, Value, VersionAsked, VersionDirective}
+use Rattle.libyaml_grammar.specs.grammar.Trees.{Before, BlockItems, BlockNode, BlockSlot, Directive, Directives, Documents, Ended, FlowItems, FlowMember, FlowNode, FlowSlot, Free, Parts, Properties, Role, Sort, Stream, again, alias, alone, anchor, anchor_tag, behind, block_mapping, block_sequence}
+use Rattle.libyaml_grammar.specs.grammar.Trees.{collection, directive, empty, ended, flow, flow_nothing, free, indentless, item, key, last, mapping, more_items, no_directives, no_items, no_last, no_parts, no_value, nothing, once, opened, pair, part, scalar, sequence, tag, tag_anchor, tag_directive}
+use Rattle.libyaml_grammar.specs.grammar.Trees.{value, version, whole}
+use Rattle.libyaml_grammar.specs.grammar.Events.{Event, alias_at, alone_of, block_layout, document_end_at, document_start_at, empty_at, end_at, end_of, first_directive, flow_layout, member_end, missing_key, missing_value, opens_pair, scalar_of, start_of, stream_end_at, stream_start_at}
+use Rattle.libyaml_grammar.specs.grammar.Order.{is_known}
+use Rattle.libyaml_grammar.specs.partial.PartialTrees.{BlockPlace, PartialTree, Open, PartPlace, Place, before_stream, block, content_due, declared, declared_block, declared_part, document_due, entry, entry_due, explicit_root, flow_entry, flow_key, flow_value, implicit_root, indentless_entry}
+use Rattle.libyaml_grammar.specs.partial.PartialTrees.{open_collection, part_due, part_place, root, separator_due, slot, start_due}
+use Rattle.libyaml_grammar.specs.partial.Fits.{ends_empty, is_directive}
+use Rattle.libyaml_grammar.specs.partial.PartialEvents.{sort_of}
 use Rattle.libyaml_grammar.proofs.lent.Positions.{Position, between, done, due, flow_behind, flow_due, flow_keyed, headed, in_indentless, in_mapping, in_sequence, unopened}
 use Rattle.libyaml_grammar.proofs.lent.Reading.{Step, bad, behind_whole, fill, fill_flow, goes, is_legal, keeps_order, leave, on_due, or_bad, over, step, without}
 use Rattle.libyaml_grammar.proofs.lent.Given.{empty_mark, given_behind_whole, given_on_due, given_without, gives, if_goes}
@@ -45,7 +45,7 @@ module _ (m : Marks) where
     begins_entry : {c : Open} → Moves (flow_due c) (due (flow_entry c) None) none
 
   -- what is expected at a position, where a token is bad
-  pub data Fails : Position → Content → Cut → (List Event → List Event) → Type 0 where
+  pub data Fails : Position → Content → PartialTree → (List Event → List Event) → Type 0 where
     no_stream : {k : Content} → Fails unopened k before_stream none
     no_document : {d : Documents} {k : Content} → is_directive k ≡ false
         → Fails (between (behind d)) k (document_due d) (one (document_end_at true m.start m.start))
@@ -69,7 +69,7 @@ module _ (m : Marks) where
     leaves : (p : Place) {k : Content} {x : Position} {g : List Event → List Event} {l : Bool}
         → ends_empty p k ≡ true → ReadStep (leave p) k (goes x) g l
         → ReadStep (due p None) k (goes x) (λ (r : List Event). empty_at (empty_mark p m.start) ∷ g r) l
-    fails : {q : Position} {k : Content} {c : Cut} {g : List Event → List Event} {l : Bool} → Fails q k c g
+    fails : {q : Position} {k : Content} {c : PartialTree} {g : List Event → List Event} {l : Bool} → Fails q k c g
         → ReadStep q k (bad c) g l
     begins_stream : {e : StreamHead} → ReadStep unopened (StreamStart e) (goes (between (free (opened e m))))
         (one (stream_start_at e m.start m.start)) true
@@ -382,25 +382,25 @@ not_past (moves x h) w e = not_past h (moved_open x) e
 not_past _ w e = cc
 
 -- the cut at which a token is bad after what is whole, and where it is bad at a position
-abbrev pub front_behind : Position → Cut
-front_behind (between (behind d)) = document_due d
-front_behind (in_sequence c o s is) = entry_due c o s is
-front_behind (in_mapping c o s ps) = part_due c o s ps
-front_behind (in_indentless (part_place c o s ps t v) y is e x) = part_due c o s (part ps t v (indentless y is e x))
-front_behind (flow_keyed c e x) = separator_due c (pair e x no_value)
-front_behind (flow_behind c e) = separator_due c e
-front_behind _ = before_stream
+abbrev pub prefix_behind : Position → PartialTree
+prefix_behind (between (behind d)) = document_due d
+prefix_behind (in_sequence c o s is) = entry_due c o s is
+prefix_behind (in_mapping c o s ps) = part_due c o s ps
+prefix_behind (in_indentless (part_place c o s ps t v) y is e x) = part_due c o s (part ps t v (indentless y is e x))
+prefix_behind (flow_keyed c e x) = separator_due c (pair e x no_value)
+prefix_behind (flow_behind c e) = separator_due c e
+prefix_behind _ = before_stream
 
-abbrev pub filled_block : BlockPlace → BlockNode → Cut
-filled_block c x = front_behind (fill c x)
+abbrev pub filled_block : BlockPlace → BlockNode → PartialTree
+filled_block c x = prefix_behind (fill c x)
 
-abbrev pub filled : Place → FlowNode → Cut
-filled p x = front_behind (fill_flow p x)
+abbrev pub filled : Place → FlowNode → PartialTree
+filled p x = prefix_behind (fill_flow p x)
 
-abbrev pub front : Position → Cut
+abbrev pub front : Position → PartialTree
 front (between (free f)) = content_due (block (root (implicit_root f)))
 front (headed b ds d) = start_due b ds d
 front (due p None) = content_due p
 front (due p (Some ps)) = filled p (alone ps)
 front (flow_due c) = content_due (flow_entry c)
-front q = front_behind q
+front q = prefix_behind q

@@ -3,20 +3,20 @@
 -- and the collection around it. A node is nothing exactly where the token is taken after it.
 use Rattle.std.specs.Prelude.{◌&&◌, not}
 use Rattle.std.proofs.Common.{◌≡◌, List, [], ◌∷◌, Option, Some, None, Bool, true, false, sym, subst, refl}
-use Rattle.libyaml_grammar.specs.sentences.Tokens.{Alias, AliasName, Anchor, AnchorName, BlockEnd, BlockEntry, BlockMappingStart, BlockSequenceStart, Content, DocumentEnd, DocumentStart, FlowEntry, FlowMappingEnd, FlowMappingStart, FlowSequenceEnd, FlowSequenceStart, Key, Marks, Scalar, StreamEnd}
-use Rattle.libyaml_grammar.specs.sentences.Tokens.{StreamStart, Tag, TagDirective, TagName, Token, Value, VersionDirective, marks_of}
-use Rattle.libyaml_grammar.specs.sentences.Trees.{Before, BlockItems, BlockNode, BlockSlot, Directive, Directives, Documents, FlowLast, FlowMember, FlowNode, FlowSlot, Free, Parts, Properties, Slot, Sort, again, alias, alone, anchor, anchor_tag, behind, block_mapping, block_sequence, collection}
-use Rattle.libyaml_grammar.specs.sentences.Trees.{directive, empty, ended, explicit, flow, flow_node, flow_nothing, free, implicit, indentless, item, key, last, mapping, more_items, no_directives, no_items, no_last, no_parts, no_value, node, nothing, once, opened, pair, part, scalar, sequence}
-use Rattle.libyaml_grammar.specs.sentences.Trees.{single, slot_of, tag, tag_anchor, tag_directive, value, version, whole, with_value}
-use Rattle.libyaml_grammar.specs.sentences.Order.{declares, is_accepted, is_known, no_version}
-use Rattle.libyaml_grammar.specs.cuts.CutTrees.{BlockPlace, Cut, Open, PartPlace, Place, at_directive, at_tag, at_tag_behind, before_stream, block, content_due, declared, declared_open, document_due, entry, entry_due, explicit_root, flow_entry, flow_key, flow_value, implicit_root, indentless_entry}
-use Rattle.libyaml_grammar.specs.cuts.CutTrees.{open_collection, part_due, part_place, root, separator_due, slot, start_due}
+use Rattle.libyaml_grammar.specs.grammar.Tokens.{Alias, AliasName, Anchor, AnchorName, BlockEnd, BlockEntry, BlockMappingStart, BlockSequenceStart, Content, DocumentEnd, DocumentStart, FlowEntry, FlowMappingEnd, FlowMappingStart, FlowSequenceEnd, FlowSequenceStart, Key, Marks, Scalar, StreamEnd}
+use Rattle.libyaml_grammar.specs.grammar.Tokens.{StreamStart, Tag, TagDirective, TagName, Token, Value, VersionDirective, marks_of}
+use Rattle.libyaml_grammar.specs.grammar.Trees.{Before, BlockItems, BlockNode, BlockSlot, Directive, Directives, Documents, FlowLast, FlowMember, FlowNode, FlowSlot, Free, Parts, Properties, Slot, Sort, again, alias, alone, anchor, anchor_tag, behind, block_mapping, block_sequence, collection}
+use Rattle.libyaml_grammar.specs.grammar.Trees.{directive, empty, ended, explicit, flow, flow_node, flow_nothing, free, implicit, indentless, item, key, last, mapping, more_items, no_directives, no_items, no_last, no_parts, no_value, node, nothing, once, opened, pair, part, scalar, sequence, single}
+use Rattle.libyaml_grammar.specs.grammar.Trees.{slot_of, tag, tag_anchor, tag_directive, value, version, whole, with_value}
+use Rattle.libyaml_grammar.specs.grammar.Order.{declares, is_accepted, is_known, no_version}
+use Rattle.libyaml_grammar.specs.partial.PartialTrees.{BlockPlace, PartialTree, Open, PartPlace, Place, at_directive, at_tag, at_tag_behind, before_stream, block, content_due, declared, declared_open, document_due, entry, entry_due, explicit_root, flow_entry, flow_key, flow_value, implicit_root}
+use Rattle.libyaml_grammar.specs.partial.PartialTrees.{indentless_entry, open_collection, part_due, part_place, root, separator_due, slot, start_due}
 use Rattle.libyaml_grammar.proofs.lent.Positions.{Position, between, done, due, flow_behind, flow_due, flow_keyed, headed, in_indentless, in_mapping, in_sequence, unopened}
 
 -- The next position, or the place at which the token is bad; after the stream end no token is looked at.
 pub data Step : Type 0 where
   goes : Position → Step
-  bad : Cut → Step
+  bad : PartialTree → Step
   over : Step
 
 -- a place filled; nothing in it leaves an implicit document's root and a flow entry as they are, since these want a node
@@ -85,7 +85,7 @@ behind_indentless c o is e n BlockEntry m = goes (due (block (indentless_entry c
 behind_indentless c o is e n k m = behind_slot c (indentless o is e n) k m
 
 -- the end of a flow collection, if it is of its sort
-abbrev pub close : Open → FlowLast → Sort → Marks → Cut → Step
+abbrev pub close : Open → FlowLast → Sort → Marks → PartialTree → Step
 close (open_collection p o sequence s is) l sequence m q = goes (fill_flow p (collection o sequence s is l m))
 close (open_collection p o sequence s is) l mapping m q = bad q
 close (open_collection p o mapping s is) l sequence m q = bad q
@@ -113,7 +113,7 @@ behind_whole (flow_keyed c e n) k m = behind_key c e n k m
 behind_whole (flow_behind c e) k m = behind_member c e k m
 behind_whole q k m = bad before_stream
 
-abbrev pub or_bad : Step → Cut → Step
+abbrev pub or_bad : Step → PartialTree → Step
 or_bad (goes q) c = goes q
 or_bad s c = bad c
 
@@ -241,7 +241,7 @@ abbrev pub is_legal : Position → Content → Bool
 is_legal q k = keeps_order (pending q) (in_force q) k
 
 -- the place of a token that breaks the order, from the position to which it would lead
-abbrev pub broken : Position → Cut
+abbrev pub broken : Position → PartialTree
 broken (headed c ds d) = at_directive c ds
 broken (due p (Some (tag h m))) = at_tag p
 broken (due p (Some (anchor_tag a m h n))) = at_tag_behind p a m
@@ -263,7 +263,7 @@ reads_all (t ∷ r) q = then_all (reads q t) (reads_all r)
 pub goes_same : (p q : Position) → goes p ≡ goes q → p ≡ q
 goes_same p q e = cc
 
-pub bad_same : (c d : Cut) → bad c ≡ bad d → c ≡ d
+pub bad_same : (c d : PartialTree) → bad c ≡ bad d → c ≡ d
 bad_same c d e = cc
 
 -- what holds at the position that a list leads to, and before a token where it holds after it, holds where the list begins

@@ -1,51 +1,51 @@
 -- How a test vector is shown: its tokens are read to their end, to the bad token, or to where they stop.
 use Rattle.std.proofs.Common.{◌≡◌, ◌++◌, ◌∷◌, ℕ, suc, List, [], ap, ◌∙◌, subst, true, false, append-nil}
 use Rattle.std.specs.Prelude.{take, drop}
-use Rattle.libyaml_grammar.specs.cuts.CutEvents.{cut_events}
-use Rattle.libyaml_grammar.specs.cuts.CutFaults.{fault}
-use Rattle.libyaml_grammar.specs.cuts.CutTrees.{Cut}
-use Rattle.libyaml_grammar.specs.sentences.Events.{Event, events}
+use Rattle.libyaml_grammar.specs.partial.PartialEvents.{partial_events}
+use Rattle.libyaml_grammar.specs.partial.PartialFaults.{fault}
+use Rattle.libyaml_grammar.specs.partial.PartialTrees.{PartialTree}
+use Rattle.libyaml_grammar.specs.grammar.Events.{Event, events}
 use Rattle.libyaml_types.specs.Fault.{Fault}
 use Rattle.libyaml_grammar.proofs.lent.Positions.{Position, done, unopened}
 use Rattle.libyaml_grammar.proofs.lent.Reading.{bad, goes, reads, reads_all}
 use Rattle.libyaml_grammar.specs.runs.Runs.{Ends, Fails, IsRun, is_behind_properties}
-use Rattle.libyaml_grammar.specs.sentences.Sentences.{has_end}
-use Rattle.libyaml_grammar.specs.cuts.Settled.{IsSettled, sure}
-use Rattle.libyaml_grammar.specs.sentences.Tokens.{Token}
-use Rattle.libyaml_grammar.specs.sentences.Trees.{Stream, tokens}
+use Rattle.libyaml_grammar.specs.grammar.ValidLists.{has_end}
+use Rattle.libyaml_grammar.specs.partial.DeterminedEvents.{Determines, sure}
+use Rattle.libyaml_grammar.specs.grammar.Tokens.{Token}
+use Rattle.libyaml_grammar.specs.grammar.Trees.{Stream, tokens}
 use Rattle.libyaml_grammar.proofs.lent.Completion.{reached_begins, read_order}
 use Rattle.libyaml_grammar.proofs.lent.Fitting.{stops_fits}
-use Rattle.libyaml_grammar.proofs.lent.Fronts.{front_of}
+use Rattle.libyaml_grammar.proofs.lent.PrefixTrees.{prefix_of}
 use Rattle.libyaml_grammar.proofs.lent.ReadSteps.{front}
 use Rattle.libyaml_grammar.proofs.lent.Keeps.{feeds_keep}
 use Rattle.libyaml_grammar.proofs.lent.Orders.{reads_to}
-use Rattle.libyaml_grammar.proofs.lent.Running.{amid_run, begin_run, cut_run, sentence_run}
-use Rattle.libyaml_grammar.proofs.lent.Settling.{front_settles}
+use Rattle.libyaml_grammar.proofs.lent.Running.{amid_run, begin_run, partial_run, valid_list_run}
+use Rattle.libyaml_grammar.proofs.lent.Determining.{prefix_determines}
 use Rattle.libyaml_grammar.proofs.lent.StreamEnds.{not_end_not_done}
 
 -- the first n tokens are a valid list
-pub sentence_row : (n : ℕ) (l : List Token) (f : Fault) (e : List Event) (t : Stream)
+pub valid_list_row : (n : ℕ) (l : List Token) (f : Fault) (e : List Event) (t : Stream)
     → reads_all (take n l) unopened ≡ goes (done t) → take n l ++ drop n l ≡ l
     → events t ≡ e → IsRun l f e Ends
-sentence_row n l f e t r s g =
+valid_list_row n l f e t r s g =
     let x : tokens t ≡ take n l = feeds_keep (take n l) unopened (done t)
     (reads_to (take n l) unopened (done t) r).0 [] ∙ append-nil (take n l) in
     rw g at (rw (ap (λ (k : List Token). k ++ drop n l) x ∙ s) at
-    (sentence_run t (drop n l) f (read_order (take n l) (done t) r)))
+    (valid_list_run t (drop n l) f (read_order (take n l) (done t) r)))
 
 -- token n is bad
-pub cut_row : (n : ℕ) (l : List Token) (f : Fault) (e : List Event) (g : Fault) (b : Token) (q : Position) (c : Cut)
+pub partial_row : (n : ℕ) (l : List Token) (f : Fault) (e : List Event) (g : Fault) (b : Token) (q : Position) (c : PartialTree)
     → take n l ++ b ∷ drop (suc n) l ≡ l
     → reads_all (take n l) unopened ≡ goes q → reads q b ≡ bad c → is_behind_properties c (drop (suc n) l) ≡ true
-    → cut_events c b ≡ e
+    → partial_events c b ≡ e
     → fault c b.content b.start_mark ≡ g → IsRun l f e (Fails g)
-cut_row n l f e g b q c s r h i j k
-    = rw k at (rw j at (rw s at (cut_run (take n l) b (drop (suc n) l) c f (stops_fits (take n l) b q c r h) i)))
+partial_row n l f e g b q c s r h i j k
+    = rw k at (rw j at (rw s at (partial_run (take n l) b (drop (suc n) l) c f (stops_fits (take n l) b q c r h) i)))
 
-pub amid_row : (n : ℕ) (l : List Token) (f : Fault) (e : List Event) (b : Token) (q : Position) (c : Cut)
+pub amid_row : (n : ℕ) (l : List Token) (f : Fault) (e : List Event) (b : Token) (q : Position) (c : PartialTree)
     → take n l ++ b ∷ drop (suc n) l ≡ l
     → reads_all (take n l) unopened ≡ goes q → reads q b ≡ bad c → is_behind_properties c (drop (suc n) l) ≡ false
-    → cut_events c b ≡ e
+    → partial_events c b ≡ e
     → IsRun l f e (Fails f)
 amid_row n l f e b q c s r h i j
     = rw j at (rw s at (amid_run (take n l) b (drop (suc n) l) c f (stops_fits (take n l) b q c r h) i))
@@ -55,4 +55,4 @@ pub begin_row : (l : List Token) (f : Fault) (e : List Event) (q : Position) →
     → has_end l ≡ false → sure (front q) ≡ e
     → IsRun l f e (Fails f)
 begin_row l f e q r h g = begin_run l e f (reached_begins l q r) h
-    (subst (λ (d : List Event). IsSettled l d) g (front_settles l (front q) (front_of l q r (not_end_not_done l q r h))))
+    (subst (λ (d : List Event). Determines l d) g (prefix_determines l (front q) (prefix_of l q r (not_end_not_done l q r h))))

@@ -1,9 +1,9 @@
 -- What the tokens of a list give, one after the other, are the events of the position that they lead to, and of a whole
 -- tree the tree's.
 use Rattle.std.proofs.Common.{◌≡◌, List, [], ◌∷◌, ◌++◌, sym, ap, ◌∙◌, subst, refl}
-use Rattle.libyaml_grammar.specs.sentences.Tokens.{Mark, Token, marks_of}
-use Rattle.libyaml_grammar.specs.sentences.Trees.{Stream, tokens}
-use Rattle.libyaml_grammar.specs.sentences.Events.{Event, events}
+use Rattle.libyaml_grammar.specs.grammar.Tokens.{Mark, Token, marks_of}
+use Rattle.libyaml_grammar.specs.grammar.Trees.{Stream, tokens}
+use Rattle.libyaml_grammar.specs.grammar.Events.{Event, events}
 use Rattle.libyaml_grammar.proofs.lent.Positions.{Position, done, shown, unopened}
 use Rattle.libyaml_grammar.proofs.lent.Reading.{Step, along, feeds, goes}
 use Rattle.libyaml_grammar.proofs.lent.Given.{gives, gives_all, if_all}

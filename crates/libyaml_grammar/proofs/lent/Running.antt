@@ -3,29 +3,29 @@ use Rattle.std.specs.Prelude.{◌||◌}
 use Rattle.std.proofs.Common.{◌≡◌, ◌⊎◌, inl, inr, List, [], ◌∷◌, ◌++◌, Bool, true, false, refl, sym, ap, ◌∙◌, subst, append-nil}
 use Rattle.std.proofs.lemmas.List.{append_cancel_left}
 use Rattle.std.proofs.lemmas.Bool.{false_from_ne_true}
-use Rattle.libyaml_grammar.specs.cuts.CutEvents.{shown_cut}
-use Rattle.libyaml_grammar.specs.cuts.CutFaults.{fault}
-use Rattle.libyaml_grammar.specs.cuts.CutTrees.{Cut, at_tag, at_tag_behind, cut_tokens, declared}
-use Rattle.libyaml_grammar.specs.sentences.Events.{Event, events}
+use Rattle.libyaml_grammar.specs.partial.PartialEvents.{shown_partial}
+use Rattle.libyaml_grammar.specs.partial.PartialFaults.{fault}
+use Rattle.libyaml_grammar.specs.partial.PartialTrees.{PartialTree, at_tag, at_tag_behind, partial_tokens, declared}
+use Rattle.libyaml_grammar.specs.grammar.Events.{Event, events}
 use Rattle.libyaml_types.specs.Fault.{Fault}
-use Rattle.libyaml_grammar.specs.cuts.Fits.{Fits, FitsTag, IsUnknown}
-use Rattle.libyaml_grammar.specs.sentences.Order.{in_order}
+use Rattle.libyaml_grammar.specs.partial.Fits.{Fits, FitsTag, IsUnknown}
+use Rattle.libyaml_grammar.specs.grammar.Order.{in_order}
 use Rattle.libyaml_grammar.proofs.lent.Positions.{Position, done, unopened}
 use Rattle.libyaml_grammar.proofs.lent.Reading.{Step, bad, bad_same, goes, goes_same, over, reads, reads_all, then_all}
-use Rattle.libyaml_grammar.specs.runs.Runs.{Ending, Ends, Fails, IsRun, amid_properties, has_token, is_behind, is_behind_properties, of_beginning, of_cut_tree, of_sentence}
-use Rattle.libyaml_grammar.specs.sentences.Sentences.{IsBeginning, IsSentence, has_end, is_end}
-use Rattle.libyaml_grammar.specs.cuts.Settled.{IsSettled, sure}
+use Rattle.libyaml_grammar.specs.runs.Runs.{Ending, Ends, Fails, IsRun, amid_properties, has_token, is_behind, is_behind_properties, of_viable_prefix, of_partial_tree, of_valid_list}
+use Rattle.libyaml_grammar.specs.grammar.ValidLists.{IsViablePrefix, IsValidList, has_end, is_end}
+use Rattle.libyaml_grammar.specs.partial.DeterminedEvents.{Determines, sure}
 use Rattle.libyaml_grammar.specs.runs.StreamEnds.{up_to_end}
-use Rattle.libyaml_grammar.specs.sentences.Tokens.{Anchor, Content, Tag, Token}
-use Rattle.libyaml_grammar.specs.sentences.Trees.{Directives, Stream, tokens}
-use Rattle.libyaml_grammar.proofs.lent.Completion.{Stops, begin_reads, goes_or_stops, reached_begins, read_sentence, reads_append, sentence_reads}
+use Rattle.libyaml_grammar.specs.grammar.Tokens.{Anchor, Content, Tag, Token}
+use Rattle.libyaml_grammar.specs.grammar.Trees.{Directives, Stream, tokens}
+use Rattle.libyaml_grammar.proofs.lent.Completion.{Stops, begin_reads, goes_or_stops, reached_begins, read_valid_list, reads_append, valid_list_reads}
 use Rattle.libyaml_grammar.proofs.trees.Edge.{reached}
 use Rattle.libyaml_grammar.proofs.lent.Fitting.{read_over, stops_fits}
 use Rattle.libyaml_grammar.proofs.lent.ReadSteps.{IsNotDone}
-use Rattle.libyaml_grammar.proofs.lent.OneCut.{fits_reach, fits_stop}
-use Rattle.libyaml_grammar.proofs.lent.Settling.{begin_front, front_settles, one_settled_proof}
-use Rattle.libyaml_grammar.proofs.lent.StreamEnds.{IsDone, end_is_done, not_end_not_done, read_done, sentence_has_end}
-use Rattle.libyaml_grammar.proofs.lent.Same.{head_same, tail_same}
+use Rattle.libyaml_grammar.proofs.lent.OnePartialTree.{fits_reach, fits_stop}
+use Rattle.libyaml_grammar.proofs.lent.Determining.{begin_prefix, prefix_determines, one_determined_proof}
+use Rattle.libyaml_grammar.proofs.lent.StreamEnds.{IsDone, end_is_done, not_end_not_done, read_done, valid_list_has_end}
+use Rattle.libyaml_grammar.proofs.lent.Injectivity.{head_same, tail_same}
 
 -- before the last of these tokens there is no STREAM-END
 end_last : (l a : List Token) (t : Token) (r : List Token) → up_to_end l ≡ a ++ t ∷ r → has_end a ≡ false
@@ -83,46 +83,46 @@ up_to_read (x ∷ l) q p r e h =
 
 -- how the four kinds of runs are read
 data Shape (l : List Token) (f : Fault) (e : List Event) (x : Ending) : Type 0 where
-  is_sentence : (t : Stream) → reads_all l unopened ≡ goes (done t) → e ≡ events t → x ≡ Ends → Shape l f e x
-  is_cut : (before : List Token) (token : Token) (behind : List Token) (c : Cut) → l ≡ before ++ token ∷ behind
-      → cut_tokens c [] ≡ before
-      → reads_all l unopened ≡ bad c → e ≡ shown_cut c token.start_mark []
+  is_valid_list : (t : Stream) → reads_all l unopened ≡ goes (done t) → e ≡ events t → x ≡ Ends → Shape l f e x
+  is_cut : (before : List Token) (token : Token) (behind : List Token) (c : PartialTree) → l ≡ before ++ token ∷ behind
+      → partial_tokens c [] ≡ before
+      → reads_all l unopened ≡ bad c → e ≡ shown_partial c token.start_mark []
       → x ≡ elim (is_behind_properties c behind)
       [ true ↦ Fails (fault c token.content token.start_mark) | false ↦ Fails f ] → Shape l f e x
-  is_beginning : (q : Position) → reads_all l unopened ≡ goes q → has_end l ≡ false → IsSettled l e → x ≡ Fails f
+  is_viable_prefix : (q : Position) → reads_all l unopened ≡ goes q → has_end l ≡ false → Determines l e → x ≡ Fails f
       → Shape l f e x
 
-cut_reading : (l before : List Token) (token : Token) (behind : List Token) (c : Cut) → l ≡ before ++ token ∷ behind
+partial_reading : (l before : List Token) (token : Token) (behind : List Token) (c : PartialTree) → l ≡ before ++ token ∷ behind
     → Fits before token c
     → reads_all l unopened ≡ bad c
-cut_reading l before token behind c e f = ap (λ (x : List Token). reads_all x unopened) e
+partial_reading l before token behind c e f = ap (λ (x : List Token). reads_all x unopened) e
     ∙ (reads_append before (token ∷ behind) unopened
     ∙ (ap (λ (s : Step). then_all s (reads_all (token ∷ behind))) (fits_reach before token c f)
     ∙ ap (λ (s : Step). then_all s (reads_all behind)) (fits_stop before token c f)))
 
 shape_of : (l : List Token) (f : Fault) (e : List Event) (x : Ending) → IsRun l f e x → Shape (up_to_end l) f e x
-shape_of l f e x (of_sentence t a o g h) =
-    is_sentence t (sentence_reads (up_to_end l) (record { tree = t; all = a; order = o })) g h
-shape_of l f e x (of_cut_tree before token behind c a i o g h)
-    = is_cut before token behind c a i.tokens (cut_reading (up_to_end l) before token behind c a i) g (h
+shape_of l f e x (of_valid_list t a o g h) =
+    is_valid_list t (valid_list_reads (up_to_end l) (record { tree = t; all = a; order = o })) g h
+shape_of l f e x (of_partial_tree before token behind c a i o g h)
+    = is_cut before token behind c a i.tokens (partial_reading (up_to_end l) before token behind c a i) g (h
     ∙ ap (λ (b : Bool). elim b [ true ↦ Fails (fault c token.content token.start_mark) | false ↦ Fails f ]) (sym o))
 shape_of l f e x (amid_properties before token behind c a i o g h)
-    = is_cut before token behind c a i.tokens (cut_reading (up_to_end l) before token behind c a i) g (h
+    = is_cut before token behind c a i.tokens (partial_reading (up_to_end l) before token behind c a i) g (h
     ∙ ap (λ (b : Bool). elim b [ true ↦ Fails (fault c token.content token.start_mark) | false ↦ Fails f ]) (sym o))
-shape_of l f e x (of_beginning b n s h) =
+shape_of l f e x (of_viable_prefix b n s h) =
     let (q, g) = begin_reads (up_to_end l) b in
-    is_beginning q g n s h
+    is_viable_prefix q g n s h
 
 abbrev Same : List Event → List Event → Ending → Ending → Type 0
 Same d e x y = (d ≡ e) × (x ≡ y)
 
-cut_same : (l : List Token) (f : Fault) (d e : List Event) (x y : Ending) (a b : List Token) (t u : Token)
-    (r s : List Token) (c : Cut) → l ≡ a ++ t ∷ r
-    → l ≡ b ++ u ∷ s → a ≡ b → d ≡ shown_cut c t.start_mark []
+partial_same : (l : List Token) (f : Fault) (d e : List Event) (x y : Ending) (a b : List Token) (t u : Token)
+    (r s : List Token) (c : PartialTree) → l ≡ a ++ t ∷ r
+    → l ≡ b ++ u ∷ s → a ≡ b → d ≡ shown_partial c t.start_mark []
     → x ≡ elim (is_behind_properties c r) [ true ↦ Fails (fault c t.content t.start_mark) | false ↦ Fails f ]
-    → e ≡ shown_cut c u.start_mark []
+    → e ≡ shown_partial c u.start_mark []
     → y ≡ elim (is_behind_properties c s) [ true ↦ Fails (fault c u.content u.start_mark) | false ↦ Fails f ] → Same d e x y
-cut_same l f d e x y a b t u r s c g h i j k m n =
+partial_same l f d e x y a b t u r s c g h i j k m n =
     let o : t ∷ r ≡ u ∷ s = append_cancel_left a (t ∷ r) (u ∷ s) (sym g ∙ (h
     ∙ ap (λ (z : List Token). z ++ u ∷ s) (sym i))) in
     let p : t ≡ u = head_same t u r s o in
@@ -130,12 +130,12 @@ cut_same l f d e x y a b t u r s c g h i j k m n =
     let ending : Token → List Token
     → Ending = λ z w. elim (is_behind_properties c w)
     [ true ↦ Fails (fault c z.content z.start_mark) | false ↦ Fails f ] in (
-      j ∙ (ap (λ (z : Token). shown_cut c z.start_mark []) p ∙ sym m),
+      j ∙ (ap (λ (z : Token). shown_partial c z.start_mark []) p ∙ sym m),
       k
           ∙ (ap (λ (z : Token). ending z r) p ∙ (ap (ending u) q ∙ sym n)),
     )
 
-not_both : (l : List Token) (q : Position) (c : Cut) → reads_all l unopened ≡ goes q → reads_all l unopened ≡ bad c → ⊥
+not_both : (l : List Token) (q : Position) (c : PartialTree) → reads_all l unopened ≡ goes q → reads_all l unopened ≡ bad c → ⊥
 not_both l q c e f = no (sym e ∙ f)
   where
     no : goes q ≡ bad c → ⊥
@@ -145,28 +145,28 @@ not_ended : (l : List Token) (q : Position) (t : Stream) → reads_all l unopene
     → reads_all l unopened ≡ goes (done t) → ⊥
 not_ended l q t e h f = subst IsNotDone (goes_same q (done t) (sym e ∙ f)) (not_end_not_done l q e h)
 
-cut_of_same : (l : List Token) (c d : Cut) → reads_all l unopened ≡ bad c → reads_all l unopened ≡ bad d → c ≡ d
-cut_of_same l c d e f = bad_same c d (sym e ∙ f)
+partial_of_same : (l : List Token) (c d : PartialTree) → reads_all l unopened ≡ bad c → reads_all l unopened ≡ bad d → c ≡ d
+partial_of_same l c d e f = bad_same c d (sym e ∙ f)
 
 same_shapes : (l : List Token) (f : Fault) (d e : List Event) (x y : Ending) → Shape l f d x → Shape l f e y → Same d e x y
-same_shapes l f d e x y (is_sentence t g h i) (is_sentence u j k m) = let n : t ≡ u
+same_shapes l f d e x y (is_valid_list t g h i) (is_valid_list u j k m) = let n : t ≡ u
     = same_done (goes_same (done t) (done u) (sym g ∙ j)) in (h ∙ (ap events n ∙ sym k), i ∙ sym m)
   where
     same_done : done t ≡ done u → t ≡ u
     same_done o = cc
-same_shapes l f d e x y (is_sentence t g h i) (is_cut a b r c j k m n o) = absurd (not_both l (done t) c g m)
-same_shapes l f d e x y (is_sentence t g h i) (is_beginning q j k m n) = absurd (not_ended l q t j k g)
-same_shapes l f d e x y (is_cut a b r c j k m n o) (is_sentence t g h i) = absurd (not_both l (done t) c g m)
+same_shapes l f d e x y (is_valid_list t g h i) (is_cut a b r c j k m n o) = absurd (not_both l (done t) c g m)
+same_shapes l f d e x y (is_valid_list t g h i) (is_viable_prefix q j k m n) = absurd (not_ended l q t j k g)
+same_shapes l f d e x y (is_cut a b r c j k m n o) (is_valid_list t g h i) = absurd (not_both l (done t) c g m)
 same_shapes l f d e x y (is_cut a t r c g h i j k) (is_cut b u s c' m n o p q) =
-    let z : c' ≡ c = cut_of_same l c' c o i in
-    cut_same l f d e x y a b t u r s c g m (sym h ∙ (ap (λ (w : Cut). cut_tokens w []) (sym z) ∙ n)) j k (p
-    ∙ ap (λ (w : Cut). shown_cut w u.start_mark []) z) (q
-    ∙ ap (λ (w : Cut). elim (is_behind_properties w s)
+    let z : c' ≡ c = partial_of_same l c' c o i in
+    partial_same l f d e x y a b t u r s c g m (sym h ∙ (ap (λ (w : PartialTree). partial_tokens w []) (sym z) ∙ n)) j k (p
+    ∙ ap (λ (w : PartialTree). shown_partial w u.start_mark []) z) (q
+    ∙ ap (λ (w : PartialTree). elim (is_behind_properties w s)
     [ true ↦ Fails (fault w u.content u.start_mark) | false ↦ Fails f ]) z)
-same_shapes l f d e x y (is_cut a t r c g h i j k) (is_beginning q m n o p) = absurd (not_both l q c m i)
-same_shapes l f d e x y (is_beginning q j k m n) (is_sentence t g h i) = absurd (not_ended l q t j k g)
-same_shapes l f d e x y (is_beginning q m n o p) (is_cut a t r c g h i j k) = absurd (not_both l q c m i)
-same_shapes l f d e x y (is_beginning q g h i j) (is_beginning p k m n o) = (one_settled_proof l d e i n, j ∙ sym o)
+same_shapes l f d e x y (is_cut a t r c g h i j k) (is_viable_prefix q m n o p) = absurd (not_both l q c m i)
+same_shapes l f d e x y (is_viable_prefix q j k m n) (is_valid_list t g h i) = absurd (not_ended l q t j k g)
+same_shapes l f d e x y (is_viable_prefix q m n o p) (is_cut a t r c g h i j k) = absurd (not_both l q c m i)
+same_shapes l f d e x y (is_viable_prefix q g h i j) (is_viable_prefix p k m n o) = (one_determined_proof l d e i n, j ∙ sym o)
 
 pub one_run_proof : (l : List Token) (f : Fault) (d e : List Event) (x y : Ending) → IsRun l f d x → IsRun l f e y
     → (d ≡ e) × (x ≡ y)
@@ -176,16 +176,16 @@ one_run_proof l f d e x y r s = same_shapes (up_to_end l) f d e x y (shape_of l 
 abbrev HasRun : List Token → Fault → Type 0
 HasRun l f = (e : List Event) × (x : Ending) × IsRun l f e x
 
-cut_has_run : (l : List Token) (f : Fault) (before : List Token) (token : Token) (behind : List Token) (c : Cut)
+partial_has_run : (l : List Token) (f : Fault) (before : List Token) (token : Token) (behind : List Token) (c : PartialTree)
     → up_to_end l ≡ before ++ token ∷ behind
     → Fits before token c → (b : Bool) → is_behind_properties c behind ≡ b → HasRun l f
-cut_has_run l f before token behind c e i true h = (
-  shown_cut c token.start_mark [],
+partial_has_run l f before token behind c e i true h = (
+  shown_partial c token.start_mark [],
   Fails (fault c token.content token.start_mark),
-  of_cut_tree before token behind c e i h refl refl,
+  of_partial_tree before token behind c e i h refl refl,
 )
-cut_has_run l f before token behind c e i false h =
-    (shown_cut c token.start_mark [], Fails f, amid_properties before token behind c e i h refl refl)
+partial_has_run l f before token behind c e i false h =
+    (shown_partial c token.start_mark [], Fails f, amid_properties before token behind c e i h refl refl)
 
 begin_has_run : (l : List Token) (f : Fault) (q : Position) → reads_all (up_to_end l) unopened ≡ goes q → (b : Bool)
     → has_end (up_to_end l) ≡ b → HasRun l f
@@ -193,13 +193,13 @@ begin_has_run l f q e true h = go q (end_is_done (up_to_end l) unopened q e h) e
   where
     go : (q : Position) → IsDone q → reads_all (up_to_end l) unopened ≡ goes q → HasRun l f
     go (done t) d g =
-        let s = read_sentence (up_to_end l) t g in
-        (events s.tree, Ends, of_sentence s.tree s.all s.order refl refl)
+        let s = read_valid_list (up_to_end l) t g in
+        (events s.tree, Ends, of_valid_list s.tree s.all s.order refl refl)
     go _ d g = absurd d
 begin_has_run l f q e false h =
     let b = reached_begins (up_to_end l) q e in
-    let (c, i) = begin_front (up_to_end l) b h in
-    (sure c, Fails f, of_beginning b h (front_settles (up_to_end l) c i) refl)
+    let (c, i) = begin_prefix (up_to_end l) b h in
+    (sure c, Fails f, of_viable_prefix b h (prefix_determines (up_to_end l) c i) refl)
 
 -- a token after a valid list is none of the prefix's
 not_past : (l before : List Token) (token : Token) (behind : List Token) (q : Position)
@@ -207,15 +207,15 @@ not_past : (l before : List Token) (token : Token) (behind : List Token) (q : Po
     → reads_all before unopened ≡ goes q → reads q token ≡ over → ⊥
 not_past l before token behind q e g h =
     let (t, f) = read_over q token h in
-    let s = read_sentence before t (g ∙ ap goes f) in
-    let f : false ≡ true = sym (end_last l before token behind e) ∙ sentence_has_end before s in cc
+    let s = read_valid_list before t (g ∙ ap goes f) in
+    let f : false ≡ true = sym (end_last l before token behind e) ∙ valid_list_has_end before s in cc
 
 pub some_run_proof : (l : List Token) (f : Fault) → HasRun l f
 some_run_proof l f = go (goes_or_stops (up_to_end l) unopened)
   where
     stopped : (h : Stops (up_to_end l) unopened) → (s : Step) → reads h.at h.token ≡ s → HasRun l f
     stopped h (goes q) e = absurd (h.stop q e)
-    stopped h (bad c) e = cut_has_run l f h.before h.token h.after c h.all
+    stopped h (bad c) e = partial_has_run l f h.before h.token h.after c h.all
         (stops_fits h.before h.token h.at c h.reached e) (is_behind_properties c h.after)
         refl
     stopped h over e = absurd (not_past l h.before h.token h.after h.at h.all h.reached e)
@@ -225,15 +225,15 @@ some_run_proof l f = go (goes_or_stops (up_to_end l) unopened)
     go (inr h) = stopped h (reads h.at h.token) refl
 
 -- over known trees
-pub sentence_run : (t : Stream) (r : List Token) (f : Fault) → in_order t ≡ true → IsRun (tokens t ++ r) f (events t) Ends
-sentence_run t r f o =
-    let s : IsSentence (tokens t) = record { tree = t; all = refl; order = o } in
-    of_sentence t (up_to_read (tokens t) unopened (done t) r (sentence_reads (tokens t) s)
-    (sentence_has_end (tokens t) s)) o refl refl
+pub valid_list_run : (t : Stream) (r : List Token) (f : Fault) → in_order t ≡ true → IsRun (tokens t ++ r) f (events t) Ends
+valid_list_run t r f o =
+    let s : IsValidList (tokens t) = record { tree = t; all = refl; order = o } in
+    of_valid_list t (up_to_read (tokens t) unopened (done t) r (valid_list_reads (tokens t) s)
+    (valid_list_has_end (tokens t) s)) o refl refl
 
 -- no partial tree has a STREAM-END
-cut_not_ended : (l : List Token) (b : Token) (c : Cut) → Fits l b c → has_end l ≡ false
-cut_not_ended l b c f
+partial_not_ended : (l : List Token) (b : Token) (c : PartialTree) → Fits l b c → has_end l ≡ false
+partial_not_ended l b c f
     = false_from_ne_true (has_end l) (λ e. no (reached c) refl (end_is_done l unopened (reached c) (fits_reach l b c f) e))
   where
     no : (x : Position) → reached c ≡ x → IsDone x → ⊥
@@ -244,10 +244,10 @@ cut_not_ended l b c f
 behind_token : Token → List Token → List Token
 behind_token b r = elim (is_end b.content) [ true ↦ [] | false ↦ up_to_end r ]
 
-cut_front : (l : List Token) (b : Token) (r : List Token) (c : Cut) → Fits l b c → up_to_end (l ++ b ∷ r) ≡ l
+partial_prefix : (l : List Token) (b : Token) (r : List Token) (c : PartialTree) → Fits l b c → up_to_end (l ++ b ∷ r) ≡ l
     ++ b ∷ behind_token b r
 unfolding behind_token
-cut_front l b r c f = up_to_later l (b ∷ r) (cut_not_ended l b c f)
+partial_prefix l b r c f = up_to_later l (b ∷ r) (partial_not_ended l b c f)
 
 has_front : (r : List Token) → has_token (up_to_end r) ≡ has_token r
 has_front [] = refl
@@ -266,7 +266,7 @@ is_no_tag : (k : Content) (ds : Directives) → IsUnknown ds k → is_end k ≡ 
 is_no_tag (Tag h) ds u = refl
 is_no_tag _ ds u = absurd u
 
-same_behind : (l : List Token) (b : Token) (r : List Token) (c : Cut) → FitsTag l c b.content
+same_behind : (l : List Token) (b : Token) (r : List Token) (c : PartialTree) → FitsTag l c b.content
     → is_behind_properties c (behind_token b r) ≡ is_behind_properties c r
 unfolding behind_token
 same_behind l b [] (at_tag p) u =
@@ -281,29 +281,29 @@ same_behind l b r (at_tag_behind p a m) u =
     ∙ has_front r
 same_behind l b r _ u = refl
 
-pub cut_run : (l : List Token) (b : Token) (r : List Token) (c : Cut) (f : Fault) → Fits l b c
+pub partial_run : (l : List Token) (b : Token) (r : List Token) (c : PartialTree) (f : Fault) → Fits l b c
     → is_behind_properties c r ≡ true
-    → IsRun (l ++ b ∷ r) f (shown_cut c b.start_mark []) (Fails (fault c b.content b.start_mark))
-cut_run l b r c f i h = of_cut_tree l b (behind_token b r) c (cut_front l b r c i) i (same_behind l b r c i.tag ∙ h)
+    → IsRun (l ++ b ∷ r) f (shown_partial c b.start_mark []) (Fails (fault c b.content b.start_mark))
+partial_run l b r c f i h = of_partial_tree l b (behind_token b r) c (partial_prefix l b r c i) i (same_behind l b r c i.tag ∙ h)
     refl refl
 
-pub amid_run : (l : List Token) (b : Token) (r : List Token) (c : Cut) (f : Fault) → Fits l b c
+pub amid_run : (l : List Token) (b : Token) (r : List Token) (c : PartialTree) (f : Fault) → Fits l b c
     → is_behind_properties c r ≡ false
-    → IsRun (l ++ b ∷ r) f (shown_cut c b.start_mark []) (Fails f)
-amid_run l b r c f i h = amid_properties l b (behind_token b r) c (cut_front l b r c i) i
+    → IsRun (l ++ b ∷ r) f (shown_partial c b.start_mark []) (Fails f)
+amid_run l b r c f i h = amid_properties l b (behind_token b r) c (partial_prefix l b r c i) i
     (same_behind l b r c i.tag ∙ h) refl refl
 
-pub begin_run : (l : List Token) (e : List Event) (f : Fault) → IsBeginning l → has_end l ≡ false → IsSettled l e
+pub begin_run : (l : List Token) (e : List Event) (f : Fault) → IsViablePrefix l → has_end l ≡ false → Determines l e
     → IsRun l f e (Fails f)
 begin_run l e f b h s =
     let g : up_to_end l ≡ l = all_of_it l h in
-    of_beginning (subst IsBeginning (sym g) b) (ap has_end g ∙ h) (subst (λ (x : List Token). IsSettled x e) (sym g) s) refl
+    of_viable_prefix (subst IsViablePrefix (sym g) b) (ap has_end g ∙ h) (subst (λ (x : List Token). Determines x e) (sym g) s) refl
 
 -- what an ending says
 pub ended_run : (l : List Token) (f : Fault) (e : List Event) → IsRun l f e Ends
     → (t : Stream) × (in_order t ≡ true) × (up_to_end l ≡ tokens t)
     × (e ≡ events t)
-ended_run l f e (of_sentence t a o g h) = (t, o, a, g)
-ended_run l f e (of_cut_tree before token behind c a i o g h) = absurd cc
+ended_run l f e (of_valid_list t a o g h) = (t, o, a, g)
+ended_run l f e (of_partial_tree before token behind c a i o g h) = absurd cc
 ended_run l f e (amid_properties before token behind c a i o g h) = absurd cc
-ended_run l f e (of_beginning b n s h) = absurd cc
+ended_run l f e (of_viable_prefix b n s h) = absurd cc

@@ -1,12 +1,12 @@
 -- A step gives the events: those up to the next position, or to a bad token's place, are those before it and what the
 -- token gives.
 use Rattle.std.proofs.Common.{◌≡◌, List, ◌∷◌, refl, ◌∙◌, Bool, true}
-use Rattle.libyaml_grammar.specs.sentences.Tokens.{Content, Mark, Marks}
-use Rattle.libyaml_grammar.specs.sentences.Trees.{BlockNode, FlowNode, alone, flow, free}
-use Rattle.libyaml_grammar.specs.sentences.Events.{Event, block_node_events, empty_at, first_block, first_flow, flow_node_events}
-use Rattle.libyaml_grammar.specs.cuts.CutTrees.{BlockPlace, Place, block, declared, declared_block, flow_entry, implicit_root, part_place, root, slot}
-use Rattle.libyaml_grammar.specs.cuts.CutEvents.{shown_block, shown_cut, shown_place}
-use Rattle.libyaml_grammar.specs.cuts.Fits.{ends_empty}
+use Rattle.libyaml_grammar.specs.grammar.Tokens.{Content, Mark, Marks}
+use Rattle.libyaml_grammar.specs.grammar.Trees.{BlockNode, FlowNode, alone, flow, free}
+use Rattle.libyaml_grammar.specs.grammar.Events.{Event, block_node_events, empty_at, first_block, first_flow, flow_node_events}
+use Rattle.libyaml_grammar.specs.partial.PartialTrees.{BlockPlace, Place, block, declared, declared_block, flow_entry, implicit_root, part_place, root, slot}
+use Rattle.libyaml_grammar.specs.partial.PartialEvents.{shown_block, shown_partial, shown_place}
+use Rattle.libyaml_grammar.specs.partial.Fits.{ends_empty}
 use Rattle.libyaml_grammar.proofs.lent.Positions.{Position, shown}
 use Rattle.libyaml_grammar.proofs.lent.Reading.{Step, bad, fill, fill_flow, goes, leave, over, step}
 use Rattle.libyaml_grammar.proofs.lent.Given.{empty_mark, gives}
@@ -16,7 +16,7 @@ use Rattle.libyaml_grammar.proofs.lent.ReadSteps.{read_step}
 -- what a step says of the events
 abbrev pub Shows : Step → Position → Marks → (List Event → List Event) → Type 0
 Shows (goes p) q m g = (n : Mark) (r : List Event) → shown p n r ≡ shown q m.start (g r)
-Shows (bad c) q m g = (r : List Event) → shown_cut c m.start r ≡ shown q m.start (g r)
+Shows (bad c) q m g = (r : List Event) → shown_partial c m.start r ≡ shown q m.start (g r)
 Shows over q m g = Unit {0}
 
 pub block_shows : (c : BlockPlace) (x : BlockNode) (m : Mark) (r : List Event)

@@ -1,13 +1,13 @@
 -- What a part gives stands before the events after it.
 use Rattle.std.proofs.Common.{◌≡◌, List, [], ◌∷◌, ◌++◌, refl, sym, ap, ◌∙◌, append_assoc}
-use Rattle.libyaml_grammar.specs.cuts.CutEvents.{shown_block, shown_open, shown_part, shown_place, shown_root, sort_of}
-use Rattle.libyaml_grammar.specs.cuts.CutTrees.{BlockPlace, Open, PartPlace, Place, Root, block, declared, declared_block, declared_open, declared_part, entry, explicit_root, flow_entry, flow_key, flow_value, implicit_root, indentless_entry, open_collection, part_place, root, slot}
-use Rattle.libyaml_grammar.specs.sentences.Events.{Event, before_events, before_part, block_slot_events, documents_events, first_directive, first_of, flow_member_events, flow_slot_events, items_events, member_end, missing_value, opens_pair, parts_events}
+use Rattle.libyaml_grammar.specs.partial.PartialEvents.{shown_block, shown_open, shown_part, shown_place, shown_root, sort_of}
+use Rattle.libyaml_grammar.specs.partial.PartialTrees.{BlockPlace, Open, PartPlace, Place, Root, block, declared, declared_block, declared_open, declared_part, entry, explicit_root, flow_entry, flow_key, flow_value, implicit_root, indentless_entry, open_collection, part_place, root, slot}
+use Rattle.libyaml_grammar.specs.grammar.Events.{Event, before_events, before_part, block_slot_events, documents_events, first_directive, first_of, flow_member_events, flow_slot_events, items_events, member_end, missing_value, opens_pair, parts_events}
 use Rattle.libyaml_grammar.proofs.lent.Positions.{Position, between, done, due, flow_behind, flow_due, flow_keyed, headed, in_indentless, in_mapping, in_sequence, shown, unopened}
-use Rattle.libyaml_grammar.specs.sentences.Tokens.{Mark, Marks}
-use Rattle.libyaml_grammar.specs.sentences.Trees.{Before, BlockItems, BlockSlot, Directives, Documents, FlowMember, FlowSlot, Parts, Role, Sort, behind, directive, flow_node, free, key, mapping, no_parts, no_value, pair, part, sequence, single, value, whole, with_value}
+use Rattle.libyaml_grammar.specs.grammar.Tokens.{Mark, Marks}
+use Rattle.libyaml_grammar.specs.grammar.Trees.{Before, BlockItems, BlockSlot, Directives, Documents, FlowMember, FlowSlot, Parts, Role, Sort, behind, directive, flow_node, free, key, mapping, no_parts, no_value, pair, part, sequence, single, value, whole, with_value}
 use Rattle.libyaml_grammar.proofs.lent.Nesting.{AllTexts, Gives, GivesAll, LastText, before_gives, block_slot_gives, documents_give, flow_items_give, flow_slot_gives, free_gives, items_give, parts_give}
-use Rattle.libyaml_grammar.specs.sentences.Nesting.{DocumentTexts, Value, Values, alias_value, collection_value, first_value, no_texts, no_values, scalar_value, text_behind, texts_events, value_events, values_events}
+use Rattle.libyaml_grammar.specs.grammar.Nesting.{DocumentTexts, Value, Values, alias_value, collection_value, first_value, no_texts, no_values, scalar_value, text_behind, texts_events, value_events, values_events}
 
 pub record Splits (g : List Event → List Event) : Type 0 where
   pub splits : (r : List Event) → g r ≡ g [] ++ r

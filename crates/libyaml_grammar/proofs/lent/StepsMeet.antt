@@ -1,11 +1,11 @@
 -- What holds of each position that is reached from before the stream.
 use Rattle.std.proofs.Common.{◌≡◌, Some, None, refl, Bool, true, List}
 use Rattle.std.proofs.lemmas.Bool.{and_from}
-use Rattle.libyaml_grammar.specs.sentences.Tokens.{Content, Marks}
-use Rattle.libyaml_grammar.specs.sentences.Trees.{BlockNode, FlowMember, FlowNode, alone, flow, no_value, pair, single, with_value}
-use Rattle.libyaml_grammar.specs.sentences.Order.{is_known, properties_in_order}
-use Rattle.libyaml_grammar.specs.sentences.Events.{Event}
-use Rattle.libyaml_grammar.specs.cuts.CutTrees.{BlockPlace, Place, block, declared, flow_entry, flow_key, flow_value, implicit_root, part_place, root, slot}
+use Rattle.libyaml_grammar.specs.grammar.Tokens.{Content, Marks}
+use Rattle.libyaml_grammar.specs.grammar.Trees.{BlockNode, FlowMember, FlowNode, alone, flow, no_value, pair, single, with_value}
+use Rattle.libyaml_grammar.specs.grammar.Order.{is_known, properties_in_order}
+use Rattle.libyaml_grammar.specs.grammar.Events.{Event}
+use Rattle.libyaml_grammar.specs.partial.PartialTrees.{BlockPlace, Place, block, declared, flow_entry, flow_key, flow_value, implicit_root, part_place, root, slot}
 use Rattle.libyaml_grammar.proofs.lent.Positions.{Position, due, flow_behind}
 use Rattle.libyaml_grammar.proofs.lent.Reading.{Step, bad, fill, fill_flow, goes, is_legal, leave, over, step}
 use Rattle.libyaml_grammar.proofs.lent.ReadSteps.{Moves, ReadStep, a_scalar, a_tag, an_alias, an_anchor, anchor_behind_tag, closes_at_mapping, closes_at_sequence, closes_mapping, closes_sequence, ends_mapping, ends_sequence, fails, is_alone, is_past, leaves, moves, read_step, tag_behind_anchor}

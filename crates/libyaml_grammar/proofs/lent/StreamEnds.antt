@@ -1,11 +1,11 @@
 -- A STREAM-END is the last token of a valid list, and each valid list has one.
 use Rattle.std.specs.Prelude.{◌||◌}
 use Rattle.std.proofs.Common.{◌≡◌, List, [], ◌∷◌, Bool, true, false, refl, subst}
-use Rattle.libyaml_grammar.specs.sentences.Sentences.{IsSentence, has_end, is_end}
-use Rattle.libyaml_grammar.specs.sentences.Tokens.{Token}
+use Rattle.libyaml_grammar.specs.grammar.ValidLists.{IsValidList, has_end, is_end}
+use Rattle.libyaml_grammar.specs.grammar.Tokens.{Token}
 use Rattle.libyaml_grammar.proofs.lent.Positions.{Position, done, unopened}
 use Rattle.libyaml_grammar.proofs.lent.Reading.{Step, bad, goes, goes_same, over, reads, reads_all, then_all}
-use Rattle.libyaml_grammar.proofs.lent.Completion.{sentence_reads}
+use Rattle.libyaml_grammar.proofs.lent.Completion.{valid_list_reads}
 use Rattle.libyaml_grammar.proofs.lent.ReadSteps.{IsNotDone}
 use Rattle.libyaml_grammar.proofs.trees.Ending.{Done, DoneAt, reads_done, stays_open}
 
@@ -50,9 +50,9 @@ not_end_not_done l q e h = open_at q (stays_open l unopened q refl h e)
     open_at (done t) f = absurd cc
     open_at _ f = tt
 
-pub sentence_has_end : (l : List Token) → IsSentence l → has_end l ≡ true
-sentence_has_end l s = go (has_end l) refl
+pub valid_list_has_end : (l : List Token) → IsValidList l → has_end l ≡ true
+valid_list_has_end l s = go (has_end l) refl
   where
     go : (b : Bool) → has_end l ≡ b → has_end l ≡ true
     go true e = e
-    go false e = absurd (not_end_not_done l (done s.tree) (sentence_reads l s) e)
+    go false e = absurd (not_end_not_done l (done s.tree) (valid_list_reads l s) e)

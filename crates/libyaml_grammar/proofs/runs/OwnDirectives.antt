@@ -1,11 +1,11 @@
 -- The events of a document depend on its own directives alone, and but for its start on the prefixes that these give.
 use Rattle.std.proofs.Common.{◌≡◌, ℕ, List, [], ◌∷◌, ◌++◌, Option, Some, None, true, false, refl, ap, ◌∙◌}
-use Rattle.libyaml_grammar.specs.sentences.Events.{Event, Layout, alone_of, anchor_of, before_events, before_part, block_layout, block_node_events, block_slot_events, document_start_at, documents_events, end_at, end_of, first_block, first_directive, first_block_entry, first_of, first_of_properties}
-use Rattle.libyaml_grammar.specs.sentences.Events.{flow_items_events, flow_last_events, flow_layout, flow_member_events, flow_node_events, flow_slot_events, free_events, is_missing, items_events, last_of_properties, member_end, opens_pair, parts_events, plain_flag, prefix_of, quoted_flag, resolved}
-use Rattle.libyaml_grammar.specs.sentences.Events.{scalar_at, scalar_of, slot_events, start_at, start_of, tag_from, tag_of}
-use Rattle.libyaml_grammar.specs.sentences.Tokens.{Mark, Marks, ScalarText, TagName}
-use Rattle.libyaml_grammar.specs.sentences.Trees.{Before, BlockItems, BlockNode, BlockSlot, Directives, FlowItems, FlowLast, FlowMember, FlowNode, FlowSlot, Free, Parts, Properties, Slot, Sort, alias, alone, anchor, anchor_tag, block_mapping, block_sequence, collection, empty, explicit, flow}
-use Rattle.libyaml_grammar.specs.sentences.Trees.{flow_node, flow_nothing, implicit, indentless, item, last, mapping, more_items, no_directives, no_items, no_last, no_parts, no_value, node, nothing, pair, part, scalar, sequence, single, slot_of, tag, tag_anchor, with_value}
+use Rattle.libyaml_grammar.specs.grammar.Events.{Event, Layout, alone_of, anchor_of, before_events, before_part, block_layout, block_node_events, block_slot_events, document_start_at, documents_events, end_at, end_of, first_block, first_directive, first_block_entry, first_of, first_of_properties}
+use Rattle.libyaml_grammar.specs.grammar.Events.{flow_items_events, flow_last_events, flow_layout, flow_member_events, flow_node_events, flow_slot_events, free_events, is_missing, items_events, last_of_properties, member_end, opens_pair, parts_events, plain_flag, prefix_of, quoted_flag, resolved}
+use Rattle.libyaml_grammar.specs.grammar.Events.{scalar_at, scalar_of, slot_events, start_at, start_of, tag_from, tag_of}
+use Rattle.libyaml_grammar.specs.grammar.Tokens.{Mark, Marks, ScalarText, TagName}
+use Rattle.libyaml_grammar.specs.grammar.Trees.{Before, BlockItems, BlockNode, BlockSlot, Directives, FlowItems, FlowLast, FlowMember, FlowNode, FlowSlot, Free, Parts, Properties, Slot, Sort, alias, alone, anchor, anchor_tag, block_mapping, block_sequence, collection, empty, explicit, flow}
+use Rattle.libyaml_grammar.specs.grammar.Trees.{flow_node, flow_nothing, implicit, indentless, item, last, mapping, more_items, no_directives, no_items, no_last, no_parts, no_value, node, nothing, pair, part, scalar, sequence, single, slot_of, tag, tag_anchor, with_value}
 use Rattle.libyaml_types.specs.declared.enums.yaml_scalar_style_t.TheVariants.{YAML_PLAIN_SCALAR_STYLE}
 use Rattle.libyaml_grammar.proofs.lent.Splits.{block_slot_splits}
 

@@ -1,12 +1,12 @@
 -- Two completions of one position with different marks differ in their first event.
 use Rattle.std.proofs.Common.{◌≡◌, [], Some, refl, ap}
-use Rattle.libyaml_grammar.specs.sentences.Tokens.{Marks}
-use Rattle.libyaml_grammar.specs.sentences.Trees.{Stream, free, key, mapping, no_parts, no_value, pair, part, sequence, single}
-use Rattle.libyaml_grammar.specs.sentences.Events.{Event}
-use Rattle.libyaml_grammar.specs.cuts.CutTrees.{open_collection, part_place}
+use Rattle.libyaml_grammar.specs.grammar.Tokens.{Marks}
+use Rattle.libyaml_grammar.specs.grammar.Trees.{Stream, free, key, mapping, no_parts, no_value, pair, part, sequence, single}
+use Rattle.libyaml_grammar.specs.grammar.Events.{Event}
+use Rattle.libyaml_grammar.specs.partial.PartialTrees.{open_collection, part_place}
 use Rattle.libyaml_grammar.proofs.lent.Positions.{Position, between, done, due, flow_behind, flow_due, flow_keyed, headed, in_indentless, in_mapping, position_rest}
 use Rattle.libyaml_grammar.proofs.lent.Given.{gives_all}
-use Rattle.libyaml_grammar.specs.cuts.Settled.{next_event}
+use Rattle.libyaml_grammar.specs.partial.DeterminedEvents.{next_event}
 
 same_start : (x y : Event) → Some x ≡ Some y → x.start_mark ≡ y.start_mark
 same_start x y h = ap (λ (e : Event). e.start_mark) (inside x y h)

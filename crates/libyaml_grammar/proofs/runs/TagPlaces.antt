@@ -1,27 +1,27 @@
 -- A TAG goes on exactly where a node may begin, or after an ANCHOR that begins one.
 use Rattle.std.specs.Prelude.{◌&&◌}
 use Rattle.std.proofs.Common.{◌≡◌, ℕ, List, [], ◌∷◌, ◌++◌, Some, refl, sym, ap, ◌∙◌, subst, Bool, true, false, inl, inr, ◌↔◌, append-nil}
-use Rattle.libyaml_grammar.specs.sentences.Tokens.{Anchor, Marks, Tag, TagName, Token, tok, zero_marks}
-use Rattle.libyaml_grammar.specs.sentences.Trees.{anchor_tag, tag}
-use Rattle.libyaml_grammar.specs.cuts.CutTrees.{Place, at_tag_behind, content_due, place_tokens}
-use Rattle.libyaml_grammar.specs.sentences.Sentences.{IsBeginning, IsSentence}
-use Rattle.libyaml_grammar.specs.cuts.Fits.{NodeBegins}
+use Rattle.libyaml_grammar.specs.grammar.Tokens.{Anchor, Marks, Tag, TagName, Token, tok, zero_marks}
+use Rattle.libyaml_grammar.specs.grammar.Trees.{anchor_tag, tag}
+use Rattle.libyaml_grammar.specs.partial.PartialTrees.{Place, at_tag_behind, content_due, place_tokens}
+use Rattle.libyaml_grammar.specs.grammar.ValidLists.{IsViablePrefix, IsValidList}
+use Rattle.libyaml_grammar.specs.partial.Fits.{NodeBegins}
 use Rattle.libyaml_grammar.proofs.lent.Positions.{Position, due, position_in_order, position_rest, position_tokens, unopened}
 use Rattle.libyaml_grammar.proofs.lent.Reading.{Step, bad, checked, goes, is_legal, over, reads, reads_all, step}
-use Rattle.libyaml_grammar.proofs.trees.Append.{cut_append}
+use Rattle.libyaml_grammar.proofs.trees.Append.{partial_append}
 use Rattle.libyaml_grammar.proofs.lent.Cases.{IsTagHeld, TagGoes, step_tag}
 use Rattle.libyaml_grammar.proofs.lent.Completion.{begin_reads, goes_before, position_begins, read_order, reads_append}
 use Rattle.libyaml_grammar.proofs.lent.Keeps.{feeds_keep}
 use Rattle.libyaml_grammar.proofs.lent.Orders.{reads_to}
 
-same_front : (a b : List Token) (x y : Token) → a ++ x ∷ [] ≡ b ++ y ∷ [] → (a ≡ b) × (x ≡ y)
-same_front [] [] x y e = (refl, cc)
-same_front [] (b ∷ []) x y e = cc
-same_front [] (b ∷ c ∷ r) x y e = cc
-same_front (a ∷ []) [] x y e = cc
-same_front (a ∷ c ∷ r) [] x y e = cc
-same_front (a ∷ s) (b ∷ r) x y e =
-    let h = same_front s r x y (tail e) in
+same_prefix : (a b : List Token) (x y : Token) → a ++ x ∷ [] ≡ b ++ y ∷ [] → (a ≡ b) × (x ≡ y)
+same_prefix [] [] x y e = (refl, cc)
+same_prefix [] (b ∷ []) x y e = cc
+same_prefix [] (b ∷ c ∷ r) x y e = cc
+same_prefix (a ∷ []) [] x y e = cc
+same_prefix (a ∷ c ∷ r) [] x y e = cc
+same_prefix (a ∷ s) (b ∷ r) x y e =
+    let h = same_prefix s r x y (tail e) in
     (head e h.0, h.1)
   where
     tail : a ∷ (s ++ x ∷ []) ≡ b ∷ (r ++ y ∷ []) → s ++ x ∷ [] ≡ r ++ y ∷ []
@@ -51,8 +51,8 @@ module _ (l : List Token) (m : Marks) (s : List ℕ) where
       → position_in_order x true ≡ true → (p : Place)
       × NodeBegins l p
   held (due p (Some (tag h n))) b w e o =
-      let f = same_front (place_tokens p []) l (tok (Tag h) n) (tok (Tag whole_tag) m)
-      (sym (cut_append (content_due p) (tok (Tag h) n ∷ [])) ∙ e) in (
+      let f = same_prefix (place_tokens p []) l (tok (Tag h) n) (tok (Tag whole_tag) m)
+      (sym (partial_append (content_due p) (tok (Tag h) n ∷ [])) ∙ e) in (
         p,
         (
           rw (same_tag h n f.1) at o,
@@ -60,8 +60,8 @@ module _ (l : List Token) (m : Marks) (s : List ℕ) where
         ),
       )
   held (due p (Some (anchor_tag a k h n))) b w e o =
-      let f = same_front (place_tokens p (tok (Anchor a) k ∷ [])) l (tok (Tag h) n) (tok (Tag whole_tag) m)
-      (sym (cut_append (at_tag_behind p a k) (tok (Tag h) n ∷ [])) ∙ e) in (
+      let f = same_prefix (place_tokens p (tok (Anchor a) k ∷ [])) l (tok (Tag h) n) (tok (Tag whole_tag) m)
+      (sym (partial_append (at_tag_behind p a k) (tok (Tag h) n ∷ [])) ∙ e) in (
         p,
         (
           rw (same_tag h n f.1) at o,
@@ -70,7 +70,7 @@ module _ (l : List Token) (m : Marks) (s : List ℕ) where
       )
   held _ b w e o = absurd w
 
-  node_begins : IsBeginning (l ++ tok (Tag whole_tag) m ∷ []) → (p : Place) × NodeBegins l p
+  node_begins : IsViablePrefix (l ++ tok (Tag whole_tag) m ∷ []) → (p : Place) × NodeBegins l p
   node_begins h =
       let (x, e) = begin_reads (l ++ tok (Tag whole_tag) m ∷ []) h in
       let (q, f, g) = goes_before (reads_all l unopened) (reads_all (tok (Tag whole_tag) m ∷ [])) x
@@ -84,28 +84,28 @@ module _ (l : List Token) (m : Marks) (s : List ℕ) where
       (reads_to (l ++ tok (Tag whole_tag) m ∷ []) unopened x e).0 []
       ∙ append-nil (l ++ tok (Tag whole_tag) m ∷ [])) (read_order (l ++ tok (Tag whole_tag) m ∷ []) x e)
 
-  behind_front : (a r : List Token) (t : Token) → a ++ t ∷ r ≡ (a ++ t ∷ []) ++ r
-  behind_front [] r t = refl
-  behind_front (x ∷ a) r t = ap (λ (z : List Token). x ∷ z) (behind_front a r t)
+  behind_prefix : (a r : List Token) (t : Token) → a ++ t ∷ r ≡ (a ++ t ∷ []) ++ r
+  behind_prefix [] r t = refl
+  behind_prefix (x ∷ a) r t = ap (λ (z : List Token). x ∷ z) (behind_prefix a r t)
 
-  tag_goes_on : (p : Place) → NodeBegins l p → IsBeginning (l ++ tok (Tag whole_tag) m ∷ [])
+  tag_goes_on : (p : Place) → NodeBegins l p → IsViablePrefix (l ++ tok (Tag whole_tag) m ∷ [])
   tag_goes_on p (o, inl e) =
       let r = position_rest zero_marks (due p (Some (tag whole_tag m))) in
       record {
         rest = r;
-        sentence = subst IsSentence (cut_append (content_due p) (tok (Tag whole_tag) m ∷ r)
-            ∙ (ap (λ (z : List Token). z ++ tok (Tag whole_tag) m ∷ r) e ∙ behind_front l r (tok (Tag whole_tag) m)))
+        valid_list = subst IsValidList (partial_append (content_due p) (tok (Tag whole_tag) m ∷ r)
+            ∙ (ap (λ (z : List Token). z ++ tok (Tag whole_tag) m ∷ r) e ∙ behind_prefix l r (tok (Tag whole_tag) m)))
             (position_begins zero_marks (due p (Some (tag whole_tag m))) o);
       }
   tag_goes_on p (o, inr (a, n, e)) =
       let r = position_rest zero_marks (due p (Some (anchor_tag a n whole_tag m))) in
       record {
         rest = r;
-        sentence = subst IsSentence (cut_append (at_tag_behind p a n) (tok (Tag whole_tag) m ∷ r)
-            ∙ (ap (λ (z : List Token). z ++ tok (Tag whole_tag) m ∷ r) e ∙ behind_front l r (tok (Tag whole_tag) m)))
+        valid_list = subst IsValidList (partial_append (at_tag_behind p a n) (tok (Tag whole_tag) m ∷ r)
+            ∙ (ap (λ (z : List Token). z ++ tok (Tag whole_tag) m ∷ r) e ∙ behind_prefix l r (tok (Tag whole_tag) m)))
             (position_begins zero_marks (due p (Some (anchor_tag a n whole_tag m))) o);
       }
 
-  pub tag_places_proof : IsBeginning (l ++ tok (Tag (record { handle = []; suffix = s })) m ∷ [])
+  pub tag_places_proof : IsViablePrefix (l ++ tok (Tag (record { handle = []; suffix = s })) m ∷ [])
       ↔ ((p : Place) × NodeBegins l p)
   tag_places_proof = (node_begins, λ h. tag_goes_on h.0 h.1)

@@ -2,14 +2,14 @@
 -- tokens followed by the list.
 use Rattle.std.proofs.Common.{◌≡◌, List, [], ◌++◌, refl, sym, ap, ◌∙◌, Bool}
 use Rattle.std.proofs.lemmas.List.{append_cancel_right}
-use Rattle.libyaml_grammar.specs.sentences.Trees.{BlockNode, BlockSlot, Documents, FlowNode, FlowSlot, alone, behind, block_node_tokens, block_slot_tokens, documents_tokens, explicit, flow, flow_node, flow_node_tokens, flow_nothing, flow_slot_tokens, free, implicit, indentless, item, no_directives}
-use Rattle.libyaml_grammar.specs.sentences.Trees.{no_value, node, nothing, pair, part, single, slot_of, with_value}
-use Rattle.libyaml_grammar.specs.cuts.CutTrees.{BlockPlace, Cut, Place, at_directive, at_tag, block, block_place_in_order, block_place_tokens, content_due, cut_in_order, cut_tokens, declared, declared_block, document_due, entry, entry_due, explicit_root, flow_entry, flow_key, flow_value}
-use Rattle.libyaml_grammar.specs.cuts.CutTrees.{implicit_root, indentless_entry, part_due, part_place, place_in_order, place_tokens, root, separator_due, slot}
-use Rattle.libyaml_grammar.specs.sentences.Tokens.{Token}
+use Rattle.libyaml_grammar.specs.grammar.Trees.{BlockNode, BlockSlot, Documents, FlowNode, FlowSlot, alone, behind, block_node_tokens, block_slot_tokens, documents_tokens, explicit, flow, flow_node, flow_node_tokens, flow_nothing, flow_slot_tokens, free, implicit, indentless, item, no_directives}
+use Rattle.libyaml_grammar.specs.grammar.Trees.{no_value, node, nothing, pair, part, single, slot_of, with_value}
+use Rattle.libyaml_grammar.specs.partial.PartialTrees.{BlockPlace, PartialTree, Place, at_directive, at_tag, block, block_place_in_order, block_place_tokens, content_due, partial_in_order, partial_tokens, declared, declared_block, document_due, entry, entry_due, explicit_root, flow_entry, flow_key}
+use Rattle.libyaml_grammar.specs.partial.PartialTrees.{flow_value, implicit_root, indentless_entry, part_due, part_place, place_in_order, place_tokens, root, separator_due, slot}
+use Rattle.libyaml_grammar.specs.grammar.Tokens.{Token}
 use Rattle.libyaml_grammar.proofs.lent.Keeps.{Told, feeds_keep, fill_flow_keeps, fill_keeps}
-use Rattle.libyaml_grammar.specs.sentences.Order.{block_node_in_order, block_slot_in_order, documents_in_order, flow_node_in_order, flow_slot_in_order}
-use Rattle.libyaml_grammar.proofs.trees.Edge.{cut_reads, edge_documents, edge_flow_slot, edge_slot, reached}
+use Rattle.libyaml_grammar.specs.grammar.Order.{block_node_in_order, block_slot_in_order, documents_in_order, flow_node_in_order, flow_slot_in_order}
+use Rattle.libyaml_grammar.proofs.trees.Edge.{partial_reads, edge_documents, edge_flow_slot, edge_slot, reached}
 use Rattle.libyaml_grammar.proofs.trees.Complete.{edge_block, edge_flow, home}
 use Rattle.libyaml_grammar.proofs.lent.Positions.{unopened}
 
@@ -45,7 +45,7 @@ documents_told : (d : Documents) → Told (edge_documents d) (documents_tokens d
 documents_told (implicit f x) = block_told (root (implicit_root f)) x
 documents_told (explicit b ds m x) = slot_told (root (explicit_root b ds m)) x
 
-pub edge_told : (c : Cut) → Told (reached c) (cut_tokens c) (cut_in_order c)
+pub edge_told : (c : PartialTree) → Told (reached c) (partial_tokens c) (partial_in_order c)
 edge_told (document_due d) = documents_told d
 edge_told (at_directive (free f) no_directives) = (λ r. refl, λ r. refl)
 edge_told (at_directive (behind d) no_directives) = documents_told d
@@ -60,12 +60,12 @@ edge_told (separator_due c (pair e x no_value)) = flow_slot_told (flow_key c e) 
 edge_told (separator_due c (pair e x (with_value v y))) = flow_slot_told (flow_value c e x v) y
 edge_told _ = (λ r. refl, λ r. refl)
 
-pub cut_append : (c : Cut) (r : List Token) → cut_tokens c r ≡ cut_tokens c [] ++ r
-cut_append c r = sym ((edge_told c).0 r) ∙ feeds_keep (cut_tokens c []) unopened (reached c) (cut_reads c []) r
+pub partial_append : (c : PartialTree) (r : List Token) → partial_tokens c r ≡ partial_tokens c [] ++ r
+partial_append c r = sym ((edge_told c).0 r) ∙ feeds_keep (partial_tokens c []) unopened (reached c) (partial_reads c []) r
 
 -- two partial trees with equal tokens before one list have equal tokens before each
-pub cut_swap : (c d : Cut) (r a : List Token) → cut_tokens c r ≡ cut_tokens d r → cut_tokens c a ≡ cut_tokens d a
-cut_swap c d r a e = cut_append c a
-    ∙ (ap (λ (l : List Token). l ++ a) (append_cancel_right (cut_tokens c []) (cut_tokens d []) r (sym (cut_append c r)
-    ∙ (e ∙ cut_append d r)))
-    ∙ sym (cut_append d a))
+pub partial_swap : (c d : PartialTree) (r a : List Token) → partial_tokens c r ≡ partial_tokens d r → partial_tokens c a ≡ partial_tokens d a
+partial_swap c d r a e = partial_append c a
+    ∙ (ap (λ (l : List Token). l ++ a) (append_cancel_right (partial_tokens c []) (partial_tokens d []) r (sym (partial_append c r)
+    ∙ (e ∙ partial_append d r)))
+    ∙ sym (partial_append d a))

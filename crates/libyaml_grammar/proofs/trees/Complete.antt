@@ -1,14 +1,14 @@
 -- Reading is complete: fed with the tokens of a tree, a position leads to its place filled with that tree, wherever the
 -- next token is taken there. So a stream's tokens lead to the stream.
 use Rattle.std.proofs.Common.{◌≡◌, List, [], ◌∷◌, Option, Some, None, refl, sym, ap, ◌∙◌, subst, Bool}
-use Rattle.libyaml_grammar.specs.sentences.Tokens.{Alias, Anchor, BlockEnd, BlockEntry, BlockMappingStart, BlockSequenceStart, Content, DocumentEnd, DocumentStart, FlowEntry, FlowMappingEnd, FlowMappingStart, FlowSequenceEnd, FlowSequenceStart, Key, Marks, Scalar, StreamEnd, Tag, TagDirective}
-use Rattle.libyaml_grammar.specs.sentences.Tokens.{Token, Value, VersionDirective, marks_of, tok}
-use Rattle.libyaml_grammar.specs.sentences.Trees.{Before, BlockItems, BlockNode, BlockSlot, Directive, Directives, Documents, Ended, FlowItems, FlowLast, FlowMember, FlowNode, FlowSlot, Free, Parts, Properties, Slot, Sort, Stream, again, alias, alone, anchor, before_tokens, behind, block_mapping}
-use Rattle.libyaml_grammar.specs.sentences.Trees.{block_node_tokens, block_sequence, block_slot_tokens, closing, collection, directive, directive_token, directives_tokens, documents_tokens, empty, ended, ended_tokens, explicit, flow, flow_items_tokens, flow_last_tokens, flow_member_tokens}
-use Rattle.libyaml_grammar.specs.sentences.Trees.{flow_node, flow_node_tokens, flow_nothing, flow_slot_tokens, free, free_tokens, implicit, indentless, item, items_tokens, key, last, mapping, more_items, no_directives, no_items, no_last, no_parts, no_value, node, nothing, once, opened, opening}
-use Rattle.libyaml_grammar.specs.sentences.Trees.{option_tokens, pair, part, parts_tokens, properties_tokens, scalar, sequence, single, slot_of, slot_tokens, tokens, value, version, whole, with_value}
-use Rattle.libyaml_grammar.specs.sentences.Events.{Event}
-use Rattle.libyaml_grammar.specs.cuts.CutTrees.{BlockPlace, Cut, Open, PartPlace, Place, block, content_due, entry, explicit_root, flow_entry, flow_key, flow_value, implicit_root, indentless_entry, open_collection, part_place, root, slot}
+use Rattle.libyaml_grammar.specs.grammar.Tokens.{Alias, Anchor, BlockEnd, BlockEntry, BlockMappingStart, BlockSequenceStart, Content, DocumentEnd, DocumentStart, FlowEntry, FlowMappingEnd, FlowMappingStart, FlowSequenceEnd, FlowSequenceStart, Key, Marks, Scalar, StreamEnd, Tag, TagDirective, Token}
+use Rattle.libyaml_grammar.specs.grammar.Tokens.{Value, VersionDirective, marks_of, tok}
+use Rattle.libyaml_grammar.specs.grammar.Trees.{Before, BlockItems, BlockNode, BlockSlot, Directive, Directives, Documents, Ended, FlowItems, FlowLast, FlowMember, FlowNode, FlowSlot, Free, Parts, Properties, Slot, Sort, Stream, again, alias, alone, anchor, before_tokens, behind, block_mapping}
+use Rattle.libyaml_grammar.specs.grammar.Trees.{block_node_tokens, block_sequence, block_slot_tokens, closing, collection, directive, directive_token, directives_tokens, documents_tokens, empty, ended, ended_tokens, explicit, flow, flow_items_tokens, flow_last_tokens, flow_member_tokens, flow_node}
+use Rattle.libyaml_grammar.specs.grammar.Trees.{flow_node_tokens, flow_nothing, flow_slot_tokens, free, free_tokens, implicit, indentless, item, items_tokens, key, last, mapping, more_items, no_directives, no_items, no_last, no_parts, no_value, node, nothing, once, opened, opening, option_tokens}
+use Rattle.libyaml_grammar.specs.grammar.Trees.{pair, part, parts_tokens, properties_tokens, scalar, sequence, single, slot_of, slot_tokens, tokens, value, version, whole, with_value}
+use Rattle.libyaml_grammar.specs.grammar.Events.{Event}
+use Rattle.libyaml_grammar.specs.partial.PartialTrees.{BlockPlace, PartialTree, Open, PartPlace, Place, block, content_due, entry, explicit_root, flow_entry, flow_key, flow_value, implicit_root, indentless_entry, open_collection, part_place, root, slot}
 use Rattle.libyaml_grammar.proofs.lent.Positions.{Position, between, done, due, flow_behind, flow_due, flow_keyed, headed, in_indentless, in_mapping, in_sequence, unopened}
 use Rattle.libyaml_grammar.proofs.lent.Reading.{Step, bad, behind_whole, feed, feeds, fill, fill_block_slot, fill_flow, fill_flow_slot, fill_part, goes, leave, on_due, or_bad, over, step, then_all}
 use Rattle.libyaml_grammar.proofs.lent.ReadSteps.{ReadStep, begins_explicit, ends_indentless, ends_stream, fails, first_handle, first_version, is_past, lacks_value, moves, no_stream, read_step}
@@ -87,7 +87,7 @@ abbrev held : Place → Option Properties → Position
 held p None = leave p
 held p (Some ps) = fill_flow p (alone ps)
 
-or_bad_takes : (s : Step) (c : Cut) → Takes s → or_bad s c ≡ s
+or_bad_takes : (s : Step) (c : PartialTree) → Takes s → or_bad s c ≡ s
 or_bad_takes (goes x) c h = refl
 or_bad_takes (bad x) c h = absurd h
 or_bad_takes over c h = absurd h

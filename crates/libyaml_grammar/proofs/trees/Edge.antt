@@ -1,10 +1,10 @@
 -- The position that a partial tree's tokens lead to: its right edge, with all that is open around it.
 use Rattle.std.proofs.Common.{◌≡◌, List, ◌∷◌, Option, Some, None, refl, ◌∙◌}
-use Rattle.libyaml_grammar.specs.sentences.Tokens.{Anchor, BlockEntry, BlockMappingStart, BlockSequenceStart, Key, Marks, Token, Value, tok}
-use Rattle.libyaml_grammar.specs.sentences.Trees.{Before, BlockItems, BlockSlot, Directive, Directives, Documents, FlowMember, FlowSlot, Parts, Properties, Sort, anchor, before_tokens, behind, block_node_tokens, block_slot_tokens, directive, directive_token, directives_tokens, documents_tokens}
-use Rattle.libyaml_grammar.specs.sentences.Trees.{empty, explicit, flow_node, flow_node_tokens, flow_nothing, flow_slot_tokens, free, implicit, indentless, item, key, no_directives, no_items, no_parts, no_value, node, nothing, opening, option_tokens, pair, part, single, slot_of, value, with_value}
-use Rattle.libyaml_grammar.specs.cuts.CutTrees.{BlockPlace, Cut, Open, PartPlace, Place, at_directive, at_tag, at_tag_behind, before_stream, block, block_place_tokens, content_due, cut_tokens, document_due, entry, entry_due, explicit_root, flow_entry, flow_key, flow_value, implicit_root}
-use Rattle.libyaml_grammar.specs.cuts.CutTrees.{indentless_entry, open_collection, open_tokens, part_due, part_place, part_place_tokens, place_tokens, root, separator_due, slot, start_due}
+use Rattle.libyaml_grammar.specs.grammar.Tokens.{Anchor, BlockEntry, BlockMappingStart, BlockSequenceStart, Key, Marks, Token, Value, tok}
+use Rattle.libyaml_grammar.specs.grammar.Trees.{Before, BlockItems, BlockSlot, Directive, Directives, Documents, FlowMember, FlowSlot, Parts, Properties, Sort, anchor, before_tokens, behind, block_node_tokens, block_slot_tokens, directive, directive_token, directives_tokens, documents_tokens, empty}
+use Rattle.libyaml_grammar.specs.grammar.Trees.{explicit, flow_node, flow_node_tokens, flow_nothing, flow_slot_tokens, free, implicit, indentless, item, key, no_directives, no_items, no_parts, no_value, node, nothing, opening, option_tokens, pair, part, single, slot_of, value, with_value}
+use Rattle.libyaml_grammar.specs.partial.PartialTrees.{BlockPlace, PartialTree, Open, PartPlace, Place, at_directive, at_tag, at_tag_behind, before_stream, block, block_place_tokens, content_due, partial_tokens, document_due, entry, entry_due, explicit_root, flow_entry, flow_key, flow_value}
+use Rattle.libyaml_grammar.specs.partial.PartialTrees.{implicit_root, indentless_entry, open_collection, open_tokens, part_due, part_place, part_place_tokens, place_tokens, root, separator_due, slot, start_due}
 use Rattle.libyaml_grammar.proofs.lent.Positions.{Position, between, due, flow_due, headed, in_mapping, in_sequence, unopened}
 use Rattle.libyaml_grammar.proofs.lent.Reading.{feeds}
 use Rattle.libyaml_grammar.proofs.trees.Complete.{before_reads, block_node_begins, block_node_edge, directive_feeds, directive_ready, directives_read, directives_ready, edge_block, edge_flow, entries_read, flow_items_read, flow_node_begins, flow_node_edge, flow_slot_reads, free_reads, home}
@@ -100,7 +100,7 @@ edge_member c (single n) = edge_flow (flow_entry c) n
 edge_member c (pair k x no_value) = edge_flow_slot (flow_key c k) x
 edge_member c (pair k x (with_value v y)) = edge_flow_slot (flow_value c k x v) y
 
-abbrev pub reached : Cut → Position
+abbrev pub reached : PartialTree → Position
 reached before_stream = unopened
 reached (document_due d) = edge_documents d
 reached (start_due b ds d) = headed b ds d
@@ -125,27 +125,27 @@ headed_reads : (b : Before) (ds : Directives) (d : Directive) (r : List Token)
 headed_reads b ds d r = before_reads b _ (directives_ready ds b _ (directive_ready b d))
     ∙ (directives_read ds b _ ∙ directive_feeds b ds d r)
 
-pub cut_reads : (c : Cut) (r : List Token) → feeds (cut_tokens c r) unopened ≡ feeds r (reached c)
-cut_reads before_stream r = refl
-cut_reads (document_due d) r = documents_edge d r
-cut_reads (start_due b ds d) r = headed_reads b ds d r
-cut_reads (at_directive (free f) no_directives) r = free_reads f r
-cut_reads (at_directive (behind d) no_directives) r = documents_edge d r
-cut_reads (at_directive b (directive ds d)) r = headed_reads b ds d r
-cut_reads (content_due p) r = place_reads p r
-cut_reads (at_tag p) r = place_reads p r
-cut_reads (at_tag_behind p a m) r = place_reads p _ ∙ home_feeds p (tok (Anchor a) m ∷ r) tt
-cut_reads (entry_due c o m empty) r = block_place_reads c _ ∙ home_sequence o c m r
-cut_reads (entry_due c o m (item is e x)) r = block_place_reads (entry c o m is e) _ ∙ slot_edge x (entry c o m is e) r
-cut_reads (part_due c o m no_parts) r = block_place_reads c _ ∙ home_mapping o c m r
-cut_reads (part_due c o m (part ps k v (slot_of x))) r = part_place_reads (part_place c o m ps k v) _
+pub partial_reads : (c : PartialTree) (r : List Token) → feeds (partial_tokens c r) unopened ≡ feeds r (reached c)
+partial_reads before_stream r = refl
+partial_reads (document_due d) r = documents_edge d r
+partial_reads (start_due b ds d) r = headed_reads b ds d r
+partial_reads (at_directive (free f) no_directives) r = free_reads f r
+partial_reads (at_directive (behind d) no_directives) r = documents_edge d r
+partial_reads (at_directive b (directive ds d)) r = headed_reads b ds d r
+partial_reads (content_due p) r = place_reads p r
+partial_reads (at_tag p) r = place_reads p r
+partial_reads (at_tag_behind p a m) r = place_reads p _ ∙ home_feeds p (tok (Anchor a) m ∷ r) tt
+partial_reads (entry_due c o m empty) r = block_place_reads c _ ∙ home_sequence o c m r
+partial_reads (entry_due c o m (item is e x)) r = block_place_reads (entry c o m is e) _ ∙ slot_edge x (entry c o m is e) r
+partial_reads (part_due c o m no_parts) r = block_place_reads c _ ∙ home_mapping o c m r
+partial_reads (part_due c o m (part ps k v (slot_of x))) r = part_place_reads (part_place c o m ps k v) _
     ∙ slot_edge x (slot (part_place c o m ps k v)) r
-cut_reads (part_due c o m (part ps k v (indentless y is e x))) r =
+partial_reads (part_due c o m (part ps k v (indentless y is e x))) r =
     block_place_reads (indentless_entry (part_place c o m ps k v) y is e) _
     ∙ slot_edge x (indentless_entry (part_place c o m ps k v) y is e) r
-cut_reads (separator_due c (single n)) r
+partial_reads (separator_due c (single n)) r
     = open_reads c _ ∙ (home_feeds (flow_entry c) (flow_node_tokens n r) (flow_node_begins n r)
     ∙ flow_node_edge n (flow_entry c) r)
-cut_reads (separator_due c (pair k x no_value)) r = open_reads c _ ∙ flow_slot_edge x (flow_key c k) r
-cut_reads (separator_due c (pair k x (with_value v y))) r = place_reads (flow_value c k x v) _
+partial_reads (separator_due c (pair k x no_value)) r = open_reads c _ ∙ flow_slot_edge x (flow_key c k) r
+partial_reads (separator_due c (pair k x (with_value v y))) r = place_reads (flow_value c k x v) _
     ∙ flow_slot_edge y (flow_value c k x v) r

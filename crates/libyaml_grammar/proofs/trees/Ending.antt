@@ -1,11 +1,11 @@
 -- STREAM-END alone leads past the stream's end, so a list without it never stands there.
 use Rattle.std.specs.Prelude.{◌||◌}
 use Rattle.std.proofs.Common.{◌≡◌, List, [], ◌∷◌, refl, sym, ap, ◌∙◌, subst, Bool, true, false}
-use Rattle.libyaml_grammar.specs.sentences.Tokens.{Content, Marks, StreamEnd, Token, marks_of, tok}
-use Rattle.libyaml_grammar.specs.sentences.Trees.{BlockNode, FlowNode, Stream, flow}
-use Rattle.libyaml_grammar.specs.sentences.Events.{Event}
-use Rattle.libyaml_grammar.specs.sentences.Sentences.{has_end, is_end}
-use Rattle.libyaml_grammar.specs.cuts.CutTrees.{BlockPlace, Place, block, implicit_root, part_place, root, slot}
+use Rattle.libyaml_grammar.specs.grammar.Tokens.{Content, Marks, StreamEnd, Token, marks_of, tok}
+use Rattle.libyaml_grammar.specs.grammar.Trees.{BlockNode, FlowNode, Stream, flow}
+use Rattle.libyaml_grammar.specs.grammar.Events.{Event}
+use Rattle.libyaml_grammar.specs.grammar.ValidLists.{has_end, is_end}
+use Rattle.libyaml_grammar.specs.partial.PartialTrees.{BlockPlace, Place, block, implicit_root, part_place, root, slot}
 use Rattle.libyaml_grammar.proofs.lent.Positions.{Position, done}
 use Rattle.libyaml_grammar.proofs.lent.Reading.{Step, bad, checked, feed, fill, fill_flow, goes, is_legal, over, reads, reads_all, then_all}
 use Rattle.libyaml_grammar.proofs.lent.ReadSteps.{ReadStep, a_scalar, an_alias, closes_at_mapping, closes_at_sequence, closes_mapping, closes_sequence, ends_mapping, ends_sequence, fails, is_past, leaves, moves, read_step}

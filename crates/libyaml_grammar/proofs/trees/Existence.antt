@@ -3,54 +3,54 @@
 use Rattle.std.specs.Prelude.{◌&&◌, not}
 use Rattle.std.proofs.Common.{◌≡◌, List, [], ◌∷◌, Option, Some, None, refl, sym, ap, ◌∙◌, subst, ◌⊎◌, inl, inr, ⊎_elim, Bool, true, false}
 use Rattle.std.proofs.lemmas.Bool.{true_from_ne_false}
-use Rattle.libyaml_grammar.specs.sentences.Tokens.{Anchor, AnchorName, Content, DocumentEnd, DocumentStart, Marks, StreamEnd, TagDirective, Token, VersionDirective, tok}
-use Rattle.libyaml_grammar.specs.sentences.Trees.{Before, Directive, Directives, Documents, Free, Properties, anchor, anchor_tag, behind, directive, explicit, flow_nothing, free, implicit, indentless, item, no_directives, no_value, node, nothing, pair, part, slot_of, tag, tag_directive, version}
-use Rattle.libyaml_grammar.specs.sentences.Trees.{with_value}
-use Rattle.libyaml_grammar.specs.sentences.Order.{declares, is_accepted, is_known, no_version}
-use Rattle.libyaml_grammar.specs.sentences.Events.{Event}
-use Rattle.libyaml_grammar.specs.cuts.CutTrees.{Cut, Place, at_directive, at_tag, at_tag_behind, before_stream, block, content_due, declared, document_due, entry, entry_due, explicit_root, flow_key, flow_value, implicit_root, indentless_entry, part_due, part_place, place_tokens, root, separator_due}
-use Rattle.libyaml_grammar.specs.cuts.CutTrees.{slot, start_due}
-use Rattle.libyaml_grammar.specs.cuts.Fits.{EndsEmpty, FitsDirective, IsUnknownTag, WantsContent, empty_root, ends_empty, ends_empty_document, is_directive, last_empty}
+use Rattle.libyaml_grammar.specs.grammar.Tokens.{Anchor, AnchorName, Content, DocumentEnd, DocumentStart, Marks, StreamEnd, TagDirective, Token, VersionDirective, tok}
+use Rattle.libyaml_grammar.specs.grammar.Trees.{Before, Directive, Directives, Documents, Free, Properties, anchor, anchor_tag, behind, directive, explicit, flow_nothing, free, implicit, indentless, item, no_directives, no_value, node, nothing, pair, part, slot_of, tag, tag_directive, version}
+use Rattle.libyaml_grammar.specs.grammar.Trees.{with_value}
+use Rattle.libyaml_grammar.specs.grammar.Order.{declares, is_accepted, is_known, no_version}
+use Rattle.libyaml_grammar.specs.grammar.Events.{Event}
+use Rattle.libyaml_grammar.specs.partial.PartialTrees.{PartialTree, Place, at_directive, at_tag, at_tag_behind, before_stream, block, content_due, declared, document_due, entry, entry_due, explicit_root, flow_key, flow_value, implicit_root, indentless_entry, part_due, part_place, place_tokens, root}
+use Rattle.libyaml_grammar.specs.partial.PartialTrees.{separator_due, slot, start_due}
+use Rattle.libyaml_grammar.specs.partial.Fits.{EndsEmpty, FitsDirective, IsUnknownTag, WantsContent, empty_root, ends_empty, ends_empty_document, is_directive, last_empty}
 use Rattle.libyaml_grammar.proofs.lent.Positions.{Position, between, due, headed, unopened}
 use Rattle.libyaml_grammar.proofs.lent.Reading.{Step, bad, bad_same, broken, checked, feeds, goes, goes_same, is_legal, over, reads, reads_all, step}
-use Rattle.libyaml_grammar.proofs.lent.OneCut.{content_fails, step_cut, stops_at_tag, stops_at_tag_behind}
+use Rattle.libyaml_grammar.proofs.lent.OnePartialTree.{content_fails, step_partial, stops_at_tag, stops_at_tag_behind}
 use Rattle.libyaml_grammar.proofs.lent.Orders.{reads_to}
 use Rattle.libyaml_grammar.proofs.lent.ReadSteps.{ReadStep, a_tag, fails, leaves, moves, no_document, no_document_start, no_stream, read_step, tag_behind_anchor}
-use Rattle.libyaml_grammar.proofs.trees.Edge.{cut_reads, edge_documents, place_reads, reached}
+use Rattle.libyaml_grammar.proofs.trees.Edge.{partial_reads, edge_documents, place_reads, reached}
 use Rattle.libyaml_grammar.proofs.trees.Complete.{home}
 
 -- where reading stops with a cut, that cut fits
 
 -- an order cut is that of the position
-order_or_goes : (q : Position) (b : Bool) (c : Cut) → checked (goes q) b ≡ bad c → broken q ≡ c
+order_or_goes : (q : Position) (b : Bool) (c : PartialTree) → checked (goes q) b ≡ bad c → broken q ≡ c
 order_or_goes q true c e = cc
 order_or_goes q false c e = cc
 
 -- a cut by order
-abbrev IsOrderCut : Cut → Type 0
-IsOrderCut before_stream = Unit {0}
-IsOrderCut (at_directive b ds) = Unit {0}
-IsOrderCut (at_tag p) = Unit {0}
-IsOrderCut (at_tag_behind p a m) = Unit {0}
-IsOrderCut _ = ⊥
+abbrev IsOrderPartial : PartialTree → Type 0
+IsOrderPartial before_stream = Unit {0}
+IsOrderPartial (at_directive b ds) = Unit {0}
+IsOrderPartial (at_tag p) = Unit {0}
+IsOrderPartial (at_tag_behind p a m) = Unit {0}
+IsOrderPartial _ = ⊥
 
-broken_due : (p : Place) (o : Option Properties) → IsOrderCut (broken (due p o))
+broken_due : (p : Place) (o : Option Properties) → IsOrderPartial (broken (due p o))
 broken_due p (Some (tag h m)) = tt
 broken_due p (Some (anchor_tag a m h n)) = tt
 broken_due p _ = tt
 
-broken_is : (q : Position) → IsOrderCut (broken q)
+broken_is : (q : Position) → IsOrderPartial (broken q)
 broken_is (headed b ds d) = tt
 broken_is (due p o) = broken_due p o
 broken_is _ = tt
 
 -- where a token is bad at no cut of the order, the step fails
-step_or_order : (s : Step) (l : Bool) (c : Cut) → checked s l ≡ bad c → (s ≡ bad c) ⊎ IsOrderCut c
-step_or_order (goes x) l c e = inr (subst IsOrderCut (order_or_goes x l c e) (broken_is x))
+step_or_order : (s : Step) (l : Bool) (c : PartialTree) → checked s l ≡ bad c → (s ≡ bad c) ⊎ IsOrderPartial c
+step_or_order (goes x) l c e = inr (subst IsOrderPartial (order_or_goes x l c e) (broken_is x))
 step_or_order (bad d) l c e = inl e
 step_or_order over l c e = absurd cc
 
-step_fails : (q : Position) (k : Content) (m : Marks) (c : Cut) → (IsOrderCut c → ⊥) → reads q (tok k m) ≡ bad c
+step_fails : (q : Position) (k : Content) (m : Marks) (c : PartialTree) → (IsOrderPartial c → ⊥) → reads q (tok k m) ≡ bad c
     → step q k m ≡ bad c
 step_fails q k m c n e = ⊎_elim (λ f. f) (λ f. absurd (n f)) (step_or_order (step q k m) (is_legal q k) c e)
 
@@ -65,9 +65,9 @@ directive_ends_empty StreamEnd e = refl
 directive_ends_empty k e = e
 
 -- a cut that is neither of its place nor of the order does not come there
-not_left : (p : Place) (k : Content) (m : Marks) (c : Cut) → (c ≡ content_due p → ⊥) → (IsOrderCut c → ⊥)
+not_left : (p : Place) (k : Content) (m : Marks) (c : PartialTree) → (c ≡ content_due p → ⊥) → (IsOrderPartial c → ⊥)
     → reads (due p None) (tok k m) ≡ bad c → ⊥
-not_left p k m c a b e = a (step_cut (read_step m (due p None) k) c (step_fails (due p None) k m c b e))
+not_left p k m c a b e = a (step_partial (read_step m (due p None) k) c (step_fails (due p None) k m c b e))
 
 bad_ends_root : (d : Documents) (k : Content) (m : Marks)
     → reads (edge_documents d) (tok k m) ≡ bad (document_due d) → EndsEmpty (empty_root d) k
@@ -82,10 +82,10 @@ directive_ends_root (explicit b ds s nothing) k e = directive_ends_empty k e
 directive_ends_root (explicit b ds s (node x)) k e = tt
 directive_ends_root (implicit f x) k e = tt
 
-abbrev pub StopsAt : Cut → Content → Marks → Type 0
+abbrev pub StopsAt : PartialTree → Content → Marks → Type 0
 StopsAt c k m = reads (reached c) (tok k m) ≡ bad c
 
-pub gives_empty_end : (c : Cut) (k : Content) (m : Marks) → FitsDirective c k → StopsAt c k m → EndsEmpty (last_empty c) k
+pub gives_empty_end : (c : PartialTree) (k : Content) (m : Marks) → FitsDirective c k → StopsAt c k m → EndsEmpty (last_empty c) k
 gives_empty_end (document_due x) k m d e = bad_ends_root x k m e
 gives_empty_end (at_directive (behind x) no_directives) k m d e = directive_ends_root x k d
 gives_empty_end (entry_due c o s (item is y nothing)) k m d e
@@ -104,18 +104,18 @@ gives_empty_end (separator_due c (pair y x (with_value v flow_nothing))) k m d e
     (λ f. f) e)
 gives_empty_end _ k m d e = tt
 
-pub gives_content : (c : Cut) (k : Content) (m : Marks) → StopsAt c k m → WantsContent c k
+pub gives_content : (c : PartialTree) (k : Content) (m : Marks) → StopsAt c k m → WantsContent c k
 gives_content (content_due p) k m e = ends_nothing p k m e
 gives_content _ k m e = tt
 
-abbrev pub IsTagCut : Cut → Type 0
-IsTagCut (at_tag p) = Unit {0}
-IsTagCut (at_tag_behind p a m) = Unit {0}
-IsTagCut _ = ⊥
+abbrev pub IsTagPartial : PartialTree → Type 0
+IsTagPartial (at_tag p) = Unit {0}
+IsTagPartial (at_tag_behind p a m) = Unit {0}
+IsTagPartial _ = ⊥
 
 -- which places a bad tag has: where a node is front, an unknown tag is at the tag
-pub gives_tag : (l : List Token) (c : Cut) (k : Content) (m : Marks) → reads_all l unopened ≡ goes (reached c)
-    → StopsAt c k m → IsUnknownTag l k → IsTagCut c
+pub gives_tag : (l : List Token) (c : PartialTree) (k : Content) (m : Marks) → reads_all l unopened ≡ goes (reached c)
+    → StopsAt c k m → IsUnknownTag l k → IsTagPartial c
 gives_tag l c k m r e u = at (u.begins.1)
   where
     home_is : (p : Place) → place_tokens p [] ≡ l → home p ≡ reached c
@@ -126,21 +126,21 @@ gives_tag l c k m r e u = at (u.begins.1)
     behind_is : (p : Place) (a : AnchorName) (x : Marks) → place_tokens p (tok (Anchor a) x ∷ []) ≡ l
         → due p (Some (anchor a x)) ≡ reached c
     behind_is p a x f = goes_same (due p (Some (anchor a x))) (reached c)
-        (sym (rw f at (cut_reads (at_tag_behind p a x) []))
+        (sym (rw f at (partial_reads (at_tag_behind p a x) []))
         ∙ (reads_to l unopened (reached c) r).0)
 
     at : (place_tokens u.place [] ≡ l)
-        ⊎ ((a : AnchorName) × (x : Marks) × (place_tokens u.place (tok (Anchor a) x ∷ []) ≡ l)) → IsTagCut c
+        ⊎ ((a : AnchorName) × (x : Marks) × (place_tokens u.place (tok (Anchor a) x ∷ []) ≡ l)) → IsTagPartial c
     at (inl f) =
         let g = ap (λ (q : Position). reads q (tok k m)) (home_is u.place f) in
         let h = stops_at_tag u.place k m u.unknown in
         let same : at_tag u.place ≡ c = bad_same (at_tag u.place) c (sym h ∙ (g ∙ e)) in
-        subst IsTagCut same tt
+        subst IsTagPartial same tt
     at (inr (a, x, f)) =
         let g = ap (λ (q : Position). reads q (tok k m)) (behind_is u.place a x f) in
         let h = stops_at_tag_behind u.place a x k m u.unknown in
         let same : at_tag_behind u.place a x ≡ c = bad_same (at_tag_behind u.place a x) c (sym h ∙ (g ∙ e)) in
-        subst IsTagCut same tt
+        subst IsTagPartial same tt
 
 -- no cut at a directive without a directive
 no_directive : {m : Marks} {q : Position} {k : Content} {s : Step} {g : List Event → List Event} {l : Bool}
@@ -180,7 +180,7 @@ no_root f (TagDirective x) m e = let h
     (content_due (block (root (implicit_root f)))) e in cc
 no_root f _ m e = refl
 
-pub gives_directive : (c : Cut) (k : Content) (m : Marks) → StopsAt c k m → FitsDirective c k
+pub gives_directive : (c : PartialTree) (k : Content) (m : Marks) → StopsAt c k m → FitsDirective c k
 gives_directive (document_due d) k m e
     = document_fails (read_step m (edge_documents d) k) d (step_fails (edge_documents d) k m (document_due d) (λ f. f) e)
 gives_directive (start_due b ds d) k m e

@@ -1,14 +1,14 @@
 -- The tokens of each production determine it, with the same tokens after it: it is put into a stream.
 use Rattle.std.proofs.Common.{◌≡◌, List, [], ◌∷◌, None, refl, sym, ap, ◌∙◌}
-use Rattle.libyaml_grammar.specs.sentences.Tokens.{BlockEnd, BlockMappingStart, BlockSequenceStart, DocumentStart, FlowSequenceEnd, FlowSequenceStart, Key, StreamEnd, StreamStart, Token, Value, tok, zero_marks}
-use Rattle.libyaml_grammar.specs.sentences.Trees.{Before, BlockItems, BlockNode, BlockSlot, Directives, Documents, FlowItems, FlowLast, FlowMember, FlowNode, FlowSlot, Parts, Properties, Slot, Stream, alone, before_tokens, behind, block_mapping, block_node_tokens, block_sequence, block_slot_tokens}
-use Rattle.libyaml_grammar.specs.sentences.Trees.{collection, directives_tokens, documents_tokens, explicit, flow, flow_items_tokens, flow_last_tokens, flow_member_tokens, flow_node_tokens, flow_slot_tokens, free, items_tokens, last, no_directives, no_items, no_last, no_parts, no_value, node}
-use Rattle.libyaml_grammar.specs.sentences.Trees.{nothing, opened, pair, part, parts_tokens, properties_tokens, sequence, slot_tokens, tokens, value, whole}
-use Rattle.libyaml_grammar.specs.cuts.CutTrees.{BlockPlace, Cut, Place, at_directive, block, content_due, cut_tokens, document_due, entry_due, explicit_root, flow_entry, implicit_root, open_collection, part_due, place_tokens, root, separator_due}
-use Rattle.libyaml_grammar.specs.cuts.Rest.{any_encoding}
+use Rattle.libyaml_grammar.specs.grammar.Tokens.{BlockEnd, BlockMappingStart, BlockSequenceStart, DocumentStart, FlowSequenceEnd, FlowSequenceStart, Key, StreamEnd, StreamStart, Token, Value, tok, zero_marks}
+use Rattle.libyaml_grammar.specs.grammar.Trees.{Before, BlockItems, BlockNode, BlockSlot, Directives, Documents, FlowItems, FlowLast, FlowMember, FlowNode, FlowSlot, Parts, Properties, Slot, Stream, alone, before_tokens, behind, block_mapping, block_node_tokens, block_sequence, block_slot_tokens}
+use Rattle.libyaml_grammar.specs.grammar.Trees.{collection, directives_tokens, documents_tokens, explicit, flow, flow_items_tokens, flow_last_tokens, flow_member_tokens, flow_node_tokens, flow_slot_tokens, free, items_tokens, last, no_directives, no_items, no_last, no_parts, no_value, node, nothing}
+use Rattle.libyaml_grammar.specs.grammar.Trees.{opened, pair, part, parts_tokens, properties_tokens, sequence, slot_tokens, tokens, value, whole}
+use Rattle.libyaml_grammar.specs.partial.PartialTrees.{BlockPlace, PartialTree, Place, at_directive, block, content_due, partial_tokens, document_due, entry_due, explicit_root, flow_entry, implicit_root, open_collection, part_due, place_tokens, root, separator_due}
+use Rattle.libyaml_grammar.specs.partial.Rest.{any_encoding}
 use Rattle.libyaml_grammar.proofs.lent.Positions.{Position, between, due, flow_due, unopened}
 use Rattle.libyaml_grammar.proofs.lent.Reading.{feeds, goes_same}
-use Rattle.libyaml_grammar.proofs.trees.Append.{cut_swap}
+use Rattle.libyaml_grammar.proofs.trees.Append.{partial_swap}
 use Rattle.libyaml_grammar.proofs.lent.Completion.{one_tree_proof}
 use Rattle.libyaml_grammar.proofs.trees.Edge.{place_reads}
 use Rattle.libyaml_grammar.proofs.trees.Complete.{home}
@@ -34,9 +34,9 @@ stream_law x y e = ap content_of (one_tree_proof (stream_of x) (stream_of y) e)
 pub slot_law : (s t : BlockSlot) (r : List Token) → block_slot_tokens s r ≡ block_slot_tokens t r → s ≡ t
 unfolding stream_of
 slot_law s t r e =
-    let c : BlockSlot → Cut = λ x. document_due
+    let c : BlockSlot → PartialTree = λ x. document_due
     (explicit (free (opened any_encoding zero_marks)) no_directives zero_marks x) in
-    stream_law s t (cut_swap (c s) (c t) r (tok StreamEnd zero_marks ∷ []) (ap in_stream e))
+    stream_law s t (partial_swap (c s) (c t) r (tok StreamEnd zero_marks ∷ []) (ap in_stream e))
 
 pub block_node_law : (s t : BlockNode) (r : List Token) → block_node_tokens s r ≡ block_node_tokens t r → s ≡ t
 block_node_law s t r e = let h = slot_law (node s) (node t) r e in cc
@@ -53,7 +53,7 @@ unfolding stream_of
 items_law s t r e =
     let h = stream_law (node (block_sequence None zero_marks s zero_marks))
     (node (block_sequence None zero_marks t zero_marks))
-    (cut_swap (entry_due top None zero_marks s) (entry_due top None zero_marks t) r
+    (partial_swap (entry_due top None zero_marks s) (entry_due top None zero_marks t) r
     (tok BlockEnd zero_marks ∷ tok StreamEnd zero_marks ∷ [])
     (ap (λ (l : List Token). in_stream (tok BlockSequenceStart zero_marks ∷ l)) e)) in cc
 
@@ -63,7 +63,7 @@ unfolding stream_of
 parts_law s t r e =
     let h = stream_law (node (block_mapping None zero_marks s zero_marks))
     (node (block_mapping None zero_marks t zero_marks))
-    (cut_swap (part_due top None zero_marks s) (part_due top None zero_marks t) r
+    (partial_swap (part_due top None zero_marks s) (part_due top None zero_marks t) r
     (tok BlockEnd zero_marks ∷ tok StreamEnd zero_marks ∷ [])
     (ap (λ (l : List Token). in_stream (tok BlockMappingStart zero_marks ∷ l)) e)) in cc
 
@@ -74,15 +74,15 @@ part_law s t r e =
     (ap (λ (l : List Token). tok Value zero_marks ∷ l) e) in cc
 
 -- the entries of a flow collection
-abbrev entries_cut : FlowItems → FlowLast → Cut
+abbrev entries_cut : FlowItems → FlowLast → PartialTree
 entries_cut s no_last = content_due (flow_entry (open_collection (block top) None sequence zero_marks s))
 entries_cut s (last e) = separator_due (open_collection (block top) None sequence zero_marks s) e
 
-cut_entries : (s : FlowItems) (u : FlowLast) (r : List Token)
-    → cut_tokens (entries_cut s u) r ≡ in_stream
+partial_entries : (s : FlowItems) (u : FlowLast) (r : List Token)
+    → partial_tokens (entries_cut s u) r ≡ in_stream
     (tok FlowSequenceStart zero_marks ∷ flow_items_tokens s (flow_last_tokens u r))
-cut_entries s no_last r = refl
-cut_entries s (last e) r = refl
+partial_entries s no_last r = refl
+partial_entries s (last e) r = refl
 
 pub entries_law : (s t : FlowItems) (u v : FlowLast) (r : List Token)
     → flow_items_tokens s (flow_last_tokens u r) ≡ flow_items_tokens t (flow_last_tokens v r)
@@ -92,10 +92,10 @@ entries_law s t u v r e =
     let a : List Token = tok FlowSequenceEnd zero_marks ∷ tok StreamEnd zero_marks ∷ [] in
     let h = stream_law (node (flow (collection None sequence zero_marks s u zero_marks)))
     (node (flow (collection None sequence zero_marks t v zero_marks)))
-    (sym (cut_entries s u a)
-    ∙ (cut_swap (entries_cut s u) (entries_cut t v) r a (cut_entries s u r
-    ∙ (ap (λ (l : List Token). in_stream (tok FlowSequenceStart zero_marks ∷ l)) e ∙ sym (cut_entries t v r)))
-    ∙ cut_entries t v a)) in
+    (sym (partial_entries s u a)
+    ∙ (partial_swap (entries_cut s u) (entries_cut t v) r a (partial_entries s u r
+    ∙ (ap (λ (l : List Token). in_stream (tok FlowSequenceStart zero_marks ∷ l)) e ∙ sym (partial_entries t v r)))
+    ∙ partial_entries t v a)) in
     (cc, cc)
 
 pub entry_law : (s t : FlowMember) (r : List Token) → flow_member_tokens s r ≡ flow_member_tokens t r → s ≡ t
@@ -110,7 +110,7 @@ flow_slot_law s t r e =
 before_law : (s t : Before) (r : List Token) → before_tokens s r ≡ before_tokens t r → s ≡ t
 before_law s t r e =
     let h = one_tree_proof (whole s zero_marks) (whole t zero_marks)
-    (cut_swap (at_directive s no_directives) (at_directive t no_directives) r (tok StreamEnd zero_marks ∷ []) e) in cc
+    (partial_swap (at_directive s no_directives) (at_directive t no_directives) r (tok StreamEnd zero_marks ∷ []) e) in cc
 
 pub documents_law : (s t : Documents) (r : List Token) → documents_tokens s r ≡ documents_tokens t r → s ≡ t
 documents_law s t r e = let h = before_law (behind s) (behind t) r e in cc
@@ -119,7 +119,7 @@ pub directives_law : (s t : Directives) (r : List Token) → directives_tokens s
 directives_law s t r e =
     let b : Before = free (opened any_encoding zero_marks) in
     let h = documents_law (explicit b s zero_marks nothing) (explicit b t zero_marks nothing) []
-    (cut_swap (at_directive b s) (at_directive b t) r (tok DocumentStart zero_marks ∷ [])
+    (partial_swap (at_directive b s) (at_directive b t) r (tok DocumentStart zero_marks ∷ [])
     (ap (λ (l : List Token). tok (StreamStart any_encoding) zero_marks ∷ l) e)) in cc
 
 -- the place at which a node is expected
@@ -135,7 +135,7 @@ home_place d _ = refl
 
 pub place_law : (p q : Place) (r : List Token) → place_tokens p r ≡ place_tokens q r → p ≡ q
 place_law p q r e =
-    let f = cut_swap (content_due p) (content_due q) r [] e in
+    let f = partial_swap (content_due p) (content_due q) r [] e in
     let g : home p ≡ home q =
     goes_same (home p) (home q)
     (sym (place_reads p []) ∙ (ap (λ (l : List Token). feeds l unopened) f ∙ place_reads q [])) in

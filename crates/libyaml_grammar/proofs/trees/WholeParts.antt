@@ -1,17 +1,17 @@
 -- No collection's tokens begin those of another, and no valid list another.
 use Rattle.std.proofs.Common.{◌≡◌, ℕ, zero, suc, List, [], ◌∷◌, ◌++◌, Option, Some, None, refl, sym, ap, ◌∙◌, subst}
 use Rattle.std.proofs.lemmas.List.{append_cancel_left}
-use Rattle.libyaml_grammar.specs.sentences.Tokens.{BlockEnd, BlockEntry, BlockMappingStart, BlockSequenceStart, Content, FlowEntry, FlowMappingEnd, FlowMappingStart, FlowSequenceEnd, FlowSequenceStart, Marks, Scalar, Token, tok}
-use Rattle.libyaml_grammar.specs.sentences.Trees.{BlockItems, BlockNode, BlockSlot, FlowItems, FlowLast, FlowMember, FlowNode, FlowSlot, FlowValue, IsCollection, Parts, Properties, Role, Slot, Sort, alias, alone, anchor, block_mapping, block_node_tokens, block_sequence, block_slot_tokens, closing}
-use Rattle.libyaml_grammar.specs.sentences.Trees.{collection, empty, flow, flow_items_tokens, flow_last_tokens, flow_member_tokens, flow_node, flow_node_tokens, flow_nothing, flow_slot_tokens, flow_value_tokens, indentless, item, items_tokens, key, last, mapping, more_items, no_items, no_last}
-use Rattle.libyaml_grammar.specs.sentences.Trees.{no_parts, no_value, node, nothing, opening, option_tokens, pair, part, parts_tokens, properties_tokens, role_token, scalar, sequence, single, slot_of, slot_tokens, value, with_value}
-use Rattle.libyaml_grammar.specs.sentences.Sentences.{IsSentence}
+use Rattle.libyaml_grammar.specs.grammar.Tokens.{BlockEnd, BlockEntry, BlockMappingStart, BlockSequenceStart, Content, FlowEntry, FlowMappingEnd, FlowMappingStart, FlowSequenceEnd, FlowSequenceStart, Marks, Scalar, Token, tok}
+use Rattle.libyaml_grammar.specs.grammar.Trees.{BlockItems, BlockNode, BlockSlot, FlowItems, FlowLast, FlowMember, FlowNode, FlowSlot, FlowValue, IsCollection, Parts, Properties, Role, Slot, Sort, alias, alone, anchor, block_mapping, block_node_tokens, block_sequence, block_slot_tokens, closing}
+use Rattle.libyaml_grammar.specs.grammar.Trees.{collection, empty, flow, flow_items_tokens, flow_last_tokens, flow_member_tokens, flow_node, flow_node_tokens, flow_nothing, flow_slot_tokens, flow_value_tokens, indentless, item, items_tokens, key, last, mapping, more_items, no_items, no_last}
+use Rattle.libyaml_grammar.specs.grammar.Trees.{no_parts, no_value, node, nothing, opening, option_tokens, pair, part, parts_tokens, properties_tokens, role_token, scalar, sequence, single, slot_of, slot_tokens, value, with_value}
+use Rattle.libyaml_grammar.specs.grammar.ValidLists.{IsValidList}
 use Rattle.libyaml_grammar.specs.runs.StreamEnds.{up_to_end}
 use Rattle.libyaml_grammar.proofs.lent.Positions.{done, unopened}
-use Rattle.libyaml_grammar.proofs.lent.Completion.{sentence_reads}
+use Rattle.libyaml_grammar.proofs.lent.Completion.{valid_list_reads}
 use Rattle.libyaml_grammar.proofs.trees.Productions.{block_node_law}
 use Rattle.libyaml_grammar.proofs.lent.Running.{up_to_read}
-use Rattle.libyaml_grammar.proofs.lent.StreamEnds.{sentence_has_end}
+use Rattle.libyaml_grammar.proofs.lent.StreamEnds.{valid_list_has_end}
 
 -- what follows the closing token of the collection around, where n collections more are open within it
 abbrev closed : ℕ → List Token → (ℕ → List Token) → List Token
@@ -157,10 +157,10 @@ collection_law s t a b g h e =
     let f : a ≡ b = sym (collection_first s a g) ∙ (ap behind_first e ∙ collection_first t b h) in
     (block_node_law s t b (subst (λ (x : List Token). block_node_tokens s x ≡ block_node_tokens t b) f e), f)
 
-up_to_sentence : (l r : List Token) → IsSentence l → up_to_end (l ++ r) ≡ l
-up_to_sentence l r h = up_to_read l unopened (done h.tree) r (sentence_reads l h) (sentence_has_end l h)
+up_to_valid_list : (l r : List Token) → IsValidList l → up_to_end (l ++ r) ≡ l
+up_to_valid_list l r h = up_to_read l unopened (done h.tree) r (valid_list_reads l h) (valid_list_has_end l h)
 
-pub sentence_law : (l m a b : List Token) → IsSentence l → IsSentence m → l ++ a ≡ m ++ b → (l ≡ m) × (a ≡ b)
-sentence_law l m a b g h e =
-    let f : l ≡ m = sym (up_to_sentence l a g) ∙ (ap up_to_end e ∙ up_to_sentence m b h) in
+pub valid_list_law : (l m a b : List Token) → IsValidList l → IsValidList m → l ++ a ≡ m ++ b → (l ≡ m) × (a ≡ b)
+valid_list_law l m a b g h e =
+    let f : l ≡ m = sym (up_to_valid_list l a g) ∙ (ap up_to_end e ∙ up_to_valid_list m b h) in
     (f, append_cancel_left m a b (subst (λ (x : List Token). x ++ a ≡ m ++ b) f e))

@@ -2,11 +2,11 @@
 -- one token of each kind, those that may follow it.
 use Rattle.std.specs.Prelude.{◌≡◌, ◌∷◌, [], Option}
 use Rattle.libyaml_types.specs.declared.token.unnamed_yaml_token_t_data.TheVariants.{BlockEnd, BlockEntry, DocumentEnd, DocumentStart, FlowEntry, FlowMappingEnd, FlowSequenceEnd, Key, StreamEnd, Value}
-use Rattle.libyaml_grammar.specs.cuts.CutTrees.{BlockPlace, Open, PartPlace, Place, block, entry, explicit_root, flow_entry, flow_key, flow_value, implicit_root, indentless_entry, open_collection, root, slot}
-use Rattle.libyaml_grammar.specs.cuts.Fits.{ends_empty}
+use Rattle.libyaml_grammar.specs.partial.PartialTrees.{BlockPlace, Open, PartPlace, Place, block, entry, explicit_root, flow_entry, flow_key, flow_value, implicit_root, indentless_entry, open_collection, root, slot}
+use Rattle.libyaml_grammar.specs.partial.Fits.{ends_empty}
 use Rattle.libyaml_grammar.specs.rows.RowNotation.{HANDLE, VERSION, kinds, passing}
-use Rattle.libyaml_grammar.specs.sentences.Tokens.{Marks}
-use Rattle.libyaml_grammar.specs.sentences.Trees.{Before, BlockItems, Directives, FlowItems, FlowSlot, Free, Properties, mapping, sequence}
+use Rattle.libyaml_grammar.specs.grammar.Tokens.{Marks}
+use Rattle.libyaml_grammar.specs.grammar.Trees.{Before, BlockItems, Directives, FlowItems, FlowSlot, Free, Properties, mapping, sequence}
 
 abbrev pub RowEmptyEntry : Type 0
 RowEmptyEntry = (c : BlockPlace) (o : Option Properties) (m : Marks) (is : BlockItems) (e : Marks)

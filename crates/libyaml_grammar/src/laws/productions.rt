@@ -3,20 +3,20 @@
 #![tactic(auto, using(crate::proofs::trees::Productions::productions))]
 
 ghost use Rattle.std.specs.Prelude.{◌≡◌, ◌++◌, List};
-ghost use Rattle.libyaml_grammar.specs.cuts.CutTrees.{Place, place_tokens};
-ghost use Rattle.libyaml_grammar.specs.sentences.Sentences.{IsSentence};
-ghost use Rattle.libyaml_grammar.specs.sentences.Tokens.{Token};
-ghost use Rattle.libyaml_grammar.specs.sentences.Trees.{BlockItems, BlockNode, BlockSlot};
-ghost use Rattle.libyaml_grammar.specs.sentences.Trees.{Directives, Documents, FlowItems, FlowLast};
-ghost use Rattle.libyaml_grammar.specs.sentences.Trees.{FlowMember, FlowNode, FlowSlot};
-ghost use Rattle.libyaml_grammar.specs.sentences.Trees.{IsCollection, Parts, Properties, Slot};
-ghost use Rattle.libyaml_grammar.specs.sentences.Trees.{block_node_tokens, block_slot_tokens};
-ghost use Rattle.libyaml_grammar.specs.sentences.Trees.{directives_tokens, documents_tokens};
-ghost use Rattle.libyaml_grammar.specs.sentences.Trees.{flow_items_tokens, flow_last_tokens};
-ghost use Rattle.libyaml_grammar.specs.sentences.Trees.{flow_member_tokens, flow_node_tokens};
-ghost use Rattle.libyaml_grammar.specs.sentences.Trees.{flow_slot_tokens, items_tokens};
-ghost use Rattle.libyaml_grammar.specs.sentences.Trees.{parts_tokens, properties_tokens};
-ghost use Rattle.libyaml_grammar.specs.sentences.Trees.{slot_tokens};
+ghost use Rattle.libyaml_grammar.specs.partial.PartialTrees.{Place, place_tokens};
+ghost use Rattle.libyaml_grammar.specs.grammar.ValidLists.{IsValidList};
+ghost use Rattle.libyaml_grammar.specs.grammar.Tokens.{Token};
+ghost use Rattle.libyaml_grammar.specs.grammar.Trees.{BlockItems, BlockNode, BlockSlot};
+ghost use Rattle.libyaml_grammar.specs.grammar.Trees.{Directives, Documents, FlowItems, FlowLast};
+ghost use Rattle.libyaml_grammar.specs.grammar.Trees.{FlowMember, FlowNode, FlowSlot};
+ghost use Rattle.libyaml_grammar.specs.grammar.Trees.{IsCollection, Parts, Properties, Slot};
+ghost use Rattle.libyaml_grammar.specs.grammar.Trees.{block_node_tokens, block_slot_tokens};
+ghost use Rattle.libyaml_grammar.specs.grammar.Trees.{directives_tokens, documents_tokens};
+ghost use Rattle.libyaml_grammar.specs.grammar.Trees.{flow_items_tokens, flow_last_tokens};
+ghost use Rattle.libyaml_grammar.specs.grammar.Trees.{flow_member_tokens, flow_node_tokens};
+ghost use Rattle.libyaml_grammar.specs.grammar.Trees.{flow_slot_tokens, items_tokens};
+ghost use Rattle.libyaml_grammar.specs.grammar.Trees.{parts_tokens, properties_tokens};
+ghost use Rattle.libyaml_grammar.specs.grammar.Trees.{slot_tokens};
 
 /// The properties of a node: an anchor, a tag, or both.
 pub fn one_properties()
@@ -83,8 +83,8 @@ pub fn one_collection()
 {}
 
 /// No valid list begins another, whatever follows the two.
-pub fn one_sentence()
-    ensures { (l m a b : List Token) → IsSentence l → IsSentence m → l ++ a ≡ m ++ b → (l ≡ m) × (a ≡ b) }
+pub fn one_valid_list()
+    ensures { (l m a b : List Token) → IsValidList l → IsValidList m → l ++ a ≡ m ++ b → (l ≡ m) × (a ≡ b) }
 {}
 
 /// The place at which a node is expected after a list of tokens.

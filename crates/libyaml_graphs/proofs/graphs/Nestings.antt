@@ -8,11 +8,11 @@ use Rattle.libyaml_types.specs.declared.event.unnamed_yaml_event_t_data_document
 use Rattle.libyaml_types.specs.declared.event.unnamed_yaml_event_t_data_mapping_start.{unnamed_yaml_event_t_data_mapping_start}
 use Rattle.libyaml_types.specs.declared.event.unnamed_yaml_event_t_data_scalar.{unnamed_yaml_event_t_data_scalar}
 use Rattle.libyaml_types.specs.declared.event.unnamed_yaml_event_t_data_sequence_start.{unnamed_yaml_event_t_data_sequence_start}
-use Rattle.libyaml_grammar.specs.sentences.Events.{Event, Layout, block_layout, document_end_at, end_at, event, flow_layout, mapping_style, sequence_style, stream_end_at}
-use Rattle.libyaml_grammar.specs.sentences.Nesting.{IsNested, DocumentTexts, Value, Values, alias_value, collection_value, first_value, no_texts, no_values, scalar_value, text_behind, texts_events, value_events, values_events}
-use Rattle.libyaml_grammar.specs.sentences.Tokens.{Mark}
-use Rattle.libyaml_grammar.specs.sentences.Trees.{Sort, mapping, sequence}
-use Rattle.libyaml_grammar.proofs.lent.Same.{head_same, tail_same}
+use Rattle.libyaml_grammar.specs.grammar.Events.{Event, Layout, block_layout, document_end_at, end_at, event, flow_layout, mapping_style, sequence_style, stream_end_at}
+use Rattle.libyaml_grammar.specs.grammar.Nesting.{IsNested, DocumentTexts, Value, Values, alias_value, collection_value, first_value, no_texts, no_values, scalar_value, text_behind, texts_events, value_events, values_events}
+use Rattle.libyaml_grammar.specs.grammar.Tokens.{Mark}
+use Rattle.libyaml_grammar.specs.grammar.Trees.{Sort, mapping, sequence}
+use Rattle.libyaml_grammar.proofs.lent.Injectivity.{head_same, tail_same}
 
 -- two events that are one
 record OneEvent (k : unnamed_yaml_event_t_data) (m n : Mark) (l : List Event) (j : unnamed_yaml_event_t_data)

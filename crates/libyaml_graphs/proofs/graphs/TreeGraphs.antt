@@ -1,9 +1,9 @@
 -- The graph by parts is the graph by the tree of values.
 use Rattle.std.proofs.Common.{◌≡◌, ℕ, zero, suc, List, [], ◌∷◌, length, refl, ap, ◌∙◌, append-nil}
-use Rattle.libyaml_grammar.specs.sentences.Events.{Event, end_at, sequence_style, mapping_style}
-use Rattle.libyaml_grammar.specs.sentences.Nesting.{Value, Values, alias_value, collection_value, first_value, no_values, scalar_value, value_events, values_events}
-use Rattle.libyaml_grammar.specs.sentences.Tokens.{Mark}
-use Rattle.libyaml_grammar.specs.sentences.Trees.{mapping, sequence}
+use Rattle.libyaml_grammar.specs.grammar.Events.{Event, end_at, sequence_style, mapping_style}
+use Rattle.libyaml_grammar.specs.grammar.Nesting.{Value, Values, alias_value, collection_value, first_value, no_values, scalar_value, value_events, values_events}
+use Rattle.libyaml_grammar.specs.grammar.Tokens.{Mark}
+use Rattle.libyaml_grammar.specs.grammar.Trees.{mapping, sequence}
 use Rattle.libyaml_documents.specs.LoadedNodes.{mapping_loaded, sequence_loaded}
 use Rattle.libyaml_documents.specs.declared.node.yaml_node_t.{yaml_node_t}
 use Rattle.libyaml_graphs.specs.graphs.Graphs.{Start, id_of, ids_of_all, items, nodes_of, nodes_of_all, pairs, starts_behind, starts_behind_all}

@@ -1,6 +1,6 @@
 -- The loader with its bound gives the next load within that bound.
 use Rattle.std.proofs.Common.{◌≡◌, ℕ, suc, List, [], ◌∷◌, ◌++◌, length, nat_lt, refl, sym, ap, ◌∙◌, append_assoc, append-nil, Option, Some, None, Bool, true, false, Ok, Err}
-use Rattle.libyaml_grammar.specs.sentences.Events.{Event}
+use Rattle.libyaml_grammar.specs.grammar.Events.{Event}
 use Rattle.libyaml_types.specs.Fault.{Fault}
 use Rattle.libyaml_grammar.specs.runs.Runs.{Ending}
 use Rattle.libyaml_documents.specs.declared.node.yaml_node_t.{yaml_node_t}
@@ -12,7 +12,7 @@ use Rattle.libyaml_graphs.specs.loads.Loads.{Load, load_answer, begun, begun_beh
 use Rattle.libyaml_graphs.specs.graphs.GraphParts.{Closing, Opening, Part, alias_part, behind, closing_of, end_part, graph, leaf_part, opening_of, part_of, parts, start_part, with_part}
 use Rattle.libyaml_graphs.proofs.machine.Built.{BeginsEmpty, Built, Held, build, build_finished, finished, finished_none, graph_nodes, held_graph, nodes_in, unbuilt}
 use Rattle.libyaml_graphs.proofs.machine.Following.{Agrees, Follows, BuiltRight, build_stands, loader_of, nodes_length, none_known, part_follows, stands_unbuilt}
-use Rattle.libyaml_graphs.proofs.machine.LoaderLoads.{Answering, IfBeginsEmpty, begins_empty, settled}
+use Rattle.libyaml_graphs.proofs.machine.LoaderLoads.{Answering, IfBeginsEmpty, begins_empty, determined_events}
 use Rattle.libyaml_graphs.proofs.machine.Sizes.{AllBegin, graph_sizes, list_grows, none_below, sizes}
 
 -- what is built of the parts F, whose starts are es, within the bound
@@ -57,8 +57,8 @@ step : {A : Type 0} (n : ℕ) (p : Part) (es : List Start) (F : List Part) (b : 
     (w : Answering A) (N : List yaml_node_t) (K : Loader
     → A) (X : Option Fault) → BeginsEmpty p → Within n es F b → Agrees es xs
     → ((ys : Anchors) → Within n (behind p es) (F ++ p ∷ []) (build es p b) → Agrees (behind p es) ys
-    → K (loader_of (build es p b) ys) ≡ settled w X N)
-    → if_going w.of_fault (bounded_part n (loader_of b xs) p) K ≡ settled w (stop_at n es F p X) N
+    → K (loader_of (build es p b) ys) ≡ determined_events w X N)
+    → if_going w.of_fault (bounded_part n (loader_of b xs) p) K ≡ determined_events w (stop_at n es F p X) N
 step n p es F b xs w N K X e s h ih =
     ap (λ (c : Bool). if_going w.of_fault
     (unless_full c (if_child_fits (list_full n (loader_of b xs) p) (load_part (loader_of b xs) p))) K)
@@ -67,7 +67,7 @@ step n p es F b xs w N K X e s h ih =
   where
     third : (ys : Anchors) → Agrees (behind p es) ys → nat_lt n (length (behind p es)) ≡ false → (c : Bool)
         → one_above n (sizes (build es p b).held) ≡ c
-        → if_going w.of_fault (unless_full c (going (loader_of (build es p b) ys))) K ≡ settled w (if_above c X) N
+        → if_going w.of_fault (unless_full c (going (loader_of (build es p b) ys))) K ≡ determined_events w (if_above c X) N
     third ys a m true q = refl
     third ys a m false q = ih ys (record {
       stands = build_stands p es b s.stands;
@@ -86,22 +86,22 @@ step n p es F b xs w N K X e s h ih =
     second : (u : Loading) → nat_lt n (length (behind p es)) ≡ false
         → Follows u (composer_part_fault es p) (behind p es) (build es p b)
         → if_going w.of_fault (if_child_fits (list_full n (loader_of b xs) p) u) K
-        ≡ settled w (if_wrong (composer_part_fault es p) (if_above (one_above n (list_sizes [] (F ++ p ∷ []))) X)) N
-    second (failed f) m y = ap (λ (x : Option Fault). settled w
+        ≡ determined_events w (if_wrong (composer_part_fault es p) (if_above (one_above n (list_sizes [] (F ++ p ∷ []))) X)) N
+    second (failed f) m y = ap (λ (x : Option Fault). determined_events w
         (if_wrong x (if_above (one_above n (list_sizes [] (F ++ p ∷ []))) X)) N) (sym y)
     second (going k) m y =
         ap (λ (j : Loader). if_going w.of_fault (unless_full (list_full n (loader_of b xs) p) (going j)) K) y.1.1
         ∙ (ap (λ (c : Bool). if_going w.of_fault (unless_full c (going (loader_of (build es p b) y.1.0))) K)
         (sym (list_grows p n es b xs e s.stands.there s.short))
         ∙ (third y.1.0 y.1.2 m (one_above n (sizes (build es p b).held)) refl
-        ∙ (ap (λ (c : Bool). settled w (if_above c X) N) sized
-        ∙ ap (λ (x : Option Fault). settled w (if_wrong x (if_above (one_above n (list_sizes [] (F ++ p ∷ []))) X))
+        ∙ (ap (λ (c : Bool). determined_events w (if_above c X) N) sized
+        ∙ ap (λ (x : Option Fault). determined_events w (if_wrong x (if_above (one_above n (list_sizes [] (F ++ p ∷ []))) X))
         N) (sym y.0))))
 
     if_room : (c : Bool) → nat_lt n (length (behind p es)) ≡ c
         → if_going w.of_fault (unless_full c
         (if_child_fits (list_full n (loader_of b xs) p) (load_part (loader_of b xs) p))) K
-        ≡ settled w (if_above c (if_wrong (composer_part_fault es p) (if_above (one_above n (list_sizes [] (F ++ p ∷ []))) X))) N
+        ≡ determined_events w (if_above c (if_wrong (composer_part_fault es p) (if_above (one_above n (list_sizes [] (F ++ p ∷ []))) X))) N
     if_room true q = refl
     if_room false q = second (load_part (loader_of b xs) p) q (part_follows p es b xs s.stands h)
 
@@ -114,7 +114,7 @@ one_answer c o x = record {
 }
 
 abbrev one_bounded : ℕ → Option Closing → Opening → Ending → List Start → List Part → List Part → Load
-one_bounded n c o x es F P = settled (one_answer c o x) (first_stop n es F P) (graph [] (F ++ P))
+one_bounded n c o x es F P = determined_events (one_answer c o x) (first_stop n es F P) (graph [] (F ++ P))
 
 one_event : (n : ℕ) (e : Event) (r : List Event) (es : List Start) (F : List Part) (o : Opening) (b : Built)
     (xs : Anchors) (x : Ending) → Within n es F b
@@ -133,7 +133,7 @@ one_event n e r es F o b xs x s h ih = go (closing_of e) (part_of e) (begins_emp
         (λ (k : Loader). load_from n (within o k) r x)
         (first_stop n (behind p es) (F ++ p ∷ []) (parts r)) u s h
         (λ ys t a. ih (behind p es) (F ++ p ∷ []) (build es p b) ys t a
-        ∙ ap (λ (Q : List Part). settled (one_answer (end_of_document r) o x)
+        ∙ ap (λ (Q : List Part). determined_events (one_answer (end_of_document r) o x)
         (first_stop n (behind p es) (F ++ p ∷ []) (parts r)) (graph [] Q))
         (append_assoc F (p ∷ []) (parts r)))
 
@@ -159,7 +159,7 @@ one_within (e ∷ r) n es F o b xs x s h
     one_within r n fs G o c ys x t a)
 
 then_one : (f : Option Fault) (c : Option Closing) (o : Opening) (nodes : List yaml_node_t) (x : Ending)
-    → settled (one_answer c o x) f nodes ≡ load_answer f c o nodes (last_load x)
+    → determined_events (one_answer c o x) f nodes ≡ load_answer f c o nodes (last_load x)
 then_one (Some f) c o nodes x = refl
 then_one None c o nodes x = refl
 

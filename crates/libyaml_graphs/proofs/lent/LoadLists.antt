@@ -6,8 +6,8 @@ use Rattle.std.proofs.lemmas.List.Elements.{All-cons, All-head, All-nil, All-tai
 use Rattle.libyaml_documents.specs.declared.node.yaml_node_t.{yaml_node_t}
 use Rattle.libyaml_documents.specs.Documents.{Document}
 use Rattle.libyaml_grammar.specs.runs.Runs.{Ending, Ends, Fails}
-use Rattle.libyaml_grammar.specs.sentences.Events.{Event}
-use Rattle.libyaml_grammar.proofs.lent.Same.{err_same, head_same, not_cons, ok_same, tail_same}
+use Rattle.libyaml_grammar.specs.grammar.Events.{Event}
+use Rattle.libyaml_grammar.proofs.lent.Injectivity.{err_same, head_same, not_cons, ok_same, tail_same}
 use Rattle.libyaml_graphs.specs.loads.GraphLaws.{RootsFollow}
 use Rattle.libyaml_graphs.specs.loads.Loads.{Load, last_load}
 

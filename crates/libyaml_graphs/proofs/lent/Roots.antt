@@ -2,13 +2,13 @@
 use Rattle.std.proofs.Common.{◌≡◌, ◌≢◌, ◌++◌, ℕ, List, [], ◌∷◌, Option, Some, None, Bool, true, false, Ok, Err, nat_lt, refl, sym, ap, ◌∙◌, subst}
 use Rattle.libyaml_types.specs.declared.event.unnamed_yaml_event_t_data.{unnamed_yaml_event_t_data}
 use Rattle.libyaml_types.specs.declared.event.unnamed_yaml_event_t_data.TheVariants as ev
-use Rattle.libyaml_grammar.specs.sentences.Events.{Event, document_end_at, end_at, event, stream_end_at}
+use Rattle.libyaml_grammar.specs.grammar.Events.{Event, document_end_at, end_at, event, stream_end_at}
 use Rattle.libyaml_types.specs.Fault.{Fault}
-use Rattle.libyaml_grammar.specs.sentences.Nesting.{IsOpenDocument, NestsSoFar, DocumentTexts, Value, Values, alias_value, collection_value, first_value, has_begun, no_texts, no_values, none_open, not_begun, one_open, scalar_value, text_behind, texts_events, value_events, values_events, whole}
+use Rattle.libyaml_grammar.specs.grammar.Nesting.{IsOpenDocument, NestsSoFar, DocumentTexts, Value, Values, alias_value, collection_value, first_value, has_begun, no_texts, no_values, none_open, not_begun, one_open, scalar_value, text_behind, texts_events, value_events, values_events, whole}
 use Rattle.libyaml_grammar.specs.runs.Runs.{Ending, Ends, Fails}
-use Rattle.libyaml_grammar.specs.sentences.Tokens.{Mark}
-use Rattle.libyaml_grammar.specs.sentences.Trees.{mapping, sequence}
-use Rattle.libyaml_grammar.proofs.lent.Same.{ok_same}
+use Rattle.libyaml_grammar.specs.grammar.Tokens.{Mark}
+use Rattle.libyaml_grammar.specs.grammar.Trees.{mapping, sequence}
+use Rattle.libyaml_grammar.proofs.lent.Injectivity.{ok_same}
 use Rattle.libyaml_documents.specs.Documents.{Document}
 use Rattle.libyaml_graphs.specs.loads.Bounds.{bounded_loads, first_stop, if_above, next_bounded}
 use Rattle.libyaml_graphs.specs.loads.GraphLaws.{BeginsNode, RootFollows, RootsFollow}
@@ -57,14 +57,14 @@ texts_roots (text_behind ts d m n v i p q) r h
       value_roots v (document_end_at i p q ∷ r) (tt, h),
     )
 
-front_first : (o : Option Opening) (f r : List Event) → RootFollows o (f ++ r) → RootFollows o f
-front_first None f r h = tt
-front_first (Some o) [] r h = tt
-front_first (Some o) (e ∷ f) r h = h
+prefix_first : (o : Option Opening) (f r : List Event) → RootFollows o (f ++ r) → RootFollows o f
+prefix_first None f r h = tt
+prefix_first (Some o) [] r h = tt
+prefix_first (Some o) (e ∷ f) r h = h
 
-front_roots : (f r : List Event) → RootsFollow (f ++ r) → RootsFollow f
-front_roots [] r h = tt
-front_roots (e ∷ f) r h = (front_first (opening_of e) f r h.0, front_roots f r h.1)
+prefix_roots : (f r : List Event) → RootsFollow (f ++ r) → RootsFollow f
+prefix_roots [] r h = tt
+prefix_roots (e ∷ f) r h = (prefix_first (opening_of e) f r h.0, prefix_roots f r h.1)
 
 open_roots : (l : List Event) → IsOpenDocument l → RootsFollow l
 open_roots l (none_open e) = subst RootsFollow (sym e) tt
@@ -73,8 +73,8 @@ open_roots l (one_open d m n front e b) =
     in
     let rest = subst RootsFollow b.all (value_roots b.val [] tt) in
     subst RootsFollow (sym e) (
-      front_first (Some (record { start = d; mark = m })) front b.rest first,
-      front_roots front b.rest rest,
+      prefix_first (Some (record { start = d; mark = m })) front b.rest first,
+      prefix_roots front b.rest rest,
     )
 
 pub roots_follow : (l : List Event) → NestsSoFar l → RootsFollow l

@@ -2,7 +2,7 @@
 use Rattle.std.proofs.Common.{◌≡◌, ◌≤◌, ◌+◌, ◌↔◌, ℕ, zero, suc, List, [], ◌∷◌, ◌++◌, length, nat_lt, All, Option, Some, None, Bool, true, false, refl, sym, ap, ◌∙◌, subst, append_assoc, append-nil, arith, zero-add, le_refl, le_trans, le_of_lt, lt-suc_self, suc-le-suc, zero-le, le-ltb, ltb-false}
 use Rattle.std.proofs.lemmas.List.Elements.{All-cons, All-head, All-nil, All-tail}
 use Rattle.std.proofs.lemmas.Bool.{or_parts}
-use Rattle.libyaml_grammar.specs.sentences.Events.{Event}
+use Rattle.libyaml_grammar.specs.grammar.Events.{Event}
 use Rattle.libyaml_types.specs.Fault.{Fault}
 use Rattle.libyaml_grammar.specs.runs.Runs.{Ending}
 use Rattle.libyaml_documents.specs.declared.node.unnamed_yaml_node_t_data.{unnamed_yaml_node_t_data}
@@ -58,19 +58,19 @@ lt_down : (n a b : ℕ) → a ≤ b → nat_lt n b ≡ false → nat_lt n a ≡ 
 lt_down n a b h e = le-ltb n a (le_trans h (ltb-false n b e))
 
 -- the lists of a document so far are no longer than those of more of it
-front_shorter : (f g : List Part) (es : List Start) (n : ℕ) → one_above n (list_sizes es (f ++ g)) ≡ false
+prefix_shorter : (f g : List Part) (es : List Start) (n : ℕ) → one_above n (list_sizes es (f ++ g)) ≡ false
     → one_above n (list_sizes es f) ≡ false
-front_shorter [] g es n h = refl
-front_shorter (alias_part a m ∷ f) g es n h = front_shorter f g es n h
-front_shorter (leaf_part a x ∷ f) g es n h = front_shorter f g (carrier_start a x ∷ es) n h
-front_shorter (start_part a x ∷ f) g es n h =
+prefix_shorter [] g es n h = refl
+prefix_shorter (alias_part a m ∷ f) g es n h = prefix_shorter f g es n h
+prefix_shorter (leaf_part a x ∷ f) g es n h = prefix_shorter f g (carrier_start a x ∷ es) n h
+prefix_shorter (start_part a x ∷ f) g es n h =
     let fs : List Start = carrier_start a x ∷ es in
     let k : (nat_lt n (entries x.content (children 0 fs (f ++ g))) ≡ false)
     × (one_above n (list_sizes fs (f ++ g)) ≡ false) = or_parts _ _ h in
     either_none _ _ (lt_down n _ _
     (more_entries x.content (children 0 fs f) (children 0 fs (f ++ g)) (children_begin f g 0 fs)) k.0)
-    ∙ front_shorter f g fs n k.1
-front_shorter (end_part m ∷ f) g es n h = front_shorter f g es n h
+    ∙ prefix_shorter f g fs n k.1
+prefix_shorter (end_part m ∷ f) g es n h = prefix_shorter f g es n h
 
 abbrev all_behind : List Start → List Part → List Start
 all_behind es [] = es
@@ -93,7 +93,7 @@ room [] es F n a b = refl
 room (p ∷ r) es F n a b =
     let c : one_above n (list_sizes [] ((F ++ p ∷ []) ++ r)) ≡ false =
     ap (λ (l : List Part). one_above n (list_sizes [] l)) (append_assoc F (p ∷ []) r) ∙ b in
-    let d : one_above n (list_sizes [] (F ++ p ∷ [])) ≡ false = front_shorter (F ++ p ∷ []) r [] n c in
+    let d : one_above n (list_sizes [] (F ++ p ∷ [])) ≡ false = prefix_shorter (F ++ p ∷ []) r [] n c in
     ap (λ (x : Bool). if_above x (if_wrong (composer_part_fault es p)
     (if_above (one_above n (list_sizes [] (F ++ p ∷ []))) (first_stop n (behind p es) (F ++ p ∷ []) r))))
     (lt_down n _ _ (starts_grow r (behind p es)) a)

@@ -1,23 +1,23 @@
 -- The loads over a list of tokens: there is one list of them, and those of known trees are known.
 use Rattle.std.proofs.Common.{◌≡◌, List, [], ◌∷◌, ◌++◌, Option, Some, None, true, false, refl, sym, ap₂, ◌∙◌, subst}
 use Rattle.std.proofs.lemmas.List.Elements.{All-nil}
-use Rattle.libyaml_grammar.specs.cuts.CutEvents.{cut_events}
-use Rattle.libyaml_grammar.specs.cuts.CutFaults.{fault}
-use Rattle.libyaml_grammar.specs.cuts.CutTrees.{Cut}
-use Rattle.libyaml_grammar.specs.sentences.Events.{Event, events}
+use Rattle.libyaml_grammar.specs.partial.PartialEvents.{partial_events}
+use Rattle.libyaml_grammar.specs.partial.PartialFaults.{fault}
+use Rattle.libyaml_grammar.specs.partial.PartialTrees.{PartialTree}
+use Rattle.libyaml_grammar.specs.grammar.Events.{Event, events}
 use Rattle.libyaml_types.specs.Fault.{Fault}
-use Rattle.libyaml_grammar.specs.cuts.Fits.{Fits}
-use Rattle.libyaml_grammar.specs.sentences.Nesting.{IsNested, DocumentTexts, Value, no_texts, text_behind, value_events}
-use Rattle.libyaml_grammar.specs.sentences.Order.{in_order}
+use Rattle.libyaml_grammar.specs.partial.Fits.{Fits}
+use Rattle.libyaml_grammar.specs.grammar.Nesting.{IsNested, DocumentTexts, Value, no_texts, text_behind, value_events}
+use Rattle.libyaml_grammar.specs.grammar.Order.{in_order}
 use Rattle.libyaml_grammar.specs.runs.Runs.{Ending, Ends, Fails, IsRun, RunsWhole, is_behind_properties, to_its_end, to_its_fault}
-use Rattle.libyaml_grammar.specs.sentences.Sentences.{IsBeginning, has_end}
-use Rattle.libyaml_grammar.specs.cuts.Settled.{IsSettled}
-use Rattle.libyaml_grammar.specs.sentences.Tokens.{Marks, StreamEnd, Token, tok}
-use Rattle.libyaml_grammar.specs.sentences.Trees.{Stream, tokens}
+use Rattle.libyaml_grammar.specs.grammar.ValidLists.{IsViablePrefix, has_end}
+use Rattle.libyaml_grammar.specs.partial.DeterminedEvents.{Determines}
+use Rattle.libyaml_grammar.specs.grammar.Tokens.{Marks, StreamEnd, Token, tok}
+use Rattle.libyaml_grammar.specs.grammar.Trees.{Stream, tokens}
 use Rattle.libyaml_grammar.proofs.lent.Headline.{runs_whole}
 use Rattle.libyaml_grammar.proofs.lent.Nesting.{events_nest_proof}
 use Rattle.libyaml_grammar.proofs.lent.NestingSoFar.{run_nests_so_far}
-use Rattle.libyaml_grammar.proofs.lent.Running.{amid_run, begin_run, cut_run, one_run_proof, sentence_run, some_run_proof}
+use Rattle.libyaml_grammar.proofs.lent.Running.{amid_run, begin_run, partial_run, one_run_proof, valid_list_run, some_run_proof}
 use Rattle.libyaml_documents.specs.Nodes.{EveryIdNamesANode}
 use Rattle.libyaml_graphs.specs.graphs.ComposerFaults.{composer_fault}
 use Rattle.libyaml_graphs.specs.loads.GraphLaws.{EachIdNames, LoadsWhole, NestedLoads, fault_or, has_begun, not_begun, open_load, whole}
@@ -52,27 +52,27 @@ of_run l f e x r = (
   nested_loads e x (run_nests_so_far l f e x r),
 )
 
-pub sentence_loads : (t : Stream) (r : List Token) (f : Fault) → in_order t ≡ true → (n : IsNested (events t))
+pub valid_list_loads : (t : Stream) (r : List Token) (f : Fault) → in_order t ≡ true → (n : IsNested (events t))
     × IsLoads (tokens t ++ r) f (loads_of n.texts (last_load Ends ∷ []))
-sentence_loads t r f o =
+valid_list_loads t r f o =
     let n : IsNested (events t) = events_nest_proof t in
-    (n, record { events = events t; ending = Ends; run = sentence_run t r f o; all = sym (whole_loads (events t) n Ends) })
+    (n, record { events = events t; ending = Ends; run = valid_list_run t r f o; all = sym (whole_loads (events t) n Ends) })
 
-pub cut_tree_loads : (l : List Token) (b : Token) (r : List Token) (c : Cut) (f : Fault) → Fits l b c
+pub partial_tree_loads : (l : List Token) (b : Token) (r : List Token) (c : PartialTree) (f : Fault) → Fits l b c
     → is_behind_properties c r ≡ true → (a : List Load)
-    × IsLoads (l ++ b ∷ r) f a × NestedLoads (cut_events c b) (Fails (fault c b.content b.start_mark)) a
-cut_tree_loads l b r c f i h = of_run (l ++ b ∷ r) f (cut_events c b) (Fails (fault c b.content b.start_mark))
-    (cut_run l b r c f i h)
+    × IsLoads (l ++ b ∷ r) f a × NestedLoads (partial_events c b) (Fails (fault c b.content b.start_mark)) a
+partial_tree_loads l b r c f i h = of_run (l ++ b ∷ r) f (partial_events c b) (Fails (fault c b.content b.start_mark))
+    (partial_run l b r c f i h)
 
-pub amid_loads : (l : List Token) (b : Token) (r : List Token) (c : Cut) (f : Fault) → Fits l b c
+pub amid_loads : (l : List Token) (b : Token) (r : List Token) (c : PartialTree) (f : Fault) → Fits l b c
     → is_behind_properties c r ≡ false → (a : List Load)
-    × IsLoads (l ++ b ∷ r) f a × NestedLoads (cut_events c b) (Fails f) a
-amid_loads l b r c f i h = of_run (l ++ b ∷ r) f (cut_events c b) (Fails f) (amid_run l b r c f i h)
+    × IsLoads (l ++ b ∷ r) f a × NestedLoads (partial_events c b) (Fails f) a
+amid_loads l b r c f i h = of_run (l ++ b ∷ r) f (partial_events c b) (Fails f) (amid_run l b r c f i h)
 
-pub beginning_loads : (l : List Token) (e : List Event) (f : Fault) → IsBeginning l → has_end l ≡ false
-    → IsSettled l e → (a : List Load) × IsLoads l f a
+pub viable_prefix_loads : (l : List Token) (e : List Event) (f : Fault) → IsViablePrefix l → has_end l ≡ false
+    → Determines l e → (a : List Load) × IsLoads l f a
     × NestedLoads e (Fails f) a
-beginning_loads l e f b h s = of_run l f e (Fails f) (begin_run l e f b h s)
+viable_prefix_loads l e f b h s = of_run l f e (Fails f) (begin_run l e f b h s)
 
 -- the headline
 loads_whole : (l : List Token) (f : Fault) → RunsWhole l f → LoadsWhole l f
@@ -82,7 +82,7 @@ loads_whole l f (to_its_end t o e r) =
     n (whole_loads (events t) n Ends)
 loads_whole l f (to_its_fault before token behind c e i r) =
     let x : Ending = Fails (fault c token.content token.start_mark) in
-    let y = of_run l f (cut_events c token) x r in
+    let y = of_run l f (partial_events c token) x r in
     law.to_its_fault before token behind c e i y.0 y.1 y.2
 
 pub headline : (l : List Token) (m : Marks) (f : Fault) → has_end l ≡ false → LoadsWhole (l ++ tok StreamEnd m ∷ []) f

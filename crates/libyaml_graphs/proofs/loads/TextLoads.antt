@@ -4,11 +4,11 @@ use Rattle.libyaml_types.specs.declared.event.unnamed_yaml_event_t_data.TheVaria
 use Rattle.libyaml_graphs.specs.loads.GraphLaws as law
 use Rattle.libyaml_graphs.specs.loads.GraphLaws.{NestedLoads, fault_or, open_load}
 use Rattle.libyaml_types.specs.declared.event.unnamed_yaml_event_t_data_document_start.{unnamed_yaml_event_t_data_document_start}
-use Rattle.libyaml_grammar.specs.sentences.Events.{Event, document_end_at, event, stream_end_at}
+use Rattle.libyaml_grammar.specs.grammar.Events.{Event, document_end_at, event, stream_end_at}
 use Rattle.libyaml_types.specs.Fault.{Fault}
-use Rattle.libyaml_grammar.specs.sentences.Nesting.{BeginsValue, HasBegun, IsNested, IsOpenDocument, NestsSoFar, DocumentTexts, Value, has_begun, no_texts, none_open, not_begun, one_open, text_behind, texts_events, value_events, whole}
+use Rattle.libyaml_grammar.specs.grammar.Nesting.{BeginsValue, HasBegun, IsNested, IsOpenDocument, NestsSoFar, DocumentTexts, Value, has_begun, no_texts, none_open, not_begun, one_open, text_behind, texts_events, value_events, whole}
 use Rattle.libyaml_grammar.specs.runs.Runs.{Ending, Ends}
-use Rattle.libyaml_grammar.specs.sentences.Tokens.{Mark}
+use Rattle.libyaml_grammar.specs.grammar.Tokens.{Mark}
 use Rattle.libyaml_documents.specs.declared.node.yaml_node_t.{yaml_node_t}
 use Rattle.libyaml_graphs.specs.graphs.ComposerFaults.{composer_fault}
 use Rattle.libyaml_graphs.specs.graphs.Graphs.{nodes_of}
@@ -28,14 +28,14 @@ value_behind v r = value_keeps (λ (l : List Event). begun_behind l ≡ begun_be
     (λ e s i k. ap (λ (c : Option Closing). elim c [ Some y ↦ begun s | None ↦ begun_behind s ]) i.1 ∙ k) v r refl
 
 -- the parts of a value hang on those after it alone
-front_parts : (l r s : List Event) → parts r ≡ parts s → parts (l ++ r) ≡ parts (l ++ s)
-front_parts [] r s e = e
-front_parts (x ∷ l) r s e
-    = ap (λ (P : List Part). elim (closing_of x) [ Some c ↦ [] | None ↦ with_part (part_of x) P ]) (front_parts l r s e)
+prefix_parts : (l r s : List Event) → parts r ≡ parts s → parts (l ++ r) ≡ parts (l ++ s)
+prefix_parts [] r s e = e
+prefix_parts (x ∷ l) r s e
+    = ap (λ (P : List Part). elim (closing_of x) [ Some c ↦ [] | None ↦ with_part (part_of x) P ]) (prefix_parts l r s e)
 
 value_parts : (v : Value) (r s : List Event) → parts r ≡ parts s → parts (value_events v r) ≡ parts (value_events v s)
 value_parts v r s e = ap parts ((value_splits v).splits r)
-    ∙ (front_parts (value_events v []) r s e ∙ ap parts (sym ((value_splits v).splits s)))
+    ∙ (prefix_parts (value_events v []) r s e ∙ ap parts (sym ((value_splits v).splits s)))
 
 -- a load that has an end doesn't look at the run's ending
 ends_itself : (f : Option Fault) (c : Closing) (o : Opening) (ns : List yaml_node_t) (y z : Load) (l : List Load)
@@ -88,8 +88,8 @@ none_closes (e ∷ f) r h = go (closing_of e) h (none_closes f r)
     go (Some y) h k = cc
     go None h k = k h
 
-pub front_closes : (f : List Event) → BeginsValue f → end_of_document f ≡ None
-front_closes f b = none_closes f b.rest (ap end_of_document (sym b.all) ∙ value_closing b.val [])
+pub prefix_closes : (f : List Event) → BeginsValue f → end_of_document f ≡ None
+prefix_closes f b = none_closes f b.rest (ap end_of_document (sym b.all) ∙ value_closing b.val [])
 
 -- a document whose end is missing gives its composer error, if it has one, and else the run's ending
 open_loads : (d : unnamed_yaml_event_t_data_document_start) (m n : Mark) (f : List Event) (x : Ending)
@@ -115,7 +115,7 @@ begun_loads l n x = ap (λ (k : List Event). loads k x) n.all
     go : (k : List Event) → IsOpenDocument k → loads k x ≡ open_load k x ∷ []
     go k (none_open e) = ap (λ (j : List Event). loads j x) e ∙ ap (λ (j : List Event). open_load j x ∷ []) (sym e)
     go k (one_open d m o f e b) = ap (λ (j : List Event). loads j x) e
-        ∙ (open_loads d m o f x (front_closes f b) ∙ ap (λ (j : List Event). open_load j x ∷ []) (sym e))
+        ∙ (open_loads d m o f x (prefix_closes f b) ∙ ap (λ (j : List Event). open_load j x ∷ []) (sym e))
 
 -- the loads of events that nest as far as they go
 pub nested_loads : (l : List Event) (x : Ending) → NestsSoFar l → NestedLoads l x (loads l x)

@@ -3,7 +3,7 @@ use Rattle.std.proofs.Common.{List, refl, Option, Some, None}
 use Rattle.libyaml_types.specs.declared.event.unnamed_yaml_event_t_data.{unnamed_yaml_event_t_data}
 use Rattle.libyaml_types.specs.declared.event.unnamed_yaml_event_t_data.TheVariants as ev
 use Rattle.libyaml_types.specs.Fault.{Fault}
-use Rattle.libyaml_grammar.specs.sentences.Tokens.{Mark}
+use Rattle.libyaml_grammar.specs.grammar.Tokens.{Mark}
 use Rattle.libyaml_documents.specs.declared.node.yaml_node_t.{yaml_node_t}
 use Rattle.libyaml_graphs.specs.graphs.GraphParts.{Part, part_in}
 use Rattle.libyaml_graphs.proofs.machine.Built.{BeginsEmpty}
@@ -13,9 +13,9 @@ pub record Answering (A : Type 0) : Type 0 where
   pub of_fault : Fault → A
   pub of_nodes : List yaml_node_t → A
 
-abbrev pub settled : {A : Type 0} → Answering A → Option Fault → List yaml_node_t → A
-settled w (Some f) nodes = w.of_fault f
-settled w None nodes = w.of_nodes nodes
+abbrev pub determined_events : {A : Type 0} → Answering A → Option Fault → List yaml_node_t → A
+determined_events w (Some f) nodes = w.of_fault f
+determined_events w None nodes = w.of_nodes nodes
 
 -- a node begins without children
 abbrev pub IfBeginsEmpty : Option Part → Type 0

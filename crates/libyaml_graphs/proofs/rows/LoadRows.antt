@@ -1,39 +1,39 @@
 -- How a test vector is shown: it is read token by token, and all else is computed.
 use Rattle.std.proofs.Common.{◌≡◌, ◌++◌, ◌∷◌, ℕ, suc, List, refl, true, false}
 use Rattle.std.specs.Prelude.{take, drop}
-use Rattle.libyaml_grammar.specs.cuts.CutEvents.{cut_events}
-use Rattle.libyaml_grammar.specs.cuts.CutFaults.{fault}
-use Rattle.libyaml_grammar.specs.cuts.CutTrees.{Cut}
-use Rattle.libyaml_grammar.specs.sentences.Events.{events}
+use Rattle.libyaml_grammar.specs.partial.PartialEvents.{partial_events}
+use Rattle.libyaml_grammar.specs.partial.PartialFaults.{fault}
+use Rattle.libyaml_grammar.specs.partial.PartialTrees.{PartialTree}
+use Rattle.libyaml_grammar.specs.grammar.Events.{events}
 use Rattle.libyaml_types.specs.Fault.{Fault}
 use Rattle.libyaml_grammar.proofs.lent.Positions.{Position, done, unopened}
 use Rattle.libyaml_grammar.proofs.lent.Reading.{bad, goes, reads, reads_all}
 use Rattle.libyaml_grammar.specs.runs.Runs.{Ends, Fails, is_behind_properties}
-use Rattle.libyaml_grammar.specs.sentences.Sentences.{has_end}
-use Rattle.libyaml_grammar.specs.cuts.Settled.{sure}
-use Rattle.libyaml_grammar.specs.sentences.Tokens.{Token}
-use Rattle.libyaml_grammar.specs.sentences.Trees.{Stream}
+use Rattle.libyaml_grammar.specs.grammar.ValidLists.{has_end}
+use Rattle.libyaml_grammar.specs.partial.DeterminedEvents.{sure}
+use Rattle.libyaml_grammar.specs.grammar.Tokens.{Token}
+use Rattle.libyaml_grammar.specs.grammar.Trees.{Stream}
 use Rattle.libyaml_grammar.proofs.lent.ReadSteps.{front}
-use Rattle.libyaml_grammar.proofs.lent.RowKinds.{begin_row, cut_row, sentence_row}
+use Rattle.libyaml_grammar.proofs.lent.RowKinds.{begin_row, partial_row, valid_list_row}
 use Rattle.libyaml_graphs.specs.loads.Bounds.{IsBoundedLoads, bounded_loads}
 use Rattle.libyaml_graphs.specs.loads.Loads.{IsLoads, Load, loads}
 
-pub sentence_loads : (n : ℕ) (l : List Token) (f : Fault) (a : List Load) (t : Stream)
+pub valid_list_loads : (n : ℕ) (l : List Token) (f : Fault) (a : List Load) (t : Stream)
     → reads_all (take n l) unopened ≡ goes (done t) → take n l ++ drop n l ≡ l
     → a ≡ loads (events t) Ends → IsLoads l f a
-sentence_loads n l f a t r s h =
-    record { events = events t; ending = Ends; run = sentence_row n l f (events t) t r s refl; all = h }
+valid_list_loads n l f a t r s h =
+    record { events = events t; ending = Ends; run = valid_list_row n l f (events t) t r s refl; all = h }
 
-pub cut_loads : (n : ℕ) (l : List Token) (f : Fault) (a : List Load) (b : Token) (q : Position) (c : Cut)
+pub partial_loads : (n : ℕ) (l : List Token) (f : Fault) (a : List Load) (b : Token) (q : Position) (c : PartialTree)
     → take n l ++ b ∷ drop (suc n) l ≡ l
     → reads_all (take n l) unopened ≡ goes q → reads q b ≡ bad c → is_behind_properties c (drop (suc n) l) ≡ true
-    → a ≡ loads (cut_events c b) (Fails (fault c b.content b.start_mark)) → IsLoads l f a
-cut_loads n l f a b q c s r h i k
+    → a ≡ loads (partial_events c b) (Fails (fault c b.content b.start_mark)) → IsLoads l f a
+partial_loads n l f a b q c s r h i k
     = record {
-      events = cut_events c b;
+      events = partial_events c b;
       ending = Fails (fault c b.content b.start_mark);
       run
-          = cut_row n l f (cut_events c b) (fault c b.content b.start_mark) b q c s r h i refl refl;
+          = partial_row n l f (partial_events c b) (fault c b.content b.start_mark) b q c s r h i refl refl;
       all = k;
     }
 
@@ -47,4 +47,4 @@ pub bounded_rows : (m n : ℕ) (l : List Token) (f : Fault) (a : List Load) (t :
     → reads_all (take n l) unopened ≡ goes (done t) → take n l ++ drop n l ≡ l
     → a ≡ bounded_loads m (events t) Ends → IsBoundedLoads m l f a
 bounded_rows m n l f a t r s h =
-    record { events = events t; ending = Ends; run = sentence_row n l f (events t) t r s refl; all = h }
+    record { events = events t; ending = Ends; run = valid_list_row n l f (events t) t r s refl; all = h }

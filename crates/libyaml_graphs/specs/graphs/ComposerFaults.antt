@@ -3,7 +3,7 @@
 use Rattle.std.specs.Prelude.{ℕ, List, [], ◌∷◌, Option, Some, None, codes}
 use Rattle.libyaml_types.specs.declared.enums.yaml_error_type_t.TheVariants.{YAML_COMPOSER_ERROR}
 use Rattle.libyaml_types.specs.Fault.{Fault, no_fault}
-use Rattle.libyaml_grammar.specs.sentences.Tokens.{Mark}
+use Rattle.libyaml_grammar.specs.grammar.Tokens.{Mark}
 use Rattle.libyaml_graphs.specs.graphs.Graphs.{Carrier, Start, carrier}
 use Rattle.libyaml_graphs.specs.graphs.GraphParts.{Part, alias_part, behind, end_part, leaf_part, start_part}
 

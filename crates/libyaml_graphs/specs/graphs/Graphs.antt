@@ -1,10 +1,10 @@
 -- The graph of a document, by recursion on its value (docs/DEFINITIONS.md, "Graphs"). A node's id is one more
 -- than the nodes that start before it; es are the starts of those nodes, the newest first.
 use Rattle.std.specs.Prelude.{ℕ, suc, ℤ, pos, List, [], ◌∷◌, length, Option, Some, None, Bool, true, false, bytes_eq}
-use Rattle.libyaml_grammar.specs.sentences.Events.{Layout, mapping_style, sequence_style}
-use Rattle.libyaml_grammar.specs.sentences.Nesting.{Value, Values, alias_value, collection_value, first_value, no_values, scalar_value}
-use Rattle.libyaml_grammar.specs.sentences.Tokens.{Mark}
-use Rattle.libyaml_grammar.specs.sentences.Trees.{Sort, mapping, sequence}
+use Rattle.libyaml_grammar.specs.grammar.Events.{Layout, mapping_style, sequence_style}
+use Rattle.libyaml_grammar.specs.grammar.Nesting.{Value, Values, alias_value, collection_value, first_value, no_values, scalar_value}
+use Rattle.libyaml_grammar.specs.grammar.Tokens.{Mark}
+use Rattle.libyaml_grammar.specs.grammar.Trees.{Sort, mapping, sequence}
 use Rattle.libyaml_documents.specs.LoadedNodes.{mapping_loaded, scalar_loaded, sequence_loaded}
 use Rattle.libyaml_documents.specs.declared.node.yaml_node_t.{yaml_node_t}
 use Rattle.libyaml_documents.specs.declared.pairs.yaml_node_pair_t.{yaml_node_pair_t}

@@ -1,16 +1,16 @@
 -- What the laws of graphs and loads (src/laws.rt) say.
 use Rattle.std.specs.Prelude.{◌≡◌, ◌≤◌, ◌<◌, ◌++◌, ℕ, zero, suc, List, [], ◌∷◌, length, Option, Some, None, true, Ok, Err}
-use Rattle.libyaml_grammar.specs.cuts.CutEvents.{cut_events}
-use Rattle.libyaml_grammar.specs.cuts.CutFaults.{fault}
-use Rattle.libyaml_grammar.specs.cuts.CutTrees.{Cut}
-use Rattle.libyaml_grammar.specs.sentences.Events.{Event, events}
+use Rattle.libyaml_grammar.specs.partial.PartialEvents.{partial_events}
+use Rattle.libyaml_grammar.specs.partial.PartialFaults.{fault}
+use Rattle.libyaml_grammar.specs.partial.PartialTrees.{PartialTree}
+use Rattle.libyaml_grammar.specs.grammar.Events.{Event, events}
 use Rattle.libyaml_types.specs.Fault.{Fault}
-use Rattle.libyaml_grammar.specs.cuts.Fits.{Fits}
-use Rattle.libyaml_grammar.specs.sentences.Nesting.{HasBegun, IsNested, DocumentTexts, Value, Values, alias_value, collection_value, first_value, no_texts, no_values, scalar_value, text_behind}
-use Rattle.libyaml_grammar.specs.sentences.Order.{in_order}
+use Rattle.libyaml_grammar.specs.partial.Fits.{Fits}
+use Rattle.libyaml_grammar.specs.grammar.Nesting.{HasBegun, IsNested, DocumentTexts, Value, Values, alias_value, collection_value, first_value, no_texts, no_values, scalar_value, text_behind}
+use Rattle.libyaml_grammar.specs.grammar.Order.{in_order}
 use Rattle.libyaml_grammar.specs.runs.Runs.{Ending, Ends, Fails}
-use Rattle.libyaml_grammar.specs.sentences.Tokens.{Token}
-use Rattle.libyaml_grammar.specs.sentences.Trees.{Stream, tokens}
+use Rattle.libyaml_grammar.specs.grammar.Tokens.{Token}
+use Rattle.libyaml_grammar.specs.grammar.Trees.{Stream, tokens}
 use Rattle.libyaml_documents.specs.Nodes.{EveryIdNamesANode, ids_of}
 use Rattle.libyaml_graphs.specs.graphs.ComposerFaults.{composer_fault}
 use Rattle.libyaml_graphs.specs.graphs.Graphs.{Start, collection_loaded, id_of, ids_of_all, items, starts_behind}
@@ -117,6 +117,6 @@ pub data NestedLoads (e : List Event) (x : Ending) (a : List Load) : Type 0 wher
 pub data LoadsWhole (l : List Token) (f : Fault) : Type 0 where
   to_its_end : (t : Stream) → in_order t ≡ true → l ≡ tokens t → (a : List Load) → IsLoads l f a → (n : IsNested (events t))
       → a ≡ loads_of n.texts (last_load Ends ∷ []) → LoadsWhole l f
-  to_its_fault : (before : List Token) (token : Token) (behind : List Token) (c : Cut)
+  to_its_fault : (before : List Token) (token : Token) (behind : List Token) (c : PartialTree)
       → l ≡ before ++ token ∷ behind → Fits before token c → (a : List Load)
-      → IsLoads l f a → NestedLoads (cut_events c token) (Fails (fault c token.content token.start_mark)) a → LoadsWhole l f
+      → IsLoads l f a → NestedLoads (partial_events c token) (Fails (fault c token.content token.start_mark)) a → LoadsWhole l f

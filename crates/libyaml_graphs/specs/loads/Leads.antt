@@ -2,7 +2,7 @@
 use Rattle.std.specs.Prelude.{◌≡◌, ◌++◌, ℕ, List, [], ◌∷◌, map, Option, Some, None, Ok, Err}
 use Rattle.libyaml_documents.specs.Documents.{Document}
 use Rattle.libyaml_types.specs.Fault.{Fault}
-use Rattle.libyaml_grammar.specs.sentences.Events.{Event}
+use Rattle.libyaml_grammar.specs.grammar.Events.{Event}
 use Rattle.libyaml_grammar.specs.runs.Runs.{Ending}
 use Rattle.libyaml_graphs.specs.graphs.GraphParts.{Closing, closing_of, opening_of, part_of}
 use Rattle.libyaml_graphs.specs.loads.Bounds.{bounded_loads}

@@ -1,10 +1,10 @@
 -- The loads of a run, which is its events and its ending (docs/DEFINITIONS.md, "Loads").
 use Rattle.std.specs.Prelude.{◌≡◌, List, [], ◌∷◌, Option, Some, None, false, Result, Ok, Err}
-use Rattle.libyaml_grammar.specs.sentences.Events.{Event}
+use Rattle.libyaml_grammar.specs.grammar.Events.{Event}
 use Rattle.libyaml_types.specs.Fault.{Fault}
-use Rattle.libyaml_grammar.specs.sentences.Nesting.{DocumentTexts, no_texts, text_behind, value_events}
+use Rattle.libyaml_grammar.specs.grammar.Nesting.{DocumentTexts, no_texts, text_behind, value_events}
 use Rattle.libyaml_grammar.specs.runs.Runs.{Ending, Ends, Fails, IsRun}
-use Rattle.libyaml_grammar.specs.sentences.Tokens.{Token}
+use Rattle.libyaml_grammar.specs.grammar.Tokens.{Token}
 use Rattle.libyaml_documents.specs.Documents.{Document, empty_document}
 use Rattle.libyaml_documents.specs.declared.node.yaml_node_t.{yaml_node_t}
 use Rattle.libyaml_graphs.specs.graphs.ComposerFaults.{composer_fault}

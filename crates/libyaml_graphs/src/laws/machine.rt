@@ -2,7 +2,7 @@
 //! runs: its contract is the law.
 
 ghost use Rattle.std.specs.Prelude.{◌≡◌, ℕ, List};
-ghost use Rattle.libyaml_grammar.specs.sentences.Events.{Event};
+ghost use Rattle.libyaml_grammar.specs.grammar.Events.{Event};
 ghost use Rattle.libyaml_grammar.specs.runs.Runs.{Ending};
 ghost use Rattle.libyaml_graphs.specs.loads.Bounds.{next_bounded};
 ghost use Rattle.libyaml_graphs.specs.machine.Loader.{between, load_from};

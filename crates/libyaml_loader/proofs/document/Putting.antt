@@ -3,7 +3,7 @@ use Rattle.std.proofs.Common.{◌≡◌, ◌++◌, List, ℕ, suc, ℤ, length, 
 use Rattle.libyaml_types.specs.declared.mark.yaml_mark_t.{yaml_mark_t}
 use Rattle.libyaml_types.specs.declared.event.unnamed_yaml_event_t_data.{unnamed_yaml_event_t_data}
 use Rattle.libyaml_types.specs.Types.{event_anchor, event_type}
-use Rattle.libyaml_grammar.specs.sentences.Events.{event}
+use Rattle.libyaml_grammar.specs.grammar.Events.{event}
 use Rattle.libyaml_documents.specs.declared.node.yaml_node_t.{yaml_node_t}
 use Rattle.libyaml_graphs.specs.graphs.GraphParts.{Part, alias_part, closing_in, end_part, leaf_part, start_part}
 use Rattle.libyaml_graphs.specs.machine.Loader.{going}

@@ -3,7 +3,7 @@ use Rattle.std.proofs.Common.{◌≤◌, ◌*◌, arith, ℕ, List, [], ◌++◌
 use Rattle.libyaml_documents.specs.Documents.{Document}
 use Rattle.libyaml_types.specs.declared.source.yaml_token_source_t.{Ghosts}
 use Rattle.libyaml_grammar.specs.runs.Runs.{Ends}
-use Rattle.libyaml_grammar.specs.sentences.Events.{Event}
+use Rattle.libyaml_grammar.specs.grammar.Events.{Event}
 use Rattle.libyaml_events.specs.machine.Config.{Parser}
 use Rattle.libyaml_graphs.specs.loads.Bounds.{first_stop, next_bounded}
 use Rattle.libyaml_graphs.specs.loads.Linear.{size}

@@ -3,9 +3,9 @@ use Rattle.std.proofs.Common.{◌≡◌, ◌⊎◌, inl, inr, List, [], ◌∷�
 use Rattle.libyaml_documents.specs.Documents.{empty_document}
 use Rattle.libyaml_types.specs.Fault.{Answer, Fault, no_fault}
 use Rattle.libyaml_types.specs.declared.source.yaml_token_source_t.{Ghosts}
-use Rattle.libyaml_grammar.specs.sentences.Tokens.{Token}
-use Rattle.libyaml_grammar.specs.sentences.Events.{Event}
-use Rattle.libyaml_grammar.specs.cuts.Settled.{Begins}
+use Rattle.libyaml_grammar.specs.grammar.Tokens.{Token}
+use Rattle.libyaml_grammar.specs.grammar.Events.{Event}
+use Rattle.libyaml_grammar.specs.partial.DeterminedEvents.{Begins}
 use Rattle.libyaml_grammar.specs.runs.Runs.{Ending, Ends, Fails}
 use Rattle.libyaml_events.specs.machine.Config.{Parser}
 use Rattle.libyaml_events.specs.sources.Calls.{Gave, MeetsRefusal}
@@ -15,9 +15,9 @@ use Rattle.libyaml_events.specs.sources.History.{History, answers, kept_fault}
 use Rattle.libyaml_events.specs.sources.Needs.{EachNeeded}
 use Rattle.libyaml_events.specs.sources.Parsing.{Cause, FailsBy, of_memory, of_grammar, of_source}
 use Rattle.libyaml_events.proofs.lent.CallsInTurn.{gave_then}
-use Rattle.libyaml_grammar.proofs.lent.Same.{err_same, fault_same, ok_not_err, ok_same, tail_same}
-use Rattle.libyaml_events.proofs.lent.OneOutcome.{before_last, front_same, one_source_proof, ran_once}
-use Rattle.libyaml_events.proofs.lent.RunStops.{RunStop, answers_both, begins_stopped, ended_stop, grammar_stop, one_run_by_answers, source_stop, taken_comparable, token_front}
+use Rattle.libyaml_grammar.proofs.lent.Injectivity.{err_same, fault_same, ok_not_err, ok_same, tail_same}
+use Rattle.libyaml_events.proofs.lent.OneOutcome.{before_last, prefix_same, one_source_proof, ran_once}
+use Rattle.libyaml_events.proofs.lent.RunStops.{RunStop, answers_both, begins_stopped, ended_stop, grammar_stop, one_run_by_answers, source_stop, taken_comparable, token_prefix}
 use Rattle.libyaml_events.proofs.lent.Histories as histories
 use Rattle.libyaml_graphs.specs.loads.Loads.{Load, last_load}
 use Rattle.libyaml_loader.specs.loads.Loading.{DocumentOrError, LoadsFrom, at_end, by_loader, by_memory, by_parser, whole}
@@ -53,14 +53,14 @@ absolute asked m n x y o
     (both_behind asked (answers m x) (answers n y) o))
 
 behind_given : (given a b : List Event) → Begins (given ++ a) (given ++ b) → Begins a b
-behind_given given a b h = (h.0, front_same given b (a ++ h.0) (h.1 ∙ append_assoc given a h.0))
+behind_given given a b h = (h.0, prefix_same given b (a ++ h.0) (h.1 ∙ append_assoc given a h.0))
 
 -- no load is the last one of every ending
 not_last : (z : Load) → ((x : Ending) → z ≡ last_load x) → ⊥
 not_last z h = ok_not_err (empty_document None [] false false) no_fault (sym (h Ends) ∙ h (Fails no_fault))
 
-empty_front : (t : List Event) → t ++ [] ≡ [] → t ≡ []
-empty_front t e = sym (append-nil t) ∙ e
+empty_prefix : (t : List Event) → t ++ [] ≡ [] → t ≡ []
+empty_prefix t e = sym (append-nil t) ∙ e
 
 module _ {S : Type 0} (g : Ghosts S) (load : List Event → Ending → Load) (left : List Event → List Event)
     (old : Parser S) (asked : List Token) (given : List Event) (history : History old asked given) where
@@ -168,7 +168,7 @@ module _ {S : Type 0} (g : Ghosts S) (load : List Event → Ending → Load) (le
       → History q (asked ++ n) h → w ≡ h
       → (r s : List Answer) → OneBegins (answers (asked ++ m) r) (answers (asked ++ n) s)
       → (p.config ≡ q.config) × (asked ++ m ≡ asked ++ n)
-  same_kept p q m n w h i j e r s o = go (token_front (asked ++ m) (asked ++ n) r s o)
+  same_kept p q m n w h i j e r s o = go (token_prefix (asked ++ m) (asked ++ n) r s o)
     where
       go : ((rest : List Token) × (asked ++ n ≡ (asked ++ m) ++ rest))
           ⊎ ((rest : List Token) × (asked ++ m ≡ (asked ++ n) ++ rest))
@@ -182,7 +182,7 @@ module _ {S : Type 0} (g : Ghosts S) (load : List Event → Ending → Load) (le
   both_leave a b w h (t, i) =
       let j : t ++ [] ≡ [] = sym (w (t ++ []))
       ∙ (ap left (sym (append_assoc a t []) ∙ ap (λ (v : List Event). v ++ []) (sym i)) ∙ h []) in
-      sym (append-nil a) ∙ (ap (λ (v : List Event). a ++ v) (sym (empty_front t j)) ∙ sym i)
+      sym (append-nil a) ∙ (ap (λ (v : List Event). a ++ v) (sym (empty_prefix t j)) ∙ sym i)
 
   -- and where the one decides the load and the other does so by its last event alone
   both_last : (a b : List Event) (z : Load) → ((rest : List Event) (x : Ending) → load (a ++ rest) x ≡ z)
@@ -287,7 +287,7 @@ module _ {S : Type 0} (g : Ghosts S) (load : List Event → Ending → Load) (le
       let d = within c in
       let v = same_taken r s p q mid other t u z y (same_load d) d l k gs h in
       let kept = same_kept mid other m n (given ++ t) (given ++ u) i j (ap (λ (x : List Event). given ++ x) v) [] [] w in
-      alike (e ∙ (ap (λ (x : List Token). answers x []) (front_same asked m n kept.1) ∙ sym f))
+      alike (e ∙ (ap (λ (x : List Token). answers x []) (prefix_same asked m n kept.1) ∙ sym f))
       (both_decided r s p q mid other t u z y (same_load d) kept.0 same gs h)
     where
       within : Begins (given ++ t) (given ++ u) ⊎ Begins (given ++ u) (given ++ t) → Begins t u ⊎ Begins u t
@@ -328,7 +328,7 @@ module _ {S : Type 0} (g : Ghosts S) (load : List Event → Ending → Load) (le
       let k = same_kept mid other m n (given ++ t) (given ++ w) i j d.1 u v c in
       let l : answers (asked ++ m) u ≡ answers (asked ++ m) v = d.0 ∙ ap (λ (z : List Token). answers z v) (sym k.1) in
       alike (e ∙ (ap (answers m) (same_behind (asked ++ m) u v l)
-      ∙ (ap (λ (z : List Token). answers z v) (front_same asked m n k.1) ∙ sym f)))
+      ∙ (ap (λ (z : List Token). answers z v) (prefix_same asked m n k.1) ∙ sym f)))
       (both_stopped r s p q mid other x y d.2 k.0 gs h same)
 
   abbrev Of : DocumentOrError → Parser S → Type 0

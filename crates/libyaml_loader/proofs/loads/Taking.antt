@@ -9,7 +9,7 @@ use Rattle.libyaml_types.specs.Events.{empty_event}
 use Rattle.libyaml_events.specs.sources.Calls.{EventOrError}
 use Rattle.libyaml_events.specs.sources.CallsInTurn.{CarriedOn, Took}
 use Rattle.libyaml_events.specs.machine.Config.{Parser}
-use Rattle.libyaml_grammar.specs.sentences.Events.{Event}
+use Rattle.libyaml_grammar.specs.grammar.Events.{Event}
 use Rattle.libyaml_types.specs.Fault.{Answer}
 use Rattle.libyaml_events.specs.sources.History.{History, between_documents, has_failed, is_over}
 use Rattle.libyaml_events.specs.sources.ParsesNext.{ParsesNext}
@@ -20,7 +20,7 @@ use Rattle.libyaml_types.specs.Source.{Follows}
 use Rattle.libyaml_types.specs.declared.source.yaml_token_source_t.{Ghosts}
 use Rattle.libyaml_events.specs.parsers.OutsideEvents.{is_outside_event}
 use Rattle.libyaml_events.specs.parsers.Stages.{is_event}
-use Rattle.libyaml_grammar.specs.sentences.Tokens.{Token}
+use Rattle.libyaml_grammar.specs.grammar.Tokens.{Token}
 use Rattle.libyaml_events.proofs.lent.Histories as histories
 use Rattle.libyaml_events.proofs.lent.KnownTokens.{fails_here}
 use Rattle.libyaml_events.proofs.lent.Taking.{took_none, took_one}

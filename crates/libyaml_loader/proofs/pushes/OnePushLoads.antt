@@ -4,11 +4,11 @@ use Rattle.std.proofs.lemmas.List.{append_cancel_left}
 use Rattle.libyaml_types.specs.declared.enums.yaml_error_type_t.{yaml_error_type_t}
 use Rattle.libyaml_types.specs.Fault.{Fault, memory_fault, no_fault}
 use Rattle.libyaml_grammar.specs.runs.Runs.{Ends}
-use Rattle.libyaml_grammar.specs.sentences.Events.{Event}
-use Rattle.libyaml_grammar.specs.sentences.Sentences.{has_end}
-use Rattle.libyaml_grammar.specs.sentences.Tokens.{Token}
+use Rattle.libyaml_grammar.specs.grammar.Events.{Event}
+use Rattle.libyaml_grammar.specs.grammar.ValidLists.{has_end}
+use Rattle.libyaml_grammar.specs.grammar.Tokens.{Token}
 use Rattle.libyaml_grammar.proofs.lent.Running.{one_run_proof}
-use Rattle.libyaml_grammar.proofs.lent.Same.{err_same, ok_not_err}
+use Rattle.libyaml_grammar.proofs.lent.Injectivity.{err_same, ok_not_err}
 use Rattle.libyaml_documents.specs.Documents.{Document}
 use Rattle.libyaml_events.specs.sources.Pushed.{PushParser}
 use Rattle.libyaml_events.specs.sources.Pushes.{Done}

@@ -6,9 +6,9 @@ use Rattle.libyaml_types.specs.declared.enums.yaml_error_type_t.{yaml_error_type
 use Rattle.libyaml_documents.specs.Documents.{Document}
 use Rattle.libyaml_types.specs.Fault.{Fault, fault_of}
 use Rattle.libyaml_grammar.specs.runs.Runs.{Ending, Ends, Fails, IsRun}
-use Rattle.libyaml_grammar.specs.sentences.Events.{Event}
-use Rattle.libyaml_grammar.specs.sentences.Sentences.{has_end}
-use Rattle.libyaml_grammar.specs.sentences.Tokens.{Token}
+use Rattle.libyaml_grammar.specs.grammar.Events.{Event}
+use Rattle.libyaml_grammar.specs.grammar.ValidLists.{has_end}
+use Rattle.libyaml_grammar.specs.grammar.Tokens.{Token}
 use Rattle.libyaml_grammar.proofs.lent.Running.{one_run_proof, some_run_proof}
 use Rattle.libyaml_graphs.specs.loads.Bounds.{IsBoundedLoads, bounded_loads, first_stop}
 use Rattle.libyaml_graphs.specs.loads.Linear.{documents_size}
@@ -22,7 +22,7 @@ use Rattle.libyaml_events.specs.sources.Pushed as pushed
 use Rattle.libyaml_events.specs.sources.Pushed.{PushParser}
 use Rattle.libyaml_events.specs.sources.Pushes as pushes
 use Rattle.libyaml_events.specs.sources.Pushes.{Done, NeedsMemory, Pushes, Stops, Takes, done_by, for_event, for_step}
-use Rattle.libyaml_events.proofs.lent.Pushes.{fed_begins_run, fed_count, fed_ended, fed_faultless, fed_settled, fed_whole}
+use Rattle.libyaml_events.proofs.lent.Pushes.{fed_begins_run, fed_count, fed_ended, fed_faultless, fed_determined, fed_whole}
 use Rattle.libyaml_events.proofs.lent.RunStops.{short_run, whole_run}
 use Rattle.libyaml_loader.specs.pushes.Composing as comp
 use Rattle.libyaml_loader.specs.pushes.Composing.{Composes, RefusesEvent, RefusesOneOf, by_loads, by_memory as no_memory, state_by, composer_state}
@@ -46,10 +46,10 @@ are_then n tokens source events x documents here run leads = record {
 }
 
 -- or begin those of a run
-front_loads : (n : ℕ) (events : List Event) (documents : List Document) (here : State) (all rest : List Event)
+prefix_loads : (n : ℕ) (events : List Event) (documents : List Document) (here : State) (all rest : List Event)
     (x : Ending) → all ≡ events ++ rest
     → Leads n between events documents here → bounded_loads n all x ≡ as_loads documents ++ loads_from n here rest x
-front_loads n events documents here all rest x is leads = ap (λ (l : List Event). bounded_loads n l x) is
+prefix_loads n events documents here all rest x is leads = ap (λ (l : List Event). bounded_loads n l x) is
     ∙ leads.loads rest x
 
 pub begin_loads : (n : ℕ) (tokens : List Token) (events : List Event) (documents : List Document) (here : State)
@@ -57,17 +57,17 @@ pub begin_loads : (n : ℕ) (tokens : List Token) (events : List Event) (documen
     → Leads n between events documents here → BeginsEachLoads n tokens documents
 begin_loads n tokens events documents here begins leads rest source loads are =
     let b = begins rest source are.events are.ending are.run in
-    (loads_from n here b.0 are.ending, are.all ∙ front_loads n events documents here are.events b.0 are.ending b.1 leads)
+    (loads_from n here b.0 are.ending, are.all ∙ prefix_loads n events documents here are.events b.0 are.ending b.1 leads)
 
-begins_front : (tokens : List Token) (a b : List Event) → BeginsEachRun tokens (a ++ b) → BeginsEachRun tokens a
-begins_front tokens a b h rest f e x run = let i = h rest f e x run in (b ++ i.0, i.1 ∙ append_assoc a b i.0)
+begins_prefix : (tokens : List Token) (a b : List Event) → BeginsEachRun tokens (a ++ b) → BeginsEachRun tokens a
+begins_prefix tokens a b h rest f e x run = let i = h rest f e x run in (b ++ i.0, i.1 ∙ append_assoc a b i.0)
 
 -- what holds of all that a loader was handed and gave
 module _ (l : PushLoader) where
   pub loads_so_far : ForLoaded l (λ tokens documents. has_end tokens ≡ false → (source : Fault)
       → AreThen l.max_entries tokens source documents (Err source))
   loads_so_far tokens documents h none source = are_then l.max_entries tokens source h.events
-      (Fails source) documents l.state (short_run tokens h.events source (fed_settled h.pushed none)) h.leads
+      (Fails source) documents l.state (short_run tokens h.events source (fed_determined h.pushed none)) h.leads
 
   pub whole_loads : ForLoaded l (λ tokens documents. has_end tokens ≡ true → (more : List Token) (source : Fault)
       → AreThen l.max_entries (tokens ++ more) source documents (last_load Ends))
@@ -89,7 +89,7 @@ module _ (l : PushLoader) where
   linear_loads tokens documents h =
       let a : documents_size documents ≤ 2 * length h.events = first_linear (first_stop l.max_entries [] []) h.events Ends documents
       (loads_from l.max_entries l.state [] Ends)
-      (front_loads l.max_entries h.events documents l.state h.events [] Ends (sym (append-nil h.events)) h.leads) in
+      (prefix_loads l.max_entries h.events documents l.state h.events [] Ends (sym (append-nil h.events)) h.leads) in
       let b : length h.events ≤ 4 * length tokens = fed_count h.pushed in
       omega arith
 
@@ -123,15 +123,15 @@ refused_so Full n tokens given more later documents here e f begins leads (by_lo
           events = all;
           ending = x;
           run = run;
-          all = sym (front_loads n events documents here all (e ∷ (later ++ b.0)) x
+          all = sym (prefix_loads n events documents here all (e ∷ (later ++ b.0)) x
               (b.1 ∙ append_assoc events (e ∷ later) b.0) leads
               ∙ ap (λ (l : List Load). as_loads documents ++ l) (h (later ++ b.0) x));
         }
 refused_so Full n tokens given more later documents here e f begins leads (no_memory is needs) =
     let events : List Event = given ++ more in
-    let with_it : BeginsEachRun tokens (events ++ e ∷ []) = begins_front tokens (events ++ e ∷ []) later
+    let with_it : BeginsEachRun tokens (events ++ e ∷ []) = begins_prefix tokens (events ++ e ∷ []) later
     (subst (BeginsEachRun tokens) (sym (append_assoc events (e ∷ []) later)) begins) in
-    by_memory is more here (begins_front tokens events (e ∷ later) begins) leads (in_loader e with_it needs)
+    by_memory is more here (begins_prefix tokens events (e ∷ later) begins) leads (in_loader e with_it needs)
 
 -- the parser stopped
 any_room : (Room : Type 0) (w : Want) (c : Config) (u : Token) → NeedsMemory Room w c u → NeedsMemory (Unit {0}) w c u

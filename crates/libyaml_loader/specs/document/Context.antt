@@ -4,7 +4,7 @@ use Rattle.libyaml_types.specs.declared.mark.yaml_mark_t.{yaml_mark_t}
 use Rattle.libyaml_types.specs.Fault.{Fault}
 use Rattle.libyaml_types.specs.Types.{event_anchor, event_type}
 use Rattle.libyaml_types.specs.declared.enums.yaml_event_type_t.{yaml_event_type_t}
-use Rattle.libyaml_grammar.specs.sentences.Events.{Event}
+use Rattle.libyaml_grammar.specs.grammar.Events.{Event}
 use Rattle.libyaml_documents.specs.declared.node.yaml_node_t.{yaml_node_t}
 use Rattle.libyaml_documents.specs.Documents.{Document}
 use Rattle.libyaml_documents.specs.Nodes.{IsIdUpTo}

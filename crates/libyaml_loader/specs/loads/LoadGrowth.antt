@@ -7,7 +7,7 @@ use Rattle.libyaml_documents.specs.declared.node.unnamed_yaml_node_t_data.{unnam
 use Rattle.libyaml_documents.specs.declared.node.unnamed_yaml_node_t_data.TheVariants.{Scalar, Sequence, Mapping}
 use Rattle.libyaml_documents.specs.declared.node.yaml_node_t.{yaml_node_t}
 use Rattle.libyaml_documents.specs.Nodes.{node_at}
-use Rattle.libyaml_grammar.specs.sentences.Events.{Event}
+use Rattle.libyaml_grammar.specs.grammar.Events.{Event}
 use Rattle.libyaml_grammar.specs.runs.Runs.{Ending}
 use Rattle.libyaml_graphs.specs.graphs.Graphs.{Carrier}
 use Rattle.libyaml_graphs.specs.machine.Loader.{Loader, OpenNode, load_from, within}

@@ -4,7 +4,7 @@ use Rattle.libyaml_types.specs.declared.enums.yaml_error_type_t.{yaml_error_type
 use Rattle.libyaml_documents.specs.Documents.{Document, empty_document}
 use Rattle.libyaml_events.specs.sources.CallsInTurn.{Took}
 use Rattle.libyaml_events.specs.machine.Config.{Parser}
-use Rattle.libyaml_grammar.specs.sentences.Events.{Event}
+use Rattle.libyaml_grammar.specs.grammar.Events.{Event}
 use Rattle.libyaml_types.specs.Fault.{Fault, memory_fault}
 use Rattle.libyaml_events.specs.sources.History.{ForHistory, History, between_documents, has_failed, is_over, kept_fault, keeping, stack_depth}
 use Rattle.libyaml_events.specs.parsers.Lookahead.{lookahead_tokens}
@@ -13,7 +13,7 @@ use Rattle.libyaml_events.specs.sources.Parsing.{FailsBy, IsWhole}
 use Rattle.libyaml_grammar.specs.runs.Runs.{Ending, Ends}
 use Rattle.libyaml_events.specs.sources.RunToCome.{FailsHere, RunToCome}
 use Rattle.libyaml_types.specs.declared.source.yaml_token_source_t.{Ghosts}
-use Rattle.libyaml_grammar.specs.sentences.Tokens.{Token}
+use Rattle.libyaml_grammar.specs.grammar.Tokens.{Token}
 use Rattle.libyaml_graphs.specs.loads.Loads.{Load, last_load}
 use Rattle.libyaml_loader.specs.loads.LoadGrowth.{GrowsAt}
 

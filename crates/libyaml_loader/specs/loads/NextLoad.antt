@@ -1,7 +1,7 @@
 -- What a load does where a run is to come (docs/DEFINITIONS.md, "Loads of a parser").
 use Rattle.std.specs.Prelude.{◌≡◌, ◌⊎◌, List, Option, Ok, Err}
 use Rattle.libyaml_events.specs.machine.Config.{Parser}
-use Rattle.libyaml_grammar.specs.sentences.Events.{Event}
+use Rattle.libyaml_grammar.specs.grammar.Events.{Event}
 use Rattle.libyaml_events.specs.sources.History.{kept_fault}
 use Rattle.libyaml_grammar.specs.runs.Runs.{Ending}
 use Rattle.libyaml_events.specs.sources.RunToCome.{RunToCome}

@@ -4,8 +4,8 @@ use Rattle.std.specs.Prelude.{◌≡◌, ◌++◌, ◌∷◌, List, [], Ok, Err,
 use Rattle.libyaml_types.specs.declared.enums.yaml_error_type_t.TheVariants.{YAML_MEMORY_ERROR}
 use Rattle.libyaml_types.specs.Fault.{Answer, memory_fault}
 use Rattle.libyaml_types.specs.declared.source.yaml_token_source_t.{Ghosts}
-use Rattle.libyaml_grammar.specs.sentences.Tokens.{Token}
-use Rattle.libyaml_grammar.specs.sentences.Events.{Event}
+use Rattle.libyaml_grammar.specs.grammar.Tokens.{Token}
+use Rattle.libyaml_grammar.specs.grammar.Events.{Event}
 use Rattle.libyaml_grammar.specs.runs.Runs.{Ending}
 use Rattle.libyaml_events.specs.machine.Config.{Parser}
 use Rattle.libyaml_events.specs.sources.Calls.{Gave}

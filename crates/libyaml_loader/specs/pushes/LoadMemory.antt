@@ -1,6 +1,6 @@
 -- Where a loader that is handed events needs memory (docs/DEFINITIONS.md, "Documents pushed").
 use Rattle.std.specs.Prelude.{◌≡◌, Some, true}
-use Rattle.libyaml_grammar.specs.sentences.Events.{Event}
+use Rattle.libyaml_grammar.specs.grammar.Events.{Event}
 use Rattle.libyaml_graphs.specs.graphs.GraphParts.{Closing, Opening, closing_of, part_of}
 use Rattle.libyaml_graphs.specs.machine.Loader.{Loader, State, within}
 use Rattle.libyaml_loader.specs.loads.LoadGrowth.{load_may_grow}

@@ -7,8 +7,8 @@ use Rattle.libyaml_documents.specs.declared.node.unnamed_yaml_node_t_data.{unnam
 use Rattle.libyaml_documents.specs.declared.node.unnamed_yaml_node_t_data.TheVariants.{Scalar, Sequence, Mapping}
 use Rattle.libyaml_documents.specs.declared.node.yaml_node_t.{yaml_node_t}
 use Rattle.libyaml_types.specs.Fault.{memory_fault}
-use Rattle.libyaml_grammar.specs.sentences.Events.{event}
-use Rattle.libyaml_grammar.specs.sentences.Tokens.{Mark}
+use Rattle.libyaml_grammar.specs.grammar.Events.{event}
+use Rattle.libyaml_grammar.specs.grammar.Tokens.{Mark}
 use Rattle.libyaml_documents.specs.LoadedNodes.{mapping_loaded, scalar_loaded, sequence_loaded}
 use Rattle.libyaml_graphs.specs.graphs.GraphParts.{Part, alias_part, end_part, leaf_part, part_in, start_part}
 use Rattle.libyaml_graphs.specs.graphs.Graphs.{Carrier}

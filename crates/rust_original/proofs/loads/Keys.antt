@@ -3,9 +3,9 @@ use Rattle.std.proofs.Common.{◌≡◌, ◌∷◌, ◌++◌, ℕ, ℤ, pos, Lis
 use Rattle.std.proofs.Math.Bool.{not-not}
 use Rattle.libyaml_documents.specs.declared.node.unnamed_yaml_node_t_data.TheVariants.{Sequence, Mapping}
 use Rattle.libyaml_documents.specs.declared.node.yaml_node_t.{yaml_node_t}
-use Rattle.libyaml_grammar.specs.sentences.Events.{Event, end_at as end_event}
-use Rattle.libyaml_grammar.specs.sentences.Nesting.{AllHavePairs, HasPairs, Value, Values, alias_value, collection_value, first_value, no_values, scalar_value, value_events, values_events}
-use Rattle.libyaml_grammar.specs.sentences.Trees.{mapping, sequence}
+use Rattle.libyaml_grammar.specs.grammar.Events.{Event, end_at as end_event}
+use Rattle.libyaml_grammar.specs.grammar.Nesting.{AllHavePairs, HasPairs, Value, Values, alias_value, collection_value, first_value, no_values, scalar_value, value_events, values_events}
+use Rattle.libyaml_grammar.specs.grammar.Trees.{mapping, sequence}
 use Rattle.libyaml_graphs.specs.graphs.GraphParts.{children, parts}
 use Rattle.libyaml_graphs.specs.graphs.Graphs.{Start, ids_of_all, starts_behind, starts_behind_all}
 use Rattle.libyaml_graphs.proofs.lent.Building.{even_list, ids_even, values_children, Held, nodes_in}

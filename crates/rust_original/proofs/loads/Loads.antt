@@ -4,16 +4,16 @@ use Rattle.libyaml_types.specs.declared.event.unnamed_yaml_event_t_data.TheVaria
 use Rattle.libyaml_documents.specs.declared.node.yaml_node_t.{yaml_node_t}
 use Rattle.libyaml_types.specs.Fault.{Fault}
 use Rattle.libyaml_grammar.specs.runs.Runs.{Ending, Ends, Fails}
-use Rattle.libyaml_grammar.specs.sentences.Events.{Event, document_end_at, end_at as end_event, event, stream_end_at}
-use Rattle.libyaml_grammar.specs.sentences.Nesting.{HasBegun, HasPairs, IsNested, IsOpenDocument, DocumentTexts, TextsHavePairs, Value, Values, alias_value, collection_value, first_value, no_texts, no_values, none_open, one_open, scalar_value, NestsSoFar, has_begun, not_begun, text_behind}
-use Rattle.libyaml_grammar.specs.sentences.Nesting.{texts_events, whole, value_events, values_events}
-use Rattle.libyaml_grammar.specs.sentences.Tokens.{Mark}
-use Rattle.libyaml_grammar.specs.sentences.Trees.{mapping, sequence}
+use Rattle.libyaml_grammar.specs.grammar.Events.{Event, document_end_at, end_at as end_event, event, stream_end_at}
+use Rattle.libyaml_grammar.specs.grammar.Nesting.{HasBegun, HasPairs, IsNested, IsOpenDocument, DocumentTexts, TextsHavePairs, Value, Values, alias_value, collection_value, first_value, no_texts, no_values, none_open, one_open, scalar_value, NestsSoFar, has_begun, not_begun, text_behind}
+use Rattle.libyaml_grammar.specs.grammar.Nesting.{texts_events, whole, value_events, values_events}
+use Rattle.libyaml_grammar.specs.grammar.Tokens.{Mark}
+use Rattle.libyaml_grammar.specs.grammar.Trees.{mapping, sequence}
 use Rattle.libyaml_graphs.specs.graphs.GraphParts.{Closing, Opening, graph, parts}
 use Rattle.libyaml_graphs.specs.loads.Loads.{Load, begun_behind, behind_document, end_of_document, last_load, load_then, loads_by}
 use Rattle.libyaml_graphs.specs.loads.Bounds.{bounded_loads, first_stop}
 use Rattle.libyaml_graphs.proofs.lent.BoundedLoader.{within_unbuilt}
-use Rattle.libyaml_graphs.proofs.lent.Building.{front_closes, value_behind, unbuilt}
+use Rattle.libyaml_graphs.proofs.lent.Building.{prefix_closes, value_behind, unbuilt}
 use Rattle.libyaml_graphs.proofs.lent.Building as built
 use Rattle.libyaml_types.specs.declared.event.unnamed_yaml_event_t_data_document_start.{unnamed_yaml_event_t_data_document_start}
 use Rattle.rust_original.specs.loader.Loader as orig
@@ -81,12 +81,12 @@ module _ (limit : ℕ) where
       (begun_same x o f ∙
       (ap (λ (c : Option Closing). load_then (first_stop limit [] [] (parts f)) c o
       (halves (built.held_graph [] (parts f))) (last_load x)
-      (orig.original_loads_from limit orig.between (behind_document f) x)) (front_closes f b)
+      (orig.original_loads_from limit orig.between (behind_document f) x)) (prefix_closes f b)
       ∙ (cut_off (first_stop limit [] [] (parts f)) o _ _ (last_load x) _ _
       ∙ sym (ap
       (λ (c : Option Closing). load_then (first_stop limit [] [] (parts f)) c o (graph [] (parts f)) (last_load x)
       (loads_by (first_stop limit [] []) x (begun_behind f)))
-      (front_closes f b)))))
+      (prefix_closes f b)))))
     where
       o : Opening
       o = record { start = d; mark = m }

@@ -5,8 +5,8 @@ use Rattle.libyaml_types.specs.declared.enums.yaml_parser_state_t.{yaml_parser_s
 use Rattle.libyaml_types.specs.declared.enums.yaml_parser_state_t.TheVariants as st
 use Rattle.libyaml_types.specs.Events.{empty_event}
 use Rattle.libyaml_types.specs.Fault.{Fault}
-use Rattle.libyaml_grammar.specs.sentences.Sentences.{is_end}
-use Rattle.libyaml_grammar.specs.sentences.Tokens.{Mark, Token}
+use Rattle.libyaml_grammar.specs.grammar.ValidLists.{is_end}
+use Rattle.libyaml_grammar.specs.grammar.Tokens.{Mark, Token}
 use Rattle.libyaml_events.specs.machine.Config.{Config, Handles, is_end_state, taken}
 use Rattle.libyaml_events.specs.machine.Want.{AtState}
 use Rattle.rust_original.specs.parser.Parser.{Mends, OK, ParserResult, OriginalParser, yaml_parser_state_machine}

@@ -7,8 +7,8 @@ use Rattle.libyaml_types.specs.declared.directive.yaml_version_directive_t.{yaml
 use Rattle.libyaml_types.specs.declared.enums.yaml_parser_state_t.{yaml_parser_state_t}
 use Rattle.libyaml_types.specs.declared.enums.yaml_parser_state_t.TheVariants as st
 use Rattle.libyaml_types.specs.Fault.{Fault}
-use Rattle.libyaml_grammar.specs.cuts.FaultTexts.{document_start_fault}
-use Rattle.libyaml_grammar.specs.sentences.Tokens.{Content, DocumentEnd, DocumentStart, HandleDeclared, Mark, StreamEnd, StreamStart, TagDirective, Token, VersionAsked, VersionDirective}
+use Rattle.libyaml_grammar.specs.partial.FaultTexts.{document_start_fault}
+use Rattle.libyaml_grammar.specs.grammar.Tokens.{Content, DocumentEnd, DocumentStart, HandleDeclared, Mark, StreamEnd, StreamStart, TagDirective, Token, VersionAsked, VersionDirective}
 use Rattle.libyaml_automaton.specs.Automaton as automaton
 use Rattle.libyaml_events.specs.machine.Config.{Config, Handles, config_of, no_handles}
 use Rattle.libyaml_events.specs.machine.Machine.{Progressed, put, seen}

@@ -7,9 +7,9 @@ use Rattle.libyaml_types.specs.declared.directive.yaml_tag_directive_t.{yaml_tag
 use Rattle.libyaml_types.specs.declared.enums.yaml_parser_state_t.{yaml_parser_state_t}
 use Rattle.libyaml_types.specs.declared.enums.yaml_scalar_style_t.TheVariants.{YAML_PLAIN_SCALAR_STYLE}
 use Rattle.libyaml_types.specs.Fault.{Fault}
-use Rattle.libyaml_grammar.specs.cuts.FaultTexts.{content_fault, parser_fault_in}
-use Rattle.libyaml_grammar.specs.sentences.Events.{event, is_missing}
-use Rattle.libyaml_grammar.specs.sentences.Tokens.{Alias, Anchor, AnchorName, BlockEntry, BlockMappingStart, BlockSequenceStart, Content, FlowMappingStart, FlowSequenceStart, Mark, Scalar, ScalarText, Tag, TagName, Token}
+use Rattle.libyaml_grammar.specs.partial.FaultTexts.{content_fault, parser_fault_in}
+use Rattle.libyaml_grammar.specs.grammar.Events.{event, is_missing}
+use Rattle.libyaml_grammar.specs.grammar.Tokens.{Alias, Anchor, AnchorName, BlockEntry, BlockMappingStart, BlockSequenceStart, Content, FlowMappingStart, FlowSequenceStart, Mark, Scalar, ScalarText, Tag, TagName, Token}
 use Rattle.libyaml_automaton.specs.declared.node_place.NodePlace.{NodePlace}
 use Rattle.libyaml_automaton.specs.declared.node_place.NodePlace.TheVariants.{Block, BlockOrIndentlessSequence, Flow}
 use Rattle.libyaml_automaton.specs.Automaton as automaton

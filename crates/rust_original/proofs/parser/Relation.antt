@@ -5,9 +5,9 @@ use Rattle.libyaml_types.specs.declared.directive.yaml_tag_directive_t.{yaml_tag
 use Rattle.libyaml_types.specs.declared.enums.yaml_parser_state_t.{yaml_parser_state_t}
 use Rattle.libyaml_types.specs.declared.enums.yaml_parser_state_t.TheVariants as st
 use Rattle.libyaml_types.specs.Fault.{Fault}
-use Rattle.libyaml_grammar.specs.sentences.Events.{Event}
-use Rattle.libyaml_grammar.specs.sentences.Sentences.{is_end}
-use Rattle.libyaml_grammar.specs.sentences.Tokens.{Content, DocumentEnd, Mark, Token}
+use Rattle.libyaml_grammar.specs.grammar.Events.{Event}
+use Rattle.libyaml_grammar.specs.grammar.ValidLists.{is_end}
+use Rattle.libyaml_grammar.specs.grammar.Tokens.{Content, DocumentEnd, Mark, Token}
 use Rattle.libyaml_events.specs.machine.Config.{Config, Handles, no_handles}
 use Rattle.libyaml_automaton.specs.Config.{below, top}
 use Rattle.libyaml_events.specs.machine.Machine.{Progressed, or_default, step}

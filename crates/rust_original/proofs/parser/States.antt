@@ -5,8 +5,8 @@ use Rattle.libyaml_types.specs.declared.enums.yaml_parser_state_t.{yaml_parser_s
 use Rattle.libyaml_types.specs.declared.enums.yaml_parser_state_t.TheVariants as st
 use Rattle.libyaml_types.specs.declared.enums.yaml_token_type_t.TheVariants as ty
 use Rattle.libyaml_types.specs.Fault.{Fault}
-use Rattle.libyaml_grammar.specs.sentences.Sentences.{is_end}
-use Rattle.libyaml_grammar.specs.sentences.Tokens.{BlockEnd, BlockEntry, Content, DocumentEnd, DocumentStart, FlowEntry, FlowMappingEnd, FlowSequenceEnd, Key, Mark, StreamEnd, TagDirective, Token, Value, VersionDirective}
+use Rattle.libyaml_grammar.specs.grammar.ValidLists.{is_end}
+use Rattle.libyaml_grammar.specs.grammar.Tokens.{BlockEnd, BlockEntry, Content, DocumentEnd, DocumentStart, FlowEntry, FlowMappingEnd, FlowSequenceEnd, Key, Mark, StreamEnd, TagDirective, Token, Value, VersionDirective}
 use Rattle.libyaml_automaton.specs.declared.node_place.NodePlace.TheVariants.{Block, BlockOrIndentlessSequence, Flow}
 use Rattle.libyaml_automaton.specs.Automaton as automaton
 use Rattle.libyaml_events.specs.machine.Config.{Config, Handles}

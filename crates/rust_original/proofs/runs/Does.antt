@@ -2,15 +2,15 @@
 use Rattle.std.proofs.Common.{◌≡◌, ◌∷◌, ◌++◌, List, [], Option, Some, None, Ok, Err, false, append-nil, append_assoc, refl, sym, subst, ◌∙◌}
 use Rattle.libyaml_types.specs.Fault.{Fault}
 use Rattle.libyaml_grammar.specs.runs.Runs.{Fails, IsRun}
-use Rattle.libyaml_grammar.specs.sentences.Events.{Event}
-use Rattle.libyaml_grammar.specs.sentences.Tokens.{Token}
+use Rattle.libyaml_grammar.specs.grammar.Events.{Event}
+use Rattle.libyaml_grammar.specs.grammar.Tokens.{Token}
 use Rattle.libyaml_events.specs.machine.Config.{Config, ended_or_failed, taken}
 use Rattle.libyaml_events.specs.machine.Machine.{Progressed, step}
 use Rattle.libyaml_events.specs.machine.Want.{AtState, Given, Want, Wants}
 use Rattle.libyaml_events.specs.sources.History.{is_stream_end}
 use Rattle.libyaml_events.specs.sources.Pushed.{Fed}
 use Rattle.libyaml_events.proofs.lent.Pushes as pushed
-use Rattle.libyaml_events.proofs.lent.Pushes.{fault_runs, fed_ended, fed_settled, gives_end, wants_runs}
+use Rattle.libyaml_events.proofs.lent.Pushes.{fault_runs, fed_ended, fed_determined, gives_end, wants_runs}
 use Rattle.libyaml_events.proofs.lent.RunStops.{short_run}
 use Rattle.rust_original.proofs.parser.Relation.{HereCall, feed, given, led, stopped, tokens_of}
 
@@ -46,7 +46,7 @@ module _ (f : Fault) where
           = gives [] refl (rw (← (append-nil l)) at (pushed.gives_on w c u h e d i)) (gives_end h e d i)
 
   by_tokens : (rest : List Token) → DoesFrom rest
-  by_tokens [] w c l g h n = fails (rw (← (append-nil l)) at (short_run l g f (fed_settled h (sym (fed_ended h) ∙ n))))
+  by_tokens [] w c l g h n = fails (rw (← (append-nil l)) at (short_run l g f (fed_determined h (sym (fed_ended h) ∙ n))))
   by_tokens (t ∷ rest) w c l g h n
       = one_more t (by_hand rest (by_tokens rest) w c t (l ++ t ∷ []) g (pushed.takes w c l g t h n))
 

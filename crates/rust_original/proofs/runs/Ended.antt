@@ -3,9 +3,9 @@ use Rattle.std.proofs.Common.{◌≡◌, ◌∷◌, List, [], true, false, refl,
 use Rattle.libyaml_types.specs.Fault.{Fault}
 use Rattle.libyaml_types.specs.declared.event.unnamed_yaml_event_t_data.TheVariants as ev
 use Rattle.libyaml_grammar.specs.runs.Runs.{Ending, Ends, Fails}
-use Rattle.libyaml_grammar.specs.sentences.Events.{Event, document_end_at, end_at as end_event, event, stream_end_at}
-use Rattle.libyaml_grammar.specs.sentences.Nesting.{IsNested, DocumentTexts, Value, Values, alias_value, collection_value, first_value, no_texts, no_values, scalar_value, text_behind, texts_events, value_events, values_events}
-use Rattle.libyaml_grammar.specs.sentences.Trees.{mapping, sequence}
+use Rattle.libyaml_grammar.specs.grammar.Events.{Event, document_end_at, end_at as end_event, event, stream_end_at}
+use Rattle.libyaml_grammar.specs.grammar.Nesting.{IsNested, DocumentTexts, Value, Values, alias_value, collection_value, first_value, no_texts, no_values, scalar_value, text_behind, texts_events, value_events, values_events}
+use Rattle.libyaml_grammar.specs.grammar.Trees.{mapping, sequence}
 use Rattle.libyaml_events.specs.sources.History.{is_stream_end}
 
 -- none of these is the stream's end

@@ -1,6 +1,6 @@
 -- Texts without a zero byte are held as they are.
 use Rattle.std.proofs.Common.{◌≡◌, ◌∷◌, ◌∙◌, ℕ, zero, suc, List, [], map, refl, ap}
-use Rattle.libyaml_grammar.specs.sentences.Tokens.{Alias, Anchor, Content, Tag, TagDirective, Token}
+use Rattle.libyaml_grammar.specs.grammar.Tokens.{Alias, Anchor, Content, Tag, TagDirective, Token}
 use Rattle.rust_original.specs.parser.Texts.{ContentHoldsNoZero, HoldsNoZero, NoneHoldsZero, as_held, c_string, held_content}
 
 text : (bytes : List ℕ) → HoldsNoZero bytes → c_string bytes ≡ bytes

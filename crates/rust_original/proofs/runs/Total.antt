@@ -8,9 +8,9 @@ use Rattle.libyaml_types.specs.declared.enums.yaml_scalar_style_t.TheVariants.{Y
 use Rattle.libyaml_types.specs.declared.enums.yaml_token_type_t.TheVariants as ty
 use Rattle.libyaml_types.specs.Fault.{Fault}
 use Rattle.libyaml_grammar.specs.runs.Runs.{Ending, Ends, Fails, IsRun}
-use Rattle.libyaml_grammar.specs.sentences.Events.{Event, event}
-use Rattle.libyaml_grammar.specs.sentences.Nesting.{NestsSoFar}
-use Rattle.libyaml_grammar.specs.sentences.Tokens.{Content, Mark, Scalar, StreamEnd, Token}
+use Rattle.libyaml_grammar.specs.grammar.Events.{Event, event}
+use Rattle.libyaml_grammar.specs.grammar.Nesting.{NestsSoFar}
+use Rattle.libyaml_grammar.specs.grammar.Tokens.{Content, Mark, Scalar, StreamEnd, Token}
 use Rattle.libyaml_events.specs.machine.Config.{Config, Handles, ended_or_failed, is_end_state, is_fault, start, taken}
 use Rattle.libyaml_events.specs.machine.Machine.{step}
 use Rattle.libyaml_events.specs.machine.Want.{AtState, Given}

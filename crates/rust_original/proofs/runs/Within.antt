@@ -1,7 +1,7 @@
 -- A run that is computed within so many calls is a run.
 use Rattle.std.proofs.Common.{◌≡◌, ◌∷◌, ℕ, zero, suc, List, [], Option, Some, None, Bool, true, false, refl, ap, subst}
 use Rattle.libyaml_grammar.specs.runs.Runs.{Ending, Ends, Fails}
-use Rattle.libyaml_grammar.specs.sentences.Events.{Event}
+use Rattle.libyaml_grammar.specs.grammar.Events.{Event}
 use Rattle.rust_original.specs.parser.Parser.{FAIL, Mends, OK, ParserResult, OriginalParser}
 use Rattle.rust_original.specs.parser.Runs.{Runs, call, ends, fails, goes_on, run_within}
 

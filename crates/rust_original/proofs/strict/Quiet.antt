@@ -7,7 +7,7 @@ use Rattle.libyaml_types.specs.declared.enums.yaml_parser_state_t.TheVariants as
 use Rattle.libyaml_types.specs.declared.enums.yaml_token_type_t.{yaml_token_type_t}
 use Rattle.libyaml_types.specs.declared.enums.yaml_token_type_t.TheVariants as tok
 use Rattle.libyaml_types.specs.declared.token.unnamed_yaml_token_t_data_tag.{unnamed_yaml_token_t_data_tag}
-use Rattle.libyaml_grammar.specs.sentences.Tokens.{Content, Token}
+use Rattle.libyaml_grammar.specs.grammar.Tokens.{Content, Token}
 use Rattle.libyaml_automaton.specs.Automaton as a
 use Rattle.libyaml_automaton.specs.Automaton.{KindAndMarks, PropertiesRead, Purpose, Step}
 use Rattle.libyaml_automaton.specs.Config.{Stacks}

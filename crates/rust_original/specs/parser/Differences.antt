@@ -4,10 +4,10 @@ use Rattle.std.specs.Prelude.{◌≡◌, ◌∷◌, ◌++◌, List, [], true, fa
 use Rattle.libyaml_types.specs.declared.enums.yaml_parser_state_t.TheVariants as st
 use Rattle.libyaml_types.specs.declared.token.unnamed_yaml_token_t_data.TheVariants.{Value}
 use Rattle.libyaml_types.specs.declared.enums.yaml_token_type_t.TheVariants as ty
-use Rattle.libyaml_grammar.specs.cuts.FaultTexts.{parser_fault, parser_fault_in}
+use Rattle.libyaml_grammar.specs.partial.FaultTexts.{parser_fault, parser_fault_in}
 use Rattle.libyaml_grammar.specs.runs.Runs.{Ending}
-use Rattle.libyaml_grammar.specs.sentences.Events.{Event}
-use Rattle.libyaml_grammar.specs.sentences.Tokens.{Token}
+use Rattle.libyaml_grammar.specs.grammar.Events.{Event}
+use Rattle.libyaml_grammar.specs.grammar.Tokens.{Token}
 use Rattle.libyaml_automaton.specs.Config.{top_mark}
 use Rattle.rust_original.specs.parser.Parser.{FAIL, OK, ParserResult, PUSH_mark, OriginalParser, SKIP_TOKEN, implicit_document_start, is_one_of, set_state, skip_document_ends, yaml_parser_process_empty_scalar}
 use Rattle.rust_original.specs.parser.Runs.{Runs, as_here, as_there, call}

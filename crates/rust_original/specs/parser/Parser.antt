@@ -26,9 +26,9 @@ use Rattle.libyaml_types.specs.declared.event.unnamed_yaml_event_t_data.{unnamed
 use Rattle.libyaml_types.specs.declared.event.unnamed_yaml_event_t_data.TheVariants as ev
 use Rattle.libyaml_types.specs.declared.token.unnamed_yaml_token_t_data.TheVariants as tok
 use Rattle.libyaml_types.specs.Fault.{Fault}
-use Rattle.libyaml_grammar.specs.cuts.FaultTexts.{parser_fault, parser_fault_in}
-use Rattle.libyaml_grammar.specs.sentences.Events.{Event, event, is_missing, is_plain}
-use Rattle.libyaml_grammar.specs.sentences.Tokens.{Mark, Token}
+use Rattle.libyaml_grammar.specs.partial.FaultTexts.{parser_fault, parser_fault_in}
+use Rattle.libyaml_grammar.specs.grammar.Events.{Event, event, is_missing, is_plain}
+use Rattle.libyaml_grammar.specs.grammar.Tokens.{Mark, Token}
 use Rattle.libyaml_events.specs.machine.Config.{is_end_state, is_fault}
 use Rattle.libyaml_automaton.specs.Config.{below, top, top_mark}
 

@@ -3,10 +3,10 @@
 use Rattle.std.specs.Prelude.{◌≡◌, ◌∷◌, List, [], Option, None, Some, map, Ok, Err, true, false, codes}
 use Rattle.libyaml_types.specs.Fault.{Fault}
 use Rattle.libyaml_types.specs.Types.{token_type}
-use Rattle.libyaml_grammar.specs.cuts.FaultTexts.{parser_fault, parser_fault_in}
+use Rattle.libyaml_grammar.specs.partial.FaultTexts.{parser_fault, parser_fault_in}
 use Rattle.libyaml_grammar.specs.runs.Runs.{Ending, Ends, Fails}
-use Rattle.libyaml_grammar.specs.sentences.Events.{Event}
-use Rattle.libyaml_grammar.specs.sentences.Tokens.{Mark, Token}
+use Rattle.libyaml_grammar.specs.grammar.Events.{Event}
+use Rattle.libyaml_grammar.specs.grammar.Tokens.{Mark, Token}
 use Rattle.libyaml_automaton.specs.Config.{top_mark}
 use Rattle.libyaml_automaton.specs.declared.difference.Difference.{Difference}
 use Rattle.libyaml_automaton.specs.declared.difference.Difference.TheVariants.{Nowhere, PairKey, ValueFirst, BareDocument}

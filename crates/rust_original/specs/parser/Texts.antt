@@ -1,7 +1,7 @@
 -- How the Rust crate holds texts: they end at a zero byte, but those of scalars, which have a length.
 use Rattle.std.specs.Prelude.{◌∷◌, ℕ, zero, suc, List, []}
 use Rattle.libyaml_types.specs.declared.token.unnamed_yaml_token_t_data.TheVariants as tok
-use Rattle.libyaml_grammar.specs.sentences.Tokens.{Content, Token}
+use Rattle.libyaml_grammar.specs.grammar.Tokens.{Content, Token}
 
 -- A text up to its first zero byte.
 abbrev pub c_string : List ℕ → List ℕ

@@ -4,7 +4,7 @@ use Rattle.std.specs.Prelude.{◌≡◌, ◌∷◌, List, [], codes, Err}
 use Rattle.libyaml_types.specs.declared.event.unnamed_yaml_event_t_data.TheVariants as ev
 use Rattle.libyaml_types.specs.declared.token.unnamed_yaml_token_t_data.TheVariants.{BlockEnd, BlockEntry, BlockMappingStart, BlockSequenceStart, FlowEntry, FlowSequenceEnd, FlowSequenceStart, Key, StreamEnd}
 use Rattle.libyaml_grammar.specs.rows.RowNotation.{SCALAR, STREAM, at, flow_mapping, flow_sequence, list, mapping, nothing, sequence, text}
-use Rattle.libyaml_grammar.specs.sentences.Tokens.{Token}
+use Rattle.libyaml_grammar.specs.grammar.Tokens.{Token}
 use Rattle.libyaml_graphs.specs.rows.LoadRows.{implicit, no_memory, no_root, pair}
 use Rattle.rust_original.specs.rows.Notation.{alike, block_map, block_seq, broken_run, flow_seq, loads_within, fails_without_flow_content, row_node, parse, plain, run_to, str}
 

@@ -5,8 +5,8 @@ use Rattle.libyaml_types.specs.declared.event.unnamed_yaml_event_t_data.TheVaria
 use Rattle.libyaml_types.specs.declared.token.unnamed_yaml_token_t_data.TheVariants.{BlockEnd, BlockEntry, BlockMappingStart, BlockSequenceStart, FlowEntry, FlowMappingEnd, FlowMappingStart, FlowSequenceEnd, FlowSequenceStart, Key, StreamEnd, Value}
 use Rattle.libyaml_documents.specs.declared.node.yaml_node_t.{yaml_node_t}
 use Rattle.libyaml_grammar.specs.rows.RowNotation.{ALIAS, ANCHOR, SCALAR, STREAM, STYLED, alias, bare_document, flow_mapping, flow_sequence, mapping, mapping_of, no_document_end, no_more, nothing, sequence, stream, text}
-use Rattle.libyaml_grammar.specs.sentences.Events.{Event}
-use Rattle.libyaml_grammar.specs.sentences.Tokens.{Token}
+use Rattle.libyaml_grammar.specs.grammar.Events.{Event}
+use Rattle.libyaml_grammar.specs.grammar.Tokens.{Token}
 use Rattle.libyaml_graphs.specs.rows.LoadRows.{no_root, pair}
 use Rattle.rust_original.specs.loader.LoadsThere.{LoadsThere}
 use Rattle.rust_original.specs.rows.Notation.{alike, block_map, block_seq, double, e, e_to, ends, fails, flow_map, flow_seq, folded, line, line_of, literal, mark, n, n_to, no_separator, parse, plain, single, str, styled, t, t_to, whole_load}

@@ -14,8 +14,8 @@ use Rattle.libyaml_documents.specs.declared.pairs.yaml_node_pair_t.{yaml_node_pa
 use Rattle.libyaml_types.specs.Fault.{Fault}
 use Rattle.libyaml_grammar.specs.rows.RowNotation.{at, bare_document, no_document_end, no_more, place, says, says_while, scalar, stream}
 use Rattle.libyaml_grammar.specs.runs.Runs.{Ending, Ends, Fails}
-use Rattle.libyaml_grammar.specs.sentences.Events.{Event, event}
-use Rattle.libyaml_grammar.specs.sentences.Tokens.{Content, Mark, Token}
+use Rattle.libyaml_grammar.specs.grammar.Events.{Event, event}
+use Rattle.libyaml_grammar.specs.grammar.Tokens.{Content, Mark, Token}
 use Rattle.libyaml_graphs.specs.loads.Loads.{Load}
 use Rattle.rust_original.specs.loader.Loader.{loads_there}
 use Rattle.rust_original.specs.parser.Runs.{run_here, run_there}

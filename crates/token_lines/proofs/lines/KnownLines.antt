@@ -6,7 +6,7 @@ use Rattle.libyaml_types.specs.Fault.{Fault}
 use Rattle.libyaml_grammar.specs.runs.Runs.{Ending, IsRun}
 use Rattle.libyaml_types.specs.Source.{coming}
 use Rattle.libyaml_graphs.specs.loads.Bounds.{bounded_loads}
-use Rattle.libyaml_graphs.proofs.lent.BoundedFronts.{front_of_loads}
+use Rattle.libyaml_graphs.proofs.lent.BoundedPrefixes.{prefix_of_loads}
 use Rattle.line_reading.specs.sources.LineSource.{coming_of}
 use Rattle.token_lines.specs.declared.run.run_end_t.{run_end_t}
 use Rattle.token_lines.specs.events.EventRun.{IsRunOf, most_tokens}
@@ -32,5 +32,5 @@ pub writes_of_runs : (bytes : Option (List ℕ)) (MayBreak : Fault → Type 0) (
 writes_of_runs None MayBreak end old new h = tt
 writes_of_runs (Some bytes) MayBreak end old new h =
     λ loads is. rw (← is.all) at
-    (writes_all MayBreak end old new _ _ (front_of_loads is.events is.ending most_entries) (h is.events is.ending
+    (writes_all MayBreak end old new _ _ (prefix_of_loads is.events is.ending most_entries) (h is.events is.ending
     is.run))

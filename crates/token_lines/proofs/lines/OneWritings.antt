@@ -11,7 +11,7 @@ use Rattle.libyaml_events.specs.sources.History.{answers, kept_fault}
 use Rattle.libyaml_events.specs.sources.Needs.{EachNeeded, EachWasNeeded}
 use Rattle.libyaml_events.specs.sources.Parsing.{CarriesOn, Cause, FailsBy, of_grammar, of_memory, of_source}
 use Rattle.libyaml_events.proofs.lent.CallsInTurn.{both_calls, one_call}
-use Rattle.libyaml_events.proofs.lent.OneOutcome.{front_same}
+use Rattle.libyaml_events.proofs.lent.OneOutcome.{prefix_same}
 use Rattle.libyaml_events.proofs.lent.RunStops.{RunStop, answers_both, ended_stop, grammar_stop, one_run_by_answers, source_stop}
 use Rattle.libyaml_events.proofs.lent.Histories as histories
 use Rattle.libyaml_grammar.specs.runs.Runs.{Ending, Ends, Fails}
@@ -187,7 +187,7 @@ one_writing_proof {S} gives contents old p q first second written after later as
         (record { asked = asked ++ m; last = u; needed = each; needed_last = then; stop = stop })
         (record { asked = asked ++ n; last = v; needed = other; needed_last = also; stop = halt }) both in
         let s = both_wrote x y (outcome_of first) (outcome_of second) (event_lines d) (event_lines c) written after
-        later r.2 (ap event_lines (front_same given d c r.1)) w z in
+        later r.2 (ap event_lines (prefix_same given d c r.1)) w z in
         alike s.0 s.1
 
 -- nothing was left to write

@@ -6,14 +6,14 @@ use Rattle.std.specs.Io.KnownBytes.{Appends}
 use Rattle.libyaml_types.specs.Fault.{Fault, memory_fault}
 use Rattle.libyaml_grammar.specs.runs.Runs.{Ending, Fails}
 use Rattle.libyaml_graphs.specs.loads.Loads.{Load}
-use Rattle.libyaml_graphs.proofs.lent.BoundedFronts.{IsFront, met, same}
+use Rattle.libyaml_graphs.proofs.lent.BoundedPrefixes.{IsPrefixTree, met, same}
 use Rattle.token_lines.specs.declared.run.run_end_t.{run_end_t}
 use Rattle.token_lines.specs.lines.LineRun.{broken_off, output_failed, run_bytes, whole}
 use Rattle.token_lines.specs.nodes.NodeRun.{WritesLoads, load_lines, loads_ending, loads_lines}
 use Rattle.token_lines.proofs.nodes.NodeWritesLemmas.{ending_of}
 
 -- so what was written of the loads within the bound was written of the loads
-pub writes_all : (MayBreak : Fault → Type 0) (end : run_end_t) (old new : Option (List ℕ)) (b l : List Load) → IsFront b l
+pub writes_all : (MayBreak : Fault → Type 0) (end : run_end_t) (old new : Option (List ℕ)) (b l : List Load) → IsPrefixTree b l
     → WritesLoads MayBreak end old new b → WritesLoads MayBreak end old new l
 writes_all MayBreak end old new b l (same e) w = subst (WritesLoads MayBreak end old new) e w
 writes_all MayBreak end old new b l (met ds rest i j) w = go w

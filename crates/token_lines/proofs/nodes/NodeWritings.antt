@@ -14,12 +14,12 @@ use Rattle.libyaml_events.specs.sources.History.{answers, kept_fault}
 use Rattle.libyaml_events.specs.sources.Needs.{EachNeeded, EachWasNeeded}
 use Rattle.libyaml_events.specs.sources.Parsing.{Cause, FailsBy, of_grammar, of_memory, of_source}
 use Rattle.libyaml_events.proofs.lent.CallsInTurn.{both_calls}
-use Rattle.libyaml_events.proofs.lent.OneOutcome.{front_same}
+use Rattle.libyaml_events.proofs.lent.OneOutcome.{prefix_same}
 use Rattle.libyaml_events.proofs.lent.RunStops.{RunStop, answers_both, begins_stopped, ended_stop, grammar_stop, one_run_by_answers, source_stop, taken_comparable}
 use Rattle.libyaml_events.proofs.lent.Histories as histories
-use Rattle.libyaml_grammar.specs.cuts.Settled.{Begins}
+use Rattle.libyaml_grammar.specs.partial.DeterminedEvents.{Begins}
 use Rattle.libyaml_grammar.specs.runs.Runs.{Ending, Ends, Fails}
-use Rattle.libyaml_grammar.proofs.lent.Same.{ok_not_err}
+use Rattle.libyaml_grammar.proofs.lent.Injectivity.{ok_not_err}
 use Rattle.libyaml_graphs.specs.loads.Bounds.{bounded_loads, next_bounded}
 use Rattle.libyaml_graphs.specs.loads.GraphLaws.{RootsFollow}
 use Rattle.libyaml_graphs.specs.loads.Loads.{Load, last_load, left_over}
@@ -43,7 +43,7 @@ use Rattle.token_lines.specs.nodes.LastLoad.{CutText, LastLoad, WroteForLoad}
 use Rattle.token_lines.proofs.lines.OneWritings.{Wrote, after_asked, both_wrote, nothing_needed}
 
 after_given : (given a b : List yaml_event_t) → Begins (given ++ a) (given ++ b) → Begins a b
-after_given given a b h = (h.0, front_same given b (a ++ h.0) (h.1 ∙ append_assoc given a h.0))
+after_given given a b h = (h.0, prefix_same given b (a ++ h.0) (h.1 ∙ append_assoc given a h.0))
 
 turned : (a b : List Answer) → OneBegins a b → OneBegins b a
 turned a b (inl h) = inr h
@@ -306,7 +306,7 @@ one_writing_of_nodes_proof {S} g contents n old p q first second written
         (record { asked = asked ++ j; last = v; needed = other; needed_last = also; stop = halt })
         (after_both k l m j u v i f o) in
         let s = same_loads d c (last_load x) (last_load y)
-        (sym loads ∙ (ap (λ (b : List yaml_event_t). bounded_loads n b x) (front_same given e t r.1)
+        (sym loads ∙ (ap (λ (b : List yaml_event_t). bounded_loads n b x) (prefix_same given e t r.1)
         ∙ (ap (bounded_loads n t) r.2 ∙ more))) in
         alike_by x y d c (s.0, r.2) w z
     go k l o (composer m e d f i each runs loads w) (stopped j v t c y h other also halt more z) =

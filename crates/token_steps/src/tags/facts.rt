@@ -1,7 +1,7 @@
 //! The facts of tokens that a step takes.
 ghost use Rattle.std.specs.Prelude.{◌≡◌, ◌++◌, Some, is_some};
 ghost use Rattle.std.specs.FinMap.{get};
-ghost use Rattle.libyaml_grammar.specs.sentences.Order.{is_accepted};
+ghost use Rattle.libyaml_grammar.specs.grammar.Order.{is_accepted};
 ghost use Rattle.token_steps.specs.Handles.{handles_at};
 ghost use Rattle.token_steps.specs.Texts.{bit, tag_fact as fact_of_tag};
 

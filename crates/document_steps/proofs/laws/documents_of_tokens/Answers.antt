@@ -1,6 +1,6 @@
 use Rattle.std.proofs.Common.{◌++◌, ◌∷◌, [], sym}
 use Rattle.libyaml_grammar.specs.runs.Runs.{Ends, Fails}
-use Rattle.libyaml_events.proofs.lent.Pushes.{fault_runs, fed_settled, fed_whole}
+use Rattle.libyaml_events.proofs.lent.Pushes.{fault_runs, fed_determined, fed_whole}
 use Rattle.libyaml_events.proofs.lent.RunStops.{short_run, whole_run}
 use Rattle.libyaml_events.specs.machine.Machine.{fault_with}
 use Rattle.token_steps.specs.Records.{step_fault}
@@ -12,7 +12,7 @@ pub returns-clause-so_far : goal.returns-clause-so_far
 returns-clause-so_far c = λ d ss ms hs kept l g run most k os h ds docs short source. record {
   events = g;
   ending = Fails source;
-  run = short_run l g source (fed_settled (fed d ss ms hs kept _ l g run).0 short);
+  run = short_run l g source (fed_determined (fed d ss ms hs kept _ l g run).0 short);
   all = sym (all_loads k os h g ds docs (Fails source));
 }
 
@@ -29,7 +29,7 @@ returns-clause-composer_fails c
     = λ d ss ms hs kept l g e run most k k' os os' h ds a p p' docs calls refused short source. record {
       events = g ++ e ∷ [];
       ending = Fails source;
-      run = short_run l (g ++ e ∷ []) source (fed_settled (fed d ss ms hs kept _ l (g ++ e ∷ []) run).0 short);
+      run = short_run l (g ++ e ∷ []) source (fed_determined (fed d ss ms hs kept _ l (g ++ e ∷ []) run).0 short);
       all = sym (fault k k' os os' h g ds a e p p' docs calls refused [] (Fails source));
     }
 

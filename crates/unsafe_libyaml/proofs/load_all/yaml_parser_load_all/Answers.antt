@@ -5,7 +5,7 @@ use Rattle.unsafe_libyaml.proofs.LargeLoads.{loads_linear}
 use Rattle.unsafe_libyaml.proofs.load_all.yaml_parser_load_all.Goals as goal
 use Rattle.unsafe_libyaml.proofs.load_all.yaml_parser_load_all.Goals.{After-yaml_parser_load}
 use Rattle.libyaml_graphs.proofs.lent.LoadLists.{bare, rooted}
-use Rattle.libyaml_graphs.proofs.lent.RunLoads.{cut_tree_loads}
+use Rattle.libyaml_graphs.proofs.lent.RunLoads.{partial_tree_loads}
 
 pub loop-document-init : goal.loop-document-init
 loop-document-init g c =
@@ -37,9 +37,9 @@ returns-then-is_empty-clause-of_tree g c t f o k =
     let n = tree_loads t f o in
     (n.0, returns-then-is_empty-clause-of_list g c _ f _ n.1 k)
 
-pub returns-then-is_empty-clause-of_cut_tree : goal.returns-then-is_empty-clause-of_cut_tree
-returns-then-is_empty-clause-of_cut_tree g c before token behind cut f fits waited k =
-    let a = cut_tree_loads before token behind cut f fits waited in
+pub returns-then-is_empty-clause-of_partial_tree : goal.returns-then-is_empty-clause-of_partial_tree
+returns-then-is_empty-clause-of_partial_tree g c before token behind cut f fits waited k =
+    let a = partial_tree_loads before token behind cut f fits waited in
     (a.0, a.2, returns-then-is_empty-clause-of_list g c _ f _ a.1 k)
 
 pub returns-then-is_empty-clause-roots : goal.returns-then-is_empty-clause-roots
@@ -88,9 +88,9 @@ returns-in-Err-clause-of_tree g c t f o k =
     let n = tree_loads t f o in
     if_ok c.failed_load.result _ _ (returns-in-Err-clause-of_list g c _ f _ n.1 k) (λ all r. (n.0, r))
 
-pub returns-in-Err-clause-of_cut_tree : goal.returns-in-Err-clause-of_cut_tree
-returns-in-Err-clause-of_cut_tree g c before token behind cut f fits waited k =
-    let a = cut_tree_loads before token behind cut f fits waited in
+pub returns-in-Err-clause-of_partial_tree : goal.returns-in-Err-clause-of_partial_tree
+returns-in-Err-clause-of_partial_tree g c before token behind cut f fits waited k =
+    let a = partial_tree_loads before token behind cut f fits waited in
     if_ok c.failed_load.result _ _ (returns-in-Err-clause-of_list g c _ f _ a.1 k) (λ all r. (a.0, a.2, r))
 
 pub returns-then-is_empty-clause-linear : goal.returns-then-is_empty-clause-linear

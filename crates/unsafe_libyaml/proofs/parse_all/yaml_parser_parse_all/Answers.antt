@@ -1,7 +1,7 @@
 use Rattle.std.proofs.Common.{refl, subst, sym, ◌∙◌}
 use Rattle.unsafe_libyaml.proofs.WholeRuns.{GaveSoFar, gathers_all, gathers_some, gave_more, gave_none, if_ok, runs_to, tells, tree_runs}
 use Rattle.unsafe_libyaml.proofs.parse_all.yaml_parser_parse_all.Goals as goal
-use Rattle.libyaml_grammar.proofs.lent.Running.{cut_run}
+use Rattle.libyaml_grammar.proofs.lent.Running.{partial_run}
 
 pub loop-events-init : goal.loop-events-init
 loop-events-init g c =
@@ -41,10 +41,10 @@ pub returns-then-is_last-clause-of_tree : goal.returns-then-is_last-clause-of_tr
 returns-then-is_last-clause-of_tree g c t f o k = returns-then-is_last-clause-of_list g c _ f _ _
     (tree_runs t f o) k
 
-pub returns-then-is_last-clause-of_cut_tree : goal.returns-then-is_last-clause-of_cut_tree
-returns-then-is_last-clause-of_cut_tree g c before token behind cut f fits waited k
+pub returns-then-is_last-clause-of_partial_tree : goal.returns-then-is_last-clause-of_partial_tree
+returns-then-is_last-clause-of_partial_tree g c before token behind cut f fits waited k
     = returns-then-is_last-clause-of_list g c _ f _ _
-    (cut_run before token behind cut f fits waited) k
+    (partial_run before token behind cut f fits waited) k
 
 pub returns-in-Err-clause-gathers : goal.returns-in-Err-clause-gathers
 returns-in-Err-clause-gathers g c =
@@ -69,6 +69,6 @@ pub returns-in-Err-clause-of_tree : goal.returns-in-Err-clause-of_tree
 returns-in-Err-clause-of_tree g c t f o k = returns-in-Err-clause-of_list g c _ f _ _
     (tree_runs t f o) k
 
-pub returns-in-Err-clause-of_cut_tree : goal.returns-in-Err-clause-of_cut_tree
-returns-in-Err-clause-of_cut_tree g c before token behind cut f fits waited k
-    = returns-in-Err-clause-of_list g c _ f _ _ (cut_run before token behind cut f fits waited) k
+pub returns-in-Err-clause-of_partial_tree : goal.returns-in-Err-clause-of_partial_tree
+returns-in-Err-clause-of_partial_tree g c before token behind cut f fits waited k
+    = returns-in-Err-clause-of_list g c _ f _ _ (partial_run before token behind cut f fits waited) k

@@ -1,6 +1,6 @@
 use Rattle.std.proofs.Common.{Ok, ◌∙◌, ℕ, List, Option, ap, option_map, string_bytes, sym}
 use Rattle.libyaml_events.proofs.layer.Contents.{opening_put}
-use Rattle.libyaml_grammar.specs.sentences.Events.{event, Event}
+use Rattle.libyaml_grammar.specs.grammar.Events.{event, Event}
 use Rattle.libyaml_events.specs.machine.Config.{Config}
 use Rattle.libyaml_events.specs.machine.Want.{Given}
 use Rattle.libyaml_events.specs.automaton.Led.{collection_start}

@@ -1,10 +1,10 @@
 use Rattle.std.proofs.Common.{refl}
-use Rattle.libyaml_graphs.proofs.rows.LoadRows.{begin_loads, cut_loads}
+use Rattle.libyaml_graphs.proofs.rows.LoadRows.{begin_loads, partial_loads}
 use Rattle.libyaml_graphs.proofs.laws.rows.cut_off.Goals as goal
 
 pub returns : goal.returns
 returns c = record {
-  parser_fault = cut_loads 6 _ _ _ _ _ _ refl refl refl refl refl;
+  parser_fault = partial_loads 6 _ _ _ _ _ _ refl refl refl refl refl;
   source_ends = begin_loads _ _ _ _ refl refl refl;
   undefined_alias_before_source_ends = begin_loads _ _ _ _ refl refl refl;
 }

@@ -2,11 +2,11 @@
 -- bad token.
 use Rattle.std.specs.Prelude.{Bool, true, false}
 use Rattle.libyaml_types.specs.Fault.{Fault}
-use Rattle.libyaml_grammar.specs.cuts.FaultTexts.{stream_start_fault, document_start_fault, duplicate_version_fault, version_fault, duplicate_tag_fault, content_fault, tag_fault, item_fault, part_fault, sequence_fault, mapping_fault}
-use Rattle.libyaml_grammar.specs.sentences.Tokens.{Content, Mark, VersionDirective}
-use Rattle.libyaml_grammar.specs.sentences.Trees.{Directives, mapping, sequence}
-use Rattle.libyaml_grammar.specs.sentences.Order.{no_version}
-use Rattle.libyaml_grammar.specs.cuts.CutTrees.{Cut, Open, Place, at_directive, at_tag, at_tag_behind, before_stream, block, content_due, document_due, entry_due, open_collection, part_due, separator_due, start_due}
+use Rattle.libyaml_grammar.specs.partial.FaultTexts.{stream_start_fault, document_start_fault, duplicate_version_fault, version_fault, duplicate_tag_fault, content_fault, tag_fault, item_fault, part_fault, sequence_fault, mapping_fault}
+use Rattle.libyaml_grammar.specs.grammar.Tokens.{Content, Mark, VersionDirective}
+use Rattle.libyaml_grammar.specs.grammar.Trees.{Directives, mapping, sequence}
+use Rattle.libyaml_grammar.specs.grammar.Order.{no_version}
+use Rattle.libyaml_grammar.specs.partial.PartialTrees.{PartialTree, Open, Place, at_directive, at_tag, at_tag_behind, before_stream, block, content_due, document_due, entry_due, open_collection, part_due, separator_due, start_due}
 
 -- of a directive after others: a second version is a duplicate before its number is looked at
 abbrev pub directive_fault : Directives → Content → Mark → Fault
@@ -23,7 +23,7 @@ separator_fault (open_collection p o sequence s is) m = sequence_fault s.start m
 separator_fault (open_collection p o mapping s is) m = mapping_fault s.start m
 
 -- the error of a partial tree at the bad token of this content, which begins at m
-abbrev pub fault : Cut → Content → Mark → Fault
+abbrev pub fault : PartialTree → Content → Mark → Fault
 fault before_stream k m = stream_start_fault m
 fault (document_due d) k m = document_start_fault m
 fault (start_due b ds d) k m = document_start_fault m

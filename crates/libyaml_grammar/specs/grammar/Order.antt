@@ -3,9 +3,9 @@
 -- follows it.
 use Rattle.std.specs.Prelude.{ℕ, ℤ, pos, List, [], ◌∷◌, Option, Some, None, Bool, true, false, codes, ◌&&◌, ◌||◌, not, bytes_eq}
 use Rattle.std.specs.Ordering.{int_eq}
-use Rattle.libyaml_grammar.specs.sentences.Trees.{Before, BlockItems, BlockNode, BlockSlot, Directive, Directives, Documents, Ended, FlowItems, FlowLast, FlowMember, FlowNode, FlowSlot, FlowValue, Free, Parts, Properties, Slot, Stream, again, alias, alone, anchor, anchor_tag, behind, block_mapping}
-use Rattle.libyaml_grammar.specs.sentences.Trees.{block_sequence, collection, directive, empty, ended, explicit, flow, flow_node, flow_nothing, free, implicit, indentless, item, last, more_items, no_directives, no_items, no_last, no_parts, no_value, node, nothing, once, opened, pair, part, scalar}
-use Rattle.libyaml_grammar.specs.sentences.Trees.{single, slot_of, tag, tag_anchor, tag_directive, version, whole, with_value}
+use Rattle.libyaml_grammar.specs.grammar.Trees.{Before, BlockItems, BlockNode, BlockSlot, Directive, Directives, Documents, Ended, FlowItems, FlowLast, FlowMember, FlowNode, FlowSlot, FlowValue, Free, Parts, Properties, Slot, Stream, again, alias, alone, anchor, anchor_tag, behind, block_mapping}
+use Rattle.libyaml_grammar.specs.grammar.Trees.{block_sequence, collection, directive, empty, ended, explicit, flow, flow_node, flow_nothing, free, implicit, indentless, item, last, more_items, no_directives, no_items, no_last, no_parts, no_value, node, nothing, once, opened, pair, part, scalar}
+use Rattle.libyaml_grammar.specs.grammar.Trees.{single, slot_of, tag, tag_anchor, tag_directive, version, whole, with_value}
 
 -- A document asks for at most one version, and that is one that is accepted.
 abbrev pub no_version : Directives → Bool

@@ -6,9 +6,9 @@ use Rattle.libyaml_types.specs.declared.event.unnamed_yaml_event_t_data_alias.{u
 use Rattle.libyaml_types.specs.declared.event.unnamed_yaml_event_t_data_document_start.{unnamed_yaml_event_t_data_document_start}
 use Rattle.libyaml_types.specs.declared.event.unnamed_yaml_event_t_data_scalar.{unnamed_yaml_event_t_data_scalar}
 use Rattle.libyaml_types.specs.declared.event.unnamed_yaml_event_t_data.TheVariants as ev
-use Rattle.libyaml_grammar.specs.sentences.Events.{Event, Layout, document_end_at, end_at, event, start_at, stream_end_at, stream_start_at}
-use Rattle.libyaml_grammar.specs.sentences.Tokens.{Mark, StreamHead}
-use Rattle.libyaml_grammar.specs.sentences.Trees.{Sort, mapping, sequence}
+use Rattle.libyaml_grammar.specs.grammar.Events.{Event, Layout, document_end_at, end_at, event, start_at, stream_end_at, stream_start_at}
+use Rattle.libyaml_grammar.specs.grammar.Tokens.{Mark, StreamHead}
+use Rattle.libyaml_grammar.specs.grammar.Trees.{Sort, mapping, sequence}
 
 mutual
   pub data Value : Type 0 where

@@ -1,11 +1,11 @@
 -- When a partial tree fits a list with the token after it (docs/DEFINITIONS.md, "When a partial tree fits").
 use Rattle.std.specs.Prelude.{◌≡◌, ◌⊎◌, List, [], ◌∷◌, ◌++◌, Option, Some, None, Bool, true, false}
-use Rattle.libyaml_grammar.specs.sentences.Tokens.{Anchor, AnchorName, BlockEnd, BlockEntry, Content, DocumentEnd, DocumentStart, FlowEntry, FlowMappingEnd, FlowSequenceEnd, Key, Marks, StreamEnd, Tag, TagDirective, Token, Value, VersionDirective, tok}
-use Rattle.libyaml_grammar.specs.sentences.Trees.{BlockItems, Directives, Documents, FlowMember, FlowSlot, Properties, Slot, behind, explicit, flow_node, flow_nothing, indentless, item, mapping, no_directives, no_value, nothing, pair, part, sequence, single, slot_of, with_value}
-use Rattle.libyaml_grammar.specs.sentences.Order.{is_known}
-use Rattle.libyaml_grammar.specs.cuts.CutTrees.{BlockPlace, Cut, Open, PartPlace, Place, at_directive, at_tag, at_tag_behind, block, content_due, cut_in_order, cut_tokens, declared, document_due, entry, entry_due, explicit_root, flow_entry, flow_key, flow_value, implicit_root, indentless_entry}
-use Rattle.libyaml_grammar.specs.cuts.CutTrees.{open_collection, part_due, part_place, place_in_order, place_tokens, root, separator_due, slot, start_due}
-use Rattle.libyaml_grammar.specs.sentences.Sentences.{IsBeginning}
+use Rattle.libyaml_grammar.specs.grammar.Tokens.{Anchor, AnchorName, BlockEnd, BlockEntry, Content, DocumentEnd, DocumentStart, FlowEntry, FlowMappingEnd, FlowSequenceEnd, Key, Marks, StreamEnd, Tag, TagDirective, Token, Value, VersionDirective, tok}
+use Rattle.libyaml_grammar.specs.grammar.Trees.{BlockItems, Directives, Documents, FlowMember, FlowSlot, Properties, Slot, behind, explicit, flow_node, flow_nothing, indentless, item, mapping, no_directives, no_value, nothing, pair, part, sequence, single, slot_of, with_value}
+use Rattle.libyaml_grammar.specs.grammar.Order.{is_known}
+use Rattle.libyaml_grammar.specs.partial.PartialTrees.{BlockPlace, PartialTree, Open, PartPlace, Place, at_directive, at_tag, at_tag_behind, block, content_due, partial_in_order, partial_tokens, declared, document_due, entry, entry_due, explicit_root, flow_entry, flow_key, flow_value, implicit_root}
+use Rattle.libyaml_grammar.specs.partial.PartialTrees.{indentless_entry, open_collection, part_due, part_place, place_in_order, place_tokens, root, separator_due, slot, start_due}
+use Rattle.libyaml_grammar.specs.grammar.ValidLists.{IsViablePrefix}
 
 abbrev pub is_directive : Content → Bool
 is_directive (VersionDirective a) = true
@@ -79,7 +79,7 @@ empty_member c (single n) = None
 empty_member c (pair k x no_value) = empty_slot (flow_key c k) x
 empty_member c (pair k x (with_value v y)) = empty_slot (flow_value c k x v) y
 
-abbrev pub last_empty : Cut → Option Place
+abbrev pub last_empty : PartialTree → Option Place
 last_empty (document_due d) = empty_root d
 last_empty (at_directive (behind d) no_directives) = empty_root d
 last_empty (entry_due c o m is) = empty_item c o m is
@@ -93,13 +93,13 @@ EndsEmpty None k = Unit {0}
 EndsEmpty (Some p) k = ends_empty p k ≡ true
 
 -- where content is expected the token is none that leaves it nothing
-abbrev pub WantsContent : Cut → Content → Type 0
+abbrev pub WantsContent : PartialTree → Content → Type 0
 WantsContent (content_due p) k = ends_empty p k ≡ false
 WantsContent _ k = Unit {0}
 
 -- A directive is bad at a directive's place only, and there nothing else is. A document without a head and without
 -- tokens is open before no directive.
-abbrev pub FitsDirective : Cut → Content → Type 0
+abbrev pub FitsDirective : PartialTree → Content → Type 0
 FitsDirective (document_due d) k = is_directive k ≡ false
 FitsDirective (start_due b ds d) k = is_directive k ≡ false
 FitsDirective (at_directive b ds) k = is_directive k ≡ true
@@ -123,27 +123,27 @@ pub record IsUnknownTag (l : List Token) (k : Content) : Type 0 where
   pub unknown : IsUnknown (declared place) k
 
 -- the place is at a TAG exactly where that is so
-abbrev pub FitsTag : List Token → Cut → Content → Type 0
+abbrev pub FitsTag : List Token → PartialTree → Content → Type 0
 FitsTag l (at_tag p) k = IsUnknown (declared p) k
 FitsTag l (at_tag_behind p a m) k = IsUnknown (declared p) k
 FitsTag l _ k = IsUnknownTag l k → ⊥
 
 -- The partial tree c fits the list l and the token b after it: its tokens are l and its documents in order, no valid
 -- list begins with l and b, and where several places would serve, the place is the one that the rules above name.
-pub record Fits (l : List Token) (b : Token) (c : Cut) : Type 0 where
-  pub tokens : cut_tokens c [] ≡ l
-  pub order : cut_in_order c true ≡ true
-  pub bad_token : IsBeginning (l ++ b ∷ []) → ⊥
+pub record Fits (l : List Token) (b : Token) (c : PartialTree) : Type 0 where
+  pub tokens : partial_tokens c [] ≡ l
+  pub order : partial_in_order c true ≡ true
+  pub bad_token : IsViablePrefix (l ++ b ∷ []) → ⊥
   pub empty_end : EndsEmpty (last_empty c) b.content
   pub wants_content : WantsContent c b.content
   pub directive : FitsDirective c b.content
   pub tag : FitsTag l c b.content
 
 -- a partial tree that fits a prefix of the list with the token after it
-pub record HasCut (l : List Token) : Type 0 where
+pub record HasPartialTree (l : List Token) : Type 0 where
   pub before : List Token
   pub token : Token
   pub after : List Token
-  pub cut : Cut
+  pub cut : PartialTree
   pub all : l ≡ before ++ token ∷ after
   pub fits : Fits before token cut

@@ -12,10 +12,10 @@ use Rattle.libyaml_types.specs.declared.enums.yaml_sequence_style_t.{yaml_sequen
 use Rattle.libyaml_types.specs.declared.enums.yaml_sequence_style_t.TheVariants.{YAML_BLOCK_SEQUENCE_STYLE, YAML_FLOW_SEQUENCE_STYLE}
 use Rattle.libyaml_types.specs.declared.enums.yaml_mapping_style_t.{yaml_mapping_style_t}
 use Rattle.libyaml_types.specs.declared.enums.yaml_mapping_style_t.TheVariants.{YAML_BLOCK_MAPPING_STYLE, YAML_FLOW_MAPPING_STYLE}
-use Rattle.libyaml_grammar.specs.sentences.Tokens.{Mark, Marks, StreamHead, HandleDeclared, AliasName, TagName, ScalarText}
-use Rattle.libyaml_grammar.specs.sentences.Trees.{Properties, Sort, Role, FlowNode, FlowItems, FlowLast, FlowMember, FlowSlot, BlockNode, BlockSlot, BlockItems, Slot, Parts, Directive, Directives, Documents, Free, Ended, Before, Stream, anchor, tag, anchor_tag, tag_anchor, sequence, mapping, key}
-use Rattle.libyaml_grammar.specs.sentences.Trees.{value, alias, alone, scalar, collection, no_items, more_items, no_last, last, single, pair, flow_nothing, flow_node, no_value, with_value, flow, block_sequence, block_mapping, nothing, node, empty, item, slot_of, indentless, no_parts, part, version}
-use Rattle.libyaml_grammar.specs.sentences.Trees.{tag_directive, no_directives, directive, implicit, explicit, opened, ended, once, again, free, behind, whole}
+use Rattle.libyaml_grammar.specs.grammar.Tokens.{Mark, Marks, StreamHead, HandleDeclared, AliasName, TagName, ScalarText}
+use Rattle.libyaml_grammar.specs.grammar.Trees.{Properties, Sort, Role, FlowNode, FlowItems, FlowLast, FlowMember, FlowSlot, BlockNode, BlockSlot, BlockItems, Slot, Parts, Directive, Directives, Documents, Free, Ended, Before, Stream, anchor, tag, anchor_tag, tag_anchor, sequence, mapping, key}
+use Rattle.libyaml_grammar.specs.grammar.Trees.{value, alias, alone, scalar, collection, no_items, more_items, no_last, last, single, pair, flow_nothing, flow_node, no_value, with_value, flow, block_sequence, block_mapping, nothing, node, empty, item, slot_of, indentless, no_parts, part, version}
+use Rattle.libyaml_grammar.specs.grammar.Trees.{tag_directive, no_directives, directive, implicit, explicit, opened, ended, once, again, free, behind, whole}
 
 abbrev pub Event : Type 0
 Event = yaml_event_t

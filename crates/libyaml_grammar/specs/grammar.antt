@@ -2,5 +2,5 @@ pub mod Tokens
 pub mod Trees
 pub mod Order
 pub mod Events
-pub mod Sentences
+pub mod ValidLists
 pub mod Nesting

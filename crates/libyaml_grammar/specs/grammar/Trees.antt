@@ -2,8 +2,8 @@
 -- Trees are typed by what may stand where, so each value of these types is a tree of the grammar.
 -- Lists grow to the right, as "the items so far, and one more".
 use Rattle.std.specs.Prelude.{List, [], ◌∷◌, Option, Some, None}
-use Rattle.libyaml_grammar.specs.sentences.Tokens.{Marks, Content, Token, tok, StreamHead, VersionAsked, HandleDeclared, AliasName, AnchorName, TagName, ScalarText, StreamStart, StreamEnd, VersionDirective, TagDirective, DocumentStart, DocumentEnd, BlockSequenceStart, BlockMappingStart, BlockEnd}
-use Rattle.libyaml_grammar.specs.sentences.Tokens.{FlowSequenceStart, FlowSequenceEnd, FlowMappingStart, FlowMappingEnd, BlockEntry, FlowEntry, Key, Value, Alias, Anchor, Tag, Scalar}
+use Rattle.libyaml_grammar.specs.grammar.Tokens.{Marks, Content, Token, tok, StreamHead, VersionAsked, HandleDeclared, AliasName, AnchorName, TagName, ScalarText, StreamStart, StreamEnd, VersionDirective, TagDirective, DocumentStart, DocumentEnd, BlockSequenceStart, BlockMappingStart, BlockEnd}
+use Rattle.libyaml_grammar.specs.grammar.Tokens.{FlowSequenceStart, FlowSequenceEnd, FlowMappingStart, FlowMappingEnd, BlockEntry, FlowEntry, Key, Value, Alias, Anchor, Tag, Scalar}
 
 -- A node's properties (YAML 1.1, 8.1 and 8.2): an anchor, a tag, or both in either order.
 pub data Properties : Type 0 where

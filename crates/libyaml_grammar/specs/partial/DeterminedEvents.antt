@@ -1,16 +1,16 @@
 -- The events that a viable prefix determines (docs/DEFINITIONS.md, "Determined events"): the longest list that begins the
 -- events of every valid list that begins so, as a relation, and as a function of the prefix tree.
 use Rattle.std.specs.Prelude.{◌≡◌, List, [], ◌∷◌, ◌++◌, Option, Some, None, true, false}
-use Rattle.libyaml_grammar.specs.cuts.CutEvents.{shown_block, shown_open, shown_place, sort_of}
-use Rattle.libyaml_grammar.specs.cuts.CutTrees.{Cut, Place, at_directive, at_tag, at_tag_behind, block, content_due, cut_in_order, cut_tokens, declared_block, declared_open, document_due, entry_due, implicit_root, part_due, root, separator_due, start_due}
-use Rattle.libyaml_grammar.specs.sentences.Events.{Event, before_events, before_part, block_layout, block_node_events, directive_start, document_start_at, events, first_block, first_directive, first_block_entry, first_of, flow_node_events, flow_slot_events, free_events, items_events, opens_pair}
-use Rattle.libyaml_grammar.specs.sentences.Events.{parts_events, start_of}
+use Rattle.libyaml_grammar.specs.partial.PartialEvents.{shown_block, shown_open, shown_place, sort_of}
+use Rattle.libyaml_grammar.specs.partial.PartialTrees.{PartialTree, Place, at_directive, at_tag, at_tag_behind, block, content_due, partial_in_order, partial_tokens, declared_block, declared_open, document_due, entry_due, implicit_root, part_due, root, separator_due, start_due}
+use Rattle.libyaml_grammar.specs.grammar.Events.{Event, before_events, before_part, block_layout, block_node_events, directive_start, document_start_at, events, first_block, first_directive, first_block_entry, first_of, flow_node_events, flow_slot_events, free_events, items_events, opens_pair}
+use Rattle.libyaml_grammar.specs.grammar.Events.{parts_events, start_of}
 use Rattle.libyaml_types.specs.Events.{zero_mark}
-use Rattle.libyaml_grammar.specs.cuts.Fits.{last_empty}
-use Rattle.libyaml_grammar.specs.sentences.Order.{in_order}
-use Rattle.libyaml_grammar.specs.sentences.Tokens.{Token}
-use Rattle.libyaml_grammar.specs.sentences.Trees.{BlockItems, BlockNode, BlockSlot, Directives, Documents, FlowMember, FlowNode, FlowSlot, Parts, Slot, Sort, Stream, alone, empty, explicit, flow, flow_node, flow_nothing, implicit, indentless, item, mapping, no_directives, no_parts, no_value, node}
-use Rattle.libyaml_grammar.specs.sentences.Trees.{nothing, pair, part, sequence, single, slot_of, tokens, with_value}
+use Rattle.libyaml_grammar.specs.partial.Fits.{last_empty}
+use Rattle.libyaml_grammar.specs.grammar.Order.{in_order}
+use Rattle.libyaml_grammar.specs.grammar.Tokens.{Token}
+use Rattle.libyaml_grammar.specs.grammar.Trees.{BlockItems, BlockNode, BlockSlot, Directives, Documents, FlowMember, FlowNode, FlowSlot, Parts, Slot, Sort, Stream, alone, empty, explicit, flow, flow_node, flow_nothing, implicit, indentless, item, mapping, no_directives, no_parts, no_value, node}
+use Rattle.libyaml_grammar.specs.grammar.Trees.{nothing, pair, part, sequence, single, slot_of, tokens, with_value}
 
 -- the first list of events begins the second
 abbrev pub Begins : List Event → List Event → Type 0
@@ -21,7 +21,7 @@ abbrev pub BeginsEach : List Token → List Event → Type 0
 BeginsEach l e = (t : Stream) (rest : List Token) → in_order t ≡ true → tokens t ≡ l ++ rest → Begins e (events t)
 
 -- e is the longest list that does
-pub record IsSettled (l : List Token) (e : List Event) : Type 0 where
+pub record Determines (l : List Token) (e : List Event) : Type 0 where
   pub begins_each : BeginsEach l e
   pub longest : (d : List Event) → BeginsEach l d → Begins d e
 
@@ -47,16 +47,16 @@ pub record IsOpen (l : List Token) (e : List Event) : Type 0 where
 
 -- The prefix tree of a viable prefix: the partial tree of its tokens that ends at no directive or tag, and of which no
 -- node that is nothing stands at the end.
-abbrev pub IsFrontPlace : Cut → Type 0
-IsFrontPlace (at_directive b ds) = ⊥
-IsFrontPlace (at_tag p) = ⊥
-IsFrontPlace (at_tag_behind p a m) = ⊥
-IsFrontPlace _ = Unit {0}
+abbrev pub IsPrefixPlace : PartialTree → Type 0
+IsPrefixPlace (at_directive b ds) = ⊥
+IsPrefixPlace (at_tag p) = ⊥
+IsPrefixPlace (at_tag_behind p a m) = ⊥
+IsPrefixPlace _ = Unit {0}
 
-pub record IsFront (l : List Token) (c : Cut) : Type 0 where
-  pub tokens : cut_tokens c [] ≡ l
-  pub order : cut_in_order c true ≡ true
-  pub place : IsFrontPlace c
+pub record IsPrefixTree (l : List Token) (c : PartialTree) : Type 0 where
+  pub tokens : partial_tokens c [] ≡ l
+  pub order : partial_in_order c true ≡ true
+  pub place : IsPrefixPlace c
   pub full : last_empty c ≡ None
 
 -- What the prefix tree determines is all that it shows, except what depends on the tokens after it: its mark, and
@@ -109,7 +109,7 @@ sure_place (block (root (implicit_root f))) = free_events f []
 sure_place p = shown_place p zero_mark []
 
 -- the events that a prefix tree determines
-abbrev pub sure : Cut → List Event
+abbrev pub sure : PartialTree → List Event
 sure (document_due d) = sure_documents d
 sure (start_due b ds d) = before_events b (first_directive ds (directive_start d)) []
 sure (content_due p) = sure_place p

@@ -1,12 +1,12 @@
 -- The events of a partial tree (docs/DEFINITIONS.md, "Partial trees"): those of its whole parts and the start events of its
 -- open ones. m is the start of the next token, and r are the events after it.
 use Rattle.std.specs.Prelude.{List, [], ◌∷◌, true, false}
-use Rattle.libyaml_grammar.specs.sentences.Tokens.{Mark, Token}
-use Rattle.libyaml_grammar.specs.sentences.Trees.{Sort, directive, mapping, no_directives, sequence}
-use Rattle.libyaml_grammar.specs.sentences.Events.{Event, before_events, before_part, block_layout, document_end_at, document_start_at, documents_events, first_directive, first_block_entry, first_of, flow_items_events, flow_layout, flow_member_events, flow_slot_events, free_events, items_events}
-use Rattle.libyaml_grammar.specs.sentences.Events.{member_end, missing_value, opens_pair, parts_events, start_of}
-use Rattle.libyaml_grammar.specs.cuts.CutTrees.{BlockPlace, Cut, Open, PartPlace, Place, Root, at_directive, at_tag, at_tag_behind, before_stream, block, content_due, declared, declared_block, declared_open, declared_part, document_due, entry, entry_due, explicit_root, flow_entry, flow_key}
-use Rattle.libyaml_grammar.specs.cuts.CutTrees.{flow_value, implicit_root, indentless_entry, open_collection, part_due, part_place, root, separator_due, slot, start_due}
+use Rattle.libyaml_grammar.specs.grammar.Tokens.{Mark, Token}
+use Rattle.libyaml_grammar.specs.grammar.Trees.{Sort, directive, mapping, no_directives, sequence}
+use Rattle.libyaml_grammar.specs.grammar.Events.{Event, before_events, before_part, block_layout, document_end_at, document_start_at, documents_events, first_directive, first_block_entry, first_of, flow_items_events, flow_layout, flow_member_events, flow_slot_events, free_events, items_events}
+use Rattle.libyaml_grammar.specs.grammar.Events.{member_end, missing_value, opens_pair, parts_events, start_of}
+use Rattle.libyaml_grammar.specs.partial.PartialTrees.{BlockPlace, PartialTree, Open, PartPlace, Place, Root, at_directive, at_tag, at_tag_behind, before_stream, block, content_due, declared, declared_block, declared_open, declared_part, document_due, entry, entry_due, explicit_root, flow_entry}
+use Rattle.libyaml_grammar.specs.partial.PartialTrees.{flow_key, flow_value, implicit_root, indentless_entry, open_collection, part_due, part_place, root, separator_due, slot, start_due}
 
 abbrev pub sort_of : Open → Sort
 sort_of (open_collection p o k m is) = k
@@ -46,24 +46,24 @@ abbrev mutual
       = shown_place p (first_of o s.start) (start_of (declared p) k flow_layout o s ∷ flow_items_events (declared p) k is r)
 
 -- the events of a partial tree before a bad token at m; an ANCHOR before a bad TAG gives none
-abbrev pub shown_cut : Cut → Mark → List Event → List Event
-shown_cut before_stream m r = r
-shown_cut (document_due d) m r = documents_events d m (document_end_at true m m ∷ r)
-shown_cut (start_due b ds d) m r = before_events b (first_directive (directive ds d) m) r
-shown_cut (at_directive b ds) m r = before_events b (first_directive ds m) r
-shown_cut (content_due p) m r = shown_place p m r
-shown_cut (at_tag p) m r = shown_place p m r
-shown_cut (at_tag_behind p a x) m r = shown_place p x.start r
-shown_cut (entry_due c o s is) m r
+abbrev pub shown_partial : PartialTree → Mark → List Event → List Event
+shown_partial before_stream m r = r
+shown_partial (document_due d) m r = documents_events d m (document_end_at true m m ∷ r)
+shown_partial (start_due b ds d) m r = before_events b (first_directive (directive ds d) m) r
+shown_partial (at_directive b ds) m r = before_events b (first_directive ds m) r
+shown_partial (content_due p) m r = shown_place p m r
+shown_partial (at_tag p) m r = shown_place p m r
+shown_partial (at_tag_behind p a x) m r = shown_place p x.start r
+shown_partial (entry_due c o s is) m r
     = shown_block c (first_of o s.start)
     (start_of (declared_block c) sequence block_layout o s ∷ items_events (declared_block c) is r)
-shown_cut (part_due c o s ps) m r
+shown_partial (part_due c o s ps) m r
     = shown_block c (first_of o s.start)
     (start_of (declared_block c) mapping block_layout o s ∷ parts_events (declared_block c) ps m
     (missing_value ps m r))
-shown_cut (separator_due c e) m r =
+shown_partial (separator_due c e) m r =
     shown_open c (flow_member_events (declared_open c) (sort_of c) e m (member_end (sort_of c) e m r))
 
 -- the events of a partial tree with its bad token after it
-abbrev pub cut_events : Cut → Token → List Event
-cut_events c b = shown_cut c b.start_mark []
+abbrev pub partial_events : PartialTree → Token → List Event
+partial_events c b = shown_partial c b.start_mark []

@@ -2,10 +2,10 @@
 -- is expected at its place, the closing tokens of what is open from the inside out, and the stream's end.
 use Rattle.std.specs.Prelude.{List, [], ◌∷◌}
 use Rattle.libyaml_types.specs.declared.enums.yaml_encoding_t.TheVariants.{YAML_ANY_ENCODING}
-use Rattle.libyaml_grammar.specs.sentences.Tokens.{BlockEnd, DocumentStart, Marks, Scalar, StreamEnd, StreamHead, StreamStart, Token, empty_plain, tok}
-use Rattle.libyaml_grammar.specs.sentences.Trees.{Directives, closing, directive, no_directives}
-use Rattle.libyaml_grammar.specs.cuts.CutTrees.{BlockPlace, Cut, Open, Place, at_directive, at_tag, at_tag_behind, before_stream, block, content_due, document_due, entry, entry_due, flow_entry, flow_key, flow_value, indentless_entry, open_collection, part_due, part_place, root, separator_due, slot}
-use Rattle.libyaml_grammar.specs.cuts.CutTrees.{start_due}
+use Rattle.libyaml_grammar.specs.grammar.Tokens.{BlockEnd, DocumentStart, Marks, Scalar, StreamEnd, StreamHead, StreamStart, Token, empty_plain, tok}
+use Rattle.libyaml_grammar.specs.grammar.Trees.{Directives, closing, directive, no_directives}
+use Rattle.libyaml_grammar.specs.partial.PartialTrees.{BlockPlace, PartialTree, Open, Place, at_directive, at_tag, at_tag_behind, before_stream, block, content_due, document_due, entry, entry_due, flow_entry, flow_key, flow_value, indentless_entry, open_collection, part_due, part_place, root}
+use Rattle.libyaml_grammar.specs.partial.PartialTrees.{separator_due, slot, start_due}
 
 abbrev pub rest_block_place : Marks → BlockPlace → List Token
 rest_block_place m (root t) = tok StreamEnd m ∷ []
@@ -30,7 +30,7 @@ rest_open m (open_collection p o k s is) = tok (closing k) m ∷ rest_place m p
 abbrev pub any_encoding : StreamHead
 any_encoding = record { encoding = YAML_ANY_ENCODING }
 
-abbrev pub rest : Marks → Cut → List Token
+abbrev pub rest : Marks → PartialTree → List Token
 rest m before_stream = tok (StreamStart any_encoding) m ∷ tok StreamEnd m ∷ []
 rest m (document_due d) = tok StreamEnd m ∷ []
 rest m (start_due b ds d) = tok DocumentStart m ∷ tok StreamEnd m ∷ []

@@ -1,50 +1,50 @@
 -- Where a partial tree fits, reading stops at its bad token with that partial tree; so one partial tree fits.
 use Rattle.std.proofs.Common.{◌≡◌, List, [], ◌∷◌, ◌++◌, Some, None, refl, sym, ap, ◌∙◌, subst, inl, inr, Bool, true, false}
-use Rattle.libyaml_grammar.specs.sentences.Tokens.{AnchorName, Content, HandleDeclared, Marks, Tag, TagDirective, TagName, Token, VersionAsked, VersionDirective, marks_of, tok}
-use Rattle.libyaml_grammar.specs.sentences.Trees.{Before, BlockNode, Directives, Documents, FlowNode, Properties, alone, anchor, anchor_tag, behind, directive, empty, explicit, flow, flow_node, flow_node_tokens, flow_nothing, free, implicit, indentless, item, no_directives, no_parts, no_value, node}
-use Rattle.libyaml_grammar.specs.sentences.Trees.{nothing, pair, part, sequence, single, slot_of, tag, tag_directive, version, with_value}
-use Rattle.libyaml_grammar.specs.sentences.Order.{flow_node_in_order, is_known}
-use Rattle.libyaml_grammar.specs.sentences.Events.{Event}
-use Rattle.libyaml_grammar.specs.cuts.CutTrees.{BlockPlace, Cut, Place, at_directive, at_tag, at_tag_behind, before_stream, block, content_due, cut_in_order, cut_tokens, declared, declared_open, document_due, entry, entry_due, explicit_root, flow_entry, flow_key, flow_value, implicit_root}
-use Rattle.libyaml_grammar.specs.cuts.CutTrees.{indentless_entry, open_collection, part_due, part_place, place_in_order, place_tokens, root, separator_due, slot, start_due}
-use Rattle.libyaml_grammar.specs.cuts.Fits.{EndsEmpty, Fits, FitsDirective, FitsTag, IsUnknown, IsUnknownTag, WantsContent, ends_empty, is_directive, last_empty}
+use Rattle.libyaml_grammar.specs.grammar.Tokens.{AnchorName, Content, HandleDeclared, Marks, Tag, TagDirective, TagName, Token, VersionAsked, VersionDirective, marks_of, tok}
+use Rattle.libyaml_grammar.specs.grammar.Trees.{Before, BlockNode, Directives, Documents, FlowNode, Properties, alone, anchor, anchor_tag, behind, directive, empty, explicit, flow, flow_node, flow_node_tokens, flow_nothing, free, implicit, indentless, item, no_directives, no_parts, no_value, node}
+use Rattle.libyaml_grammar.specs.grammar.Trees.{nothing, pair, part, sequence, single, slot_of, tag, tag_directive, version, with_value}
+use Rattle.libyaml_grammar.specs.grammar.Order.{flow_node_in_order, is_known}
+use Rattle.libyaml_grammar.specs.grammar.Events.{Event}
+use Rattle.libyaml_grammar.specs.partial.PartialTrees.{BlockPlace, PartialTree, Place, at_directive, at_tag, at_tag_behind, before_stream, block, content_due, partial_in_order, partial_tokens, declared, declared_open, document_due, entry, entry_due, explicit_root, flow_entry, flow_key, flow_value}
+use Rattle.libyaml_grammar.specs.partial.PartialTrees.{implicit_root, indentless_entry, open_collection, part_due, part_place, place_in_order, place_tokens, root, separator_due, slot, start_due}
+use Rattle.libyaml_grammar.specs.partial.Fits.{EndsEmpty, Fits, FitsDirective, FitsTag, IsUnknown, IsUnknownTag, WantsContent, ends_empty, is_directive, last_empty}
 use Rattle.libyaml_grammar.proofs.lent.Positions.{Position, between, due, flow_due, headed, in_mapping, in_sequence, unopened}
 use Rattle.libyaml_grammar.proofs.lent.Reading.{Step, bad, bad_same, broken, checked, feed, feeds, fill, fill_flow, goes, goes_same, is_legal, keeps_order, on_due, over, reads, reads_all, then_all}
 use Rattle.libyaml_grammar.proofs.lent.Completion.{reached_begins, reads_append}
 use Rattle.libyaml_grammar.proofs.lent.Orders.{feeds_order, reads_from}
 use Rattle.libyaml_grammar.proofs.lent.ReadSteps.{IsNotDone, Moves, ReadStep, a_tag, begins_entry, begins_root, fails, filled, filled_block, first_handle, first_version, front, is_alone, is_past, leaves, moved_open, moves, next_handle, next_version, no_content, no_stream, not_past, read_step}
 use Rattle.libyaml_grammar.proofs.lent.ReadSteps.{tag_behind_anchor}
-use Rattle.libyaml_grammar.proofs.trees.Edge.{cut_reads, edge_documents, reached}
+use Rattle.libyaml_grammar.proofs.trees.Edge.{partial_reads, edge_documents, reached}
 use Rattle.libyaml_grammar.proofs.trees.Complete.{directive_feed, edge_block, edge_flow, heads, home}
 use Rattle.libyaml_grammar.proofs.trees.Append.{edge_told}
 
 -- a step that does not go on stops at this cut
-abbrev pub Stops : Step → Cut → Type 0
+abbrev pub Stops : Step → PartialTree → Type 0
 Stops s c = ((q : Position) → s ≡ goes q → ⊥) → s ≡ bad c
 
 pub stops_order : (q : Position) (b : Bool) → Stops (checked (goes q) b) (broken q)
 stops_order q true n = absurd (n q refl)
 stops_order q false n = refl
 
-stops_known : (q : Position) (c : Cut) (b : Bool) → (b ≡ false → ⊥) → Stops (checked (goes q) b) c
+stops_known : (q : Position) (c : PartialTree) (b : Bool) → (b ≡ false → ⊥) → Stops (checked (goes q) b) c
 stops_known q c true u n = absurd (n q refl)
 stops_known q c false u n = absurd (u refl)
 
 -- the cut at which a token is bad is that of its position
-node_cut : (p : Place) (x : FlowNode) → front (fill_flow p x) ≡ filled p x
-node_cut (block (root (implicit_root f))) x = refl
-node_cut (block (slot (part_place c o s ps t v))) x = refl
-node_cut _ x = refl
+node_partial : (p : Place) (x : FlowNode) → front (fill_flow p x) ≡ filled p x
+node_partial (block (root (implicit_root f))) x = refl
+node_partial (block (slot (part_place c o s ps t v))) x = refl
+node_partial _ x = refl
 
-moved_cut : {m : Marks} {q p : Position} {h : List Event → List Event} → Moves m q p h → front p ≡ front q
-moved_cut (is_alone p ps) = node_cut p (alone ps)
-moved_cut _ = refl
+moved_partial : {m : Marks} {q p : Position} {h : List Event → List Event} → Moves m q p h → front p ≡ front q
+moved_partial (is_alone p ps) = node_partial p (alone ps)
+moved_partial _ = refl
 
-pub step_cut : {m : Marks} {q : Position} {k : Content} {s : Step} {g : List Event → List Event} {l : Bool}
-    → ReadStep m q k s g l → (c : Cut) → s ≡ bad c → c ≡ front q
-step_cut (moves x h) c e = step_cut h c e ∙ moved_cut x
-step_cut (fails no_stream) c e = cc
-step_cut _ c e = cc
+pub step_partial : {m : Marks} {q : Position} {k : Content} {s : Step} {g : List Event → List Event} {l : Bool}
+    → ReadStep m q k s g l → (c : PartialTree) → s ≡ bad c → c ≡ front q
+step_partial (moves x h) c e = step_partial h c e ∙ moved_partial x
+step_partial (fails no_stream) c e = cc
+step_partial _ c e = cc
 
 -- content is expected where the token does not leave the node nothing
 pub content_fails : {m : Marks} {q : Position} {k : Content} {s : Step} {g : List Event → List Event} {l : Bool}
@@ -81,10 +81,10 @@ step_stops : {m : Marks} {q : Position} {k : Content} {s : Step} {g : List Event
     → ReadStep m q k s g l → IsNotDone q → FitsDirective (front q) k → WantsContent (front q) k → NoTag q k
     → Stops (checked s l) (front q)
 step_stops is_past w d c u n = absurd w
-step_stops {k = k} {s = s} {l = l} (moves x h) w d c u n = subst (Stops (checked s l)) (moved_cut x)
+step_stops {k = k} {s = s} {l = l} (moves x h) w d c u n = subst (Stops (checked s l)) (moved_partial x)
     (step_stops h (moved_open x)
-    (subst (λ (y : Cut). FitsDirective y k) (sym (moved_cut x)) d)
-    (subst (λ (y : Cut). WantsContent y k) (sym (moved_cut x)) c) (moved_no_tag k x u)) n
+    (subst (λ (y : PartialTree). FitsDirective y k) (sym (moved_partial x)) d)
+    (subst (λ (y : PartialTree). WantsContent y k) (sym (moved_partial x)) c) (moved_no_tag k x u)) n
 step_stops (leaves p e h) w d c u n = cc
 step_stops (fails no_stream) w d c u n = refl
 step_stops (fails _) w d c u n = refl
@@ -150,13 +150,13 @@ end_legal p (VersionDirective a) es e d = let f = (not_end p).1 a d in cc
 end_legal p (TagDirective h) es e d = let f = (not_end p).2 h d in cc
 end_legal p _ es e d = refl
 
-stops_nothing : (p : Place) (x : Cut) (k : Content) (m : Marks) → ends_empty p k ≡ true → EndsRoot p k
+stops_nothing : (p : Place) (x : PartialTree) (k : Content) (m : Marks) → ends_empty p k ≡ true → EndsRoot p k
     → Stops (reads (due p None) (tok k m)) x
 stops_nothing p x k m e d = go (on_due p None k m) (keeps_order no_directives (declared p) k)
-    (λ c f. content_fails (read_step m (due p None) k) p (f ∙ ap bad (step_cut (read_step m (due p None) k) c f)))
+    (λ c f. content_fails (read_step m (due p None) k) p (f ∙ ap bad (step_partial (read_step m (due p None) k) c f)))
     (not_past (read_step m (due p None) k) tt) (end_legal p k (declared p) e d)
   where
-    go : (s : Step) (l : Bool) → ((c : Cut) → s ≡ bad c → ends_empty p k ≡ false) → (s ≡ over → ⊥) → l ≡ true
+    go : (s : Step) (l : Bool) → ((c : PartialTree) → s ≡ bad c → ends_empty p k ≡ false) → (s ≡ over → ⊥) → l ≡ true
         → Stops (checked s l) x
     go (goes q) true a b f n = absurd (n q refl)
     go (goes q) false a b f n = cc
@@ -164,17 +164,17 @@ stops_nothing p x k m e d = go (on_due p None k m) (keeps_order no_directives (d
     go over l a b f n = absurd (b refl)
 
 filled_told : (p : Place) (x : FlowNode) → ((r : List Token)
-    → cut_tokens (filled p x) r ≡ place_tokens p (flow_node_tokens x r))
-    × ((r : Bool) → cut_in_order (filled p x) r ≡ place_in_order p (flow_node_in_order (declared p) x r))
+    → partial_tokens (filled p x) r ≡ place_tokens p (flow_node_tokens x r))
+    × ((r : Bool) → partial_in_order (filled p x) r ≡ place_in_order p (flow_node_in_order (declared p) x r))
 filled_told (block (root (implicit_root f))) x = (λ r. refl, λ r. refl)
 filled_told (block (slot (part_place c o s ps t v))) x = (λ r. refl, λ r. refl)
 filled_told (block (indentless_entry (part_place c o s ps t v) y is e)) x = (λ r. refl, λ r. refl)
 filled_told _ x = (λ r. refl, λ r. refl)
 
 -- what the conditions say of a cut after a whole node
-record Given (l : List Token) (c : Cut) (k : Content) : Type 0 where
-  same : cut_tokens c [] ≡ l
-  good : cut_in_order c true ≡ true
+record Given (l : List Token) (c : PartialTree) (k : Content) : Type 0 where
+  same : partial_tokens c [] ≡ l
+  good : partial_in_order c true ≡ true
   way : FitsDirective c k
   none : IsUnknownTag l k → ⊥
 
@@ -248,66 +248,66 @@ pub stops_at_tag_behind : (p : Place) (a : AnchorName) (x : Marks) (k : Content)
 stops_at_tag_behind p a x (Tag h) m u = broken_by (due p (Some (anchor_tag a x h m))) (is_known (declared p) h.handle) u
 stops_at_tag_behind p a x _ m u = absurd u
 
-abbrev Stopping : List Token → Cut → Content → Marks → Type 0
-Stopping l c k m = cut_tokens c [] ≡ l → cut_in_order c true ≡ true → EndsEmpty (last_empty c) k → WantsContent c k
+abbrev Stopping : List Token → PartialTree → Content → Marks → Type 0
+Stopping l c k m = partial_tokens c [] ≡ l → partial_in_order c true ≡ true → EndsEmpty (last_empty c) k → WantsContent c k
     → FitsDirective c k → FitsTag l c k
     → Stops (reads (reached c) (tok k m)) c
 
-cut_stops : (l : List Token) (c : Cut) (k : Content) (m : Marks) → Stopping l c k m
-cut_stops l before_stream k m t o r w d u n = step_stops (read_step m unopened k) tt tt tt tt n
-cut_stops l (document_due (implicit f x)) k m t o r w d u n
+partial_stops : (l : List Token) (c : PartialTree) (k : Content) (m : Marks) → Stopping l c k m
+partial_stops l before_stream k m t o r w d u n = step_stops (read_step m unopened k) tt tt tt tt n
+partial_stops l (document_due (implicit f x)) k m t o r w d u n
     = stops_edge_block (root (implicit_root f)) x k m l (record { same = t; good = o; way = d; none = u }) n
-cut_stops l (document_due (explicit b ds s nothing)) k m t o r w d u n =
+partial_stops l (document_due (explicit b ds s nothing)) k m t o r w d u n =
     stops_nothing (block (root (explicit_root b ds s))) _ k m r d n
-cut_stops l (document_due (explicit b ds s (node x))) k m t o r w d u n
+partial_stops l (document_due (explicit b ds s (node x))) k m t o r w d u n
     = stops_edge_block (root (explicit_root b ds s)) x k m l (record { same = t; good = o; way = d; none = u }) n
-cut_stops l (start_due b ds x) k m t o r w d u n = step_stops (read_step m (headed b ds x) k) tt d tt tt n
-cut_stops l (at_directive (free f) no_directives) k m t o r w d u n = stops_heads (free f) no_directives k m d n
-cut_stops l (at_directive (behind x) no_directives) k m t o r w d u n
+partial_stops l (start_due b ds x) k m t o r w d u n = step_stops (read_step m (headed b ds x) k) tt d tt tt n
+partial_stops l (at_directive (free f) no_directives) k m t o r w d u n = stops_heads (free f) no_directives k m d n
+partial_stops l (at_directive (behind x) no_directives) k m t o r w d u n
     = rw (← (directive_behind x k m d)) at (stops_heads (behind x) no_directives k m d) n
-cut_stops l (at_directive b (directive ds x)) k m t o r w d u n = stops_heads b (directive ds x) k m d n
-cut_stops l (content_due p) k m t o r w d u n =
+partial_stops l (at_directive b (directive ds x)) k m t o r w d u n = stops_heads b (directive ds x) k m d n
+partial_stops l (content_due p) k m t o r w d u n =
     stops_content p k m (w, d, λ e. u (record { place = p; begins = (o, inl t); unknown = e })) n
-cut_stops l (at_tag p) k m t o r w d u n = stops_at_tag p k m u
-cut_stops l (at_tag_behind p a x) k m t o r w d u n = stops_at_tag_behind p a x k m u
-cut_stops l (entry_due c y s empty) k m t o r w d u n = step_stops (read_step m (in_sequence c y s empty) k) tt tt tt tt n
-cut_stops l (entry_due c y s (item is e nothing)) k m t o r w d u n = stops_nothing (block (entry c y s is e)) _ k m r tt n
-cut_stops l (entry_due c y s (item is e (node x))) k m t o r w d u n
+partial_stops l (at_tag p) k m t o r w d u n = stops_at_tag p k m u
+partial_stops l (at_tag_behind p a x) k m t o r w d u n = stops_at_tag_behind p a x k m u
+partial_stops l (entry_due c y s empty) k m t o r w d u n = step_stops (read_step m (in_sequence c y s empty) k) tt tt tt tt n
+partial_stops l (entry_due c y s (item is e nothing)) k m t o r w d u n = stops_nothing (block (entry c y s is e)) _ k m r tt n
+partial_stops l (entry_due c y s (item is e (node x))) k m t o r w d u n
     = stops_edge_block (entry c y s is e) x k m l (record { same = t; good = o; way = d; none = u }) n
-cut_stops l (part_due c y s no_parts) k m t o r w d u n = step_stops (read_step m (in_mapping c y s no_parts) k) tt
+partial_stops l (part_due c y s no_parts) k m t o r w d u n = step_stops (read_step m (in_mapping c y s no_parts) k) tt
     tt tt tt n
-cut_stops l (part_due c y s (part ps i v (slot_of nothing))) k m t o r w d u n =
+partial_stops l (part_due c y s (part ps i v (slot_of nothing))) k m t o r w d u n =
     stops_nothing (block (slot (part_place c y s ps i v))) _ k m r tt n
-cut_stops l (part_due c y s (part ps i v (slot_of (node x)))) k m t o r w d u n
+partial_stops l (part_due c y s (part ps i v (slot_of (node x)))) k m t o r w d u n
     = stops_edge_block (slot (part_place c y s ps i v)) x k m l (record { same = t; good = o; way = d; none = u }) n
-cut_stops l (part_due c y s (part ps i v (indentless z is e nothing))) k m t o r w d u n
+partial_stops l (part_due c y s (part ps i v (indentless z is e nothing))) k m t o r w d u n
     = stops_nothing (block (indentless_entry (part_place c y s ps i v) z is e)) _ k m r tt n
-cut_stops l (part_due c y s (part ps i v (indentless z is e (node x)))) k m t o r w d u n
+partial_stops l (part_due c y s (part ps i v (indentless z is e (node x)))) k m t o r w d u n
     = stops_edge_block (indentless_entry (part_place c y s ps i v) z is e) x k m l
     (record { same = t; good = o; way = d; none = u }) n
-cut_stops l (separator_due c (single x)) k m t o r w d u n = stops_edge_flow (flow_entry c) x k m l
+partial_stops l (separator_due c (single x)) k m t o r w d u n = stops_edge_flow (flow_entry c) x k m l
     (record { same = t; good = o; way = d; none = u }) n
-cut_stops l (separator_due c (pair e flow_nothing no_value)) k m t o r w d u n = stops_nothing (flow_key c e) _ k m r tt n
-cut_stops l (separator_due c (pair e (flow_node x) no_value)) k m t o r w d u n
+partial_stops l (separator_due c (pair e flow_nothing no_value)) k m t o r w d u n = stops_nothing (flow_key c e) _ k m r tt n
+partial_stops l (separator_due c (pair e (flow_node x) no_value)) k m t o r w d u n
     = stops_edge_flow (flow_key c e) x k m l (record { same = t; good = o; way = d; none = u }) n
-cut_stops l (separator_due c (pair e y (with_value v flow_nothing))) k m t o r w d u n =
+partial_stops l (separator_due c (pair e y (with_value v flow_nothing))) k m t o r w d u n =
     stops_nothing (flow_value c e y v) _ k m r tt n
-cut_stops l (separator_due c (pair e y (with_value v (flow_node x)))) k m t o r w d u n
+partial_stops l (separator_due c (pair e y (with_value v (flow_node x)))) k m t o r w d u n
     = stops_edge_flow (flow_value c e y v) x k m l (record { same = t; good = o; way = d; none = u }) n
 
 -- a partial tree that fits is where the reading stops
-pub fits_reach : (l : List Token) (b : Token) (c : Cut) → Fits l b c → reads_all l unopened ≡ goes (reached c)
+pub fits_reach : (l : List Token) (b : Token) (c : PartialTree) → Fits l b c → reads_all l unopened ≡ goes (reached c)
 fits_reach l b c f =
-    let e : feeds l unopened ≡ goes (reached c) = rw f.tokens at (cut_reads c []) in
+    let e : feeds l unopened ≡ goes (reached c) = rw f.tokens at (partial_reads c []) in
     reads_from l unopened (reached c) e (sym (feeds_order l unopened (reached c) e true) ∙ ((edge_told c).1 true
     ∙ f.order))
 
-pub fits_stop : (l : List Token) (b : Token) (c : Cut) → Fits l b c → reads (reached c) b ≡ bad c
-fits_stop l b c f = cut_stops l c b.content (marks_of b) f.tokens f.order f.empty_end f.wants_content f.directive f.tag
+pub fits_stop : (l : List Token) (b : Token) (c : PartialTree) → Fits l b c → reads (reached c) b ≡ bad c
+fits_stop l b c f = partial_stops l c b.content (marks_of b) f.tokens f.order f.empty_end f.wants_content f.directive f.tag
     (λ q e. f.bad_token (reached_begins (l ++ b ∷ []) q (reads_append l (b ∷ []) unopened
     ∙ (ap (λ (s : Step). then_all s (reads_all (b ∷ []))) (fits_reach l b c f) ∙ ap (λ (s : Step). then_all s goes) e))))
 
-pub one_cut_proof : (l : List Token) (b : Token) (c d : Cut) → Fits l b c → Fits l b d → c ≡ d
-one_cut_proof l b c d f g =
+pub one_partial_proof : (l : List Token) (b : Token) (c d : PartialTree) → Fits l b c → Fits l b d → c ≡ d
+one_partial_proof l b c d f g =
     let e = goes_same (reached c) (reached d) (sym (fits_reach l b c f) ∙ fits_reach l b d g) in
     bad_same c d (sym (fits_stop l b c f) ∙ (ap (λ (q : Position). reads q b) e ∙ fits_stop l b d g))

@@ -3,7 +3,7 @@ use Rattle.std.proofs.Common.{◌≡◌, ◌⊎◌, ◌++◌, ◌∷◌, ℕ, Li
 use Rattle.libyaml_documents.specs.Documents.{Document}
 use Rattle.libyaml_types.specs.Fault.{memory_fault, Fault}
 use Rattle.libyaml_grammar.specs.runs.Runs.{Ending}
-use Rattle.libyaml_grammar.specs.sentences.Events.{Event}
+use Rattle.libyaml_grammar.specs.grammar.Events.{Event}
 use Rattle.libyaml_graphs.specs.loads.Bounds.{NoneLacksMemory, bounded_loads, first_stop, if_above, if_wrong, list_sizes, one_above}
 use Rattle.libyaml_graphs.specs.graphs.ComposerFaults.{composer_fault, or_else, composer_part_fault}
 use Rattle.libyaml_graphs.specs.graphs.Graphs.{Start}
@@ -12,11 +12,11 @@ use Rattle.libyaml_graphs.specs.graphs.GraphParts.{Closing, Part, behind, graph,
 use Rattle.libyaml_graphs.proofs.loads.Room.{bound_exact}
 
 -- The loads within the bound are the loads; or they are the first of them, which are these documents, and out of memory.
-pub data IsFront (within all : List Load) : Type 0 where
-  same : within ≡ all → IsFront within all
+pub data IsPrefixTree (within all : List Load) : Type 0 where
+  same : within ≡ all → IsPrefixTree within all
   met : (documents : List Document) (rest : List Load)
       → ◌≡◌ {A = List Load} within (map Ok documents ++ Err memory_fault ∷ [])
-      → ◌≡◌ {A = List Load} all (map Ok documents ++ rest) → IsFront within all
+      → ◌≡◌ {A = List Load} all (map Ok documents ++ rest) → IsPrefixTree within all
 
 some_is : (f g : Fault) → ◌≡◌ {A = Option Fault} (Some g) (Some f) → f ≡ g
 some_is f g h = cc
@@ -39,17 +39,17 @@ stops (p ∷ P) es F n f e =
     (first_stop n (behind p es) (F ++ p ∷ []) P)
     (composer_fault (behind p es) P) f (stops P (behind p es) (F ++ p ∷ []) n f) e
 
-one_more : (d : Document) (b l : List Load) → IsFront b l → IsFront (Ok d ∷ b) (Ok d ∷ l)
+one_more : (d : Document) (b l : List Load) → IsPrefixTree b l → IsPrefixTree (Ok d ∷ b) (Ok d ∷ l)
 one_more d b l (same e) = same (ap (λ (m : List Load). Ok d ∷ m) e)
 one_more d b l (met ds rest i j) = met (d ∷ ds) rest (ap (λ (m : List Load). Ok d ∷ m) i)
     (ap (λ (m : List Load). Ok d ∷ m) j)
 
 -- of a document
-text_front : (n : ℕ) (b : Begun) (x : Ending) (c : Option Closing) (g : Option Fault)
-    → first_stop n [] [] (parts b.rest) ≡ g → (l m : List Load) → IsFront l m
-    → IsFront (load_then g c b.opening (graph [] (parts b.rest)) (last_load x) l)
+text_prefix : (n : ℕ) (b : Begun) (x : Ending) (c : Option Closing) (g : Option Fault)
+    → first_stop n [] [] (parts b.rest) ≡ g → (l m : List Load) → IsPrefixTree l m
+    → IsPrefixTree (load_then g c b.opening (graph [] (parts b.rest)) (last_load x) l)
     (load_then (composer_fault [] (parts b.rest)) c b.opening (graph [] (parts b.rest)) (last_load x) m)
-text_front n b x c (Some f) e l m later = go (stops (parts b.rest) [] [] n f e)
+text_prefix n b x c (Some f) e l m later = go (stops (parts b.rest) [] [] n f e)
   where
     all : Option Fault → List Load
     all g = load_then g c b.opening (graph [] (parts b.rest)) (last_load x) m
@@ -58,36 +58,36 @@ text_front n b x c (Some f) e l m later = go (stops (parts b.rest) [] [] n f e)
     only g = Err g ∷ []
 
     go : (f ≡ memory_fault) ⊎ (composer_fault [] (parts b.rest) ≡ Some f)
-        → IsFront (Err f ∷ []) (all (composer_fault [] (parts b.rest)))
+        → IsPrefixTree (Err f ∷ []) (all (composer_fault [] (parts b.rest)))
     go (inl h) = met [] (all (composer_fault [] (parts b.rest))) (ap only h) refl
     go (inr h) = same (ap all (sym h))
-text_front n b x c None e l m later
-    = subst (λ (g : Option Fault). IsFront (load_then None c b.opening (graph [] (parts b.rest)) (last_load x) l)
+text_prefix n b x c None e l m later
+    = subst (λ (g : Option Fault). IsPrefixTree (load_then None c b.opening (graph [] (parts b.rest)) (last_load x) l)
     (load_then g c b.opening (graph [] (parts b.rest)) (last_load x) m)) (sym ((bound_exact (parts b.rest) n).0 e).0) (go c)
   where
-    go : (d : Option Closing) → IsFront (load_then None d b.opening (graph [] (parts b.rest)) (last_load x) l)
+    go : (d : Option Closing) → IsPrefixTree (load_then None d b.opening (graph [] (parts b.rest)) (last_load x) l)
         (load_then None d b.opening (graph [] (parts b.rest)) (last_load x) m)
     go (Some d) = one_more (document b.opening (graph [] (parts b.rest)) d) l m later
     go None = same refl
 
-front_of : (bs : List Begun) (x : Ending) (n : ℕ)
-    → IsFront (loads_by (first_stop n [] []) x bs) (loads_by (composer_fault []) x bs)
-front_of [] x n = same refl
-front_of (b ∷ bs) x n = text_front n b x (end_of_document b.rest) (first_stop n [] [] (parts b.rest)) refl _ _
-    (front_of bs x n)
+prefix_of : (bs : List Begun) (x : Ending) (n : ℕ)
+    → IsPrefixTree (loads_by (first_stop n [] []) x bs) (loads_by (composer_fault []) x bs)
+prefix_of [] x n = same refl
+prefix_of (b ∷ bs) x n = text_prefix n b x (end_of_document b.rest) (first_stop n [] [] (parts b.rest)) refl _ _
+    (prefix_of bs x n)
 
-pub front_of_loads : (r : List Event) (x : Ending) (n : ℕ) → IsFront (bounded_loads n r x) (loads r x)
-front_of_loads r x n = front_of (begun r) x n
+pub prefix_of_loads : (r : List Event) (x : Ending) (n : ℕ) → IsPrefixTree (bounded_loads n r x) (loads r x)
+prefix_of_loads r x n = prefix_of (begun r) x n
 
 -- so where no load within the bound is out of memory, the bound was not met
 lacks_memory : (ds : List Document) → NoneLacksMemory (map Ok ds ++ Err memory_fault ∷ []) → ⊥
 lacks_memory [] h = h.0 refl
 lacks_memory (d ∷ ds) h = lacks_memory ds h
 
-not_met : (within all : List Load) → IsFront within all → NoneLacksMemory within → within ≡ all
+not_met : (within all : List Load) → IsPrefixTree within all → NoneLacksMemory within → within ≡ all
 not_met within all (same e) h = e
 not_met within all (met ds rest i j) h = absurd (lacks_memory ds (subst NoneLacksMemory i h))
 
 pub unmet_loads : (r : List Event) (x : Ending) (n : ℕ) → NoneLacksMemory (bounded_loads n r x)
     → bounded_loads n r x ≡ loads r x
-unmet_loads r x n = not_met (bounded_loads n r x) (loads r x) (front_of_loads r x n)
+unmet_loads r x n = not_met (bounded_loads n r x) (loads r x) (prefix_of_loads r x n)

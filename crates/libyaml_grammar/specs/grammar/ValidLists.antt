@@ -1,23 +1,23 @@
 -- Valid lists and viable prefixes (docs/DEFINITIONS.md, "Valid lists").
 use Rattle.std.specs.Prelude.{◌≡◌, ◌⊎◌, List, [], ◌∷◌, ◌++◌, Bool, true, false, ◌||◌}
-use Rattle.libyaml_grammar.specs.sentences.Tokens.{Content, StreamEnd, Token}
-use Rattle.libyaml_grammar.specs.sentences.Trees.{Stream, tokens}
-use Rattle.libyaml_grammar.specs.sentences.Order.{in_order}
+use Rattle.libyaml_grammar.specs.grammar.Tokens.{Content, StreamEnd, Token}
+use Rattle.libyaml_grammar.specs.grammar.Trees.{Stream, tokens}
+use Rattle.libyaml_grammar.specs.grammar.Order.{in_order}
 
 -- the tokens of a stream tree whose documents are in order
-pub record IsSentence (l : List Token) : Type 0 where
+pub record IsValidList (l : List Token) : Type 0 where
   pub tree : Stream
   pub all : l ≡ tokens tree
   pub order : in_order tree ≡ true
 
 -- a list that begins a valid list
-pub record IsBeginning (l : List Token) : Type 0 where
+pub record IsViablePrefix (l : List Token) : Type 0 where
   pub rest : List Token
-  pub sentence : IsSentence (l ++ rest)
+  pub valid_list : IsValidList (l ++ rest)
 
 -- b is the first token with which no valid list goes on
 abbrev pub IsBadToken : List Token → Token → Type 0
-IsBadToken l b = IsBeginning l × (IsBeginning (l ++ b ∷ []) → ⊥)
+IsBadToken l b = IsViablePrefix l × (IsViablePrefix (l ++ b ∷ []) → ⊥)
 
 -- the list has a STREAM-END
 abbrev pub is_end : Content → Bool

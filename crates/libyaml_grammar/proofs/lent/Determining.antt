@@ -2,23 +2,23 @@
 use Rattle.std.proofs.Common.{◌≡◌, ◌↔◌, ℕ, List, [], ◌∷◌, ◌++◌, None, true, false, refl, sym, ap, ◌∙◌, subst, append_assoc, arith, append-nil}
 use Rattle.std.proofs.lemmas.Bool.{false_from_ne_true}
 use Rattle.libyaml_types.specs.Events.{zero_mark}
-use Rattle.libyaml_grammar.specs.sentences.Events.{Event, events, first_block, first_flow}
-use Rattle.libyaml_grammar.specs.sentences.Order.{in_order}
-use Rattle.libyaml_grammar.specs.sentences.Sentences.{IsBeginning, has_end}
-use Rattle.libyaml_grammar.specs.sentences.Tokens.{Mark, Marks, Token}
-use Rattle.libyaml_grammar.specs.sentences.Trees.{BlockNode, FlowNode, Stream, alone, explicit, flow, flow_node, flow_nothing, implicit, indentless, item, no_value, node, nothing, pair, part, single, slot_of, tokens, with_value}
-use Rattle.libyaml_grammar.specs.cuts.CutEvents.{shown_block, shown_place}
-use Rattle.libyaml_grammar.specs.cuts.CutTrees.{BlockPlace, Cut, Place, at_directive, at_tag, at_tag_behind, before_stream, block, content_due, declared, declared_block, document_due, entry, entry_due, explicit_root, flow_entry, flow_key, flow_value, implicit_root, indentless_entry, part_due}
-use Rattle.libyaml_grammar.specs.cuts.CutTrees.{part_place, root, separator_due, slot}
-use Rattle.libyaml_grammar.specs.cuts.Fits.{last_empty}
-use Rattle.libyaml_grammar.specs.cuts.Settled.{Begins, BeginsEach, IsFront, IsFrontPlace, IsOpen, IsSettled, next_event, sure, sure_block_node, sure_flow_node}
-use Rattle.libyaml_grammar.specs.cuts.Rest.{rest}
+use Rattle.libyaml_grammar.specs.grammar.Events.{Event, events, first_block, first_flow}
+use Rattle.libyaml_grammar.specs.grammar.Order.{in_order}
+use Rattle.libyaml_grammar.specs.grammar.ValidLists.{IsViablePrefix, has_end}
+use Rattle.libyaml_grammar.specs.grammar.Tokens.{Mark, Marks, Token}
+use Rattle.libyaml_grammar.specs.grammar.Trees.{BlockNode, FlowNode, Stream, alone, explicit, flow, flow_node, flow_nothing, implicit, indentless, item, no_value, node, nothing, pair, part, single, slot_of, tokens, with_value}
+use Rattle.libyaml_grammar.specs.partial.PartialEvents.{shown_block, shown_place}
+use Rattle.libyaml_grammar.specs.partial.PartialTrees.{BlockPlace, PartialTree, Place, at_directive, at_tag, at_tag_behind, before_stream, block, content_due, declared, declared_block, document_due, entry, entry_due, explicit_root, flow_entry, flow_key, flow_value, implicit_root, indentless_entry}
+use Rattle.libyaml_grammar.specs.partial.PartialTrees.{part_due, part_place, root, separator_due, slot}
+use Rattle.libyaml_grammar.specs.partial.Fits.{last_empty}
+use Rattle.libyaml_grammar.specs.partial.DeterminedEvents.{Begins, BeginsEach, IsPrefixTree, IsPrefixPlace, IsOpen, Determines, next_event, sure, sure_block_node, sure_flow_node}
+use Rattle.libyaml_grammar.specs.partial.Rest.{rest}
 use Rattle.libyaml_grammar.proofs.lent.Given.{gives_all}
 use Rattle.libyaml_grammar.proofs.lent.Positions.{Position, done, position_rest, shown, unopened}
 use Rattle.libyaml_grammar.proofs.lent.Reading.{Step, along, feeds, goes, then_all}
 use Rattle.libyaml_grammar.proofs.lent.Completion.{begin_reads, position_begins, reached_begins, read_order}
 use Rattle.libyaml_grammar.proofs.lent.ReadSteps.{IsNotDone, front}
-use Rattle.libyaml_grammar.proofs.lent.Fronts.{front_not_done, front_of, front_reads, not_done_front}
+use Rattle.libyaml_grammar.proofs.lent.PrefixTrees.{prefix_not_done, prefix_of, prefix_reads, not_done_prefix}
 use Rattle.libyaml_grammar.proofs.lent.Keeps.{feeds_keep}
 use Rattle.libyaml_grammar.proofs.lent.Orders.{reads_to}
 use Rattle.libyaml_grammar.proofs.lent.Run.{begin_events, given_shown}
@@ -28,7 +28,7 @@ use Rattle.libyaml_grammar.proofs.lent.StreamEnds.{IsDone, end_is_done, not_end_
 use Rattle.libyaml_grammar.proofs.trees.Complete.{edge_block, edge_flow, stream_reads}
 use Rattle.libyaml_grammar.proofs.trees.Edge.{reached}
 use Rattle.libyaml_grammar.proofs.runs.Prompt.{differ}
-use Rattle.libyaml_grammar.proofs.lent.Same.{head_same, tail_same}
+use Rattle.libyaml_grammar.proofs.lent.Injectivity.{head_same, tail_same}
 
 -- what is sure is what is shown at the right edge
 flow_edge_shows : (p : Place) (n : FlowNode) (m : Mark) → shown (edge_flow p n) m [] ≡ shown_place p (first_flow n)
@@ -41,14 +41,14 @@ block_edge_shows : (c : BlockPlace) (n : BlockNode) (m : Mark)
 block_edge_shows c (flow n) m = flow_edge_shows (block c) n m
 block_edge_shows c n m = block_shows c n m []
 
-abbrev IsShown : Cut → Mark → Type 0
+abbrev IsShown : PartialTree → Mark → Type 0
 IsShown c m = shown (reached c) m [] ≡ sure c
 
 place_shows : (p : Place) (m : Mark) → IsShown (content_due p) m
 place_shows (block (root (implicit_root f))) m = refl
 place_shows _ m = refl
 
-sure_shows : (c : Cut) (m : Mark) → IsFrontPlace c → last_empty c ≡ None → IsShown c m
+sure_shows : (c : PartialTree) (m : Mark) → IsPrefixPlace c → last_empty c ≡ None → IsShown c m
 sure_shows (document_due (implicit f n)) m p e = block_edge_shows (root (implicit_root f)) n m
 sure_shows (document_due (explicit b ds s nothing)) m p e = absurd cc
 sure_shows (document_due (explicit b ds s (node n))) m p e = block_edge_shows (root (explicit_root b ds s)) n m
@@ -71,17 +71,17 @@ sure_shows (separator_due c (pair x y (with_value v (flow_node n)))) m p e = flo
 sure_shows _ m p e = refl
 
 -- what the tokens give stands before all that later tokens give
-pub gives_sure : (l : List Token) (c : Cut) → IsFront l c → (r : List Event) → gives_all l unopened r ≡ sure c ++ r
+pub gives_sure : (l : List Token) (c : PartialTree) → IsPrefixTree l c → (r : List Event) → gives_all l unopened r ≡ sure c ++ r
 gives_sure l c f r =
-    let e = (reads_to l unopened (reached c) (front_reads l c f)).0 in
+    let e = (reads_to l unopened (reached c) (prefix_reads l c f)).0 in
     sym (given_shown l unopened (reached c) e zero_mark r)
     ∙ ((position_splits (reached c) zero_mark).splits r
     ∙ ap (λ (x : List Event). x ++ r) (sure_shows c zero_mark f.place f.full))
 
-begins_each : (l : List Token) (c : Cut) → IsFront l c → BeginsEach l (sure c)
+begins_each : (l : List Token) (c : PartialTree) → IsPrefixTree l c → BeginsEach l (sure c)
 begins_each l c f = λ t rest o e. (
   gives_all rest (reached c) [],
-  begin_events l rest (reached c) t (reads_to l unopened (reached c) (front_reads l c f)).0 (sym e)
+  begin_events l rest (reached c) t (reads_to l unopened (reached c) (prefix_reads l c f)).0 (sym e)
       ∙ gives_sure l c f (gives_all rest (reached c) []),
 )
 
@@ -107,8 +107,8 @@ begin_each_other a b (r, e) (s, f) =
     let h : r ≡ [] = none_before r s (none_behind a (r ++ s) g) in
     sym (e ∙ (ap (λ (x : List Event). a ++ x) h ∙ append-nil a))
 
-pub one_settled_proof : (l : List Token) (d e : List Event) → IsSettled l d → IsSettled l e → d ≡ e
-one_settled_proof l d e s t = begin_each_other d e (t.longest d s.begins_each) (s.longest e t.begins_each)
+pub one_determined_proof : (l : List Token) (d e : List Event) → Determines l d → Determines l e → d ≡ e
+one_determined_proof l d e s t = begin_each_other d e (t.longest d s.begins_each) (s.longest e t.begins_each)
 
 -- two completions of a prefix tree
 abbrev mark_at : ℕ → Mark
@@ -123,9 +123,9 @@ marks_differ e = zero_one (ap (λ (y : Mark). y.index) e)
     zero_one : ◌≡◌ {A = ℕ} 0 1 → ⊥
     zero_one z = omega arith
 
-pub front_open : (l : List Token) (c : Cut) → IsFront l c → IsOpen l (sure c)
-front_open l c f =
-    let e = front_reads l c f in
+pub prefix_open : (l : List Token) (c : PartialTree) → IsPrefixTree l c → IsOpen l (sure c)
+prefix_open l c f =
+    let e = prefix_reads l c f in
     let k = (reads_to l unopened (reached c) e).0 in
     let s = position_begins (marks_at 0) (reached c) (read_order l (reached c) e) in
     let t = position_begins (marks_at 1) (reached c) (read_order l (reached c) e) in
@@ -148,15 +148,15 @@ front_open l c f =
           ∙ gives_sure l c f (gives_all (position_rest (marks_at 0) (reached c)) (reached c) []);
       second_goes_on = begin_events l (position_rest (marks_at 1) (reached c)) (reached c) t.tree k (sym h)
           ∙ gives_sure l c f (gives_all (position_rest (marks_at 1) (reached c)) (reached c) []);
-      differ = differ (marks_at 0) (marks_at 1) marks_differ marks_differ (reached c) (front_not_done l c f);
+      differ = differ (marks_at 0) (marks_at 1) marks_differ marks_differ (reached c) (prefix_not_done l c f);
     }
 
-pub front_settles : (l : List Token) (c : Cut) → IsFront l c → IsSettled l (sure c)
-front_settles l c f = record { begins_each = begins_each l c f; longest = λ d b. longest d b }
+pub prefix_determines : (l : List Token) (c : PartialTree) → IsPrefixTree l c → Determines l (sure c)
+prefix_determines l c f = record { begins_each = begins_each l c f; longest = λ d b. longest d b }
   where
     longest : (d : List Event) → BeginsEach l d → Begins d (sure c)
     longest d b =
-        let o = front_open l c f in
+        let o = prefix_open l c f in
         let (r, g) = b o.first o.first_rest o.first_order o.first_tokens in
         let (s, h) = b o.second o.second_rest o.second_order o.second_tokens in
         in_common d r s (sure c) o.first_events o.second_events (sym o.first_goes_on ∙ g) (sym o.second_goes_on ∙ h)
@@ -175,44 +175,44 @@ only_itself s t rest e = go rest (sym (feeds_append (tokens s) rest unopened (do
     go [] f = cc
     go (x ∷ rest) f = absurd cc
 
-pub sentence_settles : (t : Stream) → in_order t ≡ true → IsSettled (tokens t) (events t)
-sentence_settles t o = record {
+pub valid_list_determines : (t : Stream) → in_order t ≡ true → Determines (tokens t) (events t)
+valid_list_determines t o = record {
   begins_each = λ s rest i e. ([], sym (ap events (only_itself t s rest e)) ∙ sym (append-nil (events t)));
   longest = λ d b. b t [] o (sym (append-nil (tokens t)));
 }
 
 -- each viable prefix without STREAM-END
-pub begin_front : (l : List Token) → IsBeginning l → has_end l ≡ false → (c : Cut) × IsFront l c
-begin_front l b h =
+pub begin_prefix : (l : List Token) → IsViablePrefix l → has_end l ≡ false → (c : PartialTree) × IsPrefixTree l c
+begin_prefix l b h =
     let (q, e) = begin_reads l b in
-    (front q, front_of l q e (not_end_not_done l q e h))
+    (front q, prefix_of l q e (not_end_not_done l q e h))
 
-pub settled_open : (l : List Token) (e : List Event) → IsBeginning l → has_end l ≡ false → IsSettled l e → IsOpen l e
-settled_open l e b h s =
-    let (c, f) = begin_front l b h in
-    subst (IsOpen l) (one_settled_proof l (sure c) e (front_settles l c f) s) (front_open l c f)
+pub determined_open : (l : List Token) (e : List Event) → IsViablePrefix l → has_end l ≡ false → Determines l e → IsOpen l e
+determined_open l e b h s =
+    let (c, f) = begin_prefix l b h in
+    subst (IsOpen l) (one_determined_proof l (sure c) e (prefix_determines l c f) s) (prefix_open l c f)
 
 -- the laws as they stand in contracts
-pub front_begins : (l : List Token) (c : Cut) → IsFront l c → IsBeginning l × (has_end l ≡ false)
-front_begins l c f = (
-  reached_begins l (reached c) (front_reads l c f),
-  false_from_ne_true (has_end l) (λ e. open_still (reached c) (not_done_front l c f)
-      (end_is_done l unopened (reached c) (front_reads l c f) e)),
+pub prefix_begins : (l : List Token) (c : PartialTree) → IsPrefixTree l c → IsViablePrefix l × (has_end l ≡ false)
+prefix_begins l c f = (
+  reached_begins l (reached c) (prefix_reads l c f),
+  false_from_ne_true (has_end l) (λ e. open_still (reached c) (not_done_prefix l c f)
+      (end_is_done l unopened (reached c) (prefix_reads l c f) e)),
 )
   where
     open_still : (q : Position) → IsNotDone q → IsDone q → ⊥
     open_still (done t) n d = n
     open_still _ n d = d
 
-settled_is : (l : List Token) (d e : List Event) → IsSettled l d → IsSettled l e ↔ (e ≡ d)
-settled_is l d e s = (λ t. one_settled_proof l e d t s, λ f. subst (IsSettled l) (sym f) s)
+determined_is : (l : List Token) (d e : List Event) → Determines l d → Determines l e ↔ (e ≡ d)
+determined_is l d e s = (λ t. one_determined_proof l e d t s, λ f. subst (Determines l) (sym f) s)
 
-pub settled_front : (l : List Token) (c : Cut) (e : List Event) → IsFront l c → (IsSettled l e ↔ (e ≡ sure c))
-settled_front l c e f = settled_is l (sure c) e (front_settles l c f)
+pub determined_prefix : (l : List Token) (c : PartialTree) (e : List Event) → IsPrefixTree l c → (Determines l e ↔ (e ≡ sure c))
+determined_prefix l c e f = determined_is l (sure c) e (prefix_determines l c f)
 
-pub settled_sentence : (t : Stream) (e : List Event) → in_order t ≡ true → (IsSettled (tokens t) e ↔ (e ≡ events t))
-settled_sentence t e o = settled_is (tokens t) (events t) e (sentence_settles t o)
+pub determined_valid_list : (t : Stream) (e : List Event) → in_order t ≡ true → (Determines (tokens t) e ↔ (e ≡ events t))
+determined_valid_list t e o = determined_is (tokens t) (events t) e (valid_list_determines t o)
 
-pub settled_nothing : (e : List Event) → IsSettled [] e ↔ (e ≡ [])
-settled_nothing e = settled_is [] [] e
-    (front_settles [] before_stream (record { tokens = refl; order = refl; place = tt; full = refl }))
+pub determined_nothing : (e : List Event) → Determines [] e ↔ (e ≡ [])
+determined_nothing e = determined_is [] [] e
+    (prefix_determines [] before_stream (record { tokens = refl; order = refl; place = tt; full = refl }))

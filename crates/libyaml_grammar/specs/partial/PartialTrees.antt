@@ -1,10 +1,10 @@
 -- Partial trees (docs/DEFINITIONS.md, "Partial trees"): a stream tree that stops at one place of its right edge. All to the
 -- left of the place is whole, and the collections and the document around it are open.
 use Rattle.std.specs.Prelude.{List, ◌∷◌, Option, Bool, ◌&&◌}
-use Rattle.libyaml_grammar.specs.sentences.Tokens.{Anchor, AnchorName, BlockEntry, BlockMappingStart, BlockSequenceStart, DocumentStart, Key, Marks, Token, Value, tok}
-use Rattle.libyaml_grammar.specs.sentences.Trees.{Before, BlockItems, Directive, Directives, Documents, FlowItems, FlowMember, FlowSlot, Free, Parts, Properties, Role, Sort, before_tokens, directive_token, directives_tokens, documents_tokens, flow_items_tokens, flow_member_tokens, flow_slot_tokens}
-use Rattle.libyaml_grammar.specs.sentences.Trees.{free_tokens, items_tokens, no_directives, opening, option_tokens, parts_tokens, role_token}
-use Rattle.libyaml_grammar.specs.sentences.Order.{admits, before_in_order, directives_in_order, documents_in_order, flow_items_in_order, flow_member_in_order, flow_slot_in_order, free_in_order, items_in_order, option_in_order, parts_in_order}
+use Rattle.libyaml_grammar.specs.grammar.Tokens.{Anchor, AnchorName, BlockEntry, BlockMappingStart, BlockSequenceStart, DocumentStart, Key, Marks, Token, Value, tok}
+use Rattle.libyaml_grammar.specs.grammar.Trees.{Before, BlockItems, Directive, Directives, Documents, FlowItems, FlowMember, FlowSlot, Free, Parts, Properties, Role, Sort, before_tokens, directive_token, directives_tokens, documents_tokens, flow_items_tokens, flow_member_tokens, flow_slot_tokens}
+use Rattle.libyaml_grammar.specs.grammar.Trees.{free_tokens, items_tokens, no_directives, opening, option_tokens, parts_tokens, role_token}
+use Rattle.libyaml_grammar.specs.grammar.Order.{admits, before_in_order, directives_in_order, documents_in_order, flow_items_in_order, flow_member_in_order, flow_slot_in_order, free_in_order, items_in_order, option_in_order, parts_in_order}
 
 -- where a document's root is expected: after what stands before it, with its head if it has one
 pub data Root : Type 0 where
@@ -41,17 +41,17 @@ mutual
 -- document or after a directive; at a directive; where a node's content is expected, with no property before it; at a TAG
 -- that begins a node, or after an ANCHOR that begins one; and in a block sequence, a block mapping or a flow
 -- collection after its start or a whole entry.
-pub data Cut : Type 0 where
-  before_stream : Cut
-  document_due : Documents → Cut
-  start_due : Before → Directives → Directive → Cut
-  at_directive : Before → Directives → Cut
-  content_due : Place → Cut
-  at_tag : Place → Cut
-  at_tag_behind : Place → AnchorName → Marks → Cut
-  entry_due : BlockPlace → Option Properties → Marks → BlockItems → Cut
-  part_due : BlockPlace → Option Properties → Marks → Parts → Cut
-  separator_due : Open → FlowMember → Cut
+pub data PartialTree : Type 0 where
+  before_stream : PartialTree
+  document_due : Documents → PartialTree
+  start_due : Before → Directives → Directive → PartialTree
+  at_directive : Before → Directives → PartialTree
+  content_due : Place → PartialTree
+  at_tag : Place → PartialTree
+  at_tag_behind : Place → AnchorName → Marks → PartialTree
+  entry_due : BlockPlace → Option Properties → Marks → BlockItems → PartialTree
+  part_due : BlockPlace → Option Properties → Marks → Parts → PartialTree
+  separator_due : Open → FlowMember → PartialTree
 
 -- The tokens up to a place, and after them the list r.
 abbrev pub root_tokens : Root → List Token → List Token
@@ -82,17 +82,17 @@ abbrev mutual
   open_tokens (open_collection p o k m is) r = place_tokens p (option_tokens o (tok (opening k) m ∷ flow_items_tokens is r))
 
 -- the tokens of a partial tree, and after them the list r
-abbrev pub cut_tokens : Cut → List Token → List Token
-cut_tokens before_stream r = r
-cut_tokens (document_due d) r = documents_tokens d r
-cut_tokens (start_due b ds d) r = before_tokens b (directives_tokens ds (directive_token d ∷ r))
-cut_tokens (at_directive b ds) r = before_tokens b (directives_tokens ds r)
-cut_tokens (content_due p) r = place_tokens p r
-cut_tokens (at_tag p) r = place_tokens p r
-cut_tokens (at_tag_behind p a m) r = place_tokens p (tok (Anchor a) m ∷ r)
-cut_tokens (entry_due c o m is) r = block_place_tokens c (option_tokens o (tok BlockSequenceStart m ∷ items_tokens is r))
-cut_tokens (part_due c o m ps) r = block_place_tokens c (option_tokens o (tok BlockMappingStart m ∷ parts_tokens ps r))
-cut_tokens (separator_due c e) r = open_tokens c (flow_member_tokens e r)
+abbrev pub partial_tokens : PartialTree → List Token → List Token
+partial_tokens before_stream r = r
+partial_tokens (document_due d) r = documents_tokens d r
+partial_tokens (start_due b ds d) r = before_tokens b (directives_tokens ds (directive_token d ∷ r))
+partial_tokens (at_directive b ds) r = before_tokens b (directives_tokens ds r)
+partial_tokens (content_due p) r = place_tokens p r
+partial_tokens (at_tag p) r = place_tokens p r
+partial_tokens (at_tag_behind p a m) r = place_tokens p (tok (Anchor a) m ∷ r)
+partial_tokens (entry_due c o m is) r = block_place_tokens c (option_tokens o (tok BlockSequenceStart m ∷ items_tokens is r))
+partial_tokens (part_due c o m ps) r = block_place_tokens c (option_tokens o (tok BlockMappingStart m ∷ parts_tokens ps r))
+partial_tokens (separator_due c e) r = open_tokens c (flow_member_tokens e r)
 
 -- the directives of the document in which a place stands
 abbrev pub root_directives : Root → Directives
@@ -149,16 +149,16 @@ abbrev mutual
       place_in_order p (option_in_order (declared p) o (flow_items_in_order (declared p) is b))
 
 -- whether the documents of a partial tree are in order as far as they go, and b
-abbrev pub cut_in_order : Cut → Bool → Bool
-cut_in_order before_stream b = b
-cut_in_order (document_due d) b = documents_in_order d b
-cut_in_order (start_due c ds d) b = before_in_order c (directives_in_order ds (admits ds d && b))
-cut_in_order (at_directive c ds) b = before_in_order c (directives_in_order ds b)
-cut_in_order (content_due p) b = place_in_order p b
-cut_in_order (at_tag p) b = place_in_order p b
-cut_in_order (at_tag_behind p a m) b = place_in_order p b
-cut_in_order (entry_due c o m is) b =
+abbrev pub partial_in_order : PartialTree → Bool → Bool
+partial_in_order before_stream b = b
+partial_in_order (document_due d) b = documents_in_order d b
+partial_in_order (start_due c ds d) b = before_in_order c (directives_in_order ds (admits ds d && b))
+partial_in_order (at_directive c ds) b = before_in_order c (directives_in_order ds b)
+partial_in_order (content_due p) b = place_in_order p b
+partial_in_order (at_tag p) b = place_in_order p b
+partial_in_order (at_tag_behind p a m) b = place_in_order p b
+partial_in_order (entry_due c o m is) b =
     block_place_in_order c (option_in_order (declared_block c) o (items_in_order (declared_block c) is b))
-cut_in_order (part_due c o m ps) b =
+partial_in_order (part_due c o m ps) b =
     block_place_in_order c (option_in_order (declared_block c) o (parts_in_order (declared_block c) ps b))
-cut_in_order (separator_due c e) b = open_in_order c (flow_member_in_order (declared_open c) e b)
+partial_in_order (separator_due c e) b = open_in_order c (flow_member_in_order (declared_open c) e b)
