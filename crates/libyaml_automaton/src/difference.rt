@@ -2,7 +2,7 @@
 ghost use Rattle.std.specs.Prelude.{◌≡◌};
 ghost use Rattle.libyaml_automaton.specs.Differing.{differs, differs_at, difference_number};
 ghost use Rattle.libyaml_automaton.specs.Numbers.{flag, state_of};
-ghost use Rattle.libyaml_automaton.specs.Wanted.{purpose_of};
+ghost use Rattle.libyaml_automaton.specs.Purposes.{purpose_of};
 
 use crate::automaton::Automaton;
 use crate::next::Next;

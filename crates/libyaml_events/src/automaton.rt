@@ -3,7 +3,7 @@ ghost use Rattle.std.specs.Prelude.{◌≡◌, ◌++◌, All, List, ℕ, [], tru
 ghost use Rattle.libyaml_types.specs.declared.mark.yaml_mark_t.{yaml_mark_t};
 ghost use Rattle.libyaml_automaton.specs.Config.{first_stacks};
 ghost use Rattle.libyaml_automaton.specs.Numbers.{next_of, place_of, flag, IsBackByte};
-ghost use Rattle.libyaml_automaton.specs.Wanted.{purpose_of, properties, kind_and_marks, IsAt};
+ghost use Rattle.libyaml_automaton.specs.Purposes.{purpose_of, properties, kind_and_marks, IsAt};
 ghost use Rattle.libyaml_automaton.specs.Fits.{FitsStep, FitsContent, FitsDocument, FitsAtDirective};
 ghost use Rattle.libyaml_automaton.specs.Fits.{SameReading, IsFull, IsNothingDone, Documents, opens_at};
 ghost use Rattle.libyaml_automaton.specs.Growth.{opens, pushes, stack_part_of, pushes_in_documents};

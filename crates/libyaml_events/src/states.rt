@@ -17,7 +17,7 @@ ghost use Rattle.libyaml_events.specs.machine.Machine.{fault_with, step};
 ghost use Rattle.libyaml_events.specs.machine.Steps.{Steps};
 ghost use Rattle.libyaml_events.specs.machine.Outcomes.{result_of, standing_by, wanted};
 ghost use Rattle.libyaml_events.specs.machine.Growth.{may_grow};
-ghost use Rattle.libyaml_events.specs.automaton.Led.{GrowsBehind, IsPut, Led, Puts};
+ghost use Rattle.libyaml_events.specs.automaton.AutomatonResults.{GrowsBehind, IsPut, Led, Puts};
 ghost use Rattle.libyaml_events.specs.automaton.View.{Ready};
 
 mod behind_properties;

@@ -1,7 +1,7 @@
-pub mod Apart
-pub mod Does
+pub mod UpToDifferences
+pub mod MachineCalls
 pub mod Ended
-pub mod Total
+pub mod RunExists
 pub mod Laws
 pub mod Within
 pub mod Texts

@@ -6,7 +6,7 @@ use Rattle.libyaml_grammar.specs.grammar.Events.{Event}
 use Rattle.libyaml_grammar.specs.grammar.Tokens.{Token}
 use Rattle.libyaml_automaton.specs.Automaton as a
 use Rattle.libyaml_automaton.specs.Config.{Stacks, stacks_of}
-use Rattle.libyaml_automaton.specs.Wanted.{purpose_of}
+use Rattle.libyaml_automaton.specs.Purposes.{purpose_of}
 use Rattle.libyaml_events.specs.machine.Config.{Handles, config_with}
 use Rattle.libyaml_events.specs.machine.Machine.{declared_by, fault_with, lookahead_after, step}
 use Rattle.libyaml_events.specs.machine.Want as parser

@@ -19,7 +19,7 @@ use Rattle.libyaml_automaton.specs.Config.{Stacks, stacks_of}
 use Rattle.libyaml_automaton.specs.Fits.{FitsStep, FitsDocument, FitsContent, HandledBy, Nodes, Documents, is_simple, opens_at}
 use Rattle.libyaml_automaton.specs.Growth.{HasNoRoom, opens, stack_part_of, pushes, pushes_in_documents}
 use Rattle.libyaml_automaton.specs.Numbers.{flag, next_of}
-use Rattle.libyaml_automaton.specs.Wanted.{purpose_of, wanted_by}
+use Rattle.libyaml_automaton.specs.Purposes.{purpose_of, wanted_by}
 use Rattle.token_steps.specs.Facts.{StepResult, TagRead, NoTag, EmptyTag, Bang, OtherTag, Undefined, StepToken, content_by_fact, put_by_fact, without_fact, step_by_fact, with_facts}
 use Rattle.token_steps.specs.Growth.{content_opens, pushes_by, pushes_mark, pushes_state}
 use Rattle.token_steps.specs.Records.{is_undefined}

@@ -3,7 +3,7 @@ use Rattle.libyaml_types.specs.declared.enums.yaml_token_type_t.{yaml_token_type
 use Rattle.libyaml_automaton.specs.declared.difference.Difference.{Difference}
 use Rattle.libyaml_automaton.specs.Differing.{differs}
 use Rattle.libyaml_automaton.specs.Numbers.{flag, state_of}
-use Rattle.libyaml_automaton.specs.Wanted.{purpose_of}
+use Rattle.libyaml_automaton.specs.Purposes.{purpose_of}
 use Rattle.token_steps.specs.declared.steps.steps_t.{steps_t}
 
 -- this record's place, and a token of this kind

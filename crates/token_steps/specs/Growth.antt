@@ -7,7 +7,7 @@ use Rattle.libyaml_automaton.specs.declared.node_place.NodePlace.{NodePlace}
 use Rattle.libyaml_automaton.specs.Fits.{HandledBy, Nodes, Documents, opens_at}
 use Rattle.libyaml_automaton.specs.Growth.{stack_part_of, pushes, pushes_in_documents, opens}
 use Rattle.libyaml_automaton.specs.Numbers.{next_of, state_of, place_of, flag}
-use Rattle.libyaml_automaton.specs.Wanted.{settled}
+use Rattle.libyaml_automaton.specs.Purposes.{settled}
 use Rattle.token_steps.specs.declared.steps.steps_t.{steps_t}
 use Rattle.token_steps.specs.Facts.{TagRead, Undefined, tag_if}
 

@@ -5,7 +5,7 @@ use Rattle.libyaml_types.specs.Fault.{Fault, no_fault}
 use Rattle.libyaml_grammar.specs.grammar.Tokens.{Token}
 use Rattle.libyaml_grammar.specs.grammar.Events.{Event}
 use Rattle.libyaml_automaton.specs.Config.{Stacks, Within, stacks_of}
-use Rattle.libyaml_automaton.specs.Wanted.{purpose_of}
+use Rattle.libyaml_automaton.specs.Purposes.{purpose_of}
 use Rattle.libyaml_events.specs.machine.Config.{Handles, config_with}
 use Rattle.libyaml_events.specs.machine.Machine as parser
 use Rattle.libyaml_events.specs.machine.Machine.{fault_with}

@@ -6,7 +6,7 @@ use Rattle.libyaml_grammar.specs.grammar.Events.{Event}
 use Rattle.libyaml_grammar.specs.grammar.ValidLists.{has_end}
 use Rattle.libyaml_automaton.specs.Automaton.{AtState}
 use Rattle.libyaml_automaton.specs.Config.{stacks_of, first_stacks}
-use Rattle.libyaml_automaton.specs.Wanted.{purpose_of}
+use Rattle.libyaml_automaton.specs.Purposes.{purpose_of}
 use Rattle.libyaml_events.specs.machine.Config.{Handles, no_handles}
 use Rattle.libyaml_events.specs.machine.Machine.{declared_by}
 use Rattle.libyaml_events.specs.machine.Want.{Texts, no_texts}

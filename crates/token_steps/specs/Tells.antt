@@ -9,7 +9,7 @@ use Rattle.libyaml_automaton.specs.declared.reading.Reading.{Reading}
 use Rattle.libyaml_automaton.specs.Automaton.{AtState}
 use Rattle.libyaml_automaton.specs.Config.{Stacks}
 use Rattle.libyaml_automaton.specs.Numbers.{next_of}
-use Rattle.libyaml_automaton.specs.Wanted.{purpose_of}
+use Rattle.libyaml_automaton.specs.Purposes.{purpose_of}
 use Rattle.token_steps.specs.declared.did.Did.{Did}
 use Rattle.token_steps.specs.declared.did.Did.TheVariants as did
 use Rattle.token_steps.specs.declared.steps.steps_t.{steps_t}

@@ -5,7 +5,7 @@ ghost use Rattle.libyaml_automaton.specs.Config.{stacks_of, Within};
 ghost use Rattle.libyaml_automaton.specs.Fits.{Documents};
 ghost use Rattle.libyaml_automaton.specs.Growth.{HasNoRoom, stack_part_of, pushes_in_documents};
 ghost use Rattle.libyaml_automaton.specs.Numbers.{flag, next_of, state_of, place_of};
-ghost use Rattle.libyaml_automaton.specs.Wanted.{IsAt, properties};
+ghost use Rattle.libyaml_automaton.specs.Purposes.{IsAt, properties};
 ghost use Rattle.token_steps.specs.Facts as facts;
 ghost use Rattle.token_steps.specs.Facts.{tag_if};
 ghost use Rattle.token_steps.specs.Growth.{content_opens};

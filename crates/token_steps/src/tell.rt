@@ -5,7 +5,7 @@ ghost use Rattle.libyaml_automaton.specs.Outcomes.{IsOutcome, outcome};
 ghost use Rattle.libyaml_automaton.specs.Automaton.{AtState, Step};
 ghost use Rattle.libyaml_automaton.specs.Config.{stacks_of};
 ghost use Rattle.libyaml_automaton.specs.Numbers.{flag};
-ghost use Rattle.libyaml_automaton.specs.Wanted.{kind_and_marks, purpose_of};
+ghost use Rattle.libyaml_automaton.specs.Purposes.{kind_and_marks, purpose_of};
 ghost use Rattle.token_steps.specs.Facts as facts;
 ghost use Rattle.token_steps.specs.Records.{AreFlags, AreUnused, head_of, head_tag, span_token};
 ghost use Rattle.token_steps.specs.Numbers.{IsEventNumber};

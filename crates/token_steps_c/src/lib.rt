@@ -10,7 +10,7 @@ ghost use Rattle.libyaml_automaton.specs.Automaton.{AtState};
 ghost use Rattle.libyaml_automaton.specs.Config.{stacks_of, first_stacks, Within};
 ghost use Rattle.libyaml_automaton.specs.Differing.{difference_number};
 ghost use Rattle.libyaml_automaton.specs.Growth.{HasNoRoom};
-ghost use Rattle.libyaml_automaton.specs.Wanted.{purpose_of};
+ghost use Rattle.libyaml_automaton.specs.Purposes.{purpose_of};
 ghost use Rattle.token_steps.specs.Differing.{differs_in};
 ghost use Rattle.token_steps.specs.Facts as facts;
 ghost use Rattle.token_steps.specs.Growth.{grows_states, grows_marks};

@@ -39,7 +39,7 @@ pub use Rattle.libyaml_automaton.specs.Growth as AutomatonGrowth
 pub use Rattle.libyaml_automaton.specs.Numbers as AutomatonNumbers
 pub use Rattle.libyaml_automaton.specs.Problems
 pub use Rattle.libyaml_automaton.specs.Slots
-pub use Rattle.libyaml_automaton.specs.Wanted as AutomatonWanted
+pub use Rattle.libyaml_automaton.specs.Purposes as AutomatonWanted
 pub use Rattle.libyaml_events.specs.automaton.View
 pub use Rattle.libyaml_events.specs.machine.Outcomes
 pub use Rattle.libyaml_events.specs.machine.Config

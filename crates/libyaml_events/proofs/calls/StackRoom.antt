@@ -9,8 +9,8 @@ use Rattle.libyaml_events.specs.parsers.Stages.{Stage, open_collections, stage_o
 use Rattle.libyaml_events.specs.sources.History.{ForHistory}
 use Rattle.libyaml_events.specs.sources.Pushed.{Fed}
 use Rattle.libyaml_events.proofs.calls.Marked.{MarksAt, MarksFit, OneMore, marked, owned}
-use Rattle.libyaml_events.proofs.calls.Staged.{depth}
-use Rattle.libyaml_events.proofs.calls.Staging.{DueOn, GoodIn, InPair, Inside, IsStack, NodeDue, StackOn, around, deeper}
+use Rattle.libyaml_events.proofs.calls.StageFacts.{depth}
+use Rattle.libyaml_events.proofs.calls.StackStages.{DueOn, GoodIn, InPair, Inside, IsStack, NodeDue, StackOn, around, deeper}
 use Rattle.libyaml_events.proofs.machine.StepKinds as kinds
 use Rattle.libyaml_events.proofs.machine.StepKinds.{Kind, kind, kind_of}
 use Rattle.libyaml_events.proofs.pushes.HistoryInvariant.{fed_to, ran_staged}

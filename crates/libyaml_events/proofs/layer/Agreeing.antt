@@ -2,7 +2,7 @@
 use Rattle.std.proofs.Common.{◌≡◌, ◌∙◌, Bool, Option, Some, None, Ok, Err, true, false, refl, sym, ap, subst}
 use Rattle.libyaml_types.specs.declared.token.yaml_token_t.{yaml_token_t}
 use Rattle.libyaml_automaton.specs.Numbers.{next_of}
-use Rattle.libyaml_automaton.specs.Wanted.{IsAt}
+use Rattle.libyaml_automaton.specs.Purposes.{IsAt}
 use Rattle.libyaml_types.specs.Fault.{Answer}
 use Rattle.libyaml_types.specs.declared.enums.yaml_error_type_t.{yaml_error_type_t}
 use Rattle.libyaml_events.specs.declared.lookahead.Lookahead.{Lookahead}

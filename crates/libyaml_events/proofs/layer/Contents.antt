@@ -19,7 +19,7 @@ use Rattle.libyaml_automaton.specs.Automaton as automaton
 use Rattle.libyaml_automaton.specs.Config as automaton_config
 use Rattle.libyaml_automaton.specs.Fits.{FitsContent}
 use Rattle.libyaml_automaton.specs.Numbers.{flag, place_of}
-use Rattle.libyaml_automaton.specs.Wanted.{properties}
+use Rattle.libyaml_automaton.specs.Purposes.{properties}
 use Rattle.libyaml_events.specs.declared.pending.Pending.{Pending}
 use Rattle.libyaml_events.specs.declared.step.Step.{Step}
 use Rattle.libyaml_events.specs.declared.step.Step.TheVariants as led
@@ -28,7 +28,7 @@ use Rattle.libyaml_events.specs.machine.Config.{Config, config_of}
 use Rattle.libyaml_events.specs.machine.Machine.{Progressed, content_behind, mapping_start_with, put, seen, sequence_start_with}
 use Rattle.libyaml_events.specs.machine.Steps.{Steps}
 use Rattle.libyaml_events.specs.machine.Want.{Given, Texts}
-use Rattle.libyaml_events.specs.automaton.Led.{IsContent, IsOpening, Led, PutsContent, ReadsTag, SaysContent, collection_start}
+use Rattle.libyaml_events.specs.automaton.AutomatonResults.{IsContent, IsOpening, Led, PutsContent, ReadsTag, SaysContent, collection_start}
 
 -- what a step leads to that wants no token hangs on the parser that it leaves alone
 pub steps_from : (out : Progressed) (old old' : Config) (s : Step) (t : yaml_token_t) (q : Pending) (e : yaml_event_t)

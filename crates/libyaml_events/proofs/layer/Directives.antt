@@ -19,15 +19,15 @@ use Rattle.libyaml_automaton.specs.Config as automaton_config
 use Rattle.libyaml_automaton.specs.Fits.{FitsDocument, Documents}
 use Rattle.libyaml_automaton.specs.Growth.{pushes_at_directive, pushes_at_document, pushes_in_documents, stack_part_of}
 use Rattle.libyaml_automaton.specs.Numbers.{next_of}
-use Rattle.libyaml_automaton.specs.Wanted.{IsAt, kind_and_marks, wanted_by}
-use Rattle.libyaml_automaton.specs.Wanted as automaton_want
+use Rattle.libyaml_automaton.specs.Purposes.{IsAt, kind_and_marks, wanted_by}
+use Rattle.libyaml_automaton.specs.Purposes as automaton_want
 use Rattle.libyaml_events.specs.declared.pending.Pending.{Pending}
 use Rattle.libyaml_events.specs.machine.Outcomes.{directive_texts, wanted}
 use Rattle.libyaml_events.specs.machine.Config.{Config, Handles, config_of, config_with}
 use Rattle.libyaml_events.specs.machine.Growth.{grows_at_directive, grows_at_document, grows_for, may_grow}
 use Rattle.libyaml_events.specs.machine.Machine.{step}
 use Rattle.libyaml_events.specs.machine.Want.{Texts}
-use Rattle.libyaml_events.specs.automaton.Led.{LedDocument}
+use Rattle.libyaml_events.specs.automaton.AutomatonResults.{LedDocument}
 use Rattle.libyaml_events.specs.automaton.View.{Ready}
 use Rattle.libyaml_events.proofs.layer.StepWithTexts.{says_texts}
 

@@ -21,8 +21,8 @@ use Rattle.libyaml_automaton.specs.Automaton as automaton
 use Rattle.libyaml_automaton.specs.Config as automaton_config
 use Rattle.libyaml_automaton.specs.Fits.{FitsAtDirective}
 use Rattle.libyaml_automaton.specs.Numbers.{next_of}
-use Rattle.libyaml_automaton.specs.Wanted.{wanted_by}
-use Rattle.libyaml_automaton.specs.Wanted as automaton_want
+use Rattle.libyaml_automaton.specs.Purposes.{wanted_by}
+use Rattle.libyaml_automaton.specs.Purposes as automaton_want
 use Rattle.libyaml_events.specs.declared.pending.Pending.{Pending}
 use Rattle.libyaml_events.specs.declared.step.Step.{Step}
 use Rattle.libyaml_events.specs.declared.step.Step.TheVariants as led

@@ -9,7 +9,7 @@ use Rattle.libyaml_automaton.specs.declared.action.Action.{Action}
 use Rattle.libyaml_automaton.specs.declared.action.Action.TheVariants as did
 use Rattle.libyaml_automaton.specs.declared.reading.Reading.{Reading}
 use Rattle.libyaml_automaton.specs.Fits.{SameReading, Stays}
-use Rattle.libyaml_automaton.specs.Wanted.{purpose_of}
+use Rattle.libyaml_automaton.specs.Purposes.{purpose_of}
 
 -- a longer buffer stands for the same stack
 pub grown_states : (n : ℕ) (ss ys : List ℕ) → n ≤ length ss → states_of n (ss ++ ys) ≡ states_of n ss

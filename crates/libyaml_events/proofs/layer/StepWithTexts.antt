@@ -22,8 +22,8 @@ use Rattle.libyaml_automaton.specs.Config as automaton_config
 use Rattle.libyaml_automaton.specs.Fits.{FitsStep, IsFull, is_simple, SameReading, opens_at}
 use Rattle.libyaml_automaton.specs.Growth.{opens, pushes}
 use Rattle.libyaml_automaton.specs.Numbers.{next_of, place_of}
-use Rattle.libyaml_automaton.specs.Wanted.{IsAt, properties, kind_and_marks, wanted_by}
-use Rattle.libyaml_automaton.specs.Wanted as automaton_want
+use Rattle.libyaml_automaton.specs.Purposes.{IsAt, properties, kind_and_marks, wanted_by}
+use Rattle.libyaml_automaton.specs.Purposes as automaton_want
 use Rattle.libyaml_events.specs.declared.pending.Pending.{Pending}
 use Rattle.libyaml_events.specs.machine.Outcomes.{property_texts, texts_for, wanted}
 use Rattle.libyaml_events.specs.machine.Config.{Config, Handles, config_of, config_with}
@@ -31,7 +31,7 @@ use Rattle.libyaml_events.specs.machine.Growth.{grows_for, joins, joins_before, 
 use Rattle.libyaml_events.specs.machine.Machine.{content_behind, content_resolved, put, resolve, step, with_texts}
 use Rattle.libyaml_events.specs.machine.Read.{PropertyTexts, DirectiveTexts}
 use Rattle.libyaml_events.specs.machine.Want.{Texts}
-use Rattle.libyaml_events.specs.automaton.Led.{GrowsBehind, IsHeld, IsPlain, Led, SaysIn}
+use Rattle.libyaml_events.specs.automaton.AutomatonResults.{GrowsBehind, IsHeld, IsPlain, Led, SaysIn}
 use Rattle.libyaml_events.specs.automaton.View.{Ready}
 
 -- What a step does with texts hangs on the handles, the error and the lookahead, which the automaton leaves alone.

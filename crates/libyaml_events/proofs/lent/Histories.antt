@@ -16,7 +16,7 @@ use Rattle.libyaml_events.proofs.calls.FourEvents.{linked_begins_each, linked_co
 use Rattle.libyaml_events.proofs.calls.OneTokenAhead.{ran_holds}
 use Rattle.libyaml_events.proofs.calls.KnownRuns.{linked_begins, run_given}
 use Rattle.libyaml_events.proofs.calls.Parsed.{ran_needed}
-use Rattle.libyaml_events.proofs.calls.Staged.{staged_depth, staged_over, staged_whole}
+use Rattle.libyaml_events.proofs.calls.StageFacts.{staged_depth, staged_over, staged_whole}
 use Rattle.libyaml_events.proofs.pushes.HistoryInvariant.{ran_links, ran_staged}
 
 module _ {S : Type 0} (p : Parser S) where

@@ -1,7 +1,7 @@
 -- What a parser is whose stacks are the automaton's (docs/DEFINITIONS.md, "The parser as a machine").
 use Rattle.std.specs.Prelude.{◌≡◌, None}
 use Rattle.libyaml_automaton.specs.Numbers.{next_of}
-use Rattle.libyaml_automaton.specs.Wanted.{IsAt}
+use Rattle.libyaml_automaton.specs.Purposes.{IsAt}
 use Rattle.libyaml_events.specs.declared.pending.Pending.{Pending}
 use Rattle.libyaml_events.specs.machine.Config.{Config}
 

@@ -13,7 +13,7 @@ use Rattle.libyaml_automaton.specs.Automaton.{BehindDirective, BehindProperties}
 use Rattle.libyaml_automaton.specs.Automaton as automaton
 use Rattle.libyaml_automaton.specs.Fits.{opens_at}
 use Rattle.libyaml_automaton.specs.Growth.{pushes, opens}
-use Rattle.libyaml_automaton.specs.Wanted.{next_for}
+use Rattle.libyaml_automaton.specs.Purposes.{next_for}
 use Rattle.libyaml_events.specs.machine.Config.{Config, Handles}
 use Rattle.libyaml_events.specs.machine.Machine.{or_default}
 use Rattle.libyaml_events.specs.machine.Want.{Texts, Want}

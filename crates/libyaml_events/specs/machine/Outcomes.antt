@@ -4,7 +4,7 @@ use Rattle.libyaml_types.specs.declared.event.yaml_event_t.{yaml_event_t}
 use Rattle.libyaml_types.specs.declared.enums.yaml_error_type_t.{yaml_error_type_t}
 use Rattle.libyaml_automaton.specs.Automaton.{BehindDirective, BehindProperties}
 use Rattle.libyaml_automaton.specs.Automaton as automaton
-use Rattle.libyaml_automaton.specs.Wanted as automaton_want
+use Rattle.libyaml_automaton.specs.Purposes as automaton_want
 use Rattle.libyaml_events.specs.declared.step.Step.{Step}
 use Rattle.libyaml_events.specs.declared.step.Step.TheVariants as led
 use Rattle.libyaml_events.specs.declared.pending.Pending.{Pending}

@@ -11,8 +11,8 @@ ghost use Rattle.libyaml_events.specs.machine.Growth.{joins};
 ghost use Rattle.libyaml_events.specs.machine.Machine.{Progressed};
 ghost use Rattle.libyaml_events.specs.machine.Steps.{Steps};
 ghost use Rattle.libyaml_events.specs.machine.Want.{Texts};
-ghost use Rattle.libyaml_events.specs.automaton.Led.{GrowsBehind, IsContent, IsOpening, Puts, PutsContent};
-ghost use Rattle.libyaml_events.specs.automaton.Led.{ReadsTag, RefusesTag, SaysContent};
+ghost use Rattle.libyaml_events.specs.automaton.AutomatonResults.{GrowsBehind, IsContent, IsOpening, Puts, PutsContent};
+ghost use Rattle.libyaml_events.specs.automaton.AutomatonResults.{ReadsTag, RefusesTag, SaysContent};
 
 use crate::parser::Machine;
 use crate::pending::Pending;

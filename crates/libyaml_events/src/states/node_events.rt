@@ -3,7 +3,7 @@ ghost use Rattle.std.specs.Prelude.{◌≡◌, false, option_map, string_bytes};
 ghost use Rattle.libyaml_types.specs.declared.enums.yaml_scalar_style_t.TheVariants.{YAML_PLAIN_SCALAR_STYLE};
 ghost use Rattle.libyaml_grammar.specs.grammar.Events.{is_plain, plain_flag, quoted_flag, is_missing};
 ghost use Rattle.libyaml_events.specs.machine.Machine.{scalar_with, sequence_start_with, mapping_start_with};
-ghost use Rattle.libyaml_events.specs.automaton.Led.{collection_start};
+ghost use Rattle.libyaml_events.specs.automaton.AutomatonResults.{collection_start};
 
 use crate::texts::is_text;
 use libyaml_types::{

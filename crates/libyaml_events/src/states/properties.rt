@@ -3,7 +3,7 @@ ghost use Rattle.std.specs.Prelude.{◌≡◌, Some, None, option_map, string_by
 ghost use Rattle.libyaml_types.specs.declared.token.unnamed_yaml_token_t_data.TheVariants as tok;
 ghost use Rattle.libyaml_automaton.specs.Numbers.{flag};
 ghost use Rattle.libyaml_events.specs.machine.Outcomes.{only_if};
-ghost use Rattle.libyaml_events.specs.automaton.Led.{with_anchor, with_tag};
+ghost use Rattle.libyaml_events.specs.automaton.AutomatonResults.{with_anchor, with_tag};
 
 use crate::parser::Machine;
 use crate::pending::Pending;

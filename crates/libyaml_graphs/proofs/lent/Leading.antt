@@ -10,7 +10,7 @@ use Rattle.libyaml_graphs.specs.loads.Bounds.{bounded_loads, first_stop}
 use Rattle.libyaml_graphs.specs.loads.Loads.{Begun, Load, load_answer, begun, begun_behind, behind_document, document, end_of_document, last_load, load_then, loads_by, next_by}
 use Rattle.libyaml_graphs.specs.machine.Loader.{Loader, Loading, State, between, bounded_option, failed, fresh, going, if_going, load_from, within}
 use Rattle.libyaml_graphs.proofs.lent.BoundedLoader.{one_load}
-use Rattle.libyaml_graphs.proofs.lent.Machine.{nothing_left, opens, within_event}
+use Rattle.libyaml_graphs.proofs.lent.LoaderSteps.{nothing_left, opens, within_event}
 use Rattle.libyaml_graphs.proofs.lent.Roots.{left_behind}
 use Rattle.libyaml_graphs.specs.loads.Leads.{Leads, as_loads, behind_event, behind_events, loads_from, whole_then}
 

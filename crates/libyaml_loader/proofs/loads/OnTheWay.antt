@@ -14,7 +14,7 @@ use Rattle.libyaml_graphs.specs.graphs.GraphParts.{Closing, Opening, closing_of}
 use Rattle.libyaml_graphs.specs.loads.Loads.{document, last_load, left_over}
 use Rattle.libyaml_graphs.specs.machine.Loader.{Loader, State, between, left_from, load_from, within}
 use Rattle.libyaml_graphs.proofs.lent.BoundedLoader.{one_load}
-use Rattle.libyaml_graphs.proofs.lent.Machine.{closes, closes_left, nothing_left}
+use Rattle.libyaml_graphs.proofs.lent.LoaderSteps.{closes, closes_left, nothing_left}
 use Rattle.libyaml_events.specs.sources.CallsInTurn.{Took}
 use Rattle.libyaml_loader.specs.loads.Loading.{LoadFails, LoadsFrom, ParserFails, at_end, by_loader, by_memory, by_parser, whole}
 use Rattle.libyaml_loader.specs.pushes.Composing as composing

@@ -10,9 +10,9 @@ use Rattle.rust_original.specs.parser.Differences.{Differs, call_here}
 use Rattle.rust_original.specs.parser.Parser.{Mends, OriginalParser}
 use Rattle.rust_original.specs.parser.Runs.{Runs, RunsThere, as_here, as_there, call, new_original_parser}
 use Rattle.rust_original.specs.parser.Texts.{as_held}
-use Rattle.rust_original.proofs.runs.Apart.{may_differ, one_run}
+use Rattle.rust_original.proofs.runs.UpToDifferences.{may_differ, one_run}
 use Rattle.rust_original.proofs.runs.Ended.{ends_whole}
-use Rattle.rust_original.proofs.runs.Total.{has_run}
+use Rattle.rust_original.proofs.runs.RunExists.{has_run}
 
 -- Over each list of tokens and error of a source after it there is a run of a parser that does what the mended one does,
 -- but at the three places. Its events nest, to the end only where the run ends; and where it differs nowhere, the run is

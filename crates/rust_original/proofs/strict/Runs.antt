@@ -18,7 +18,7 @@ use Rattle.rust_original.specs.parser.Strict.{Over, Stopped, StopsAt, StrictEndi
 use Rattle.rust_original.specs.parser.Texts.{as_held}
 use Rattle.rust_original.proofs.parser.Calls.{call_same, flagged}
 use Rattle.rust_original.proofs.parser.Relation.{HereCall, Matches, SamePlace, before, feed, given, led, standing, stopped, tokens_of}
-use Rattle.rust_original.proofs.runs.Apart.{one_run}
+use Rattle.rust_original.proofs.runs.UpToDifferences.{one_run}
 use Rattle.rust_original.proofs.runs.Laws.{some_run}
 use Rattle.rust_original.proofs.strict.Judged.{Found, Judged, call_found, judged, judged_at, judged_by, met, none}
 

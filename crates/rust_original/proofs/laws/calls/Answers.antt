@@ -1,4 +1,4 @@
-use Rattle.rust_original.proofs.runs.Apart.{after_a_fault, after_the_end, apart}
+use Rattle.rust_original.proofs.runs.UpToDifferences.{after_a_fault, after_the_end, apart}
 use Rattle.rust_original.proofs.laws.calls.Goals as goal
 
 pub returns : goal.returns

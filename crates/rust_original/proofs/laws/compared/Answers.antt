@@ -1,6 +1,6 @@
 use Rattle.std.proofs.Common.{map}
 use Rattle.rust_original.specs.parser.Texts.{as_held}
-use Rattle.rust_original.proofs.runs.Apart as proofs
+use Rattle.rust_original.proofs.runs.UpToDifferences as proofs
 use Rattle.rust_original.proofs.runs.Laws.{run_here}
 use Rattle.rust_original.proofs.runs.Texts.{all_held}
 use Rattle.rust_original.proofs.laws.compared.Goals as goal

@@ -3,7 +3,7 @@ use Rattle.libyaml_grammar.proofs.lent.NestingSoFar.{run_nests_so_far}
 use Rattle.rust_original.specs.parser.Texts.{as_held}
 use Rattle.rust_original.proofs.loads.Compared.{loads_compared}
 use Rattle.rust_original.proofs.loads.Loads.{nested_agree}
-use Rattle.rust_original.proofs.runs.Apart as proofs
+use Rattle.rust_original.proofs.runs.UpToDifferences as proofs
 use Rattle.rust_original.proofs.runs.Laws.{run_here, whole_here}
 use Rattle.rust_original.proofs.laws.documents_compared.Goals as goal
 

@@ -1,7 +1,7 @@
 use Rattle.std.proofs.Common.{map, true}
 use Rattle.rust_original.specs.parser.Runs.{as_there}
 use Rattle.rust_original.specs.parser.Texts.{as_held}
-use Rattle.rust_original.proofs.runs.Apart.{may_differ, one_run}
+use Rattle.rust_original.proofs.runs.UpToDifferences.{may_differ, one_run}
 use Rattle.rust_original.proofs.runs.Laws.{nests_there, some_run, whole_there}
 use Rattle.rust_original.proofs.runs.Within.{computed}
 use Rattle.rust_original.proofs.laws.runs_there.Goals as goal

@@ -2,7 +2,7 @@ use Rattle.std.proofs.Common.{◌+◌, ◌<◌, ◌≡◌, ◌∙◌, Err, ap, p
 use Rattle.libyaml_events.specs.machine.Config.{is_fault, parser, with_lookahead}
 use Rattle.libyaml_events.specs.machine.Outcomes.{wanted}
 use Rattle.libyaml_events.proofs.calls.CallLemmas.{fetched, faulted, first_reading, gave_event, gave_fault, takes_one, wants_more}
-use Rattle.libyaml_events.proofs.calls.LetGo.{fault_left, steps_empty}
+use Rattle.libyaml_events.proofs.calls.FailedCalls.{fault_left, steps_empty}
 use Rattle.libyaml_events.proofs.layer.Agreeing.{fetched_fault, fetched_ready, kept_fault, without_lookahead}
 use Rattle.libyaml_events.proofs.parser.Machine.fill.Goals as goal
 

@@ -3,7 +3,7 @@ use Rattle.libyaml_events.proofs.layer.Contents.{opening_put}
 use Rattle.libyaml_grammar.specs.grammar.Events.{event, Event}
 use Rattle.libyaml_events.specs.machine.Config.{Config}
 use Rattle.libyaml_events.specs.machine.Want.{Given}
-use Rattle.libyaml_events.specs.automaton.Led.{collection_start}
+use Rattle.libyaml_events.specs.automaton.AutomatonResults.{collection_start}
 use Rattle.libyaml_types.specs.declared.event.unnamed_yaml_event_t_data.{unnamed_yaml_event_t_data}
 use Rattle.libyaml_events.proofs.parser.Machine.put_opening.Goals as goal
 

@@ -1,6 +1,6 @@
 use Rattle.std.proofs.Common.{rules}
 use Rattle.libyaml_types.specs.Events.{zero_mark}
-use Rattle.libyaml_automaton.specs.Wanted.{kind_and_marks}
+use Rattle.libyaml_automaton.specs.Purposes.{kind_and_marks}
 use Rattle.token_steps.proofs.Told.{fits_in_document, not_states, put_plainly, told_in_document}
 use Rattle.token_steps.proofs.steps.steps_t.document.Goals as goal
 

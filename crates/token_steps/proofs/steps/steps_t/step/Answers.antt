@@ -3,7 +3,7 @@ use Rattle.libyaml_types.specs.Events.{zero_mark}
 use Rattle.libyaml_automaton.specs.Config.{stacks_of}
 use Rattle.libyaml_automaton.specs.Growth.{stack_part_of}
 use Rattle.libyaml_automaton.specs.Numbers.{flag, next_of, place_of}
-use Rattle.libyaml_automaton.specs.Wanted.{properties}
+use Rattle.libyaml_automaton.specs.Purposes.{properties}
 use Rattle.token_steps.specs.Facts.{step_by_fact, tag_if}
 use Rattle.token_steps.specs.Records.{span_token}
 use Rattle.token_steps.specs.Tells.{Tells, want_in}

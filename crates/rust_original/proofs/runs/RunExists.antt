@@ -24,8 +24,8 @@ use Rattle.rust_original.specs.parser.Parser.{FAIL, Mends, OK, ParserResult, Ori
 use Rattle.rust_original.specs.parser.Runs.{Runs, call, ends, fails, goes_on, new_original_parser}
 use Rattle.rust_original.proofs.parser.Calls.{call_same, flagged}
 use Rattle.rust_original.proofs.parser.Relation.{standing, Agree, Below, Fits, HereCall, IsFresh, Matches, Opens, SamePlace, before, behind, behind_end, entering, first, inside, over, root_end, there, there_with, tk, tokens_of}
-use Rattle.rust_original.proofs.runs.Does as does
-use Rattle.rust_original.proofs.runs.Does.{Does}
+use Rattle.rust_original.proofs.runs.MachineCalls as does
+use Rattle.rust_original.proofs.runs.MachineCalls.{Does}
 use Rattle.rust_original.proofs.runs.Ended.{NoEnd}
 
 -- where the key of a flow sequence's pair is due: an empty scalar that stands at the end of the token that the

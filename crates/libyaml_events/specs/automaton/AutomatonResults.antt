@@ -18,8 +18,8 @@ use Rattle.libyaml_automaton.specs.declared.action.Action.{Action}
 use Rattle.libyaml_automaton.specs.declared.action.Action.TheVariants as did
 use Rattle.libyaml_automaton.specs.declared.reading.Reading.{Reading}
 use Rattle.libyaml_automaton.specs.Numbers.{place_of}
-use Rattle.libyaml_automaton.specs.Wanted as automaton_want
-use Rattle.libyaml_automaton.specs.Wanted.{properties}
+use Rattle.libyaml_automaton.specs.Purposes as automaton_want
+use Rattle.libyaml_automaton.specs.Purposes.{properties}
 use Rattle.libyaml_automaton.specs.Automaton as automaton
 use Rattle.libyaml_automaton.specs.Outcomes.{Outcome, NothingDone, Does, outcome}
 use Rattle.libyaml_automaton.specs.Fits.{opens_at}
