@@ -1,6 +1,6 @@
 #!/usr/bin/env python3
-"""Fails if a crate names a proof of another crate of the repository that isn't in its `proofs/lent`, if a definition in
-`specs/` names a proof of the repository, or if what stands in `proofs/lent` is named by no other crate.
+"""Fails if a crate names a proof of another crate of the repository that isn't in its `proofs/exported`, if a definition in
+`specs/` names a proof of the repository, or if what stands in `proofs/exported` is named by no other crate.
 
     python3 scripts/gate/proofs_between_crates.py
 
@@ -12,7 +12,7 @@ import sys
 from definitions import ROOT
 from reexports import CRATES
 
-NAMED = re.compile(r"(?:Rattle\.)?\b(\w+)(?:\.|::)proofs(?:\.|::)((?:lent(?:\.|::))?\w+)")
+NAMED = re.compile(r"(?:Rattle\.)?\b(\w+)(?:\.|::)proofs(?:\.|::)((?:exported(?:\.|::))?\w+)")
 
 
 def main():
@@ -25,10 +25,10 @@ def main():
                         continue
                     module = module.replace("::", ".")
                     used.add((owner, module) if owner != crate else None)
-                    if room == "specs" or owner != crate and not module.startswith("lent."):
+                    if room == "specs" or owner != crate and not module.startswith("exported."):
                         wrong.append(f"{path.relative_to(ROOT)} names {module} of the proofs of {owner}")
-    for path in sorted(ROOT.glob("crates/*/proofs/lent/*.antt")):
-        if (path.parts[-4], "lent." + path.stem) not in used:
+    for path in sorted(ROOT.glob("crates/*/proofs/exported/*.antt")):
+        if (path.parts[-4], "exported." + path.stem) not in used:
             wrong.append(f"{path.relative_to(ROOT)} is named by no other crate")
     sys.exit("\n".join(wrong) or 0)
 

@@ -37,7 +37,7 @@ OWN = {
     r"\brows?\b": "test vector",
     r"\bedits?\b": "mutant",
     r"\bcarriers?\b": "anchored node",
-    r"\blent\b": "in `proofs/lent`",
+    r"\blent\b": "in `proofs/exported`",
     r"\brefusals?\b": "error",
 }
 STYLE = {

@@ -23,8 +23,8 @@ use Rattle.libyaml_composer.specs.Held.{Held, applied, applied_part, event_fact,
 use Rattle.libyaml_graphs.specs.loads.Leads.{Leads, as_loads, loads_from}
 use Rattle.document_steps.specs.Runs.{ComposeCalls, IsTaken, ComposerRun, begins, moves, takes}
 use Rattle.libyaml_composer.specs.Standing.{IsCarried, IsPart, Standing}
-use Rattle.libyaml_composer.proofs.lent.Follows.{Follows, fails, follows, full, goes}
-use Rattle.libyaml_graphs.proofs.lent.Leading.{closes_there, from_none, goes_there, leads_both, leads_none, opens_there, passes_by, refused_there}
+use Rattle.libyaml_composer.proofs.exported.Follows.{Follows, fails, follows, full, goes}
+use Rattle.libyaml_graphs.proofs.exported.Leading.{closes_there, from_none, goes_there, leads_both, leads_none, opens_there, passes_by, refused_there}
 
 -- where a caller stands after these events
 pub record Stood (most : ℕ) (c : Composer) (h : Held) (es : List Event) (ds : List Document) : Type 0 where

@@ -5,7 +5,7 @@ use Rattle.std.proofs.lemmas.Slice.Eq.{bytes_eq-Decides}
 use Rattle.std.specs.Prelude.{bytes_eq}
 use Rattle.std.specs.Cmp.Lexicographic.{nat_list_cmp_total}
 use Rattle.std.specs.FinMap.{get, get-from_entries, insert}
-use Rattle.libyaml_grammar.proofs.lent.TextMaps.{inserted}
+use Rattle.libyaml_grammar.proofs.exported.TextMaps.{inserted}
 use Rattle.libyaml_graphs.specs.graphs.Graphs.{Carrier, id_or}
 use Rattle.libyaml_graphs.specs.machine.Loader.{Anchors, no_anchors}
 use Rattle.document_steps.specs.declared.anchors.anchor_t.{anchor_t}

@@ -9,7 +9,7 @@ use Rattle.libyaml_documents.specs.declared.node.unnamed_yaml_node_t_data.TheVar
 use Rattle.libyaml_documents.specs.declared.node.yaml_node_t.{yaml_node_t}
 use Rattle.libyaml_graphs.specs.machine.Loader.{OpenNode, hand, parent_full}
 use Rattle.libyaml_graphs.specs.machine.Loader as machine
-use Rattle.libyaml_graphs.proofs.lent.LoaderSteps.{hands_item, hands_key, hands_value}
+use Rattle.libyaml_graphs.proofs.exported.LoaderSteps.{hands_item, hands_key, hands_value}
 use Rattle.libyaml_composer.specs.declared.deed.Deed.{Deed}
 use Rattle.libyaml_composer.specs.declared.records.open_t.{open_t}
 use Rattle.libyaml_composer.specs.declared.records.place_t.{place_t}

@@ -2,4 +2,4 @@ pub mod Opens
 pub mod Children
 mod Handing
 pub mod Tops
-pub mod lent
+pub mod exported

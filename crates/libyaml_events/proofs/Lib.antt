@@ -1,6 +1,6 @@
 pub mod machine
 pub mod calls
 pub mod code
-pub mod lent
+pub mod exported
 pub mod pushes
 pub mod layer

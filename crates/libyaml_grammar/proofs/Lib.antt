@@ -1,3 +1,3 @@
 pub mod trees
 pub mod runs
-pub mod lent
+pub mod exported

@@ -31,13 +31,13 @@ ghost use Rattle.libyaml_grammar.specs.grammar.Trees.{Free, Stream, explicit, im
 ghost use Rattle.libyaml_grammar.specs.grammar.Trees.{no_directives, tokens};
 
 /// Two stream trees with equal tokens are equal.
-#[tactic(auto, using(crate::proofs::lent::Completion::one_tree_proof))]
+#[tactic(auto, using(crate::proofs::exported::Completion::one_tree_proof))]
 pub fn one_tree()
     ensures { (s t : Stream) → tokens s ≡ tokens t → s ≡ t }
 {}
 
 /// At most one partial tree fits a list with the token after it.
-#[tactic(auto, using(crate::proofs::lent::OnePartialTree::one_partial_proof))]
+#[tactic(auto, using(crate::proofs::exported::OnePartialTree::one_partial_proof))]
 pub fn one_partial()
     ensures { (l : List Token) (b : Token) (c d : PartialTree) → Fits l b c → Fits l b d → c ≡ d }
 {}
@@ -80,7 +80,7 @@ pub fn determined_events()
 
 /// After a viable prefix without STREAM-END the next event depends on tokens still to come: two valid
 /// lists begin with it whose events begin with those that it determines and differ in the next.
-#[tactic(auto, using(crate::proofs::lent::Determining::determined_open))]
+#[tactic(auto, using(crate::proofs::exported::Determining::determined_open))]
 pub fn next_is_open()
     ensures { (l : List Token) (e : List Event) → IsViablePrefix l → has_end l ≡ false → Determines l e
         → IsOpen l e }
@@ -119,7 +119,7 @@ pub fn run_ends()
 
 /// The events of a tree nest: the starts and ends of documents and collections match, and each mapping has an
 /// even number of nodes between its start and its end.
-#[tactic(auto, using(crate::proofs::lent::Nesting::events_nest_proof))]
+#[tactic(auto, using(crate::proofs::exported::Nesting::events_nest_proof))]
 pub fn events_nest()
     ensures { (t : Stream) → IsNested (events t) }
 {}

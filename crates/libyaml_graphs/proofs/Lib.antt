@@ -2,4 +2,4 @@ pub mod graphs
 pub mod machine
 pub mod loads
 pub mod rows
-pub mod lent
+pub mod exported

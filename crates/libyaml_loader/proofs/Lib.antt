@@ -1,4 +1,4 @@
 pub mod document
 pub mod loads
 pub mod pushes
-pub mod lent
+pub mod exported

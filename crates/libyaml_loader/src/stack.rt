@@ -87,7 +87,7 @@ impl OpenCollections {
     ///
     /// An allocation failed, at the start of a collection.
     #[inline(always)]
-    #[tactic(auto, using(libyaml_composer::proofs::lent::Full::full_starts))]
+    #[tactic(auto, using(libyaml_composer::proofs::exported::Full::full_starts))]
     pub(crate) fn take(
         &mut self,
         kind: yaml_event_type_t,
@@ -106,7 +106,7 @@ impl OpenCollections {
 
     /// Returns whether the stack has no room for one more.
     #[inline(always)]
-    #[tactic(auto, using(libyaml_composer::proofs::lent::Stacks::depth_is))]
+    #[tactic(auto, using(libyaml_composer::proofs::exported::Stacks::depth_is))]
     fn is_full(&self) -> bool
         ensures { result ≡ nat_le self.now.room (length self.now.stack) }
     {
@@ -174,7 +174,7 @@ impl OpenCollections {
     ///
     /// An allocation failed.
     #[inline(always)]
-    #[tactic(auto, using(libyaml_composer::proofs::lent::Stacks::lengthened))]
+    #[tactic(auto, using(libyaml_composer::proofs::exported::Stacks::lengthened))]
     fn lengthen(&mut self) -> Result<(), AllocError>
         ensures roomy { OnOk result (self.new ≡ roomy (suc self.old.room) self.old) }
         ensures within { OnOk result (nat_le (suc self.old.room) (length self.old.stack) ≡ false) }

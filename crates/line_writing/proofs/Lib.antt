@@ -1,3 +1,3 @@
 pub mod SpacedLemmas
 pub mod DocumentLemmas
-pub mod lent
+pub mod exported

@@ -7,7 +7,7 @@ use Rattle.std.specs.FinMap.{find, get, insert, from_entries, from_entries_push,
 use Rattle.token_steps.specs.declared.tags.handles.text_t.{text_t}
 use Rattle.token_steps.specs.declared.tags.handles.handle_t.{handle_t}
 use Rattle.token_steps.specs.Handles.{bytes_at, entries_at, handles_at, prefix_in, AreHandlesWithin}
-use Rattle.libyaml_grammar.proofs.lent.TextMaps.{same_keys}
+use Rattle.libyaml_grammar.proofs.exported.TextMaps.{same_keys}
 
 find_handle : (texts : List ℕ) (es : List handle_t) (q : List ℕ)
     → find (slice_cmp nat_cmp) q (entries_at texts es) ≡ prefix_in texts es q

@@ -10,4 +10,4 @@ pub mod Stacks
 pub mod Failing
 pub mod Stepped
 pub mod Tables
-pub mod lent
+pub mod exported

@@ -10,8 +10,8 @@ use Rattle.libyaml_automaton.specs.Purposes.{purpose_of}
 use Rattle.libyaml_events.specs.machine.Config.{Handles, no_handles, config_with}
 use Rattle.libyaml_events.specs.machine.Machine.{declared_by, lookahead_after}
 use Rattle.libyaml_events.specs.machine.Want.{Texts, no_texts}
-use Rattle.libyaml_events.proofs.lent.Pushes as pushed
-use Rattle.libyaml_events.proofs.lent.Pushes.{fed_ended}
+use Rattle.libyaml_events.proofs.exported.Pushes as pushed
+use Rattle.libyaml_events.proofs.exported.Pushes.{fed_ended}
 use Rattle.libyaml_events.specs.sources.Pushed.{Fed}
 use Rattle.token_steps.specs.declared.did.Did.{Did}
 use Rattle.token_steps.specs.declared.did.Did.TheVariants as did

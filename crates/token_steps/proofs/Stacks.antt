@@ -3,7 +3,7 @@ use Rattle.std.proofs.Common.{◌≡◌, ◌≤◌, ◌+◌, ℕ, List, length, 
 use Rattle.std.proofs.lemmas.Grind.{common_steps}
 use Rattle.libyaml_types.specs.declared.mark.yaml_mark_t.{yaml_mark_t}
 use Rattle.libyaml_automaton.specs.Config.{marks_of, states_of}
-use Rattle.libyaml_events.proofs.lent.Pushes.{fed_depth, fed_marks}
+use Rattle.libyaml_events.proofs.exported.Pushes.{fed_depth, fed_marks}
 use Rattle.libyaml_events.specs.parsers.Stages.{open_collections, stage_of}
 use Rattle.token_steps.specs.RunLaws.{ForStacks}
 use Rattle.token_steps.proofs.Running.{fed}

@@ -5,12 +5,12 @@ use Rattle.libyaml_types.specs.Fault.{Answer, no_fault}
 use Rattle.libyaml_grammar.specs.runs.Runs.{IsRun}
 use Rattle.libyaml_grammar.specs.grammar.Events.{Event}
 use Rattle.libyaml_grammar.specs.grammar.Tokens.{Token}
-use Rattle.libyaml_grammar.proofs.lent.Running.{some_run_proof}
+use Rattle.libyaml_grammar.proofs.exported.Running.{some_run_proof}
 use Rattle.libyaml_events.specs.sources.Determined.{BeginsEachRun}
-use Rattle.libyaml_events.proofs.lent.KnownTokens.{run_count}
+use Rattle.libyaml_events.proofs.exported.KnownTokens.{run_count}
 use Rattle.libyaml_graphs.specs.loads.Linear.{documents_size}
 use Rattle.libyaml_graphs.specs.loads.Loads.{last_load}
-use Rattle.libyaml_graphs.proofs.lent.RunLoads.{first_linear}
+use Rattle.libyaml_graphs.proofs.exported.RunLoads.{first_linear}
 use Rattle.libyaml_graphs.specs.graphs.ComposerFaults.{composer_fault}
 use Rattle.unsafe_libyaml.specs.WholeLoads.{GathersLoads}
 use Rattle.unsafe_libyaml.specs.WholeRun.{ending_of}

@@ -8,8 +8,8 @@ use Rattle.libyaml_grammar.specs.partial.DeterminedEvents.{Begins}
 use Rattle.libyaml_grammar.specs.runs.Runs.{Ending}
 use Rattle.libyaml_events.specs.sources.Determined.{OneBegins}
 use Rattle.libyaml_events.specs.sources.History.{answers}
-use Rattle.libyaml_graphs.proofs.lent.LoadLists.{last_same, same_loads}
-use Rattle.libyaml_events.proofs.lent.RunStops.{RunStop, begins_stopped, ended_stop, one_run_by_answers, taken_comparable}
+use Rattle.libyaml_graphs.proofs.exported.LoadLists.{last_same, same_loads}
+use Rattle.libyaml_events.proofs.exported.RunStops.{RunStop, begins_stopped, ended_stop, one_run_by_answers, taken_comparable}
 use Rattle.libyaml_graphs.specs.loads.Loads.{last_load, loads}
 use Rattle.unsafe_libyaml.specs.OneWhole.{OneDocuments}
 use Rattle.unsafe_libyaml.specs.WholeLoads.{ComposerError, GathersLoads, as_whole_loads}

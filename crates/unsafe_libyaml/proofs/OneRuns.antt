@@ -7,7 +7,7 @@ use Rattle.libyaml_grammar.specs.grammar.Events.{Event}
 use Rattle.libyaml_grammar.specs.runs.Runs.{Fails}
 use Rattle.libyaml_events.specs.sources.History.{answers}
 use Rattle.libyaml_events.specs.sources.Parsing.{IsWhole}
-use Rattle.libyaml_events.proofs.lent.RunStops.{AskedRun, RunStop, ended_stop, grammar_stop, one_run_by_answers, source_stop}
+use Rattle.libyaml_events.proofs.exported.RunStops.{AskedRun, RunStop, ended_stop, grammar_stop, one_run_by_answers, source_stop}
 use Rattle.unsafe_libyaml.specs.OneWhole.{OneRun}
 use Rattle.unsafe_libyaml.specs.WholeRun.{Asked, Gathers, StoppedBy, of_grammar, of_source, ending_of}
 use Rattle.unsafe_libyaml.specs.declared.parse_all.yaml_run_t.{yaml_run_t}

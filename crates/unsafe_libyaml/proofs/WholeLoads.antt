@@ -8,12 +8,12 @@ use Rattle.libyaml_events.specs.machine.Config.{Parser}
 use Rattle.libyaml_grammar.specs.grammar.Events.{Event, events}
 use Rattle.libyaml_types.specs.Fault.{Fault, memory_fault}
 use Rattle.libyaml_types.specs.Fault as faults
-use Rattle.libyaml_events.proofs.lent.CallsInTurn.{both_calls}
+use Rattle.libyaml_events.proofs.exported.CallsInTurn.{both_calls}
 use Rattle.libyaml_events.specs.sources.History.{answers, between_documents, has_failed, kept_fault, new_parser}
 use Rattle.libyaml_grammar.specs.partial.DeterminedEvents.{Begins}
 use Rattle.libyaml_grammar.specs.grammar.Nesting.{IsNested}
 use Rattle.libyaml_grammar.specs.grammar.Order.{in_order}
-use Rattle.libyaml_events.proofs.lent.Histories as histories
+use Rattle.libyaml_events.proofs.exported.Histories as histories
 use Rattle.libyaml_grammar.specs.runs.Runs.{Ending, Ends, Fails}
 use Rattle.libyaml_grammar.specs.grammar.Tokens.{Token}
 use Rattle.libyaml_grammar.specs.grammar.Trees.{Stream, tokens}
@@ -22,14 +22,14 @@ use Rattle.libyaml_types.specs.declared.source.yaml_token_source_t.{Ghosts}
 use Rattle.libyaml_graphs.specs.loads.Bounds.{NoneLacksMemory, bounded_loads, next_bounded}
 use Rattle.libyaml_graphs.specs.loads.GraphLaws.{RootsFollow}
 use Rattle.libyaml_graphs.specs.loads.Loads.{IsLoads, Load, last_load, left_over, loads, loads_of}
-use Rattle.libyaml_graphs.proofs.lent.BoundedPrefixes.{IsPrefixTree, prefix_of_loads, met, same, unmet_loads}
-use Rattle.libyaml_graphs.proofs.lent.LoadLists.{roots_behind}
-use Rattle.libyaml_graphs.proofs.lent.Roots.{fault_of, last_of, roots_follow}
-use Rattle.libyaml_graphs.proofs.lent.RunLoads.{valid_list_loads}
+use Rattle.libyaml_graphs.proofs.exported.BoundedPrefixes.{IsPrefixTree, prefix_of_loads, met, same, unmet_loads}
+use Rattle.libyaml_graphs.proofs.exported.LoadLists.{roots_behind}
+use Rattle.libyaml_graphs.proofs.exported.Roots.{fault_of, last_of, roots_follow}
+use Rattle.libyaml_graphs.proofs.exported.RunLoads.{valid_list_loads}
 use Rattle.libyaml_loader.specs.document.Ids.{magnitude}
 use Rattle.libyaml_events.specs.sources.CallsInTurn.{Took}
 use Rattle.libyaml_loader.specs.loads.Loading.{DocumentOrError, KeptBy, LoadFails, Loads, LoadsFrom, ParserFails, at_end, by_loader, by_memory, by_parser, whole}
-use Rattle.libyaml_loader.proofs.lent.LoadsInTurn.{none_in_turn, one_more}
+use Rattle.libyaml_loader.proofs.exported.LoadsInTurn.{none_in_turn, one_more}
 use Rattle.libyaml_loader.specs.loads.LoadsInTurn.{LoadedInTurn}
 use Rattle.unsafe_libyaml.specs.WholeRun.{ending_of}
 use Rattle.unsafe_libyaml.specs.WholeLoads.{GathersLoads, LoadsTo, as_whole_loads}

@@ -19,13 +19,13 @@ use Rattle.libyaml_events.specs.sources.Parsing as cause
 use Rattle.libyaml_grammar.specs.runs.Runs.{Ending, Ends, Fails, IsRun}
 use Rattle.libyaml_types.specs.Source.{Follows, coming}
 use Rattle.libyaml_grammar.specs.grammar.Tokens.{Token}
-use Rattle.libyaml_grammar.proofs.lent.Running.{valid_list_run}
+use Rattle.libyaml_grammar.proofs.exported.Running.{valid_list_run}
 use Rattle.libyaml_types.specs.declared.fault.yaml_parser_t_prefix.{yaml_parser_t_prefix}
 use Rattle.libyaml_types.specs.declared.source.yaml_token_source_t.{Ghosts}
-use Rattle.libyaml_events.proofs.lent.CallsInTurn.{both_calls, gave_then, no_call, one_call}
-use Rattle.libyaml_events.proofs.lent.RunStops.{answers_both}
-use Rattle.libyaml_events.proofs.lent.Histories as histories
-use Rattle.libyaml_events.proofs.lent.KnownTokens.{asked_prefix, failed_known, short_known, whole_known}
+use Rattle.libyaml_events.proofs.exported.CallsInTurn.{both_calls, gave_then, no_call, one_call}
+use Rattle.libyaml_events.proofs.exported.RunStops.{answers_both}
+use Rattle.libyaml_events.proofs.exported.Histories as histories
+use Rattle.libyaml_events.proofs.exported.KnownTokens.{asked_prefix, failed_known, short_known, whole_known}
 use Rattle.unsafe_libyaml.specs.WholeRun.{Asked, Gathers, RunsTo, StoppedBy, whole, broken_off, ending_of, of_grammar, of_source}
 use Rattle.unsafe_libyaml.specs.declared.parse_all.yaml_run_t.{yaml_run_t}
 

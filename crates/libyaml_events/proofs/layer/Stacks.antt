@@ -2,7 +2,7 @@
 use Rattle.std.proofs.Common.{◌≡◌, ◌≤◌, ◌++◌, ℕ, List, ap, length, map, reverse}
 use Rattle.std.proofs.lemmas.List.{take-append-le}
 use Rattle.libyaml_types.specs.declared.mark.yaml_mark_t.{yaml_mark_t}
-pub use Rattle.libyaml_automaton.proofs.lent.Stacks.{marks_none, state_of_number, states_none}
+pub use Rattle.libyaml_automaton.proofs.exported.Stacks.{marks_none, state_of_number, states_none}
 use Rattle.libyaml_automaton.specs.Numbers.{state_of}
 use Rattle.libyaml_automaton.specs.Config.{states_of, marks_of}
 use Rattle.libyaml_automaton.specs.declared.action.Action.{Action}

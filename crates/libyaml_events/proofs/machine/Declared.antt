@@ -10,10 +10,10 @@ use Rattle.libyaml_grammar.specs.grammar.Tokens.{HandleDeclared, Mark, Marks, Ta
 use Rattle.libyaml_grammar.specs.grammar.Trees.{Directives, directive, no_directives, tag_directive, version}
 use Rattle.libyaml_grammar.specs.grammar.Events.{Event, declaration, prefix_of, resolved, tag_directives_of, tag_directives_then, tag_from, version_of}
 use Rattle.libyaml_grammar.specs.grammar.Order.{declares, is_known, is_accepted, no_version}
-use Rattle.libyaml_grammar.proofs.lent.Reading.{keeps_order}
+use Rattle.libyaml_grammar.proofs.exported.Reading.{keeps_order}
 use Rattle.libyaml_events.specs.machine.Config.{Config, Handles, config_of}
 use Rattle.libyaml_events.proofs.machine.Link.{End, after, behind_directives, directive_ends, directive_texts, handles_of, waits}
-use Rattle.libyaml_grammar.proofs.lent.TextMaps.{inserted}
+use Rattle.libyaml_grammar.proofs.exported.TextMaps.{inserted}
 use Rattle.libyaml_automaton.specs.Automaton.{BehindDirective}
 use Rattle.libyaml_automaton.specs.Automaton as automaton
 use Rattle.libyaml_types.specs.declared.directive.yaml_tag_directive_t.{yaml_tag_directive_t}

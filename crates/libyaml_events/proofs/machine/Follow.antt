@@ -14,13 +14,13 @@ use Rattle.libyaml_grammar.specs.grammar.Trees.{flow_node, flow_nothing, free, i
 use Rattle.libyaml_grammar.specs.grammar.Events.{Event, alone_of, directive_start, document_end_at, document_start_at, empty_at, end_at, end_of, first_directive, scalar_of, tag_of}
 use Rattle.libyaml_grammar.specs.grammar.Order.{is_known, properties_in_order}
 use Rattle.libyaml_grammar.specs.partial.Fits.{ends_empty}
-use Rattle.libyaml_grammar.proofs.lent.Positions.{Position, between, done, due, flow_behind, flow_due, flow_keyed, headed, in_indentless, in_mapping, in_sequence, unopened}
-use Rattle.libyaml_grammar.proofs.lent.Reading.{Step, at_flow, at_free, at_headed, at_unopened, behind_documents, behind_indentless, behind_item, behind_key, behind_member, behind_part, behind_whole, fill, fill_flow, on_block_entry, on_block_mapping, on_block_sequence, on_due, without}
-use Rattle.libyaml_grammar.proofs.lent.Given.{given_at_flow, given_at_free, given_at_headed, given_at_unopened, given_behind_documents, given_behind_indentless, given_behind_item, given_behind_key, given_behind_member, given_behind_part, given_behind_whole, given_on_block_entry}
-use Rattle.libyaml_grammar.proofs.lent.Given.{given_on_block_mapping, given_on_block_sequence, given_on_due, given_without, gives}
+use Rattle.libyaml_grammar.proofs.exported.Positions.{Position, between, done, due, flow_behind, flow_due, flow_keyed, headed, in_indentless, in_mapping, in_sequence, unopened}
+use Rattle.libyaml_grammar.proofs.exported.Reading.{Step, at_flow, at_free, at_headed, at_unopened, behind_documents, behind_indentless, behind_item, behind_key, behind_member, behind_part, behind_whole, fill, fill_flow, on_block_entry, on_block_mapping, on_block_sequence, on_due, without}
+use Rattle.libyaml_grammar.proofs.exported.Given.{given_at_flow, given_at_free, given_at_headed, given_at_unopened, given_behind_documents, given_behind_indentless, given_behind_item, given_behind_key, given_behind_member, given_behind_part, given_behind_whole, given_on_block_entry}
+use Rattle.libyaml_grammar.proofs.exported.Given.{given_on_block_mapping, given_on_block_sequence, given_on_due, given_without, gives}
 use Rattle.libyaml_events.proofs.machine.Declared.{resolve_is, tag_after, version_after}
 use Rattle.libyaml_events.proofs.machine.Link.{End, after, config, config_of, emit, ends, free_config, handles_of, headed_config, kind, node_config, properties_of, spends, step_ends, texts_of, waits, want_of}
-use Rattle.libyaml_grammar.proofs.lent.StepsMeet.{IsDue, IsEntry, IsMet}
+use Rattle.libyaml_grammar.proofs.exported.StepsMeet.{IsDue, IsEntry, IsMet}
 use Rattle.libyaml_types.specs.declared.enums.yaml_parser_state_t.TheVariants as st
 
 abbrev pub IsProperty : Content → Type 0

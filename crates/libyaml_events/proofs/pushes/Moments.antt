@@ -2,7 +2,7 @@
 use Rattle.std.proofs.Common.{◌≡◌, ◌≤◌, ◌+◌, ◌⊎◌, inl, inr, ◌++◌, ◌∷◌, ℕ, arith, List, [], length, Some, None, Ok, Err, refl, sym, ap, ◌∙◌, subst, append_assoc, append-nil}
 use Rattle.libyaml_grammar.specs.grammar.Tokens.{Token}
 use Rattle.libyaml_grammar.specs.grammar.Events.{Event}
-use Rattle.libyaml_grammar.proofs.lent.Injectivity.{head_same, not_cons, tail_same}
+use Rattle.libyaml_grammar.proofs.exported.Injectivity.{head_same, not_cons, tail_same}
 use Rattle.libyaml_events.specs.machine.Config.{Config}
 use Rattle.libyaml_events.specs.machine.Machine.{Progressed, step}
 use Rattle.libyaml_events.specs.machine.Want.{Want, Given, Wants}

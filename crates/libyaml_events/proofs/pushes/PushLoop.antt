@@ -25,7 +25,7 @@ use Rattle.libyaml_events.proofs.machine.StepKinds.{room}
 use Rattle.libyaml_events.proofs.machine.MachinePosition.{Leads, Links}
 use Rattle.libyaml_events.proofs.pushes.HistoryInvariant.{InHand, Running, fed_to, has_ended, running, runs}
 use Rattle.libyaml_events.proofs.pushes.AtMostFourEvents.{at_most_four}
-use Rattle.libyaml_events.proofs.lent.OneOutcome.{failed_run}
+use Rattle.libyaml_events.proofs.exported.OneOutcome.{failed_run}
 
 -- a step that gives an event after which the token stays leaves less
 pub step_falls : (w : Want) (c : Config) (u : Token) (e : Event) (d : Config) (v : Token) → c.lookahead ≡ None

@@ -7,7 +7,7 @@ use Rattle.libyaml_grammar.specs.grammar.Tokens.{Mark, Marks, ScalarText, TagNam
 use Rattle.libyaml_grammar.specs.grammar.Trees.{Before, BlockItems, BlockNode, BlockSlot, Directives, FlowItems, FlowLast, FlowMember, FlowNode, FlowSlot, Free, Parts, Properties, Slot, Sort, alias, alone, anchor, anchor_tag, block_mapping, block_sequence, collection, empty, explicit, flow}
 use Rattle.libyaml_grammar.specs.grammar.Trees.{flow_node, flow_nothing, implicit, indentless, item, last, mapping, more_items, no_directives, no_items, no_last, no_parts, no_value, node, nothing, pair, part, scalar, sequence, single, slot_of, tag, tag_anchor, with_value}
 use Rattle.libyaml_types.specs.declared.enums.yaml_scalar_style_t.TheVariants.{YAML_PLAIN_SCALAR_STYLE}
-use Rattle.libyaml_grammar.proofs.lent.Splits.{block_slot_splits}
+use Rattle.libyaml_grammar.proofs.exported.Splits.{block_slot_splits}
 
 pub explicit_own : (ds : Directives) (s : Marks) (x : BlockSlot) (m : Mark) → (e : List Event)
     × ((b : Before) (r : List Event)

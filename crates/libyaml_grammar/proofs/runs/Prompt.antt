@@ -4,8 +4,8 @@ use Rattle.libyaml_grammar.specs.grammar.Tokens.{Marks}
 use Rattle.libyaml_grammar.specs.grammar.Trees.{Stream, free, key, mapping, no_parts, no_value, pair, part, sequence, single}
 use Rattle.libyaml_grammar.specs.grammar.Events.{Event}
 use Rattle.libyaml_grammar.specs.partial.PartialTrees.{open_collection, part_place}
-use Rattle.libyaml_grammar.proofs.lent.Positions.{Position, between, done, due, flow_behind, flow_due, flow_keyed, headed, in_indentless, in_mapping, position_rest}
-use Rattle.libyaml_grammar.proofs.lent.Given.{gives_all}
+use Rattle.libyaml_grammar.proofs.exported.Positions.{Position, between, done, due, flow_behind, flow_due, flow_keyed, headed, in_indentless, in_mapping, position_rest}
+use Rattle.libyaml_grammar.proofs.exported.Given.{gives_all}
 use Rattle.libyaml_grammar.specs.partial.DeterminedEvents.{next_event}
 
 same_start : (x y : Event) → Some x ≡ Some y → x.start_mark ≡ y.start_mark

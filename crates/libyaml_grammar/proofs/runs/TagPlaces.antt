@@ -6,13 +6,13 @@ use Rattle.libyaml_grammar.specs.grammar.Trees.{anchor_tag, tag}
 use Rattle.libyaml_grammar.specs.partial.PartialTrees.{Place, at_tag_behind, content_due, place_tokens}
 use Rattle.libyaml_grammar.specs.grammar.ValidLists.{IsViablePrefix, IsValidList}
 use Rattle.libyaml_grammar.specs.partial.Fits.{NodeBegins}
-use Rattle.libyaml_grammar.proofs.lent.Positions.{Position, due, position_in_order, position_rest, position_tokens, unopened}
-use Rattle.libyaml_grammar.proofs.lent.Reading.{Step, bad, checked, goes, is_legal, over, reads, reads_all, step}
+use Rattle.libyaml_grammar.proofs.exported.Positions.{Position, due, position_in_order, position_rest, position_tokens, unopened}
+use Rattle.libyaml_grammar.proofs.exported.Reading.{Step, bad, checked, goes, is_legal, over, reads, reads_all, step}
 use Rattle.libyaml_grammar.proofs.trees.Append.{partial_append}
-use Rattle.libyaml_grammar.proofs.lent.Cases.{IsTagHeld, TagGoes, step_tag}
-use Rattle.libyaml_grammar.proofs.lent.Completion.{begin_reads, goes_before, position_begins, read_order, reads_append}
-use Rattle.libyaml_grammar.proofs.lent.Keeps.{feeds_keep}
-use Rattle.libyaml_grammar.proofs.lent.Orders.{reads_to}
+use Rattle.libyaml_grammar.proofs.exported.Cases.{IsTagHeld, TagGoes, step_tag}
+use Rattle.libyaml_grammar.proofs.exported.Completion.{begin_reads, goes_before, position_begins, read_order, reads_append}
+use Rattle.libyaml_grammar.proofs.exported.Keeps.{feeds_keep}
+use Rattle.libyaml_grammar.proofs.exported.Orders.{reads_to}
 
 same_prefix : (a b : List Token) (x y : Token) → a ++ x ∷ [] ≡ b ++ y ∷ [] → (a ≡ b) × (x ≡ y)
 same_prefix [] [] x y e = (refl, cc)

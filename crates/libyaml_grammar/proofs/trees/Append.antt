@@ -7,11 +7,11 @@ use Rattle.libyaml_grammar.specs.grammar.Trees.{no_value, node, nothing, pair, p
 use Rattle.libyaml_grammar.specs.partial.PartialTrees.{BlockPlace, PartialTree, Place, at_directive, at_tag, block, block_place_in_order, block_place_tokens, content_due, partial_in_order, partial_tokens, declared, declared_block, document_due, entry, entry_due, explicit_root, flow_entry, flow_key}
 use Rattle.libyaml_grammar.specs.partial.PartialTrees.{flow_value, implicit_root, indentless_entry, part_due, part_place, place_in_order, place_tokens, root, separator_due, slot}
 use Rattle.libyaml_grammar.specs.grammar.Tokens.{Token}
-use Rattle.libyaml_grammar.proofs.lent.Keeps.{Told, feeds_keep, fill_flow_keeps, fill_keeps}
+use Rattle.libyaml_grammar.proofs.exported.Keeps.{Told, feeds_keep, fill_flow_keeps, fill_keeps}
 use Rattle.libyaml_grammar.specs.grammar.Order.{block_node_in_order, block_slot_in_order, documents_in_order, flow_node_in_order, flow_slot_in_order}
 use Rattle.libyaml_grammar.proofs.trees.Edge.{partial_reads, edge_documents, edge_flow_slot, edge_slot, reached}
 use Rattle.libyaml_grammar.proofs.trees.Complete.{edge_block, edge_flow, home}
-use Rattle.libyaml_grammar.proofs.lent.Positions.{unopened}
+use Rattle.libyaml_grammar.proofs.exported.Positions.{unopened}
 
 -- a place filled up to its right edge
 flow_told : (p : Place) (x : FlowNode) → Told (edge_flow p x) (λ (r : List Token). place_tokens p (flow_node_tokens x r))

@@ -5,8 +5,8 @@ use Rattle.libyaml_grammar.specs.grammar.Trees.{Before, BlockItems, BlockSlot, D
 use Rattle.libyaml_grammar.specs.grammar.Trees.{explicit, flow_node, flow_node_tokens, flow_nothing, flow_slot_tokens, free, implicit, indentless, item, key, no_directives, no_items, no_parts, no_value, node, nothing, opening, option_tokens, pair, part, single, slot_of, value, with_value}
 use Rattle.libyaml_grammar.specs.partial.PartialTrees.{BlockPlace, PartialTree, Open, PartPlace, Place, at_directive, at_tag, at_tag_behind, before_stream, block, block_place_tokens, content_due, partial_tokens, document_due, entry, entry_due, explicit_root, flow_entry, flow_key, flow_value}
 use Rattle.libyaml_grammar.specs.partial.PartialTrees.{implicit_root, indentless_entry, open_collection, open_tokens, part_due, part_place, part_place_tokens, place_tokens, root, separator_due, slot, start_due}
-use Rattle.libyaml_grammar.proofs.lent.Positions.{Position, between, due, flow_due, headed, in_mapping, in_sequence, unopened}
-use Rattle.libyaml_grammar.proofs.lent.Reading.{feeds}
+use Rattle.libyaml_grammar.proofs.exported.Positions.{Position, between, due, flow_due, headed, in_mapping, in_sequence, unopened}
+use Rattle.libyaml_grammar.proofs.exported.Reading.{feeds}
 use Rattle.libyaml_grammar.proofs.trees.Complete.{before_reads, block_node_begins, block_node_edge, directive_feeds, directive_ready, directives_read, directives_ready, edge_block, edge_flow, entries_read, flow_items_read, flow_node_begins, flow_node_edge, flow_slot_reads, free_reads, home}
 use Rattle.libyaml_grammar.proofs.trees.Complete.{home_feeds, items_read, opening_begins, opening_feeds, option_begins, option_feeds, parts_read, start_feeds, start_ready}
 

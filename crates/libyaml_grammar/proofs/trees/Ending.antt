@@ -6,9 +6,9 @@ use Rattle.libyaml_grammar.specs.grammar.Trees.{BlockNode, FlowNode, Stream, flo
 use Rattle.libyaml_grammar.specs.grammar.Events.{Event}
 use Rattle.libyaml_grammar.specs.grammar.ValidLists.{has_end, is_end}
 use Rattle.libyaml_grammar.specs.partial.PartialTrees.{BlockPlace, Place, block, implicit_root, part_place, root, slot}
-use Rattle.libyaml_grammar.proofs.lent.Positions.{Position, done}
-use Rattle.libyaml_grammar.proofs.lent.Reading.{Step, bad, checked, feed, fill, fill_flow, goes, is_legal, over, reads, reads_all, then_all}
-use Rattle.libyaml_grammar.proofs.lent.ReadSteps.{ReadStep, a_scalar, an_alias, closes_at_mapping, closes_at_sequence, closes_mapping, closes_sequence, ends_mapping, ends_sequence, fails, is_past, leaves, moves, read_step}
+use Rattle.libyaml_grammar.proofs.exported.Positions.{Position, done}
+use Rattle.libyaml_grammar.proofs.exported.Reading.{Step, bad, checked, feed, fill, fill_flow, goes, is_legal, over, reads, reads_all, then_all}
+use Rattle.libyaml_grammar.proofs.exported.ReadSteps.{ReadStep, a_scalar, an_alias, closes_at_mapping, closes_at_sequence, closes_mapping, closes_sequence, ends_mapping, ends_sequence, fails, is_past, leaves, moves, read_step}
 
 abbrev pub DoneAt : Position → Bool → Type 0
 DoneAt (done t) b = b ≡ true

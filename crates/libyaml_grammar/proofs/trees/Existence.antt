@@ -11,11 +11,11 @@ use Rattle.libyaml_grammar.specs.grammar.Events.{Event}
 use Rattle.libyaml_grammar.specs.partial.PartialTrees.{PartialTree, Place, at_directive, at_tag, at_tag_behind, before_stream, block, content_due, declared, document_due, entry, entry_due, explicit_root, flow_key, flow_value, implicit_root, indentless_entry, part_due, part_place, place_tokens, root}
 use Rattle.libyaml_grammar.specs.partial.PartialTrees.{separator_due, slot, start_due}
 use Rattle.libyaml_grammar.specs.partial.Fits.{EndsEmpty, FitsDirective, IsUnknownTag, WantsContent, empty_root, ends_empty, ends_empty_document, is_directive, last_empty}
-use Rattle.libyaml_grammar.proofs.lent.Positions.{Position, between, due, headed, unopened}
-use Rattle.libyaml_grammar.proofs.lent.Reading.{Step, bad, bad_same, broken, checked, feeds, goes, goes_same, is_legal, over, reads, reads_all, step}
-use Rattle.libyaml_grammar.proofs.lent.OnePartialTree.{content_fails, step_partial, stops_at_tag, stops_at_tag_behind}
-use Rattle.libyaml_grammar.proofs.lent.Orders.{reads_to}
-use Rattle.libyaml_grammar.proofs.lent.ReadSteps.{ReadStep, a_tag, fails, leaves, moves, no_document, no_document_start, no_stream, read_step, tag_behind_anchor}
+use Rattle.libyaml_grammar.proofs.exported.Positions.{Position, between, due, headed, unopened}
+use Rattle.libyaml_grammar.proofs.exported.Reading.{Step, bad, bad_same, broken, checked, feeds, goes, goes_same, is_legal, over, reads, reads_all, step}
+use Rattle.libyaml_grammar.proofs.exported.OnePartialTree.{content_fails, step_partial, stops_at_tag, stops_at_tag_behind}
+use Rattle.libyaml_grammar.proofs.exported.Orders.{reads_to}
+use Rattle.libyaml_grammar.proofs.exported.ReadSteps.{ReadStep, a_tag, fails, leaves, moves, no_document, no_document_start, no_stream, read_step, tag_behind_anchor}
 use Rattle.libyaml_grammar.proofs.trees.Edge.{partial_reads, edge_documents, place_reads, reached}
 use Rattle.libyaml_grammar.proofs.trees.Complete.{home}
 

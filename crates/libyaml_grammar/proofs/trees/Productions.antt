@@ -6,10 +6,10 @@ use Rattle.libyaml_grammar.specs.grammar.Trees.{collection, directives_tokens, d
 use Rattle.libyaml_grammar.specs.grammar.Trees.{opened, pair, part, parts_tokens, properties_tokens, sequence, slot_tokens, tokens, value, whole}
 use Rattle.libyaml_grammar.specs.partial.PartialTrees.{BlockPlace, PartialTree, Place, at_directive, block, content_due, partial_tokens, document_due, entry_due, explicit_root, flow_entry, implicit_root, open_collection, part_due, place_tokens, root, separator_due}
 use Rattle.libyaml_grammar.specs.partial.Rest.{any_encoding}
-use Rattle.libyaml_grammar.proofs.lent.Positions.{Position, between, due, flow_due, unopened}
-use Rattle.libyaml_grammar.proofs.lent.Reading.{feeds, goes_same}
+use Rattle.libyaml_grammar.proofs.exported.Positions.{Position, between, due, flow_due, unopened}
+use Rattle.libyaml_grammar.proofs.exported.Reading.{feeds, goes_same}
 use Rattle.libyaml_grammar.proofs.trees.Append.{partial_swap}
-use Rattle.libyaml_grammar.proofs.lent.Completion.{one_tree_proof}
+use Rattle.libyaml_grammar.proofs.exported.Completion.{one_tree_proof}
 use Rattle.libyaml_grammar.proofs.trees.Edge.{place_reads}
 use Rattle.libyaml_grammar.proofs.trees.Complete.{home}
 

@@ -7,12 +7,12 @@ use Rattle.libyaml_grammar.specs.partial.PartialTrees.{PartialTree, partial_in_o
 use Rattle.libyaml_grammar.specs.partial.Rest.{rest}
 use Rattle.libyaml_grammar.specs.grammar.ValidLists.{EitherNotBoth, IsBadToken, IsViablePrefix, IsValidList, has_end, is_end}
 use Rattle.libyaml_grammar.specs.partial.Fits.{Fits, HasPartialTree}
-use Rattle.libyaml_grammar.proofs.lent.Positions.{Position, done, unopened}
-use Rattle.libyaml_grammar.proofs.lent.Reading.{Step, bad, goes, over, reads, reads_all, then_all}
+use Rattle.libyaml_grammar.proofs.exported.Positions.{Position, done, unopened}
+use Rattle.libyaml_grammar.proofs.exported.Reading.{Step, bad, goes, over, reads, reads_all, then_all}
 use Rattle.libyaml_grammar.proofs.trees.Append.{partial_append}
-use Rattle.libyaml_grammar.proofs.lent.Completion.{Stops, partial_begins_proof, goes_or_stops, reached_begins, read_valid_list, reads_append}
+use Rattle.libyaml_grammar.proofs.exported.Completion.{Stops, partial_begins_proof, goes_or_stops, reached_begins, read_valid_list, reads_append}
 use Rattle.libyaml_grammar.proofs.trees.Ending.{ends_done, stays_open}
-use Rattle.libyaml_grammar.proofs.lent.Fitting.{read_over, stops_fits}
+use Rattle.libyaml_grammar.proofs.exported.Fitting.{read_over, stops_fits}
 
 -- a prefix of a viable prefix is a viable prefix
 shift : (a b r : List Token) (t : Token) → (a ++ t ∷ []) ++ (b ++ r) ≡ (a ++ t ∷ b) ++ r

@@ -7,11 +7,11 @@ use Rattle.libyaml_grammar.specs.grammar.Trees.{collection, empty, flow, flow_it
 use Rattle.libyaml_grammar.specs.grammar.Trees.{no_parts, no_value, node, nothing, opening, option_tokens, pair, part, parts_tokens, properties_tokens, role_token, scalar, sequence, single, slot_of, slot_tokens, value, with_value}
 use Rattle.libyaml_grammar.specs.grammar.ValidLists.{IsValidList}
 use Rattle.libyaml_grammar.specs.runs.StreamEnds.{up_to_end}
-use Rattle.libyaml_grammar.proofs.lent.Positions.{done, unopened}
-use Rattle.libyaml_grammar.proofs.lent.Completion.{valid_list_reads}
+use Rattle.libyaml_grammar.proofs.exported.Positions.{done, unopened}
+use Rattle.libyaml_grammar.proofs.exported.Completion.{valid_list_reads}
 use Rattle.libyaml_grammar.proofs.trees.Productions.{block_node_law}
-use Rattle.libyaml_grammar.proofs.lent.Running.{up_to_read}
-use Rattle.libyaml_grammar.proofs.lent.StreamEnds.{valid_list_has_end}
+use Rattle.libyaml_grammar.proofs.exported.Running.{up_to_read}
+use Rattle.libyaml_grammar.proofs.exported.StreamEnds.{valid_list_has_end}
 
 -- what follows the closing token of the collection around, where n collections more are open within it
 abbrev closed : ℕ → List Token → (ℕ → List Token) → List Token

@@ -12,7 +12,7 @@ use Rattle.libyaml_grammar.specs.grammar.Events.{Event, Layout, block_layout, do
 use Rattle.libyaml_grammar.specs.grammar.Nesting.{IsNested, DocumentTexts, Value, Values, alias_value, collection_value, first_value, no_texts, no_values, scalar_value, text_behind, texts_events, value_events, values_events}
 use Rattle.libyaml_grammar.specs.grammar.Tokens.{Mark}
 use Rattle.libyaml_grammar.specs.grammar.Trees.{Sort, mapping, sequence}
-use Rattle.libyaml_grammar.proofs.lent.Injectivity.{head_same, tail_same}
+use Rattle.libyaml_grammar.proofs.exported.Injectivity.{head_same, tail_same}
 
 -- two events that are one
 record OneEvent (k : unnamed_yaml_event_t_data) (m n : Mark) (l : List Event) (j : unnamed_yaml_event_t_data)

@@ -14,10 +14,10 @@ use Rattle.libyaml_grammar.specs.grammar.ValidLists.{IsViablePrefix, has_end}
 use Rattle.libyaml_grammar.specs.partial.DeterminedEvents.{Determines}
 use Rattle.libyaml_grammar.specs.grammar.Tokens.{Marks, StreamEnd, Token, tok}
 use Rattle.libyaml_grammar.specs.grammar.Trees.{Stream, tokens}
-use Rattle.libyaml_grammar.proofs.lent.Headline.{runs_whole}
-use Rattle.libyaml_grammar.proofs.lent.Nesting.{events_nest_proof}
-use Rattle.libyaml_grammar.proofs.lent.NestingSoFar.{run_nests_so_far}
-use Rattle.libyaml_grammar.proofs.lent.Running.{amid_run, begin_run, partial_run, one_run_proof, valid_list_run, some_run_proof}
+use Rattle.libyaml_grammar.proofs.exported.Headline.{runs_whole}
+use Rattle.libyaml_grammar.proofs.exported.Nesting.{events_nest_proof}
+use Rattle.libyaml_grammar.proofs.exported.NestingSoFar.{run_nests_so_far}
+use Rattle.libyaml_grammar.proofs.exported.Running.{amid_run, begin_run, partial_run, one_run_proof, valid_list_run, some_run_proof}
 use Rattle.libyaml_documents.specs.Nodes.{EveryIdNamesANode}
 use Rattle.libyaml_graphs.specs.graphs.ComposerFaults.{composer_fault}
 use Rattle.libyaml_graphs.specs.loads.GraphLaws.{EachIdNames, LoadsWhole, NestedLoads, fault_or, has_begun, not_begun, open_load, whole}

@@ -14,9 +14,9 @@ use Rattle.libyaml_graphs.specs.graphs.ComposerFaults.{composer_fault}
 use Rattle.libyaml_graphs.specs.graphs.Graphs.{nodes_of}
 use Rattle.libyaml_graphs.specs.graphs.GraphParts.{Closing, Opening, Part, closing_of, graph, part_of, parts, with_part}
 use Rattle.libyaml_graphs.specs.loads.Loads.{Begun, Load, begun, begun_behind, end_of_document, last_load, load_then, loads, loads_by, loads_of}
-use Rattle.libyaml_grammar.proofs.lent.Splits.{value_splits}
+use Rattle.libyaml_grammar.proofs.exported.Splits.{value_splits}
 use Rattle.libyaml_graphs.proofs.graphs.TreeGraphs.{value_graph}
-use Rattle.libyaml_graphs.proofs.lent.Roots.{value_keeps}
+use Rattle.libyaml_graphs.proofs.exported.Roots.{value_keeps}
 
 -- a value ends no document
 pub value_closing : (v : Value) (r : List Event) → end_of_document (value_events v r) ≡ end_of_document r

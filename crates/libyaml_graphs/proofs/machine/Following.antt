@@ -6,7 +6,7 @@ use Rattle.std.specs.Cmp.Lexicographic.{nat_list_cmp_total}
 use Rattle.std.specs.FinMap.{get, insert, get-from_entries}
 use Rattle.libyaml_types.specs.Fault.{Fault}
 use Rattle.libyaml_grammar.specs.grammar.Tokens.{Mark}
-use Rattle.libyaml_grammar.proofs.lent.TextMaps.{inserted}
+use Rattle.libyaml_grammar.proofs.exported.TextMaps.{inserted}
 use Rattle.libyaml_documents.specs.LoadedNodes.{with_end}
 use Rattle.libyaml_documents.specs.Nodes.{changed_at}
 use Rattle.libyaml_documents.specs.declared.node.yaml_node_t.{yaml_node_t}

@@ -6,15 +6,15 @@ use Rattle.libyaml_grammar.specs.partial.PartialFaults.{fault}
 use Rattle.libyaml_grammar.specs.partial.PartialTrees.{PartialTree}
 use Rattle.libyaml_grammar.specs.grammar.Events.{events}
 use Rattle.libyaml_types.specs.Fault.{Fault}
-use Rattle.libyaml_grammar.proofs.lent.Positions.{Position, done, unopened}
-use Rattle.libyaml_grammar.proofs.lent.Reading.{bad, goes, reads, reads_all}
+use Rattle.libyaml_grammar.proofs.exported.Positions.{Position, done, unopened}
+use Rattle.libyaml_grammar.proofs.exported.Reading.{bad, goes, reads, reads_all}
 use Rattle.libyaml_grammar.specs.runs.Runs.{Ends, Fails, is_behind_properties}
 use Rattle.libyaml_grammar.specs.grammar.ValidLists.{has_end}
 use Rattle.libyaml_grammar.specs.partial.DeterminedEvents.{sure}
 use Rattle.libyaml_grammar.specs.grammar.Tokens.{Token}
 use Rattle.libyaml_grammar.specs.grammar.Trees.{Stream}
-use Rattle.libyaml_grammar.proofs.lent.ReadSteps.{front}
-use Rattle.libyaml_grammar.proofs.lent.RowKinds.{begin_row, partial_row, valid_list_row}
+use Rattle.libyaml_grammar.proofs.exported.ReadSteps.{front}
+use Rattle.libyaml_grammar.proofs.exported.RowKinds.{begin_row, partial_row, valid_list_row}
 use Rattle.libyaml_graphs.specs.loads.Bounds.{IsBoundedLoads, bounded_loads}
 use Rattle.libyaml_graphs.specs.loads.Loads.{IsLoads, Load, loads}
 

@@ -25,7 +25,7 @@ use Rattle.libyaml_composer.specs.Held as held
 use Rattle.libyaml_composer.specs.Held.{Held, IsRefused, anchor_in, anchored, anchored_by, applied_part, event_fact, fault_part, open_of, with_made_node}
 use Rattle.libyaml_composer.specs.Numbers.{is_set, is_id}
 use Rattle.libyaml_composer.specs.Standing.{IsNode, IsPart, PutsNode, Standing, TakesOneMore}
-use Rattle.libyaml_composer.proofs.lent.Follows.{Follows, Puts, fails, follows, full, goes}
+use Rattle.libyaml_composer.proofs.exported.Follows.{Follows, Puts, fails, follows, full, goes}
 use Rattle.libyaml_loader.specs.declared.context.loader_ctx.{loader_ctx}
 use Rattle.libyaml_graphs.specs.graphs.ComposerFaults.{repeated_anchor}
 use Rattle.libyaml_loader.specs.document.Context.{Decided, Grows, IsListed, Refuses, ComposerMatches, held_of, loader_of, opening_of_document, IsEvent, Named, refusal_of}

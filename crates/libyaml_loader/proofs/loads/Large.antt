@@ -8,7 +8,7 @@ use Rattle.libyaml_events.specs.machine.Config.{Parser}
 use Rattle.libyaml_graphs.specs.loads.Bounds.{first_stop, next_bounded}
 use Rattle.libyaml_graphs.specs.loads.Linear.{size}
 use Rattle.libyaml_graphs.specs.loads.Loads.{left_over}
-use Rattle.libyaml_graphs.proofs.lent.RunLoads.{next_linear}
+use Rattle.libyaml_graphs.proofs.exported.RunLoads.{next_linear}
 use Rattle.libyaml_events.specs.sources.CallsInTurn.{Took}
 use Rattle.libyaml_loader.specs.loads.Loading.{DocumentOrError, LoadsFrom, at_end, whole}
 

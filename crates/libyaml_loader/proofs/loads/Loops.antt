@@ -5,16 +5,16 @@ use Rattle.libyaml_documents.specs.Documents.{Document}
 use Rattle.libyaml_events.specs.machine.Config.{Parser}
 use Rattle.libyaml_events.specs.sources.History.{History, kept_fault}
 use Rattle.libyaml_events.specs.sources.RunToCome.{RunToCome, UnlessBroken, breaks, does, no_memory}
-use Rattle.libyaml_events.proofs.lent.Histories as histories
+use Rattle.libyaml_events.proofs.exported.Histories as histories
 use Rattle.libyaml_grammar.specs.runs.Runs.{Ending, Ends, Fails}
 use Rattle.libyaml_grammar.specs.grammar.Events.{Event}
 use Rattle.libyaml_grammar.specs.grammar.Tokens.{Token}
-use Rattle.libyaml_grammar.proofs.lent.NestingSoFar.{run_nests_so_far}
+use Rattle.libyaml_grammar.proofs.exported.NestingSoFar.{run_nests_so_far}
 use Rattle.libyaml_graphs.specs.loads.Bounds.{IsBoundedLoads, bounded_loads, next_bounded}
 use Rattle.libyaml_graphs.specs.loads.GraphLaws.{RootsFollow}
 use Rattle.libyaml_graphs.specs.loads.Loads.{Load, last_load, left_over}
-use Rattle.libyaml_graphs.proofs.lent.Roots as roots
-use Rattle.libyaml_graphs.proofs.lent.Roots.{earlier_of, last_of, left_roots, roots_follow}
+use Rattle.libyaml_graphs.proofs.exported.Roots as roots
+use Rattle.libyaml_graphs.proofs.exported.Roots.{earlier_of, last_of, left_roots, roots_follow}
 use Rattle.libyaml_loader.specs.document.Ids.{magnitude}
 use Rattle.libyaml_loader.specs.loads.Loading.{DocumentOrError}
 use Rattle.libyaml_loader.specs.loads.LoadsInTurn.{AreLoadsOf, LoopYields, YieldsDocument, cut_short, document, fault, no_item, whole}

@@ -8,7 +8,7 @@ use Rattle.libyaml_types.specs.Fault.{Fault}
 use Rattle.libyaml_events.specs.sources.History.{is_over, has_failed, kept_fault}
 use Rattle.libyaml_grammar.specs.runs.Runs.{Ending}
 use Rattle.libyaml_events.specs.sources.RunToCome.{FailsHere, RestOfRun, RunToCome, UnlessBroken, breaks, does, no_memory}
-use Rattle.libyaml_events.proofs.lent.Histories as histories
+use Rattle.libyaml_events.proofs.exported.Histories as histories
 use Rattle.libyaml_types.specs.declared.source.yaml_token_source_t.{Ghosts}
 use Rattle.libyaml_graphs.specs.loads.Loads.{Load, last_load}
 use Rattle.libyaml_loader.specs.loads.Loading.{DocumentOrError, LoadsFrom, at_end, by_loader, by_memory, by_parser, whole}

@@ -13,8 +13,8 @@ use Rattle.libyaml_graphs.specs.loads.Bounds.{next_bounded}
 use Rattle.libyaml_graphs.specs.graphs.GraphParts.{Closing, Opening, closing_of}
 use Rattle.libyaml_graphs.specs.loads.Loads.{document, last_load, left_over}
 use Rattle.libyaml_graphs.specs.machine.Loader.{Loader, State, between, left_from, load_from, within}
-use Rattle.libyaml_graphs.proofs.lent.BoundedLoader.{one_load}
-use Rattle.libyaml_graphs.proofs.lent.LoaderSteps.{closes, closes_left, nothing_left}
+use Rattle.libyaml_graphs.proofs.exported.BoundedLoader.{one_load}
+use Rattle.libyaml_graphs.proofs.exported.LoaderSteps.{closes, closes_left, nothing_left}
 use Rattle.libyaml_events.specs.sources.CallsInTurn.{Took}
 use Rattle.libyaml_loader.specs.loads.Loading.{LoadFails, LoadsFrom, ParserFails, at_end, by_loader, by_memory, by_parser, whole}
 use Rattle.libyaml_loader.specs.pushes.Composing as composing
@@ -22,9 +22,9 @@ use Rattle.libyaml_loader.specs.pushes.Composing.{RefusesEvent}
 use Rattle.libyaml_graphs.specs.loads.Leads.{Leads}
 use Rattle.libyaml_loader.specs.pushes.LoadMemory.{for_document, for_node}
 use Rattle.libyaml_loader.proofs.loads.Reaching.{left_by, load_by, load_of_first}
-use Rattle.libyaml_events.proofs.lent.Taking.{took_both, took_none}
+use Rattle.libyaml_events.proofs.exported.Taking.{took_both, took_none}
 use Rattle.libyaml_loader.proofs.loads.Taking.{FindsEnd}
-use Rattle.libyaml_graphs.proofs.lent.Leading.{leads_both, leads_none}
+use Rattle.libyaml_graphs.proofs.exported.Leading.{leads_both, leads_none}
 
 none_left : (s : State) → left_from s [] ≡ []
 none_left between = refl

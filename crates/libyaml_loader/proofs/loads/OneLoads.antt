@@ -14,11 +14,11 @@ use Rattle.libyaml_events.specs.sources.Determined.{AnswersOneWay, OneBegins}
 use Rattle.libyaml_events.specs.sources.History.{History, answers, kept_fault}
 use Rattle.libyaml_events.specs.sources.Needs.{EachNeeded}
 use Rattle.libyaml_events.specs.sources.Parsing.{Cause, FailsBy, of_memory, of_grammar, of_source}
-use Rattle.libyaml_events.proofs.lent.CallsInTurn.{gave_then}
-use Rattle.libyaml_grammar.proofs.lent.Injectivity.{err_same, fault_same, ok_not_err, ok_same, tail_same}
-use Rattle.libyaml_events.proofs.lent.OneOutcome.{before_last, prefix_same, one_source_proof, ran_once}
-use Rattle.libyaml_events.proofs.lent.RunStops.{RunStop, answers_both, begins_stopped, ended_stop, grammar_stop, one_run_by_answers, source_stop, taken_comparable, token_prefix}
-use Rattle.libyaml_events.proofs.lent.Histories as histories
+use Rattle.libyaml_events.proofs.exported.CallsInTurn.{gave_then}
+use Rattle.libyaml_grammar.proofs.exported.Injectivity.{err_same, fault_same, ok_not_err, ok_same, tail_same}
+use Rattle.libyaml_events.proofs.exported.OneOutcome.{before_last, prefix_same, one_source_proof, ran_once}
+use Rattle.libyaml_events.proofs.exported.RunStops.{RunStop, answers_both, begins_stopped, ended_stop, grammar_stop, one_run_by_answers, source_stop, taken_comparable, token_prefix}
+use Rattle.libyaml_events.proofs.exported.Histories as histories
 use Rattle.libyaml_graphs.specs.loads.Loads.{Load, last_load}
 use Rattle.libyaml_loader.specs.loads.Loading.{DocumentOrError, LoadsFrom, at_end, by_loader, by_memory, by_parser, whole}
 use Rattle.libyaml_loader.specs.loads.OneLoad.{LoadRunsOut, in_parser, in_loader, LoadsAlike, OneLoad, alike, first_runs_out, second_runs_out, OneLoadByAnswers, LoadOutcome, results_in, load_results_of}

@@ -9,10 +9,10 @@ use Rattle.libyaml_graphs.specs.graphs.GraphParts.{Closing, Opening, closing_of,
 use Rattle.libyaml_graphs.specs.loads.Bounds.{bounded_loads, first_stop}
 use Rattle.libyaml_graphs.specs.loads.Loads.{Begun, Load, Stop, load_answer, begun, behind_document, end_of_document, last_load, load_then, loads_by, next_by}
 use Rattle.libyaml_graphs.specs.machine.Loader.{Loading, State, between, bounded_option, failed, fresh, going, left_from, load_from, within}
-use Rattle.libyaml_graphs.proofs.lent.BoundedLoader.{one_load}
-use Rattle.libyaml_graphs.proofs.lent.LoaderSteps.{goes_on_left, opens_left, passes_left}
+use Rattle.libyaml_graphs.proofs.exported.BoundedLoader.{one_load}
+use Rattle.libyaml_graphs.proofs.exported.LoaderSteps.{goes_on_left, opens_left, passes_left}
 use Rattle.libyaml_graphs.specs.loads.Leads.{Leads, behind_events, loads_from, whole_then}
-use Rattle.libyaml_graphs.proofs.lent.Leading.{closes_there, from_none, goes_there, opens_there, passes_by, refused_there}
+use Rattle.libyaml_graphs.proofs.exported.Leading.{closes_there, from_none, goes_there, opens_there, passes_by, refused_there}
 
 -- a load is the first of the loads to come
 abbrev first : List Load → Load

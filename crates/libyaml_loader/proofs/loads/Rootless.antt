@@ -7,12 +7,12 @@ use Rattle.libyaml_grammar.specs.grammar.Events.{Event}
 use Rattle.libyaml_types.specs.Fault.{Fault, memory_fault}
 use Rattle.libyaml_grammar.specs.runs.Runs.{Fails}
 use Rattle.libyaml_events.specs.sources.History.{ForHistory}
-use Rattle.libyaml_events.proofs.lent.Histories as histories
+use Rattle.libyaml_events.proofs.exported.Histories as histories
 use Rattle.libyaml_types.specs.declared.source.yaml_token_source_t.{Ghosts}
 use Rattle.libyaml_graphs.specs.loads.Bounds.{next_bounded}
 use Rattle.libyaml_graphs.specs.loads.Loads.{Load, left_over}
-use Rattle.libyaml_graphs.proofs.lent.LoadLists.{roots_behind}
-use Rattle.libyaml_graphs.proofs.lent.Roots.{last_of, roots_follow}
+use Rattle.libyaml_graphs.proofs.exported.LoadLists.{roots_behind}
+use Rattle.libyaml_graphs.proofs.exported.Roots.{last_of, roots_follow}
 use Rattle.libyaml_loader.specs.loads.Loading.{DocumentOrError, HasEnded, Loads, LoadsFrom, at_end, whole}
 
 no_fault : {f : Fault} {d : Document} → ◌≡◌ {A = Load} (Err f) (Ok d) → ⊥

@@ -21,9 +21,9 @@ use Rattle.libyaml_types.specs.declared.source.yaml_token_source_t.{Ghosts}
 use Rattle.libyaml_events.specs.parsers.OutsideEvents.{is_outside_event}
 use Rattle.libyaml_events.specs.parsers.Stages.{is_event}
 use Rattle.libyaml_grammar.specs.grammar.Tokens.{Token}
-use Rattle.libyaml_events.proofs.lent.Histories as histories
-use Rattle.libyaml_events.proofs.lent.KnownTokens.{fails_here}
-use Rattle.libyaml_events.proofs.lent.Taking.{took_none, took_one}
+use Rattle.libyaml_events.proofs.exported.Histories as histories
+use Rattle.libyaml_events.proofs.exported.KnownTokens.{fails_here}
+use Rattle.libyaml_events.proofs.exported.Taking.{took_none, took_one}
 use Rattle.libyaml_graphs.specs.graphs.GraphParts.{Closing, closing_in, closing_of}
 use Rattle.libyaml_loader.specs.loads.Loading.{HasEnded, ParserFails}
 

@@ -9,7 +9,7 @@ use Rattle.libyaml_loader.specs.declared.composer.Composer.{Composer}
 use Rattle.libyaml_loader.specs.pushes.Composing.{Composes, IsSound, RefusesEvent, RefusesOneOf, by_loads, by_memory, composer_state}
 use Rattle.libyaml_graphs.specs.loads.Leads.{Leads}
 use Rattle.libyaml_loader.specs.pushes.LoadMemory.{NeedsMemoryAt, for_document, for_node}
-use Rattle.libyaml_graphs.proofs.lent.Leading.{leads_both}
+use Rattle.libyaml_graphs.proofs.exported.Leading.{leads_both}
 
 -- of some events the first were composed, and these are left
 pub record InTurn (old : Composer) (events : List Event) (before : List Document) (now : Composer)

@@ -7,21 +7,21 @@ use Rattle.libyaml_grammar.specs.runs.Runs.{Ends}
 use Rattle.libyaml_grammar.specs.grammar.Events.{Event}
 use Rattle.libyaml_grammar.specs.grammar.ValidLists.{has_end}
 use Rattle.libyaml_grammar.specs.grammar.Tokens.{Token}
-use Rattle.libyaml_grammar.proofs.lent.Running.{one_run_proof}
-use Rattle.libyaml_grammar.proofs.lent.Injectivity.{err_same, ok_not_err}
+use Rattle.libyaml_grammar.proofs.exported.Running.{one_run_proof}
+use Rattle.libyaml_grammar.proofs.exported.Injectivity.{err_same, ok_not_err}
 use Rattle.libyaml_documents.specs.Documents.{Document}
 use Rattle.libyaml_events.specs.sources.Pushed.{PushParser}
 use Rattle.libyaml_events.specs.sources.Pushes.{Done}
-use Rattle.libyaml_events.proofs.lent.Pushes.{one_pushed}
+use Rattle.libyaml_events.proofs.exported.Pushes.{one_pushed}
 use Rattle.libyaml_graphs.specs.loads.Bounds.{IsBoundedLoads, bounded_loads}
 use Rattle.libyaml_graphs.specs.loads.Loads.{Load, last_load}
 use Rattle.libyaml_graphs.specs.machine.Loader.{State, between}
-use Rattle.libyaml_graphs.proofs.lent.LoadLists.{same_loads}
+use Rattle.libyaml_graphs.proofs.exported.LoadLists.{same_loads}
 use Rattle.libyaml_graphs.specs.loads.Leads.{Leads, as_loads, loads_from}
 use Rattle.libyaml_loader.specs.pushes.Loaded.{Loaded, PushLoader, loader_fault, loader_has_stopped, standing_loader}
 use Rattle.libyaml_loader.specs.pushes.OnePushLoads.{OnePushLoads, PushLoadsAlike, PushLoadsRunOut, alike, first_runs_out, second_runs_out}
 use Rattle.libyaml_loader.specs.pushes.PushesLoads.{AreThen, PushesLoads, StopsLoading, TakesLoads, by_memory, by_tokens}
-use Rattle.libyaml_graphs.proofs.lent.Leading.{from_none}
+use Rattle.libyaml_graphs.proofs.exported.Leading.{from_none}
 
 one_loads : (n : ℕ) (l : List Token) (f : Fault) (a b : List Load) → IsBoundedLoads n l f a
     → IsBoundedLoads n l f b → a ≡ b

@@ -9,12 +9,12 @@ use Rattle.libyaml_grammar.specs.runs.Runs.{Ending, Ends, Fails, IsRun}
 use Rattle.libyaml_grammar.specs.grammar.Events.{Event}
 use Rattle.libyaml_grammar.specs.grammar.ValidLists.{has_end}
 use Rattle.libyaml_grammar.specs.grammar.Tokens.{Token}
-use Rattle.libyaml_grammar.proofs.lent.Running.{one_run_proof, some_run_proof}
+use Rattle.libyaml_grammar.proofs.exported.Running.{one_run_proof, some_run_proof}
 use Rattle.libyaml_graphs.specs.loads.Bounds.{IsBoundedLoads, bounded_loads, first_stop}
 use Rattle.libyaml_graphs.specs.loads.Linear.{documents_size}
 use Rattle.libyaml_graphs.specs.loads.Loads.{Load, last_load}
 use Rattle.libyaml_graphs.specs.machine.Loader.{State, between}
-use Rattle.libyaml_graphs.proofs.lent.RunLoads.{first_linear}
+use Rattle.libyaml_graphs.proofs.exported.RunLoads.{first_linear}
 use Rattle.libyaml_events.specs.machine.Config.{Config, is_fault}
 use Rattle.libyaml_events.specs.machine.Want.{Want}
 use Rattle.libyaml_events.specs.sources.Determined.{BeginsEachRun}
@@ -22,15 +22,15 @@ use Rattle.libyaml_events.specs.sources.Pushed as pushed
 use Rattle.libyaml_events.specs.sources.Pushed.{PushParser}
 use Rattle.libyaml_events.specs.sources.Pushes as pushes
 use Rattle.libyaml_events.specs.sources.Pushes.{Done, NeedsMemory, Pushes, Stops, Takes, done_by, for_event, for_step}
-use Rattle.libyaml_events.proofs.lent.Pushes.{fed_begins_run, fed_count, fed_ended, fed_faultless, fed_determined, fed_whole}
-use Rattle.libyaml_events.proofs.lent.RunStops.{short_run, whole_run}
+use Rattle.libyaml_events.proofs.exported.Pushes.{fed_begins_run, fed_count, fed_ended, fed_faultless, fed_determined, fed_whole}
+use Rattle.libyaml_events.proofs.exported.RunStops.{short_run, whole_run}
 use Rattle.libyaml_loader.specs.pushes.Composing as comp
 use Rattle.libyaml_loader.specs.pushes.Composing.{Composes, RefusesEvent, RefusesOneOf, by_loads, by_memory as no_memory, state_by, composer_state}
 use Rattle.libyaml_graphs.specs.loads.Leads.{Leads, as_loads, loads_from}
 use Rattle.libyaml_loader.specs.pushes.Loaded.{ForLoaded, Loaded, PushLoader, RemembersLoads, loader_has_stopped, loader_keeps_fault, standing_loader}
 use Rattle.libyaml_loader.specs.pushes.PushesLoads.{AreThen, BeginsEachLoads, PushesLoads, StopsLoading, by_memory, by_tokens, in_loader, in_parser}
 use Rattle.libyaml_loader.specs.declared.composer.Composer.{Composer}
-use Rattle.libyaml_graphs.proofs.lent.Leading.{from_none, leads_both}
+use Rattle.libyaml_graphs.proofs.exported.Leading.{from_none, leads_both}
 
 -- the loads of a run whose events are these
 pub are_then : (n : ℕ) (tokens : List Token) (source : Fault) (events : List Event) (x : Ending)

@@ -29,7 +29,7 @@ use Rattle.libyaml_loader.specs.pushes.Composing.{Composes, ComposesEvent, IsSou
 use Rattle.libyaml_graphs.specs.loads.Leads.{Leads}
 use Rattle.libyaml_loader.specs.pushes.LoadMemory.{for_document, for_node}
 use Rattle.libyaml_loader.proofs.pushes.InTurn.{refuses_more}
-use Rattle.libyaml_graphs.proofs.lent.Leading.{leads_none, opens_there, refused_there}
+use Rattle.libyaml_graphs.proofs.exported.Leading.{leads_none, opens_there, refused_there}
 
 -- a new context stands at a fresh machine
 context_is_fresh : (c : loader_ctx) (o : parts.Opening) → c.document ≡ begun_document o.start o.mark

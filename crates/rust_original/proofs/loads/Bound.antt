@@ -14,7 +14,7 @@ use Rattle.libyaml_graphs.specs.graphs.GraphParts.{Part, alias_part, end_part, l
 use Rattle.libyaml_graphs.specs.graphs.Graphs.{Carrier}
 use Rattle.libyaml_graphs.specs.machine.Loader.{content_full, list_full, no_anchors, node_full}
 use Rattle.libyaml_graphs.specs.machine.Loader as machine
-use Rattle.libyaml_graphs.proofs.lent.Building.{AllLess, Falls, Less, key_in, loader_of, stack_of, AllHas, Built, Has, Held, nodes_in}
+use Rattle.libyaml_graphs.proofs.exported.Building.{AllLess, Falls, Less, key_in, loader_of, stack_of, AllHas, Built, Has, Held, nodes_in}
 use Rattle.rust_original.specs.loader.Loader as orig
 use Rattle.rust_original.specs.loader.Loader.{FAIL, LoaderResult, OK, alias_of, yaml_alias_data_t}
 use Rattle.rust_original.proofs.loads.Halves.{AllSound, Sound, halves, last_waits, none_waits, with_half}

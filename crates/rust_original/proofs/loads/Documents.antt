@@ -13,9 +13,9 @@ use Rattle.libyaml_graphs.specs.graphs.Graphs.{Start}
 use Rattle.libyaml_graphs.specs.machine.Loader.{no_anchors}
 use Rattle.libyaml_graphs.specs.loads.Loads.{Load, behind_document, document, end_of_document, last_load, load_then}
 use Rattle.libyaml_graphs.specs.loads.Bounds.{first_stop, if_above, if_wrong, list_sizes, one_above}
-use Rattle.libyaml_graphs.proofs.lent.BoundedLoader.{Within, all_begin_more, held_so_far, reaches}
-use Rattle.libyaml_graphs.proofs.lent.Building.{graph_sizes, list_grows, sizes, build_stands, BeginsEmpty, Built, Held, build}
-use Rattle.libyaml_graphs.proofs.lent.Building as built
+use Rattle.libyaml_graphs.proofs.exported.BoundedLoader.{Within, all_begin_more, held_so_far, reaches}
+use Rattle.libyaml_graphs.proofs.exported.Building.{graph_sizes, list_grows, sizes, build_stands, BeginsEmpty, Built, Held, build}
+use Rattle.libyaml_graphs.proofs.exported.Building as built
 use Rattle.rust_original.specs.loader.Loader as orig
 use Rattle.rust_original.specs.loader.Loader.{FAIL, LoaderResult, OK, yaml_alias_data_t}
 use Rattle.rust_original.proofs.loads.Halves.{AllSound, halves}

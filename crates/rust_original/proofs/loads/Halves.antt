@@ -7,7 +7,7 @@ use Rattle.libyaml_documents.specs.declared.node.yaml_node_t.{yaml_node_t}
 use Rattle.libyaml_documents.specs.declared.pairs.yaml_node_pair_t.{yaml_node_pair_t}
 use Rattle.libyaml_grammar.specs.grammar.Tokens.{Mark}
 use Rattle.libyaml_graphs.specs.machine.Loader.{content_and_child, key_behind}
-use Rattle.libyaml_graphs.proofs.lent.Building.{Held, change, end_at, hold}
+use Rattle.libyaml_graphs.proofs.exported.Building.{Held, change, end_at, hold}
 use Rattle.rust_original.specs.loader.Loader as orig
 use Rattle.rust_original.specs.loader.Loader.{with_value}
 

@@ -8,10 +8,10 @@ use Rattle.libyaml_grammar.specs.grammar.Nesting.{AllHavePairs, HasPairs, Value,
 use Rattle.libyaml_grammar.specs.grammar.Trees.{mapping, sequence}
 use Rattle.libyaml_graphs.specs.graphs.GraphParts.{children, parts}
 use Rattle.libyaml_graphs.specs.graphs.Graphs.{Start, ids_of_all, starts_behind, starts_behind_all}
-use Rattle.libyaml_graphs.proofs.lent.Building.{even_list, ids_even, values_children, Held, nodes_in}
+use Rattle.libyaml_graphs.proofs.exported.Building.{even_list, ids_even, values_children, Held, nodes_in}
 use Rattle.libyaml_documents.specs.declared.node.unnamed_yaml_node_t_data_mapping.{unnamed_yaml_node_t_data_mapping}
 use Rattle.libyaml_documents.specs.declared.node.unnamed_yaml_node_t_data_sequence.{unnamed_yaml_node_t_data_sequence}
-use Rattle.libyaml_graphs.proofs.lent.Building as built
+use Rattle.libyaml_graphs.proofs.exported.Building as built
 use Rattle.rust_original.proofs.loads.Halves.{halves, with_half}
 
 -- at a document's end no key waits

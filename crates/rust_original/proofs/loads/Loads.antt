@@ -12,9 +12,9 @@ use Rattle.libyaml_grammar.specs.grammar.Trees.{mapping, sequence}
 use Rattle.libyaml_graphs.specs.graphs.GraphParts.{Closing, Opening, graph, parts}
 use Rattle.libyaml_graphs.specs.loads.Loads.{Load, begun_behind, behind_document, end_of_document, last_load, load_then, loads_by}
 use Rattle.libyaml_graphs.specs.loads.Bounds.{bounded_loads, first_stop}
-use Rattle.libyaml_graphs.proofs.lent.BoundedLoader.{within_unbuilt}
-use Rattle.libyaml_graphs.proofs.lent.Building.{prefix_closes, value_behind, unbuilt}
-use Rattle.libyaml_graphs.proofs.lent.Building as built
+use Rattle.libyaml_graphs.proofs.exported.BoundedLoader.{within_unbuilt}
+use Rattle.libyaml_graphs.proofs.exported.Building.{prefix_closes, value_behind, unbuilt}
+use Rattle.libyaml_graphs.proofs.exported.Building as built
 use Rattle.libyaml_types.specs.declared.event.unnamed_yaml_event_t_data_document_start.{unnamed_yaml_event_t_data_document_start}
 use Rattle.rust_original.specs.loader.Loader as orig
 use Rattle.rust_original.proofs.loads.Halves.{halves}

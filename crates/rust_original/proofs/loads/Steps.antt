@@ -12,7 +12,7 @@ use Rattle.libyaml_graphs.specs.graphs.ComposerFaults.{alias_fault, anchor_fault
 use Rattle.libyaml_documents.specs.LoadedNodes.{mapping_loaded, scalar_loaded, sequence_loaded}
 use Rattle.libyaml_graphs.specs.graphs.GraphParts.{Part, alias_part, behind, end_part, part_in, carrier_start}
 use Rattle.libyaml_graphs.specs.graphs.Graphs.{Carrier, Start, carrier, carries, id_or}
-use Rattle.libyaml_graphs.proofs.lent.Building.{Built, Held, bare, build, hold_top}
+use Rattle.libyaml_graphs.proofs.exported.Building.{Built, Held, bare, build, hold_top}
 use Rattle.rust_original.specs.loader.Loader as orig
 use Rattle.rust_original.specs.loader.Loader.{FAIL, LoaderResult, OK, alias_of, yaml_alias_data_t}
 use Rattle.rust_original.proofs.loads.Halves.{AllSound, Sound, end_sound, ended_there, half, halves, held_there, hold_sound}

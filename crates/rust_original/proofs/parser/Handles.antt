@@ -6,7 +6,7 @@ use Rattle.std.specs.Cmp.Lexicographic as lex
 use Rattle.std.specs.FinMap.{get, insert, get-from_entries}
 use Rattle.libyaml_types.specs.declared.directive.yaml_tag_directive_t.{yaml_tag_directive_t}
 use Rattle.libyaml_grammar.specs.grammar.Tokens.{Mark}
-use Rattle.libyaml_grammar.proofs.lent.TextMaps.{inserted}
+use Rattle.libyaml_grammar.proofs.exported.TextMaps.{inserted}
 use Rattle.libyaml_events.specs.machine.Config.{Handles, no_handles}
 use Rattle.libyaml_events.specs.machine.Machine.{or_default}
 use Rattle.rust_original.specs.parser.Parser.{ParserResult, OriginalParser, default_tag_directives, directive_named, yaml_parser_append_tag_directive}

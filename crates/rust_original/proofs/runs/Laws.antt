@@ -5,7 +5,7 @@ use Rattle.libyaml_grammar.specs.runs.Runs.{Ending, Ends, IsRun}
 use Rattle.libyaml_grammar.specs.grammar.Events.{Event}
 use Rattle.libyaml_grammar.specs.grammar.Nesting.{IsNested, NestsSoFar}
 use Rattle.libyaml_grammar.specs.grammar.Tokens.{Token}
-use Rattle.libyaml_grammar.proofs.lent.Running.{one_run_proof}
+use Rattle.libyaml_grammar.proofs.exported.Running.{one_run_proof}
 use Rattle.rust_original.specs.parser.Differences.{Differs, call_here}
 use Rattle.rust_original.specs.parser.Parser.{Mends, OriginalParser}
 use Rattle.rust_original.specs.parser.Runs.{Runs, RunsThere, as_here, as_there, call, new_original_parser}

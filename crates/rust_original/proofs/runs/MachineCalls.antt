@@ -9,9 +9,9 @@ use Rattle.libyaml_events.specs.machine.Machine.{Progressed, step}
 use Rattle.libyaml_events.specs.machine.Want.{AtState, Given, Want, Wants}
 use Rattle.libyaml_events.specs.sources.History.{is_stream_end}
 use Rattle.libyaml_events.specs.sources.Pushed.{Fed}
-use Rattle.libyaml_events.proofs.lent.Pushes as pushed
-use Rattle.libyaml_events.proofs.lent.Pushes.{fault_runs, fed_ended, fed_determined, gives_end, wants_runs}
-use Rattle.libyaml_events.proofs.lent.RunStops.{short_run}
+use Rattle.libyaml_events.proofs.exported.Pushes as pushed
+use Rattle.libyaml_events.proofs.exported.Pushes.{fault_runs, fed_ended, fed_determined, gives_end, wants_runs}
+use Rattle.libyaml_events.proofs.exported.RunStops.{short_run}
 use Rattle.rust_original.proofs.parser.Relation.{HereCall, feed, given, led, stopped, tokens_of}
 
 module _ (f : Fault) where

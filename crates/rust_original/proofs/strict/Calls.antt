@@ -15,7 +15,7 @@ use Rattle.libyaml_automaton.specs.declared.difference.Difference.TheVariants.{N
 use Rattle.libyaml_events.specs.machine.Config.{Config, Handles, config_with, is_end_state, no_handles, start}
 use Rattle.libyaml_events.specs.machine.Machine.{declared_by, fault_with}
 use Rattle.libyaml_events.specs.machine.Want.{AtState, Texts, Want, no_texts}
-use Rattle.libyaml_events.proofs.lent.Pushes.{fed_ended, hand_runs, wants_runs}
+use Rattle.libyaml_events.proofs.exported.Pushes.{fed_ended, hand_runs, wants_runs}
 use Rattle.token_steps.specs.Records.{event_of, shape_of, step_fault}
 use Rattle.token_steps.specs.RunLaws.{want_with}
 use Rattle.token_steps.specs.Runs.{Run, StepCalls, begins, gave, moves, stays, takes, wants}
@@ -23,7 +23,7 @@ use Rattle.token_steps.specs.Texts.{event_with, handles_past, kept_behind}
 use Rattle.token_steps.specs.declared.records.step_event_t.{step_event_t}
 use Rattle.token_steps.specs.declared.records.step_fault_t.{step_fault_t}
 use Rattle.token_steps.specs.declared.steps.steps_t.{steps_t}
-use Rattle.token_steps.proofs.lent.Runs.{fed, step_fails, step_gives, step_stays, step_wants}
+use Rattle.token_steps.proofs.exported.Runs.{fed, step_fails, step_gives, step_stays, step_wants}
 use Rattle.rust_original.specs.parser.Strict as strict
 use Rattle.rust_original.specs.parser.Strict.{Over, Stopped, StrictEnding, StrictFrom, to_come}
 use Rattle.rust_original.specs.parser.StrictCalls.{IsAsked, differs_with, innermost}

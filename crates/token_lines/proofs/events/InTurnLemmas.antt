@@ -10,7 +10,7 @@ use Rattle.libyaml_types.specs.declared.token.yaml_token_t.{yaml_token_t}
 use Rattle.libyaml_events.specs.machine.Config.{Parser}
 use Rattle.libyaml_events.specs.sources.History.{History, is_over, is_stream_end}
 use Rattle.libyaml_types.specs.Fault.{Answer, Fault}
-use Rattle.libyaml_events.proofs.lent.CallsInTurn.{both_calls, no_call, one_call}
+use Rattle.libyaml_events.proofs.exported.CallsInTurn.{both_calls, no_call, one_call}
 use Rattle.token_lines.specs.events.InTurn.{AllWritten, CallSays, WrittenInTurn, gave_event, failed}
 
 module _ {S : Type 0} (text : yaml_event_t → List ℕ) (gives : S → Answer → S → Type 0) where

@@ -11,8 +11,8 @@ use Rattle.libyaml_events.specs.parsers.Stages.{is_event}
 use Rattle.libyaml_events.specs.sources.Calls.{EventOrError}
 use Rattle.libyaml_events.specs.sources.History.{is_over}
 use Rattle.libyaml_events.specs.sources.RunToCome.{FailsHere, RunToCome}
-use Rattle.libyaml_events.proofs.lent.CallsInTurn.{both_calls, one_call}
-use Rattle.libyaml_events.proofs.lent.KnownTokens.{fails_behind, further, nothing_behind_end}
+use Rattle.libyaml_events.proofs.exported.CallsInTurn.{both_calls, one_call}
+use Rattle.libyaml_events.proofs.exported.KnownTokens.{fails_behind, further, nothing_behind_end}
 use Rattle.libyaml_grammar.specs.runs.Runs.{Ending, Ends, Fails}
 use Rattle.libyaml_types.specs.declared.fault.yaml_parser_t_prefix.{yaml_parser_t_prefix}
 use Rattle.libyaml_types.specs.Fault.{Answer, Fault, fault_of}

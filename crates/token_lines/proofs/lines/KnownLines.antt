@@ -6,7 +6,7 @@ use Rattle.libyaml_types.specs.Fault.{Fault}
 use Rattle.libyaml_grammar.specs.runs.Runs.{Ending, IsRun}
 use Rattle.libyaml_types.specs.Source.{coming}
 use Rattle.libyaml_graphs.specs.loads.Bounds.{bounded_loads}
-use Rattle.libyaml_graphs.proofs.lent.BoundedPrefixes.{prefix_of_loads}
+use Rattle.libyaml_graphs.proofs.exported.BoundedPrefixes.{prefix_of_loads}
 use Rattle.line_reading.specs.sources.LineSource.{coming_of}
 use Rattle.token_lines.specs.declared.run.run_end_t.{run_end_t}
 use Rattle.token_lines.specs.events.EventRun.{IsRunOf, most_tokens}

@@ -10,10 +10,10 @@ use Rattle.libyaml_events.specs.sources.Determined.{OneBegins}
 use Rattle.libyaml_events.specs.sources.History.{answers, kept_fault}
 use Rattle.libyaml_events.specs.sources.Needs.{EachNeeded, EachWasNeeded}
 use Rattle.libyaml_events.specs.sources.Parsing.{CarriesOn, Cause, FailsBy, of_grammar, of_memory, of_source}
-use Rattle.libyaml_events.proofs.lent.CallsInTurn.{both_calls, one_call}
-use Rattle.libyaml_events.proofs.lent.OneOutcome.{prefix_same}
-use Rattle.libyaml_events.proofs.lent.RunStops.{RunStop, answers_both, ended_stop, grammar_stop, one_run_by_answers, source_stop}
-use Rattle.libyaml_events.proofs.lent.Histories as histories
+use Rattle.libyaml_events.proofs.exported.CallsInTurn.{both_calls, one_call}
+use Rattle.libyaml_events.proofs.exported.OneOutcome.{prefix_same}
+use Rattle.libyaml_events.proofs.exported.RunStops.{RunStop, answers_both, ended_stop, grammar_stop, one_run_by_answers, source_stop}
+use Rattle.libyaml_events.proofs.exported.Histories as histories
 use Rattle.libyaml_grammar.specs.runs.Runs.{Ending, Ends, Fails}
 use Rattle.libyaml_types.specs.Fault.{Answer, memory_fault}
 use Rattle.libyaml_types.specs.declared.fault.yaml_parser_t_prefix.{yaml_parser_t_prefix}

@@ -14,7 +14,7 @@ use Rattle.libyaml_types.specs.declared.enums.yaml_scalar_style_t.TheVariants as
 use Rattle.line_reading.specs.tokens.Field.{encoding_of, scalar_style_of, text_of, utf8_text}
 use Rattle.line_writing.specs.Escape.{escaped, written_byte}
 use Rattle.line_writing.specs.FieldTexts.{encoding_text, scalar_style_text, string_text}
-use Rattle.line_writing.proofs.lent.EscapeLemmas.{percent_decode-escaped}
+use Rattle.line_writing.proofs.exported.EscapeLemmas.{percent_decode-escaped}
 
 pub string_reads_back : (string : List ℕ) → All IsByte string → is_utf8 string ≡ true
     → text_of (string_text string) ≡ Some string

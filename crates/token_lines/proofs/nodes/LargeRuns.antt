@@ -5,11 +5,11 @@ use Rattle.libyaml_types.specs.declared.event.yaml_event_t.{yaml_event_t}
 use Rattle.libyaml_types.specs.Fault.{Answer}
 use Rattle.libyaml_documents.specs.Documents.{Document}
 use Rattle.libyaml_events.specs.machine.Config.{Parser}
-use Rattle.libyaml_events.proofs.lent.Histories as histories
+use Rattle.libyaml_events.proofs.exported.Histories as histories
 use Rattle.libyaml_grammar.specs.runs.Runs.{Ends}
 use Rattle.libyaml_graphs.specs.loads.Bounds.{bounded_loads, first_stop}
 use Rattle.libyaml_graphs.specs.loads.Linear.{documents_size}
-use Rattle.libyaml_graphs.proofs.lent.RunLoads.{first_linear}
+use Rattle.libyaml_graphs.proofs.exported.RunLoads.{first_linear}
 use Rattle.libyaml_loader.specs.loads.LoadsInTurn.{LoadedInTurn}
 
 pub loaded_linear : {S : Type 0} (gives : S → Answer → S → Type 0) (n : ℕ)

@@ -6,7 +6,7 @@ use Rattle.std.specs.Io.KnownBytes.{Appends}
 use Rattle.libyaml_types.specs.Fault.{Fault, memory_fault}
 use Rattle.libyaml_grammar.specs.runs.Runs.{Ending, Fails}
 use Rattle.libyaml_graphs.specs.loads.Loads.{Load}
-use Rattle.libyaml_graphs.proofs.lent.BoundedPrefixes.{IsPrefixTree, met, same}
+use Rattle.libyaml_graphs.proofs.exported.BoundedPrefixes.{IsPrefixTree, met, same}
 use Rattle.token_lines.specs.declared.run.run_end_t.{run_end_t}
 use Rattle.token_lines.specs.lines.LineRun.{broken_off, output_failed, run_bytes, whole}
 use Rattle.token_lines.specs.nodes.NodeRun.{WritesLoads, load_lines, loads_ending, loads_lines}

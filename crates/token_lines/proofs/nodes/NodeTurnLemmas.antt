@@ -16,13 +16,13 @@ use Rattle.libyaml_types.specs.declared.fault.yaml_parser_t_prefix.{yaml_parser_
 use Rattle.libyaml_types.specs.Fault.{Fault, fault_of}
 use Rattle.libyaml_events.specs.sources.History.{ForHistory, has_failed, kept_fault}
 use Rattle.libyaml_types.specs.declared.source.yaml_token_source_t.{Ghosts}
-use Rattle.libyaml_events.proofs.lent.Histories as histories
+use Rattle.libyaml_events.proofs.exported.Histories as histories
 use Rattle.libyaml_graphs.specs.loads.Bounds.{next_bounded}
 use Rattle.libyaml_graphs.specs.loads.Loads.{left_over}
 use Rattle.libyaml_loader.specs.document.Ids.{magnitude}
 use Rattle.libyaml_loader.specs.loads.Loading.{DocumentOrError, HasEnded, LoadsFrom}
-use Rattle.libyaml_loader.proofs.lent.LoadsInTurn.{none_in_turn}
-use Rattle.libyaml_loader.proofs.lent.LoadsInTurn as loader
+use Rattle.libyaml_loader.proofs.exported.LoadsInTurn.{none_in_turn}
+use Rattle.libyaml_loader.proofs.exported.LoadsInTurn as loader
 use Rattle.line_writing.specs.DocumentText.{document_lines}
 use Rattle.line_writing.specs.FaultText.{fault_text}
 use Rattle.token_lines.specs.declared.run.run_end_t.{run_end_t}

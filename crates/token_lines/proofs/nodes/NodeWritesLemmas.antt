@@ -12,8 +12,8 @@ use Rattle.libyaml_documents.specs.Documents.{Document}
 use Rattle.libyaml_events.specs.machine.Config.{Parser}
 use Rattle.libyaml_events.specs.sources.History.{kept_fault}
 use Rattle.libyaml_events.specs.sources.RunToCome.{RestOfRun, RunToCome}
-use Rattle.libyaml_events.proofs.lent.KnownTokens.{further}
-use Rattle.libyaml_grammar.proofs.lent.NestingSoFar.{run_nests_so_far}
+use Rattle.libyaml_events.proofs.exported.KnownTokens.{further}
+use Rattle.libyaml_grammar.proofs.exported.NestingSoFar.{run_nests_so_far}
 use Rattle.libyaml_grammar.specs.runs.Runs.{Ending, Ends, Fails}
 use Rattle.libyaml_types.specs.Fault.{Answer, Fault, memory_fault}
 use Rattle.libyaml_types.specs.Source.{Follows}
@@ -21,12 +21,12 @@ use Rattle.libyaml_types.specs.declared.source.yaml_token_source_t.{Ghosts}
 use Rattle.libyaml_graphs.specs.loads.Bounds.{bounded_loads, next_bounded}
 use Rattle.libyaml_graphs.specs.loads.GraphLaws.{RootsFollow}
 use Rattle.libyaml_graphs.specs.loads.Loads.{Load, left_over}
-use Rattle.libyaml_graphs.proofs.lent.Roots as roots
-use Rattle.libyaml_graphs.proofs.lent.Roots.{earlier_of, last_of, roots_follow}
-use Rattle.libyaml_graphs.proofs.lent.LoadLists.{HasRoot, roots_behind}
+use Rattle.libyaml_graphs.proofs.exported.Roots as roots
+use Rattle.libyaml_graphs.proofs.exported.Roots.{earlier_of, last_of, roots_follow}
+use Rattle.libyaml_graphs.proofs.exported.LoadLists.{HasRoot, roots_behind}
 use Rattle.libyaml_loader.specs.loads.Loading.{DocumentOrError}
 use Rattle.libyaml_loader.specs.loads.NextLoad.{LoadOfRun}
-use Rattle.libyaml_loader.proofs.lent.Loops.{load_of_run}
+use Rattle.libyaml_loader.proofs.exported.Loops.{load_of_run}
 use Rattle.line_writing.specs.DocumentText.{document_lines}
 use Rattle.line_writing.specs.FaultText.{fault_text}
 use Rattle.token_lines.specs.declared.run.run_end_t.{run_end_t}

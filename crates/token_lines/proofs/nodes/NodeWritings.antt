@@ -13,18 +13,18 @@ use Rattle.libyaml_events.specs.sources.Determined.{BeginsEachRun, OneBegins}
 use Rattle.libyaml_events.specs.sources.History.{answers, kept_fault}
 use Rattle.libyaml_events.specs.sources.Needs.{EachNeeded, EachWasNeeded}
 use Rattle.libyaml_events.specs.sources.Parsing.{Cause, FailsBy, of_grammar, of_memory, of_source}
-use Rattle.libyaml_events.proofs.lent.CallsInTurn.{both_calls}
-use Rattle.libyaml_events.proofs.lent.OneOutcome.{prefix_same}
-use Rattle.libyaml_events.proofs.lent.RunStops.{RunStop, answers_both, begins_stopped, ended_stop, grammar_stop, one_run_by_answers, source_stop, taken_comparable}
-use Rattle.libyaml_events.proofs.lent.Histories as histories
+use Rattle.libyaml_events.proofs.exported.CallsInTurn.{both_calls}
+use Rattle.libyaml_events.proofs.exported.OneOutcome.{prefix_same}
+use Rattle.libyaml_events.proofs.exported.RunStops.{RunStop, answers_both, begins_stopped, ended_stop, grammar_stop, one_run_by_answers, source_stop, taken_comparable}
+use Rattle.libyaml_events.proofs.exported.Histories as histories
 use Rattle.libyaml_grammar.specs.partial.DeterminedEvents.{Begins}
 use Rattle.libyaml_grammar.specs.runs.Runs.{Ending, Ends, Fails}
-use Rattle.libyaml_grammar.proofs.lent.Injectivity.{ok_not_err}
+use Rattle.libyaml_grammar.proofs.exported.Injectivity.{ok_not_err}
 use Rattle.libyaml_graphs.specs.loads.Bounds.{bounded_loads, next_bounded}
 use Rattle.libyaml_graphs.specs.loads.GraphLaws.{RootsFollow}
 use Rattle.libyaml_graphs.specs.loads.Loads.{Load, last_load, left_over}
-use Rattle.libyaml_graphs.proofs.lent.Roots.{fault_of, last_of, roots_follow}
-use Rattle.libyaml_graphs.proofs.lent.LoadLists.{last_same, roots_behind, same_loads}
+use Rattle.libyaml_graphs.proofs.exported.Roots.{fault_of, last_of, roots_follow}
+use Rattle.libyaml_graphs.proofs.exported.LoadLists.{last_same, roots_behind, same_loads}
 use Rattle.libyaml_loader.specs.loads.Loading.{DocumentOrError, LoadsFrom, at_end, by_loader, by_memory, by_parser, whole}
 use Rattle.libyaml_loader.specs.loads.OneLoad.{results_in}
 use Rattle.libyaml_types.specs.Fault.{Answer, Fault, memory_fault, no_fault}

@@ -1,10 +1,10 @@
 use Rattle.std.proofs.Common.{◌++◌, ◌∷◌, [], sym}
 use Rattle.libyaml_grammar.specs.runs.Runs.{Ends, Fails}
-use Rattle.libyaml_events.proofs.lent.Pushes.{fault_runs, fed_determined, fed_whole}
-use Rattle.libyaml_events.proofs.lent.RunStops.{short_run, whole_run}
+use Rattle.libyaml_events.proofs.exported.Pushes.{fault_runs, fed_determined, fed_whole}
+use Rattle.libyaml_events.proofs.exported.RunStops.{short_run, whole_run}
 use Rattle.libyaml_events.specs.machine.Machine.{fault_with}
 use Rattle.token_steps.specs.Records.{step_fault}
-use Rattle.token_steps.proofs.lent.Runs.{fails, fed}
+use Rattle.token_steps.proofs.exported.Runs.{fails, fed}
 use Rattle.document_steps.proofs.Running.{all_loads, fault}
 use Rattle.document_steps.proofs.laws.documents_of_tokens.Goals as goal
 

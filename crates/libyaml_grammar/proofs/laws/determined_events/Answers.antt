@@ -1,4 +1,4 @@
-use Rattle.libyaml_grammar.proofs.lent.Determining.{determined_prefix, determined_nothing, determined_valid_list}
+use Rattle.libyaml_grammar.proofs.exported.Determining.{determined_prefix, determined_nothing, determined_valid_list}
 use Rattle.libyaml_grammar.proofs.laws.determined_events.Goals as goal
 
 pub returns : goal.returns

@@ -1,5 +1,5 @@
-use Rattle.libyaml_grammar.proofs.lent.PrefixTrees.{one_prefix_proof}
-use Rattle.libyaml_grammar.proofs.lent.Determining.{begin_prefix, prefix_begins}
+use Rattle.libyaml_grammar.proofs.exported.PrefixTrees.{one_prefix_proof}
+use Rattle.libyaml_grammar.proofs.exported.Determining.{begin_prefix, prefix_begins}
 use Rattle.libyaml_grammar.proofs.laws.one_prefix.Goals as goal
 
 pub returns : goal.returns

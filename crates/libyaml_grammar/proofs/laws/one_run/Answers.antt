@@ -1,4 +1,4 @@
-use Rattle.libyaml_grammar.proofs.lent.Running.{one_run_proof, some_run_proof}
+use Rattle.libyaml_grammar.proofs.exported.Running.{one_run_proof, some_run_proof}
 use Rattle.libyaml_grammar.proofs.laws.one_run.Goals as goal
 
 pub returns-clause-some : goal.returns-clause-some

@@ -1,4 +1,4 @@
-use Rattle.libyaml_grammar.proofs.lent.Running.{amid_run, begin_run, partial_run, valid_list_run}
+use Rattle.libyaml_grammar.proofs.exported.Running.{amid_run, begin_run, partial_run, valid_list_run}
 use Rattle.libyaml_grammar.proofs.laws.run_of_tree.Goals as goal
 
 pub returns : goal.returns

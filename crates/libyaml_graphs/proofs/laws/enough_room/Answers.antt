@@ -1,5 +1,5 @@
 use Rattle.libyaml_graphs.proofs.loads.Room.{room_loads, room_next}
-use Rattle.libyaml_graphs.proofs.lent.BoundedPrefixes.{unmet_loads}
+use Rattle.libyaml_graphs.proofs.exported.BoundedPrefixes.{unmet_loads}
 use Rattle.libyaml_graphs.proofs.laws.enough_room.Goals as goal
 
 pub returns : goal.returns

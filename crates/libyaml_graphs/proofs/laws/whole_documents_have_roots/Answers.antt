@@ -1,4 +1,4 @@
-use Rattle.libyaml_graphs.proofs.lent.Roots.{earlier_of, fault_of, last_of, left_roots, roots_follow}
+use Rattle.libyaml_graphs.proofs.exported.Roots.{earlier_of, fault_of, last_of, left_roots, roots_follow}
 use Rattle.libyaml_graphs.proofs.laws.whole_documents_have_roots.Goals as goal
 
 pub returns : goal.returns

@@ -1,5 +1,5 @@
 use Rattle.std.proofs.Common.{refl}
-use Rattle.libyaml_graphs.proofs.lent.Roots.{roots_follow}
+use Rattle.libyaml_graphs.proofs.exported.Roots.{roots_follow}
 use Rattle.libyaml_loader.specs.document.Ids.{magnitude}
 use Rattle.libyaml_loader.proofs.loads.Loops.{of_list, of_run}
 use Rattle.libyaml_loader.proofs.laws.loop_yields_loads.Goals as goal

@@ -11,7 +11,7 @@ use Rattle.libyaml_loader.proofs.loads.Rootless.{rootless}
 use Rattle.libyaml_loader.proofs.load.yaml_parser_load.Given as given
 use Rattle.libyaml_loader.proofs.load.yaml_parser_load.Goals as goal
 use Rattle.libyaml_loader.proofs.load.yaml_parser_load.Goals.{After-next_document}
-use Rattle.libyaml_events.proofs.lent.Histories as histories
+use Rattle.libyaml_events.proofs.exported.Histories as histories
 
 -- the composer's bound is the parser's
 loads : (g : given.Over) (c : After-next_document g)

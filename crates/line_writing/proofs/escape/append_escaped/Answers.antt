@@ -1,7 +1,7 @@
 use Rattle.std.proofs.Common.{arith, rules}
 use Rattle.std.proofs.lemmas.List.Elements.{All-from_get_or}
 use Rattle.percent_encoding.proofs.PercentLemmas.{IsByte}
-use Rattle.line_writing.proofs.lent.EscapeLemmas.{percent_encode-escaped, escaped-clean}
+use Rattle.line_writing.proofs.exported.EscapeLemmas.{percent_encode-escaped, escaped-clean}
 use Rattle.line_writing.proofs.escape.append_escaped.Goals as goal
 
 pub returns-then-is_clean : goal.returns-then-is_clean

@@ -1,5 +1,5 @@
 use Rattle.std.proofs.Common.{map}
-use Rattle.libyaml_grammar.proofs.lent.NestingSoFar.{run_nests_so_far}
+use Rattle.libyaml_grammar.proofs.exported.NestingSoFar.{run_nests_so_far}
 use Rattle.rust_original.specs.parser.Texts.{as_held}
 use Rattle.rust_original.proofs.loads.Compared.{loads_compared}
 use Rattle.rust_original.proofs.loads.Loads.{nested_agree}

@@ -1,4 +1,4 @@
-use Rattle.libyaml_grammar.proofs.lent.NestingSoFar.{run_nests_so_far}
+use Rattle.libyaml_grammar.proofs.exported.NestingSoFar.{run_nests_so_far}
 use Rattle.rust_original.proofs.loads.Loads.{nested_agree}
 use Rattle.rust_original.proofs.runs.Laws.{nests_there, whole_here, whole_there}
 use Rattle.rust_original.proofs.laws.loads_alike.Goals as goal

@@ -1,4 +1,4 @@
-use Rattle.line_writing.proofs.lent.EscapeLemmas.{percent_decode-escaped}
+use Rattle.line_writing.proofs.exported.EscapeLemmas.{percent_decode-escaped}
 use Rattle.token_lines.proofs.lines.ReadsBackLemmas.{encoding_reads_back, string_reads_back, string_is_field, style_reads_back}
 use Rattle.token_lines.proofs.laws.reading_undoes_writing.Goals as goal
 

@@ -1,7 +1,7 @@
 use Rattle.std.proofs.Common.{ap, sym, subst}
 use Rattle.libyaml_types.specs.Fault.{fault_of}
 use Rattle.libyaml_grammar.specs.runs.Runs.{Ends, Fails}
-use Rattle.libyaml_grammar.proofs.lent.Injectivity.{fault_same}
+use Rattle.libyaml_grammar.proofs.exported.Injectivity.{fault_same}
 use Rattle.line_reading.specs.sources.NextLine.{BreaksOffAt}
 use Rattle.token_lines.specs.lines.LineRun.{ending_told}
 use Rattle.token_lines.proofs.lines.WholeRuns.{in_memory}

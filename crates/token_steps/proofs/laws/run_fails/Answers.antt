@@ -1,4 +1,4 @@
-use Rattle.libyaml_events.proofs.lent.Pushes.{fault_runs}
+use Rattle.libyaml_events.proofs.exported.Pushes.{fault_runs}
 use Rattle.token_steps.proofs.Failing.{fails}
 use Rattle.token_steps.proofs.laws.run_fails.Goals as goal
 

@@ -1,6 +1,6 @@
 use Rattle.std.proofs.Common.{None}
-use Rattle.libyaml_events.proofs.lent.Pushes.{fed_begins, fed_count, fed_nests, fed_determined, fed_whole}
-use Rattle.libyaml_events.proofs.lent.RunStops.{short_run, whole_run}
+use Rattle.libyaml_events.proofs.exported.Pushes.{fed_begins, fed_count, fed_nests, fed_determined, fed_whole}
+use Rattle.libyaml_events.proofs.exported.RunStops.{short_run, whole_run}
 use Rattle.token_steps.proofs.Running.{fed}
 use Rattle.token_steps.proofs.laws.run_is_right.Goals as goal
 

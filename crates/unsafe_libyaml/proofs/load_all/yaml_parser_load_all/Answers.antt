@@ -4,8 +4,8 @@ use Rattle.unsafe_libyaml.proofs.WholeRuns.{if_ok, tells}
 use Rattle.unsafe_libyaml.proofs.LargeLoads.{loads_linear}
 use Rattle.unsafe_libyaml.proofs.load_all.yaml_parser_load_all.Goals as goal
 use Rattle.unsafe_libyaml.proofs.load_all.yaml_parser_load_all.Goals.{After-yaml_parser_load}
-use Rattle.libyaml_graphs.proofs.lent.LoadLists.{bare, rooted}
-use Rattle.libyaml_graphs.proofs.lent.RunLoads.{partial_tree_loads}
+use Rattle.libyaml_graphs.proofs.exported.LoadLists.{bare, rooted}
+use Rattle.libyaml_graphs.proofs.exported.RunLoads.{partial_tree_loads}
 
 pub loop-document-init : goal.loop-document-init
 loop-document-init g c =

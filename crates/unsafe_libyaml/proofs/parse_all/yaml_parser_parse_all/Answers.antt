@@ -1,7 +1,7 @@
 use Rattle.std.proofs.Common.{refl, subst, sym, ◌∙◌}
 use Rattle.unsafe_libyaml.proofs.WholeRuns.{GaveSoFar, gathers_all, gathers_some, gave_more, gave_none, if_ok, runs_to, tells, tree_runs}
 use Rattle.unsafe_libyaml.proofs.parse_all.yaml_parser_parse_all.Goals as goal
-use Rattle.libyaml_grammar.proofs.lent.Running.{partial_run}
+use Rattle.libyaml_grammar.proofs.exported.Running.{partial_run}
 
 pub loop-events-init : goal.loop-events-init
 loop-events-init g c =

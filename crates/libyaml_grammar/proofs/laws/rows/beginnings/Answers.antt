@@ -1,5 +1,5 @@
 use Rattle.std.proofs.Common.{refl}
-use Rattle.libyaml_grammar.proofs.lent.RowKinds.{amid_row, begin_row}
+use Rattle.libyaml_grammar.proofs.exported.RowKinds.{amid_row, begin_row}
 use Rattle.libyaml_grammar.proofs.laws.rows.beginnings.Goals as goal
 
 pub returns : goal.returns

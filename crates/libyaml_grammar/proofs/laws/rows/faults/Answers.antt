@@ -1,5 +1,5 @@
 use Rattle.std.proofs.Common.{refl}
-use Rattle.libyaml_grammar.proofs.lent.RowKinds.{partial_row}
+use Rattle.libyaml_grammar.proofs.exported.RowKinds.{partial_row}
 use Rattle.libyaml_grammar.proofs.laws.rows.faults.Goals as goal
 
 pub returns : goal.returns

@@ -1,5 +1,5 @@
 use Rattle.std.proofs.Common.{refl}
-use Rattle.libyaml_grammar.proofs.lent.RowKinds.{valid_list_row}
+use Rattle.libyaml_grammar.proofs.exported.RowKinds.{valid_list_row}
 use Rattle.libyaml_grammar.proofs.laws.rows.properties.Goals as goal
 
 pub returns : goal.returns

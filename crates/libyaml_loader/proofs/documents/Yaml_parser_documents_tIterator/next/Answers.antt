@@ -5,7 +5,7 @@ use Rattle.libyaml_loader.specs.loads.LoadsInTurn.{LoadsNext}
 use Rattle.libyaml_loader.proofs.documents.Yaml_parser_documents_tIterator.next.Given as given
 use Rattle.libyaml_loader.proofs.documents.Yaml_parser_documents_tIterator.next.Goals as goal
 use Rattle.libyaml_loader.proofs.documents.Yaml_parser_documents_tIterator.next.Goals.{After-yaml_parser_load}
-use Rattle.libyaml_graphs.proofs.lent.LoadLists.{bare, rooted}
+use Rattle.libyaml_graphs.proofs.exported.LoadLists.{bare, rooted}
 
 none_kept : (g : given.Over) (c : After-yaml_parser_load g) → has_failed c.args.self.now.parser.now ≡ false
 none_kept g c = sym c.has_failed.ensures ∙ c.if-has_failed.false

@@ -2,7 +2,7 @@ use Rattle.std.proofs.Common.{[], Bool, inr, subst, sym}
 use Rattle.libyaml_graphs.specs.machine.Loader.{between}
 use Rattle.libyaml_loader.specs.pushes.Composing.{state_by}
 use Rattle.libyaml_graphs.specs.loads.Leads.{Leads}
-use Rattle.libyaml_graphs.proofs.lent.Leading.{leads_none}
+use Rattle.libyaml_graphs.proofs.exported.Leading.{leads_none}
 use Rattle.libyaml_loader.proofs.push.yaml_push_loader_t.with_max_entries.Goals as goal
 
 pub invariant_of-result : goal.invariant_of-result

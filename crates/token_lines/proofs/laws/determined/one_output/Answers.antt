@@ -5,8 +5,8 @@ use Rattle.token_lines.specs.events.EventRun.{WritesRunOf, event_lines, most_tok
 use Rattle.token_lines.specs.nodes.NodeRun.{WritesNodesOf, loads_ending, loads_lines}
 use Rattle.token_lines.proofs.lines.OneOutputs.{one_writes}
 use Rattle.token_lines.proofs.laws.determined.one_output.Goals as goal
-use Rattle.libyaml_grammar.proofs.lent.Running.{some_run_proof}
-use Rattle.libyaml_graphs.proofs.lent.RunLoads.{some_loads}
+use Rattle.libyaml_grammar.proofs.exported.Running.{some_run_proof}
+use Rattle.libyaml_graphs.proofs.exported.RunLoads.{some_loads}
 
 pub returns-clause-events : goal.returns-clause-events
 returns-clause-events g c one other first second bytes written after later known same a b =

@@ -1,7 +1,7 @@
 use Rattle.std.proofs.Common.{ℕ, List, ap, sym, ◌∙◌, inl, inr}
 use Rattle.libyaml_grammar.specs.runs.Runs.{Ending}
-use Rattle.libyaml_grammar.proofs.lent.Running.{some_run_proof}
-use Rattle.libyaml_graphs.proofs.lent.RunLoads.{some_loads}
+use Rattle.libyaml_grammar.proofs.exported.Running.{some_run_proof}
+use Rattle.libyaml_graphs.proofs.exported.RunLoads.{some_loads}
 use Rattle.line_reading.specs.sources.ReadLines.{read_lines}
 use Rattle.token_lines.specs.declared.memory.memory_run_t.{memory_run_t}
 use Rattle.token_lines.specs.events.EventRun.{event_lines}

@@ -1,5 +1,5 @@
 use Rattle.std.proofs.Common.{Some}
-use Rattle.libyaml_graphs.proofs.lent.BoundedPrefixes.{prefix_of_loads}
+use Rattle.libyaml_graphs.proofs.exported.BoundedPrefixes.{prefix_of_loads}
 use Rattle.line_reading.specs.sources.LineSource.{BreaksOff, known_of}
 use Rattle.token_lines.proofs.lines.WholeRuns.{as_slice}
 use Rattle.token_lines.specs.nodes.LastLoad.{most_entries}

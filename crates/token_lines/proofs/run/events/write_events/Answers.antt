@@ -5,7 +5,7 @@ use Rattle.std.specs.Io.KnownBytes.{Appends, Keeps}
 use Rattle.libyaml_types.specs.declared.event.yaml_event_t.{yaml_event_t}
 use Rattle.libyaml_types.specs.Fault.{fault_of}
 use Rattle.libyaml_events.specs.sources.History.{is_over}
-use Rattle.libyaml_events.proofs.lent.KnownTokens.{nothing_behind_end}
+use Rattle.libyaml_events.proofs.exported.KnownTokens.{nothing_behind_end}
 use Rattle.token_lines.specs.declared.run.run_end_t.TheVariants.{OutputFailed}
 use Rattle.line_writing.specs.EventText.{event_line}
 use Rattle.token_lines.specs.events.EventRun.{event_lines}
