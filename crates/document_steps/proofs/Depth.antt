@@ -2,7 +2,7 @@
 use Rattle.std.proofs.Common.{◌≡◌, ◌≤◌, ◌<◌, ◌++◌, ◌∷◌, List, [], ℕ, zero, suc, ℤ, pos, length, nat_le, refl, sym, ap, subst, ◌∙◌, Option, None, Some, Bool, true, false, true≢false, arith}
 use Rattle.libyaml_types.specs.Types.{event_type}
 use Rattle.libyaml_types.specs.declared.enums.yaml_event_type_t.{yaml_event_type_t}
-use Rattle.libyaml_types.specs.declared.enums.yaml_event_type_t.TheVariants as ev
+use Rattle.libyaml_types.specs.declared.enums.yaml_event_type_t.TheVariants as event_kinds
 use Rattle.libyaml_grammar.specs.grammar.Events.{Event}
 use Rattle.libyaml_documents.specs.Documents.{Document}
 use Rattle.libyaml_composer.specs.declared.composer.composer_t.{composer_t}
@@ -71,19 +71,19 @@ ended_few (o ∷ s) p c n e h =
 
 within_fits : (k : yaml_event_type_t) (f : ℤ) (p : place_t) (c : Composer) (n : ℕ) → OpenWithAtMost n c
     → Fits (open_after (Some n) k) (within_step k f p c).composer
-within_fits ev.YAML_DOCUMENT_END_EVENT f p c n h = refl
-within_fits ev.YAML_ALIAS_EVENT f p c n h = alias_few (is_id f) f p c n h
-within_fits ev.YAML_SCALAR_EVENT f p c n h
+within_fits event_kinds.YAML_DOCUMENT_END_EVENT f p c n h = refl
+within_fits event_kinds.YAML_ALIAS_EVENT f p c n h = alias_few (is_id f) f p c n h
+within_fits event_kinds.YAML_SCALAR_EVENT f p c n h
     = placed_few f p c (adding c) n h (handing_few (new_id c) (new_id c) (record c { nodes = suc c.nodes }) n h)
-within_fits ev.YAML_SEQUENCE_START_EVENT f p c n h = start_few 0 f p c n h
-within_fits ev.YAML_MAPPING_START_EVENT f p c n h = start_few 1 f p c n h
-within_fits ev.YAML_SEQUENCE_END_EVENT f p c n h = ended_few c.stack p c n refl h
-within_fits ev.YAML_MAPPING_END_EVENT f p c n h = ended_few c.stack p c n refl h
+within_fits event_kinds.YAML_SEQUENCE_START_EVENT f p c n h = start_few 0 f p c n h
+within_fits event_kinds.YAML_MAPPING_START_EVENT f p c n h = start_few 1 f p c n h
+within_fits event_kinds.YAML_SEQUENCE_END_EVENT f p c n h = ended_few c.stack p c n refl h
+within_fits event_kinds.YAML_MAPPING_END_EVENT f p c n h = ended_few c.stack p c n refl h
 within_fits _ f p c n h = h
 
 between_fits : (k : yaml_event_type_t) (p : place_t) (c : Composer) → c.is_within ≡ false
     → Fits (open_after None k) (between_step k p c).composer
-between_fits ev.YAML_DOCUMENT_START_EVENT p c h = (refl, omega arith)
+between_fits event_kinds.YAML_DOCUMENT_START_EVENT p c h = (refl, omega arith)
 between_fits _ p c h = h
 
 step_fits : (o : Option ℕ) (k : yaml_event_type_t) (f : ℤ) (p : place_t) (c : Composer) → Fits o c
@@ -124,12 +124,12 @@ stack_fits most d ss h es ds run inside within = go (open_from None es) (fits d 
 full_inside : (b : Bool) (k : yaml_event_type_t) (f : ℤ) (p : place_t) (c : Composer)
     → (step_in b k f p c).deed ≡ deed.FullStack → b ≡ true
 full_inside true k f p c h = refl
-full_inside false ev.YAML_DOCUMENT_START_EVENT f p c h = absurd cc
+full_inside false event_kinds.YAML_DOCUMENT_START_EVENT f p c h = absurd cc
 full_inside false _ f p c h = absurd cc
 
 start_opens : (n : ℕ) (k : yaml_event_type_t) → is_start k ≡ true → open_after (Some n) k ≡ Some (suc n)
-start_opens n ev.YAML_SEQUENCE_START_EVENT h = refl
-start_opens n ev.YAML_MAPPING_START_EVENT h = refl
+start_opens n event_kinds.YAML_SEQUENCE_START_EVENT h = refl
+start_opens n event_kinds.YAML_MAPPING_START_EVENT h = refl
 start_opens n _ h = absurd cc
 
 pub full_where_open : FullWhereOpen

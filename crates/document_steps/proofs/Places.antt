@@ -2,7 +2,7 @@
 use Rattle.std.proofs.Common.{◌≡◌, ◌∷◌, List, [], ℕ, zero, suc, ℤ, pos, negsuc, refl, sym, subst, ◌∙◌, Bool, true, false, true≢false}
 use Rattle.libyaml_types.specs.Types.{event_type}
 use Rattle.libyaml_types.specs.declared.enums.yaml_event_type_t.{yaml_event_type_t}
-use Rattle.libyaml_types.specs.declared.enums.yaml_event_type_t.TheVariants as ev
+use Rattle.libyaml_types.specs.declared.enums.yaml_event_type_t.TheVariants as event_kinds
 use Rattle.libyaml_grammar.specs.grammar.Events.{Event}
 use Rattle.libyaml_documents.specs.Documents.{Document}
 use Rattle.libyaml_composer.specs.declared.composer.composer_t.{composer_t}
@@ -90,17 +90,17 @@ ended_sound (o ∷ s) p c h g = ((refl, (refl, refl)), g.1)
 
 within_sound : (k : yaml_event_type_t) (f : ℤ) (p : place_t) (c : Composer) → HaveNoKeys c.stack
     → IsSound (within_step k f p c)
-within_sound ev.YAML_DOCUMENT_END_EVENT f p c h = (tt, h)
-within_sound ev.YAML_ALIAS_EVENT f p c h = alias_sound (is_id f) f p c h
-within_sound ev.YAML_SCALAR_EVENT f p c h = if_sound f p c (adding c) h (adding_sound c h)
-within_sound ev.YAML_SEQUENCE_START_EVENT f p c h = start_sound 0 f p c h
-within_sound ev.YAML_MAPPING_START_EVENT f p c h = start_sound 1 f p c h
-within_sound ev.YAML_SEQUENCE_END_EVENT f p c h = ended_sound c.stack p c h h
-within_sound ev.YAML_MAPPING_END_EVENT f p c h = ended_sound c.stack p c h h
+within_sound event_kinds.YAML_DOCUMENT_END_EVENT f p c h = (tt, h)
+within_sound event_kinds.YAML_ALIAS_EVENT f p c h = alias_sound (is_id f) f p c h
+within_sound event_kinds.YAML_SCALAR_EVENT f p c h = if_sound f p c (adding c) h (adding_sound c h)
+within_sound event_kinds.YAML_SEQUENCE_START_EVENT f p c h = start_sound 0 f p c h
+within_sound event_kinds.YAML_MAPPING_START_EVENT f p c h = start_sound 1 f p c h
+within_sound event_kinds.YAML_SEQUENCE_END_EVENT f p c h = ended_sound c.stack p c h h
+within_sound event_kinds.YAML_MAPPING_END_EVENT f p c h = ended_sound c.stack p c h h
 within_sound _ f p c h = (tt, h)
 
 between_sound : (k : yaml_event_type_t) (p : place_t) (c : Composer) → HaveNoKeys c.stack → IsSound (between_step k p c)
-between_sound ev.YAML_DOCUMENT_START_EVENT p c h = (tt, tt)
+between_sound event_kinds.YAML_DOCUMENT_START_EVENT p c h = (tt, tt)
 between_sound _ p c h = (tt, h)
 
 step_sound : (b : Bool) (k : yaml_event_type_t) (f : ℤ) (p : place_t) (c : Composer) → HaveNoKeys c.stack

@@ -11,7 +11,7 @@ use Rattle.libyaml_documents.specs.Documents.{Document}
 use Rattle.libyaml_graphs.specs.graphs.GraphParts.{Closing, Opening, closing_in, closing_of, opening_in, opening_of, part_of}
 use Rattle.libyaml_graphs.specs.loads.Bounds.{bounded_loads}
 use Rattle.libyaml_graphs.specs.loads.Loads.{Load, document, last_load}
-use Rattle.libyaml_graphs.specs.machine.Loader as machine
+use Rattle.libyaml_graphs.specs.machine.Loader as loader
 use Rattle.libyaml_graphs.specs.machine.Loader.{State, between, bounded_option, no_anchors, within}
 use Rattle.libyaml_composer.specs.declared.composer.composer_t.{composer_t}
 use Rattle.libyaml_composer.specs.declared.deed.Deed.{Deed}

@@ -2,7 +2,7 @@
 -- token.
 use Rattle.std.specs.Prelude.{ℕ, Bool, true, false}
 use Rattle.libyaml_types.specs.declared.enums.yaml_token_type_t.{yaml_token_type_t}
-use Rattle.libyaml_types.specs.declared.enums.yaml_token_type_t.TheVariants as tok
+use Rattle.libyaml_types.specs.declared.enums.yaml_token_type_t.TheVariants as kinds
 use Rattle.libyaml_types.specs.declared.enums.yaml_parser_state_t.{yaml_parser_state_t}
 use Rattle.libyaml_types.specs.declared.enums.yaml_parser_state_t.TheVariants as st
 use Rattle.libyaml_automaton.specs.declared.difference.Difference.{Difference}
@@ -12,23 +12,23 @@ use Rattle.libyaml_automaton.specs.Automaton.{Purpose, AtState}
 -- after a document's explicit end, or before the first document
 abbrev pub differs_before_document : (behind_document_end : Bool) → yaml_token_type_t → Difference
 differs_before_document false k = Nowhere
-differs_before_document true tok.YAML_STREAM_END_TOKEN = Nowhere
-differs_before_document true tok.YAML_VERSION_DIRECTIVE_TOKEN = Nowhere
-differs_before_document true tok.YAML_TAG_DIRECTIVE_TOKEN = Nowhere
-differs_before_document true tok.YAML_DOCUMENT_START_TOKEN = Nowhere
-differs_before_document true tok.YAML_DOCUMENT_END_TOKEN = Nowhere
+differs_before_document true kinds.YAML_STREAM_END_TOKEN = Nowhere
+differs_before_document true kinds.YAML_VERSION_DIRECTIVE_TOKEN = Nowhere
+differs_before_document true kinds.YAML_TAG_DIRECTIVE_TOKEN = Nowhere
+differs_before_document true kinds.YAML_DOCUMENT_START_TOKEN = Nowhere
+differs_before_document true kinds.YAML_DOCUMENT_END_TOKEN = Nowhere
 differs_before_document true _ = BareDocument
 
 -- where a block mapping's KEY is due
 abbrev pub differs_before_key : yaml_token_type_t → Difference
-differs_before_key tok.YAML_VALUE_TOKEN = ValueFirst
+differs_before_key kinds.YAML_VALUE_TOKEN = ValueFirst
 differs_before_key _ = Nowhere
 
 -- after the KEY of a flow sequence's pair
 abbrev pub differs_behind_pair_key : yaml_token_type_t → Difference
-differs_behind_pair_key tok.YAML_VALUE_TOKEN = PairKey
-differs_behind_pair_key tok.YAML_FLOW_ENTRY_TOKEN = PairKey
-differs_behind_pair_key tok.YAML_FLOW_SEQUENCE_END_TOKEN = PairKey
+differs_behind_pair_key kinds.YAML_VALUE_TOKEN = PairKey
+differs_behind_pair_key kinds.YAML_FLOW_ENTRY_TOKEN = PairKey
+differs_behind_pair_key kinds.YAML_FLOW_SEQUENCE_END_TOKEN = PairKey
 differs_behind_pair_key _ = Nowhere
 
 abbrev pub differs_at : yaml_parser_state_t → (behind_document_end : Bool) → yaml_token_type_t → Difference

@@ -8,7 +8,7 @@ use Rattle.libyaml_documents.specs.declared.node.unnamed_yaml_node_t_data.{unnam
 use Rattle.libyaml_documents.specs.declared.node.unnamed_yaml_node_t_data.TheVariants.{Scalar, Sequence, Mapping}
 use Rattle.libyaml_documents.specs.declared.node.yaml_node_t.{yaml_node_t}
 use Rattle.libyaml_graphs.specs.machine.Loader.{OpenNode, hand, parent_full}
-use Rattle.libyaml_graphs.specs.machine.Loader as machine
+use Rattle.libyaml_graphs.specs.machine.Loader as loader
 use Rattle.libyaml_graphs.proofs.exported.LoaderSteps.{hands_item, hands_key, hands_value}
 use Rattle.libyaml_composer.specs.declared.deed.Deed.{Deed}
 use Rattle.libyaml_composer.specs.declared.records.open_t.{open_t}
@@ -24,7 +24,7 @@ use Rattle.libyaml_composer.proofs.Opens.{get_behind, get_there, length_changed,
 pub record Handing (most : ℕ) (i : ℤ) (nodes : List yaml_node_t) (total m : ℕ) (s : List open_t) (d : Deed) (p : place_t)
     (t : List open_t) (full : Bool) : Type 0 where
   pub nodes_are : placed d p nodes ≡ hand i (map open_of s) nodes
-  pub stack_is : map open_of t ≡ machine.handed i (map open_of s) nodes
+  pub stack_is : map open_of t ≡ loader.handed i (map open_of s) nodes
   pub full_is : parent_full most (map open_of s) nodes ≡ full
   pub opens : Opens total (placed d p nodes) m t
   pub fits : FitsParent d p total nodes

@@ -2,7 +2,7 @@
 -- carries its anchor, and that of a node with an anchor the id of an earlier node that carries it; 0 where there is none.
 use Rattle.std.specs.Prelude.{◌∷◌, ℕ, suc, ℤ, pos, List, [], Bool, true, false, length, min, nat_le, nat_lt, take, reverse}
 use Rattle.libyaml_types.specs.declared.enums.yaml_event_type_t.{yaml_event_type_t}
-use Rattle.libyaml_types.specs.declared.enums.yaml_event_type_t.TheVariants as ev
+use Rattle.libyaml_types.specs.declared.enums.yaml_event_type_t.TheVariants as event_kinds
 use Rattle.libyaml_composer.specs.declared.composer.composer_t.{composer_t}
 use Rattle.libyaml_composer.specs.declared.deed.Deed.{Deed}
 use Rattle.libyaml_composer.specs.declared.deed.Deed.TheVariants as deed
@@ -137,17 +137,17 @@ collection_ended (o ∷ s) p c = told deed.Closes (record { node = pos 0; child 
 
 -- an event within a document, and between documents
 abbrev pub within_step : yaml_event_type_t → ℤ → place_t → Composer → Told
-within_step ev.YAML_DOCUMENT_END_EVENT f p c = told deed.Ends p (record c { is_within = false })
-within_step ev.YAML_ALIAS_EVENT f p c = at_carrier (is_id f) f p c
-within_step ev.YAML_SCALAR_EVENT f p c = if_placed f p c (adding c)
-within_step ev.YAML_SEQUENCE_START_EVENT f p c = at_start 0 f p c
-within_step ev.YAML_MAPPING_START_EVENT f p c = at_start 1 f p c
-within_step ev.YAML_SEQUENCE_END_EVENT f p c = collection_ended c.stack p c
-within_step ev.YAML_MAPPING_END_EVENT f p c = collection_ended c.stack p c
+within_step event_kinds.YAML_DOCUMENT_END_EVENT f p c = told deed.Ends p (record c { is_within = false })
+within_step event_kinds.YAML_ALIAS_EVENT f p c = at_carrier (is_id f) f p c
+within_step event_kinds.YAML_SCALAR_EVENT f p c = if_placed f p c (adding c)
+within_step event_kinds.YAML_SEQUENCE_START_EVENT f p c = at_start 0 f p c
+within_step event_kinds.YAML_MAPPING_START_EVENT f p c = at_start 1 f p c
+within_step event_kinds.YAML_SEQUENCE_END_EVENT f p c = collection_ended c.stack p c
+within_step event_kinds.YAML_MAPPING_END_EVENT f p c = collection_ended c.stack p c
 within_step _ f p c = told deed.Passes p c
 
 abbrev pub between_step : yaml_event_type_t → place_t → Composer → Told
-between_step ev.YAML_DOCUMENT_START_EVENT p c =
+between_step event_kinds.YAML_DOCUMENT_START_EVENT p c =
     told deed.Begins p (record c { is_within = true; nodes = 0; stack = [] })
 between_step _ p c = told deed.Passes p c
 
@@ -171,6 +171,6 @@ does_nothing _ = false
 
 -- an event that opens a collection
 abbrev pub is_start : yaml_event_type_t → Bool
-is_start ev.YAML_SEQUENCE_START_EVENT = true
-is_start ev.YAML_MAPPING_START_EVENT = true
+is_start event_kinds.YAML_SEQUENCE_START_EVENT = true
+is_start event_kinds.YAML_MAPPING_START_EVENT = true
 is_start _ = false

@@ -1,7 +1,7 @@
 -- The numbers that C sees.
 use Rattle.std.specs.Prelude.{◌==◌, ◌||◌, ℕ, zero, suc, ℤ, pos, negsuc, Bool, true, false, nat_lt, not, if◌then◌else◌}
 use Rattle.libyaml_types.specs.declared.enums.yaml_event_type_t.{yaml_event_type_t}
-use Rattle.libyaml_types.specs.declared.enums.yaml_event_type_t.TheVariants as ev
+use Rattle.libyaml_types.specs.declared.enums.yaml_event_type_t.TheVariants as event_kinds
 use Rattle.libyaml_composer.specs.declared.deed.Deed.{Deed}
 use Rattle.libyaml_composer.specs.declared.deed.Deed.TheVariants as deed
 
@@ -33,17 +33,17 @@ is_id (negsuc n) = true
 -- libyaml's numbers of events; of other bytes none
 abbrev pub event_kind : ℕ → yaml_event_type_t
 event_kind byte =
-    if byte == 1 then ev.YAML_STREAM_START_EVENT else
-    if byte == 2 then ev.YAML_STREAM_END_EVENT else
-    if byte == 3 then ev.YAML_DOCUMENT_START_EVENT else
-    if byte == 4 then ev.YAML_DOCUMENT_END_EVENT else
-    if byte == 5 then ev.YAML_ALIAS_EVENT else
-    if byte == 6 then ev.YAML_SCALAR_EVENT else
-    if byte == 7 then ev.YAML_SEQUENCE_START_EVENT else
-    if byte == 8 then ev.YAML_SEQUENCE_END_EVENT else
-    if byte == 9 then ev.YAML_MAPPING_START_EVENT else
-    if byte == 10 then ev.YAML_MAPPING_END_EVENT else
-    ev.YAML_NO_EVENT
+    if byte == 1 then event_kinds.YAML_STREAM_START_EVENT else
+    if byte == 2 then event_kinds.YAML_STREAM_END_EVENT else
+    if byte == 3 then event_kinds.YAML_DOCUMENT_START_EVENT else
+    if byte == 4 then event_kinds.YAML_DOCUMENT_END_EVENT else
+    if byte == 5 then event_kinds.YAML_ALIAS_EVENT else
+    if byte == 6 then event_kinds.YAML_SCALAR_EVENT else
+    if byte == 7 then event_kinds.YAML_SEQUENCE_START_EVENT else
+    if byte == 8 then event_kinds.YAML_SEQUENCE_END_EVENT else
+    if byte == 9 then event_kinds.YAML_MAPPING_START_EVENT else
+    if byte == 10 then event_kinds.YAML_MAPPING_END_EVENT else
+    event_kinds.YAML_NO_EVENT
 
 -- nothing was done
 abbrev pub is_undone_number : ℕ → Bool

@@ -21,10 +21,10 @@ pub(crate) struct Anchors {
 }
 
 impl Model for Anchors {
-    ghost use Rattle.libyaml_graphs.specs.machine.Loader as machine;
+    ghost use Rattle.libyaml_graphs.specs.machine.Loader as loader;
     ghost use Rattle.libyaml_loader.specs.document.Anchors.{anchors_code, anchors_of};
 
-    ghost Value = { machine.Anchors };
+    ghost Value = { loader.Anchors };
 
     ghost coded = { anchors_code };
 

@@ -12,9 +12,9 @@ use denote.Enum.Compared.{by}
 use Rattle.libyaml_types.specs.contracts.enums.yaml_token_type_t as token_type
 use Rattle.libyaml_types.specs.contracts.enums.yaml_parser_state_t as parser_state
 use Rattle.libyaml_types.specs.declared.enums.yaml_token_type_t.{yaml_token_type_t}
-use Rattle.libyaml_types.specs.declared.enums.yaml_token_type_t.TheVariants as tokens
+use Rattle.libyaml_types.specs.declared.enums.yaml_token_type_t.TheVariants as kinds
 use Rattle.libyaml_types.specs.declared.enums.yaml_parser_state_t.{yaml_parser_state_t}
-use Rattle.libyaml_types.specs.declared.enums.yaml_parser_state_t.TheVariants as states
+use Rattle.libyaml_types.specs.declared.enums.yaml_parser_state_t.TheVariants as st
 use Rattle.libyaml_types.specs.Numbers.{token_type_number, parser_state_number}
 
 -- a variant's place among the others
@@ -45,54 +45,54 @@ ordered N number is a b =
     ∙ (λ i. nat_cmp (sym (is a) i) (sym (is b) i))
 
 token_type_place : (x : yaml_token_type_t) → token_type_number x ≡ tag_of token_type.the_type x
-token_type_place tokens.YAML_NO_TOKEN = refl
-token_type_place tokens.YAML_STREAM_START_TOKEN = refl
-token_type_place tokens.YAML_STREAM_END_TOKEN = refl
-token_type_place tokens.YAML_VERSION_DIRECTIVE_TOKEN = refl
-token_type_place tokens.YAML_TAG_DIRECTIVE_TOKEN = refl
-token_type_place tokens.YAML_DOCUMENT_START_TOKEN = refl
-token_type_place tokens.YAML_DOCUMENT_END_TOKEN = refl
-token_type_place tokens.YAML_BLOCK_SEQUENCE_START_TOKEN = refl
-token_type_place tokens.YAML_BLOCK_MAPPING_START_TOKEN = refl
-token_type_place tokens.YAML_BLOCK_END_TOKEN = refl
-token_type_place tokens.YAML_FLOW_SEQUENCE_START_TOKEN = refl
-token_type_place tokens.YAML_FLOW_SEQUENCE_END_TOKEN = refl
-token_type_place tokens.YAML_FLOW_MAPPING_START_TOKEN = refl
-token_type_place tokens.YAML_FLOW_MAPPING_END_TOKEN = refl
-token_type_place tokens.YAML_BLOCK_ENTRY_TOKEN = refl
-token_type_place tokens.YAML_FLOW_ENTRY_TOKEN = refl
-token_type_place tokens.YAML_KEY_TOKEN = refl
-token_type_place tokens.YAML_VALUE_TOKEN = refl
-token_type_place tokens.YAML_ALIAS_TOKEN = refl
-token_type_place tokens.YAML_ANCHOR_TOKEN = refl
-token_type_place tokens.YAML_TAG_TOKEN = refl
-token_type_place tokens.YAML_SCALAR_TOKEN = refl
+token_type_place kinds.YAML_NO_TOKEN = refl
+token_type_place kinds.YAML_STREAM_START_TOKEN = refl
+token_type_place kinds.YAML_STREAM_END_TOKEN = refl
+token_type_place kinds.YAML_VERSION_DIRECTIVE_TOKEN = refl
+token_type_place kinds.YAML_TAG_DIRECTIVE_TOKEN = refl
+token_type_place kinds.YAML_DOCUMENT_START_TOKEN = refl
+token_type_place kinds.YAML_DOCUMENT_END_TOKEN = refl
+token_type_place kinds.YAML_BLOCK_SEQUENCE_START_TOKEN = refl
+token_type_place kinds.YAML_BLOCK_MAPPING_START_TOKEN = refl
+token_type_place kinds.YAML_BLOCK_END_TOKEN = refl
+token_type_place kinds.YAML_FLOW_SEQUENCE_START_TOKEN = refl
+token_type_place kinds.YAML_FLOW_SEQUENCE_END_TOKEN = refl
+token_type_place kinds.YAML_FLOW_MAPPING_START_TOKEN = refl
+token_type_place kinds.YAML_FLOW_MAPPING_END_TOKEN = refl
+token_type_place kinds.YAML_BLOCK_ENTRY_TOKEN = refl
+token_type_place kinds.YAML_FLOW_ENTRY_TOKEN = refl
+token_type_place kinds.YAML_KEY_TOKEN = refl
+token_type_place kinds.YAML_VALUE_TOKEN = refl
+token_type_place kinds.YAML_ALIAS_TOKEN = refl
+token_type_place kinds.YAML_ANCHOR_TOKEN = refl
+token_type_place kinds.YAML_TAG_TOKEN = refl
+token_type_place kinds.YAML_SCALAR_TOKEN = refl
 
 parser_state_place : (x : yaml_parser_state_t) → parser_state_number x ≡ tag_of parser_state.the_type x
-parser_state_place states.YAML_PARSE_STREAM_START_STATE = refl
-parser_state_place states.YAML_PARSE_IMPLICIT_DOCUMENT_START_STATE = refl
-parser_state_place states.YAML_PARSE_DOCUMENT_START_STATE = refl
-parser_state_place states.YAML_PARSE_DOCUMENT_CONTENT_STATE = refl
-parser_state_place states.YAML_PARSE_DOCUMENT_END_STATE = refl
-parser_state_place states.YAML_PARSE_BLOCK_NODE_STATE = refl
-parser_state_place states.YAML_PARSE_BLOCK_NODE_OR_INDENTLESS_SEQUENCE_STATE = refl
-parser_state_place states.YAML_PARSE_FLOW_NODE_STATE = refl
-parser_state_place states.YAML_PARSE_BLOCK_SEQUENCE_FIRST_ENTRY_STATE = refl
-parser_state_place states.YAML_PARSE_BLOCK_SEQUENCE_ENTRY_STATE = refl
-parser_state_place states.YAML_PARSE_INDENTLESS_SEQUENCE_ENTRY_STATE = refl
-parser_state_place states.YAML_PARSE_BLOCK_MAPPING_FIRST_KEY_STATE = refl
-parser_state_place states.YAML_PARSE_BLOCK_MAPPING_KEY_STATE = refl
-parser_state_place states.YAML_PARSE_BLOCK_MAPPING_VALUE_STATE = refl
-parser_state_place states.YAML_PARSE_FLOW_SEQUENCE_FIRST_ENTRY_STATE = refl
-parser_state_place states.YAML_PARSE_FLOW_SEQUENCE_ENTRY_STATE = refl
-parser_state_place states.YAML_PARSE_FLOW_SEQUENCE_ENTRY_MAPPING_KEY_STATE = refl
-parser_state_place states.YAML_PARSE_FLOW_SEQUENCE_ENTRY_MAPPING_VALUE_STATE = refl
-parser_state_place states.YAML_PARSE_FLOW_SEQUENCE_ENTRY_MAPPING_END_STATE = refl
-parser_state_place states.YAML_PARSE_FLOW_MAPPING_FIRST_KEY_STATE = refl
-parser_state_place states.YAML_PARSE_FLOW_MAPPING_KEY_STATE = refl
-parser_state_place states.YAML_PARSE_FLOW_MAPPING_VALUE_STATE = refl
-parser_state_place states.YAML_PARSE_FLOW_MAPPING_EMPTY_VALUE_STATE = refl
-parser_state_place states.YAML_PARSE_END_STATE = refl
+parser_state_place st.YAML_PARSE_STREAM_START_STATE = refl
+parser_state_place st.YAML_PARSE_IMPLICIT_DOCUMENT_START_STATE = refl
+parser_state_place st.YAML_PARSE_DOCUMENT_START_STATE = refl
+parser_state_place st.YAML_PARSE_DOCUMENT_CONTENT_STATE = refl
+parser_state_place st.YAML_PARSE_DOCUMENT_END_STATE = refl
+parser_state_place st.YAML_PARSE_BLOCK_NODE_STATE = refl
+parser_state_place st.YAML_PARSE_BLOCK_NODE_OR_INDENTLESS_SEQUENCE_STATE = refl
+parser_state_place st.YAML_PARSE_FLOW_NODE_STATE = refl
+parser_state_place st.YAML_PARSE_BLOCK_SEQUENCE_FIRST_ENTRY_STATE = refl
+parser_state_place st.YAML_PARSE_BLOCK_SEQUENCE_ENTRY_STATE = refl
+parser_state_place st.YAML_PARSE_INDENTLESS_SEQUENCE_ENTRY_STATE = refl
+parser_state_place st.YAML_PARSE_BLOCK_MAPPING_FIRST_KEY_STATE = refl
+parser_state_place st.YAML_PARSE_BLOCK_MAPPING_KEY_STATE = refl
+parser_state_place st.YAML_PARSE_BLOCK_MAPPING_VALUE_STATE = refl
+parser_state_place st.YAML_PARSE_FLOW_SEQUENCE_FIRST_ENTRY_STATE = refl
+parser_state_place st.YAML_PARSE_FLOW_SEQUENCE_ENTRY_STATE = refl
+parser_state_place st.YAML_PARSE_FLOW_SEQUENCE_ENTRY_MAPPING_KEY_STATE = refl
+parser_state_place st.YAML_PARSE_FLOW_SEQUENCE_ENTRY_MAPPING_VALUE_STATE = refl
+parser_state_place st.YAML_PARSE_FLOW_SEQUENCE_ENTRY_MAPPING_END_STATE = refl
+parser_state_place st.YAML_PARSE_FLOW_MAPPING_FIRST_KEY_STATE = refl
+parser_state_place st.YAML_PARSE_FLOW_MAPPING_KEY_STATE = refl
+parser_state_place st.YAML_PARSE_FLOW_MAPPING_VALUE_STATE = refl
+parser_state_place st.YAML_PARSE_FLOW_MAPPING_EMPTY_VALUE_STATE = refl
+parser_state_place st.YAML_PARSE_END_STATE = refl
 
 pub ordered_token_types : (a b : yaml_token_type_t)
     → of_values token_type.enum Less Greater (points Equal token_type.the_parts) a b ≡ nat_cmp (token_type_number a)

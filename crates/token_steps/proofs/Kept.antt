@@ -7,7 +7,7 @@ use Rattle.libyaml_types.specs.declared.token.unnamed_yaml_token_t_data.TheVaria
 use Rattle.libyaml_types.specs.declared.enums.yaml_token_type_t.{yaml_token_type_t}
 use Rattle.libyaml_types.specs.declared.enums.yaml_token_type_t.TheVariants as kinds
 use Rattle.libyaml_automaton.specs.declared.node_place.NodePlace.{NodePlace}
-use Rattle.libyaml_automaton.specs.Automaton as a
+use Rattle.libyaml_automaton.specs.Automaton as automaton
 use Rattle.libyaml_automaton.specs.Automaton.{Purpose}
 use Rattle.libyaml_events.specs.machine.Config.{Handles}
 use Rattle.libyaml_events.specs.machine.Machine.{declared_by, handles_behind}
@@ -38,7 +38,7 @@ directive_added (properties b g) k d = absurd d
 
 at_directive : (h : Texts) (k : unnamed_yaml_token_t_data) (m : yaml_mark_t) (b : Bool) → (h.anchor ≡ None) × (h.tag ≡ None)
     → is_directive (token_type k) ≡ true
-    → (texts_behind h k (a.BehindDirective m b) ≡ kept_behind h k) × Holds directives (kept_behind h k)
+    → (texts_behind h k (automaton.BehindDirective m b) ≡ kept_behind h k) × Holds directives (kept_behind h k)
 at_directive h (tok.VersionDirective v) m b n e = (refl, n)
 at_directive h (tok.TagDirective g) m b n e = (refl, n)
 at_directive h _ m b n e = no e
@@ -83,9 +83,9 @@ at_other (properties b g) h k f d = absurd d
 pub keeps : (x : Keeping) (u : Purpose) (h : Texts) (k : unnamed_yaml_token_t_data) → Holds x h
     → Adds x (token_type k) (keeping u)
     → (texts_behind h k u ≡ kept_behind h k) × Holds (keeping u) (kept_behind h k)
-keeps x (a.BehindDirective m b) h k f d = at_directive h k m b (without_properties x h (token_type k) f d)
+keeps x (automaton.BehindDirective m b) h k f d = at_directive h k m b (without_properties x h (token_type k) f d)
     (directive_added x (token_type k) d)
-keeps x (a.BehindProperties p r) h k f d = at_property x h k r.anchor r.tag f d
+keeps x (automaton.BehindProperties p r) h k f d = at_property x h k r.anchor r.tag f d
 keeps x _ h k f d = at_other x h k f d
 
 -- the same handles
@@ -110,8 +110,8 @@ plain (properties b g) k d = absurd d
 
 pub declares : (x : Keeping) (u : Purpose) (hs : Handles) (k : unnamed_yaml_token_t_data) → Adds x (token_type k) (keeping u)
     → handles_behind hs k u ≡ declared_by hs k
-declares x (a.BehindDirective m b) hs k d = refl
-declares x (a.BehindProperties p r) hs k d = sym (undeclared hs k (property_added x (token_type k) r.anchor r.tag d))
+declares x (automaton.BehindDirective m b) hs k d = refl
+declares x (automaton.BehindProperties p r) hs k d = sym (undeclared hs k (property_added x (token_type k) r.anchor r.tag d))
 declares x _ hs k d = sym (undeclared hs k (plain x (token_type k) d))
 
 -- the same tag
@@ -121,12 +121,12 @@ tag_by (properties b g) tag = tag_if g tag
 tag_by _ tag = NoTag
 
 pub tag_for_by : (u : Purpose) (tag : ℕ) → tag_for u tag ≡ tag_by (keeping u) tag
-tag_for_by (a.BehindProperties p r) tag = refl
+tag_for_by (automaton.BehindProperties p r) tag = refl
 tag_for_by _ tag = refl
 
-tag_at_property : (x : Keeping) (p : NodePlace) (r : a.PropertiesRead) (hs : Handles) (h : Texts) (k : unnamed_yaml_token_t_data)
+tag_at_property : (x : Keeping) (p : NodePlace) (r : automaton.PropertiesRead) (hs : Handles) (h : Texts) (k : unnamed_yaml_token_t_data)
     (tag : ℕ) → Holds x h → tag_by x tag ≡ tag_read_of hs h.tag → Adds x (token_type k) (properties r.anchor r.tag)
-    → tag_for (a.BehindProperties p r) (fact_behind (a.BehindProperties p r) tag (token_type k) (fact_of hs k))
+    → tag_for (automaton.BehindProperties p r) (fact_behind (automaton.BehindProperties p r) tag (token_type k) (fact_of hs k))
     ≡ tag_read_of (declared_by hs k) (kept_behind h k).tag
 tag_at_property nothing p r hs h (tok.Anchor y) tag f e d = rw (d.1, f) refl
 tag_at_property nothing p r hs h (tok.Tag y) tag f e d = rw d.1 refl
@@ -139,7 +139,7 @@ tag_at_property (properties u v) p r hs h _ tag f e d = absurd d
 pub tags : (x : Keeping) (u : Purpose) (hs : Handles) (h : Texts) (k : unnamed_yaml_token_t_data) (tag : ℕ) → Holds x h
     → tag_by x tag ≡ tag_read_of hs h.tag → Adds x (token_type k) (keeping u)
     → tag_for u (fact_behind u tag (token_type k) (fact_of hs k)) ≡ tag_read_of (declared_by hs k) (kept_behind h k).tag
-tags x (a.BehindDirective m b) hs h k tag f e d
-    = sym (ap (tag_read_of (declared_by hs k)) (keeps x (a.BehindDirective m b) h k f d).1.1)
-tags x (a.BehindProperties p r) hs h k tag f e d = tag_at_property x p r hs h k tag f e d
+tags x (automaton.BehindDirective m b) hs h k tag f e d
+    = sym (ap (tag_read_of (declared_by hs k)) (keeps x (automaton.BehindDirective m b) h k f d).1.1)
+tags x (automaton.BehindProperties p r) hs h k tag f e d = tag_at_property x p r hs h k tag f e d
 tags x _ hs h k tag f e d = sym (ap (λ (y : Texts). tag_read_of (declared_by hs k) y.tag) (at_other x h k f d).1)

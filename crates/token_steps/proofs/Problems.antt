@@ -3,7 +3,7 @@ use Rattle.std.proofs.Common.{◌≡◌, Bool, true, false, ℕ, Ok, Err, subst,
 use Rattle.libyaml_types.specs.declared.mark.yaml_mark_t.{yaml_mark_t}
 use Rattle.libyaml_types.specs.declared.enums.yaml_token_type_t.{yaml_token_type_t}
 use Rattle.libyaml_automaton.specs.declared.node_place.NodePlace.{NodePlace}
-use Rattle.libyaml_automaton.specs.Automaton as a
+use Rattle.libyaml_automaton.specs.Automaton as automaton
 use Rattle.libyaml_automaton.specs.Automaton.{PropertiesRead, Step}
 use Rattle.libyaml_automaton.specs.Config.{Stacks}
 use Rattle.libyaml_automaton.specs.Numbers.{flag}
@@ -23,17 +23,17 @@ Numbered (Err f) = IsFaultNumber f.problem
 
 put_content : (b h : Bool) (k : yaml_token_type_t) (g : TagRead) (tag : ℕ) (t : StepToken) (s : Step) → Content b h k s
     → Numbered (put_by_fact g tag t s)
-put_content b h k g tag t (a.Gives e c) x = tt
-put_content b h k g tag t (a.Fails f) x = x
+put_content b h k g tag t (automaton.Gives e c) x = tt
+put_content b h k g tag t (automaton.Fails f) x = x
 put_content b h k g tag t _ x = absurd x
 
 first_version : (b : Bool) (m : yaml_mark_t) (c : Stacks) (tag : ℕ) (t : StepToken)
-    → Numbered (put_by_fact NoTag tag t (a.first_version b m c (without_fact t)))
+    → Numbered (put_by_fact NoTag tag t (automaton.first_version b m c (without_fact t)))
 first_version true m c tag t = tt
 first_version false m c tag t = (omega arith, omega arith)
 
 tag_directive : (b : Bool) (m : yaml_mark_t) (h : Bool) (c : Stacks) (tag : ℕ) (t : StepToken)
-    → Numbered (put_by_fact NoTag tag t (a.tag_directive b m h c (without_fact t)))
+    → Numbered (put_by_fact NoTag tag t (automaton.tag_directive b m h c (without_fact t)))
 tag_directive true m h c tag t = (omega arith, omega arith)
 tag_directive false m h c tag t = tt
 
@@ -47,12 +47,12 @@ content_number OtherTag tag p r c t = put_content _ _ _ OtherTag tag t _ (node_c
 
 answered : (v : Keeping) (k : yaml_token_type_t) (tag : ℕ) (t : StepToken) (s : Step) → Follows v k s
     → Numbered (with_facts tag t s)
-answered v k tag t (a.Gives e c) x = tt
-answered v k tag t (a.Wants w c) x = tt
-answered v k tag t (a.Fails f) x = x
-answered v k tag t (a.AsksVersion m c) x = first_version (flag t.fact) m c tag t
-answered v k tag t (a.AsksHandle m h c) x = tag_directive (flag t.fact) m h c tag t
-answered v k tag t (a.AsksContent p r c) x = content_number (tag_if r.tag tag) tag p r c t
+answered v k tag t (automaton.Gives e c) x = tt
+answered v k tag t (automaton.Wants w c) x = tt
+answered v k tag t (automaton.Fails f) x = x
+answered v k tag t (automaton.AsksVersion m c) x = first_version (flag t.fact) m c tag t
+answered v k tag t (automaton.AsksHandle m h c) x = tag_directive (flag t.fact) m h c tag t
+answered v k tag t (automaton.AsksContent p r c) x = content_number (tag_if r.tag tag) tag p r c t
 
 pub step_number : (v : StepWant) (c : Stacks) (t : StepToken) → Numbered (step_by_fact v c t)
 step_number v c t = answered (keeping v.next) t.kind v.tag t _ (follows v.next c (without_fact t) t.kind)

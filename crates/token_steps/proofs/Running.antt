@@ -4,13 +4,13 @@ use Rattle.libyaml_types.specs.Fault.{no_fault}
 use Rattle.libyaml_types.specs.declared.mark.yaml_mark_t.{yaml_mark_t}
 use Rattle.libyaml_grammar.specs.grammar.Tokens.{Token}
 use Rattle.libyaml_grammar.specs.grammar.Events.{Event}
-use Rattle.libyaml_automaton.specs.Automaton as a
+use Rattle.libyaml_automaton.specs.Automaton as automaton
 use Rattle.libyaml_automaton.specs.Config.{Stacks, stacks_of, first_stacks}
 use Rattle.libyaml_automaton.specs.Purposes.{purpose_of}
 use Rattle.libyaml_events.specs.machine.Config.{Handles, no_handles, config_with}
 use Rattle.libyaml_events.specs.machine.Machine.{declared_by, lookahead_after}
 use Rattle.libyaml_events.specs.machine.Want.{Texts, no_texts}
-use Rattle.libyaml_events.proofs.exported.Pushes as pushed
+use Rattle.libyaml_events.proofs.exported.Pushes as push_lemmas
 use Rattle.libyaml_events.proofs.exported.Pushes.{fed_ended}
 use Rattle.libyaml_events.specs.sources.Pushed.{Fed}
 use Rattle.token_steps.specs.declared.did.Did.{Did}
@@ -19,7 +19,7 @@ use Rattle.token_steps.specs.declared.steps.steps_t.{steps_t}
 use Rattle.token_steps.specs.declared.records.step_event_t.{step_event_t}
 use Rattle.token_steps.specs.declared.records.step_fault_t.{step_fault_t}
 use Rattle.token_steps.specs.Facts.{Given, StepResult, TagRead, Wants, step_by_fact, tag_for}
-use Rattle.token_steps.specs.Facts as told
+use Rattle.token_steps.specs.Facts as facts
 use Rattle.token_steps.specs.Numbers.{number}
 use Rattle.token_steps.specs.Records.{shape_of, event_of}
 use Rattle.token_steps.specs.RunLaws.{RunIsFed}
@@ -31,7 +31,7 @@ use Rattle.token_steps.proofs.Kept.{Holds}
 use Rattle.token_steps.proofs.Tied.{After, kept_after, steps_told, told_with}
 
 -- such a parser, with what is kept
-pub record Stood (v : a.Purpose) (g : TagRead) (c : Stacks) (hs : Handles) (h : Texts) (o : Option Token) (l : List Token)
+pub record Stood (v : automaton.Purpose) (g : TagRead) (c : Stacks) (hs : Handles) (h : Texts) (o : Option Token) (l : List Token)
     (es : List Event) : Type 0 where
   pub fed : Fed (record { next = v; texts = h }) (config_with c hs no_fault None) o l es
   pub holds : Holds (keeping v) h
@@ -40,21 +40,21 @@ pub record Stood (v : a.Purpose) (g : TagRead) (c : Stacks) (hs : Handles) (h : 
 abbrev pub StoodAt : steps_t → Stacks → Handles → Texts → Option Token → List Token → List Event → Type 0
 StoodAt d c hs h o l es = Stood (purpose_of d.read) (tag_in d) c hs h o l es
 
-at_config : (v : a.Purpose) (g : TagRead) (c c' : Stacks) (hs : Handles) (h : Texts) (o : Option Token) (l : List Token)
+at_config : (v : automaton.Purpose) (g : TagRead) (c c' : Stacks) (hs : Handles) (h : Texts) (o : Option Token) (l : List Token)
     (es : List Event) → c' ≡ c → Stood v g c hs h o l es → Stood v g c' hs h o l es
 at_config v g c c' hs h o l es e s = subst (λ (x : Stacks). Stood v g x hs h o l es) (sym e) s
 
-at_want : (v v' : a.Purpose) (g g' : TagRead) (c : Stacks) (hs : Handles) (h : Texts) (o : Option Token) (l : List Token)
+at_want : (v v' : automaton.Purpose) (g g' : TagRead) (c : Stacks) (hs : Handles) (h : Texts) (o : Option Token) (l : List Token)
     (es : List Event) → v' ≡ v → g' ≡ g → Stood v g c hs h o l es → Stood v' g' c hs h o l es
-at_want v v' g g' c hs h o l es e f s = subst (λ (x : a.Purpose). Stood x g' c hs h o l es) (sym e)
+at_want v v' g g' c hs h o l es e f s = subst (λ (x : automaton.Purpose). Stood x g' c hs h o l es) (sym e)
     (subst (λ (x : TagRead). Stood v x c hs h o l es) (sym f) s)
 
 -- between two events nothing is kept
 between : (d : steps_t) (c : Stacks) (hs : Handles) (o : Option Token) (l : List Token) (es : List Event)
-    → purpose_of d.read ≡ a.AtState → Fed (record { next = a.AtState; texts = no_texts }) (config_with c hs no_fault None) o l es
+    → purpose_of d.read ≡ automaton.AtState → Fed (record { next = automaton.AtState; texts = no_texts }) (config_with c hs no_fault None) o l es
     → StoodAt d c hs no_texts o l es
-between d c hs o l es e f = at_want a.AtState (purpose_of d.read) told.NoTag (tag_in d) c hs no_texts o l es e
-    (ap (λ (x : a.Purpose). tag_for x d.tag) e) (record { fed = f; holds = refl; tag = refl })
+between d c hs o l es e f = at_want automaton.AtState (purpose_of d.read) facts.NoTag (tag_in d) c hs no_texts o l es e
+    (ap (λ (x : automaton.Purpose). tag_for x d.tag) e) (record { fed = f; holds = refl; tag = refl })
 
 after_wants : (x : Did) (d d' : steps_t) (c c' : Stacks) (hs : Handles) (h : Texts) (l : List Token) (es : List Event)
     (t : Token) (e : step_event_t) (f : step_fault_t) → StoodAt d c hs h (Some t) l es → 0 ≡ number x
@@ -63,7 +63,7 @@ after_wants : (x : Did) (d d' : steps_t) (c c' : Stacks) (hs : Handles) (h : Tex
 after_wants did.Wants d d' c c' hs h l es t e f s q y =
     let kept = subst (After hs h t.content) y (kept_after (want_in d) hs h t c s.holds s.tag) in
     let stepped = steps_told (want_in d) hs h t c s.holds s.tag ∙ ap (told_with h hs t t.content) y in record {
-      fed = pushed.wants (record { next = purpose_of d.read; texts = h }) (config_with c hs no_fault None) t s.fed stepped;
+      fed = push_lemmas.wants (record { next = purpose_of d.read; texts = h }) (config_with c hs no_fault None) t s.fed stepped;
       holds = kept.0;
       tag = kept.1;
     }
@@ -75,13 +75,13 @@ after_wants did.Failed d d' c c' hs h l es t e f s q y = no (sym (ap (λ (x : �
 after_wants did.Bad d d' c c' hs h l es t e f s q y = no (sym (ap (λ (x : ℕ). x == 0) q))
 
 given : (d d' : steps_t) (c c' : Stacks) (hs : Handles) (h : Texts) (l : List Token) (es : List Event) (t : Token)
-    (e : told.StepEvent) → StoodAt d c hs h (Some t) l es → step_by_fact (want_in d) c (token_of hs t) ≡ Ok (Given e, c')
-    → purpose_of d'.read ≡ a.AtState
+    (e : facts.StepEvent) → StoodAt d c hs h (Some t) l es → step_by_fact (want_in d) c (token_of hs t) ≡ Ok (Given e, c')
+    → purpose_of d'.read ≡ automaton.AtState
     → StoodAt d' c' (handles_past hs e.shape) no_texts (lookahead_after e.stays t None) l
     (es ++ event_with hs h t.content e ∷ [])
 given d d' c c' hs h l es t e s y w = between d' c' (handles_past hs e.shape) (lookahead_after e.stays t None) l
     (es ++ event_with hs h t.content e ∷ []) w
-    (pushed.gives_on (record { next = purpose_of d.read; texts = h }) (config_with c hs no_fault None) t s.fed
+    (push_lemmas.gives_on (record { next = purpose_of d.read; texts = h }) (config_with c hs no_fault None) t s.fed
     (event_with hs h t.content e) (config_with c' (handles_past hs e.shape) no_fault (lookahead_after e.stays t None))
     (steps_told (want_in d) hs h t c s.holds s.tag ∙ ap (told_with h hs t t.content) y))
 
@@ -113,14 +113,14 @@ before_token did.Bad d d' c c' hs h l es t e f s q y = no (sym (ap (λ (x : ℕ)
 pub stood : (d : steps_t) (ss : List ℕ) (ms : List yaml_mark_t) (hs : Handles) (h : Texts) (o : Option Token)
     (l : List Token) (es : List Event) → Run d ss ms hs h o l es → StoodAt d (stacks_of d.machine ss ms) hs h o l es
 stood _ _ _ _ _ _ _ _ (begins d ss ms e f) = at_config (purpose_of d.read) (tag_in d) first_stacks (stacks_of d.machine ss ms)
-    no_handles no_texts None [] [] f (between d first_stacks no_handles None [] [] e pushed.begins)
+    no_handles no_texts None [] [] f (between d first_stacks no_handles None [] [] e push_lemmas.begins)
 stood _ _ _ _ _ _ _ _ (moves d d' ss ss' ms ms' hs h o l es r v g e) =
     at_config (purpose_of d'.read) (tag_in d') (stacks_of d.machine ss ms) (stacks_of d'.machine ss' ms') hs h o l es e
     (at_want (purpose_of d.read) (purpose_of d'.read) (tag_in d) (tag_in d') (stacks_of d.machine ss ms) hs h o l es v g
     (stood d ss ms hs h o l es r))
 stood _ _ _ _ _ _ _ _ (takes d ss ms hs h l es t r e) =
     let s = stood d ss ms hs h None l es r in record {
-      fed = pushed.takes (record { next = purpose_of d.read; texts = h })
+      fed = push_lemmas.takes (record { next = purpose_of d.read; texts = h })
           (config_with (stacks_of d.machine ss ms) hs no_fault None) l es t s.fed (fed_ended s.fed ∙ e);
       holds = s.holds;
       tag = s.tag;

@@ -4,7 +4,7 @@ use Rattle.libyaml_types.specs.Fault.{no_fault}
 use Rattle.libyaml_types.specs.declared.mark.yaml_mark_t.{yaml_mark_t}
 use Rattle.libyaml_grammar.specs.grammar.Events.{Event}
 use Rattle.libyaml_grammar.specs.grammar.Tokens.{Token}
-use Rattle.libyaml_automaton.specs.Automaton as a
+use Rattle.libyaml_automaton.specs.Automaton as automaton
 use Rattle.libyaml_automaton.specs.Config.{Stacks, stacks_of}
 use Rattle.libyaml_automaton.specs.Purposes.{purpose_of}
 use Rattle.libyaml_events.specs.machine.Config.{Handles, config_with}
@@ -40,7 +40,7 @@ wanted did.Failed p d e f c q h = no (sym (ap (λ (x : ℕ). x == 0) q))
 wanted did.Bad p d e f c q h = no (sym (ap (λ (x : ℕ). x == 0) q))
 
 gave : (x : Did) (p : StepResult) (d : steps_t) (e : step_event_t) (f : step_fault_t) (c : Stacks) → 1 ≡ number x
-    → Tells x p d e f c → (p ≡ Ok (Given (event_of e false), c)) × (purpose_of d.read ≡ a.AtState)
+    → Tells x p d e f c → (p ≡ Ok (Given (event_of e false), c)) × (purpose_of d.read ≡ automaton.AtState)
 gave did.Gave p d e f c q h = h
 gave did.Wants p d e f c q h = no (sym (ap (λ (x : ℕ). x == 1) q))
 gave did.Stays p d e f c q h = no (sym (ap (λ (x : ℕ). x == 1) q))
@@ -50,7 +50,7 @@ gave did.Failed p d e f c q h = no (sym (ap (λ (x : ℕ). x == 1) q))
 gave did.Bad p d e f c q h = no (sym (ap (λ (x : ℕ). x == 1) q))
 
 stayed : (x : Did) (p : StepResult) (d : steps_t) (e : step_event_t) (f : step_fault_t) (c : Stacks) → 2 ≡ number x
-    → Tells x p d e f c → (p ≡ Ok (Given (event_of e true), c)) × (purpose_of d.read ≡ a.AtState)
+    → Tells x p d e f c → (p ≡ Ok (Given (event_of e true), c)) × (purpose_of d.read ≡ automaton.AtState)
 stayed did.Stays p d e f c q h = h
 stayed did.Wants p d e f c q h = no (sym (ap (λ (x : ℕ). x == 2) q))
 stayed did.Gave p d e f c q h = no (sym (ap (λ (x : ℕ). x == 2) q))
@@ -80,7 +80,7 @@ pub step_gives : (d d' : steps_t) (ss ss' : List ℕ) (ms ms' : List yaml_mark_t
     ≡ Ok (
       parser.Given (event_with hs kept t.content (event_of e false)),
       config_with (stacks_of d'.machine ss' ms') (handles_past hs (shape_of e)) no_fault None,
-    )) × (purpose_of d'.read ≡ a.AtState)
+    )) × (purpose_of d'.read ≡ automaton.AtState)
 step_gives d d' ss ss' ms ms' hs kept l g t e f r c =
     let at = stood d ss ms hs kept (Some t) l g r in
     let h = gave c.0 _ d' e f _ c.1 c.2 in (
@@ -96,7 +96,7 @@ pub step_stays : (d d' : steps_t) (ss ss' : List ℕ) (ms ms' : List yaml_mark_t
     ≡ Ok (
       parser.Given (event_with hs kept t.content (event_of e true)),
       config_with (stacks_of d'.machine ss' ms') (handles_past hs (shape_of e)) no_fault (Some t),
-    )) × (purpose_of d'.read ≡ a.AtState)
+    )) × (purpose_of d'.read ≡ automaton.AtState)
 step_stays d d' ss ss' ms ms' hs kept l g t e f r c =
     let at = stood d ss ms hs kept (Some t) l g r in
     let h = stayed c.0 _ d' e f _ c.1 c.2 in (

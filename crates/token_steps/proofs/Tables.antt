@@ -4,7 +4,7 @@ use Rattle.std.specs.Prelude.{is_some}
 use mathlib.Core.Bool.{true≢false}
 use Rattle.std.specs.FinMap.{get}
 use Rattle.libyaml_types.specs.Models.{TagDirectiveToken}
-use Rattle.libyaml_types.specs.declared.token.unnamed_yaml_token_t_data.TheVariants as token
+use Rattle.libyaml_types.specs.declared.token.unnamed_yaml_token_t_data.TheVariants as tok
 use Rattle.libyaml_events.specs.machine.Config.{Handles}
 use Rattle.libyaml_events.specs.machine.Machine.{declared_by}
 use Rattle.token_steps.specs.Texts.{bit, fact_of}
@@ -19,9 +19,9 @@ none (Some x) e = absurd (true≢false (ap (λ (n : ℕ). n == 1) e))
 
 pub declares : (texts more : List ℕ) (table : List handle_t) (entry : handle_t) (hs : Handles)
     (g : TagDirectiveToken)
-    → hs ≡ handles_at texts table → AreHandlesWithin texts table → fact_of hs (token.TagDirective g) ≡ 0
+    → hs ≡ handles_at texts table → AreHandlesWithin texts table → fact_of hs (tok.TagDirective g) ≡ 0
     → bytes_at (texts ++ more) entry.handle ≡ g.handle → bytes_at (texts ++ more) entry.prefix ≡ g.prefix
-    → declared_by hs (token.TagDirective g) ≡ handles_at (texts ++ more) (table ++ entry ∷ [])
+    → declared_by hs (tok.TagDirective g) ≡ handles_at (texts ++ more) (table ++ entry ∷ [])
 declares texts more table entry hs g same within new handle prefix =
     let all : hs ≡ handles_at (texts ++ more) table = same ∙ sym (stay texts more table within) in
     let absent : get (handles_at (texts ++ more) table) (bytes_at (texts ++ more) entry.handle) ≡ None

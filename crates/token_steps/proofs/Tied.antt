@@ -18,16 +18,16 @@ use Rattle.libyaml_grammar.specs.grammar.Events.{event, is_plain}
 use Rattle.libyaml_grammar.specs.grammar.Order.{is_accepted}
 use Rattle.libyaml_grammar.specs.grammar.Tokens.{Token}
 use Rattle.libyaml_automaton.specs.declared.node_place.NodePlace.{NodePlace}
-use Rattle.libyaml_automaton.specs.Automaton as a
+use Rattle.libyaml_automaton.specs.Automaton as automaton
 use Rattle.libyaml_automaton.specs.Config.{Stacks}
 use Rattle.libyaml_automaton.specs.Numbers.{flag}
 use Rattle.libyaml_events.specs.machine.Config.{Handles, config_with}
-use Rattle.libyaml_events.specs.machine.Machine as parser
+use Rattle.libyaml_events.specs.machine.Machine as parser_machine
 use Rattle.libyaml_events.specs.machine.Machine.{declared_by, fault_with, lookahead_after, resolve}
 use Rattle.libyaml_events.specs.machine.Want as parser_want
 use Rattle.libyaml_events.specs.machine.Want.{Texts}
 use Rattle.token_steps.specs.Facts.{Given, StepResult, TagRead, NoTag, StepWant, Wants, put_by_fact, without_fact, step_by_fact, tag_for, tag_if, content_by_fact, shape_with, tag_read, with_facts}
-use Rattle.token_steps.specs.Facts as told
+use Rattle.token_steps.specs.Facts as facts
 use Rattle.token_steps.specs.Records.{is_undefined}
 use Rattle.token_steps.specs.Texts.{bit, content_of_shape, event_with, fact_of, handles_past, kept_behind, tag_fact, resolved_tag, tag_read_of, token_of, token_with}
 use Rattle.libyaml_events.specs.machine.Outcomes.{only_if}
@@ -54,21 +54,21 @@ read_defined : (tag : List ℕ) → is_undefined (read_of (Some tag)) ≡ false
 read_defined [] = refl
 read_defined (x ∷ xs) = defined_if (bytes_eq (x ∷ xs) (codes "!"))
 
-missing_if : (b : Bool) → told.is_no_tag (tag_read (if b then 2 else 3)) ≡ false
+missing_if : (b : Bool) → facts.is_no_tag (tag_read (if b then 2 else 3)) ≡ false
 missing_if true = refl
 missing_if false = refl
 
-missing : (g : Option (List ℕ)) → told.is_no_tag (read_of g) ≡ grammar.is_missing g
+missing : (g : Option (List ℕ)) → facts.is_no_tag (read_of g) ≡ grammar.is_missing g
 missing None = refl
 missing (Some []) = refl
 missing (Some (x ∷ xs)) = missing_if (bytes_eq (x ∷ xs) (codes "!"))
 
-plain_if : (b q : Bool) → told.plain_flag_for (tag_read (if b then 2 else 3)) q ≡ b
+plain_if : (b q : Bool) → facts.plain_flag_for (tag_read (if b then 2 else 3)) q ≡ b
 plain_if true q = refl
 plain_if false q = refl
 
 plain : (g : Option (List ℕ)) (s : yaml_scalar_style_t)
-    → told.plain_flag_for (read_of g) (flag (bit (is_plain s))) ≡ grammar.plain_flag g s
+    → facts.plain_flag_for (read_of g) (flag (bit (is_plain s))) ≡ grammar.plain_flag g s
 plain None s = flag_bit (is_plain s)
 plain (Some []) s = refl
 plain (Some (x ∷ xs)) s = plain_if (bytes_eq (x ∷ xs) (codes "!")) (flag (bit (is_plain s)))
@@ -77,12 +77,12 @@ negated : (b : Bool) → not b ≡ cond b false true
 negated true = refl
 negated false = refl
 
-quoted_if : (b q : Bool) → told.quoted_flag_for (tag_read (if b then 2 else 3)) q ≡ false
+quoted_if : (b q : Bool) → facts.quoted_flag_for (tag_read (if b then 2 else 3)) q ≡ false
 quoted_if true q = refl
 quoted_if false q = refl
 
 quoted : (g : Option (List ℕ)) (s : yaml_scalar_style_t)
-    → told.quoted_flag_for (read_of g) (flag (bit (is_plain s))) ≡ grammar.quoted_flag g s
+    → facts.quoted_flag_for (read_of g) (flag (bit (is_plain s))) ≡ grammar.quoted_flag g s
 quoted None s = ap not (flag_bit (is_plain s)) ∙ negated (is_plain s)
 quoted (Some []) s = refl
 quoted (Some (x ∷ xs)) s = quoted_if (bytes_eq (x ∷ xs) (codes "!")) (flag (bit (is_plain s)))
@@ -95,31 +95,31 @@ is_scalar _ = false
 
 scalar : (hs : Handles) (h : Texts) (k : unnamed_yaml_token_t_data) (x z y : Bool) (g : Option (List ℕ)) → y ≡ false
     → token_type k ≡ kinds.YAML_SCALAR_TOKEN
-    → content_of_shape hs h k y (shape_with (read_of g) (fact_of hs k) (a.Scalar x z))
-    ≡ parser.scalar_with (only_if x h.anchor) (only_if z (resolved_tag hs h.tag)) (parser.text_in k)
-    (grammar.plain_flag g (parser.style_in k)) (grammar.quoted_flag g (parser.style_in k)) (parser.style_in k)
+    → content_of_shape hs h k y (shape_with (read_of g) (fact_of hs k) (automaton.Scalar x z))
+    ≡ parser_machine.scalar_with (only_if x h.anchor) (only_if z (resolved_tag hs h.tag)) (parser_machine.text_in k)
+    (grammar.plain_flag g (parser_machine.style_in k)) (grammar.quoted_flag g (parser_machine.style_in k)) (parser_machine.style_in k)
 scalar hs h (tok.Scalar s) x z y g e q = rw (e, plain g s.style, quoted g s.style) refl
 scalar hs h _ x z y g e q = no (ap is_scalar q)
 
 content_same : (hs : Handles) (h : Texts) (k : unnamed_yaml_token_t_data) (b z y : Bool) (w g : Option (List ℕ))
-    (s : a.Shape) → GivesWith b z (token_type k) y s → only_if b h.anchor ≡ w → only_if z (resolved_tag hs h.tag) ≡ g
-    → content_of_shape hs h k y (shape_with (read_of g) (fact_of hs k) s) ≡ parser.content_with h w g k s
-content_same hs h k b z y w g (a.Scalar u v) f p q
+    (s : automaton.Shape) → GivesWith b z (token_type k) y s → only_if b h.anchor ≡ w → only_if z (resolved_tag hs h.tag) ≡ g
+    → content_of_shape hs h k y (shape_with (read_of g) (fact_of hs k) s) ≡ parser_machine.content_with h w g k s
+content_same hs h k b z y w g (automaton.Scalar u v) f p q
     = scalar hs h k u v y g f.1.1.0 f.1.1.1 ∙ rw (f.0, f.1.0, p, q) refl
-content_same hs h k b z y w g (a.EmptyScalar u v) f p q = rw (f.0, f.1.0, f.1.1, p, q, missing g) refl
-content_same hs h k b z y w g (a.SequenceStart u v x) f p q = rw (f.0, f.1, p, q, missing g) refl
-content_same hs h k b z y w g (a.MappingStart u v x) f p q = rw (f.0, f.1, p, q, missing g) refl
+content_same hs h k b z y w g (automaton.EmptyScalar u v) f p q = rw (f.0, f.1.0, f.1.1, p, q, missing g) refl
+content_same hs h k b z y w g (automaton.SequenceStart u v x) f p q = rw (f.0, f.1, p, q, missing g) refl
+content_same hs h k b z y w g (automaton.MappingStart u v x) f p q = rw (f.0, f.1, p, q, missing g) refl
 content_same hs h k b z y w g _ f p q = refl
 
-handles_same : (hs : Handles) (g : TagRead) (fact : ℕ) (s : a.Shape)
-    → handles_past hs (shape_with g fact s) ≡ parser.handles_after hs s
-handles_same hs g fact (a.DocumentEnd implicit) = refl
+handles_same : (hs : Handles) (g : TagRead) (fact : ℕ) (s : automaton.Shape)
+    → handles_past hs (shape_with g fact s) ≡ parser_machine.handles_after hs s
+handles_same hs g fact (automaton.DocumentEnd implicit) = refl
 handles_same hs g fact _ = refl
 
 -- steps
 
 -- what is told, with the texts that are kept and the token's
-abbrev pub told_with : Texts → Handles → Token → unnamed_yaml_token_t_data → StepResult → parser.Progressed
+abbrev pub told_with : Texts → Handles → Token → unnamed_yaml_token_t_data → StepResult → parser_machine.Progressed
 told_with h hs t k (Ok (Given e, c)) = Ok (
   parser_want.Given (event_with hs h k e),
   config_with c (handles_past hs e.shape) no_fault (lookahead_after e.stays t None),
@@ -131,38 +131,38 @@ told_with h hs t k (Ok (Wants v, c)) = Ok (
 told_with h hs t k (Err f) = Err (fault_with f)
 
 gives_same : (hs : Handles) (h : Texts) (t : Token) (k : unnamed_yaml_token_t_data) (tag : ℕ) (b z : Bool)
-    (w g : Option (List ℕ)) (c d : Stacks) (e : a.ShapedEvent) → GivesWith b z (token_type k) e.stays e.shape
+    (w g : Option (List ℕ)) (c d : Stacks) (e : automaton.ShapedEvent) → GivesWith b z (token_type k) e.stays e.shape
     → only_if b h.anchor ≡ w → only_if z (resolved_tag hs h.tag) ≡ g
-    → parser.put h w g (config_with c hs no_fault None) t k (a.Gives e d)
-    ≡ told_with h hs t k (put_by_fact (read_of g) tag (token_with hs t k) (a.Gives e d))
+    → parser_machine.put h w g (config_with c hs no_fault None) t k (automaton.Gives e d)
+    ≡ told_with h hs t k (put_by_fact (read_of g) tag (token_with hs t k) (automaton.Gives e d))
 gives_same hs h t k tag b z w g c d e f p q
     = rw (sym (content_same hs h k b z e.stays w g e.shape f p q), handles_same hs (read_of g) (fact_of hs k) e.shape) refl
 
 content_put : (hs : Handles) (h : Texts) (t : Token) (k : unnamed_yaml_token_t_data) (tag : ℕ) (b z : Bool)
-    (w g : Option (List ℕ)) (c : Stacks) (s : a.Step) → Content b z (token_type k) s → only_if b h.anchor ≡ w
+    (w g : Option (List ℕ)) (c : Stacks) (s : automaton.Step) → Content b z (token_type k) s → only_if b h.anchor ≡ w
     → only_if z (resolved_tag hs h.tag) ≡ g
-    → parser.put h w g (config_with c hs no_fault None) t k s ≡ told_with h hs t k (put_by_fact (read_of g) tag (token_with hs t k) s)
-content_put hs h t k tag b z w g c (a.Gives e d) f p q = gives_same hs h t k tag b z w g c d e f p q
-content_put hs h t k tag b z w g c (a.Fails x) f p q = refl
+    → parser_machine.put h w g (config_with c hs no_fault None) t k s ≡ told_with h hs t k (put_by_fact (read_of g) tag (token_with hs t k) s)
+content_put hs h t k tag b z w g c (automaton.Gives e d) f p q = gives_same hs h t k tag b z w g c d e f p q
+content_put hs h t k tag b z w g c (automaton.Fails x) f p q = refl
 content_put hs h t k tag b z w g c _ f p q = absurd f
 
 resolved : (hs : Handles) (h : Texts) (t : Token) (k : unnamed_yaml_token_t_data) (tag : ℕ) (p : NodePlace)
-    (r : a.PropertiesRead) (c x : Stacks) (o : Option (List ℕ)) → only_if r.anchor h.anchor ≡ h.anchor
+    (r : automaton.PropertiesRead) (c x : Stacks) (o : Option (List ℕ)) → only_if r.anchor h.anchor ≡ h.anchor
     → only_if r.tag (resolved_tag hs h.tag) ≡ o
-    → parser.content_resolved o p r x h (config_with c hs no_fault None) t k
+    → parser_machine.content_resolved o p r x h (config_with c hs no_fault None) t k
     ≡ told_with h hs t k (content_by_fact (tag_read (tag_fact o)) tag p r x (token_with hs t k))
 resolved hs h t k tag p r c x None u v = refl
 resolved hs h t k tag p r c x (Some g) u v = content_put hs h t k tag r.anchor r.tag h.anchor (Some g) c
-    (a.node_content p r x (parser.seen t k) (token_type k)) (node_content p r x (parser.seen t k) (token_type k)) u v
+    (automaton.node_content p r x (parser_machine.seen t k) (token_type k)) (node_content p r x (parser_machine.seen t k) (token_type k)) u v
     ∙ ap (told_with h hs t k) (sym (defined (read_of (Some g)) tag p r x (token_with hs t k) (read_defined g)))
 
 content_told : (hs : Handles) (h : Texts) (t : Token) (k : unnamed_yaml_token_t_data) (tag : ℕ) (p : NodePlace)
-    (r : a.PropertiesRead) (c x : Stacks) (o : Option unnamed_yaml_token_t_data_tag) → only_if r.anchor h.anchor ≡ h.anchor
+    (r : automaton.PropertiesRead) (c x : Stacks) (o : Option unnamed_yaml_token_t_data_tag) → only_if r.anchor h.anchor ≡ h.anchor
     → only_if r.tag (resolved_tag hs h.tag) ≡ resolved_tag hs o
-    → parser.content_behind o p r x h (config_with c hs no_fault None) t k
+    → parser_machine.content_behind o p r x h (config_with c hs no_fault None) t k
     ≡ told_with h hs t k (content_by_fact (tag_read_of hs o) tag p r x (token_with hs t k))
 content_told hs h t k tag p r c x None u v = content_put hs h t k tag r.anchor r.tag h.anchor None c
-    (a.node_content p r x (parser.seen t k) (token_type k)) (node_content p r x (parser.seen t k) (token_type k)) u v
+    (automaton.node_content p r x (parser_machine.seen t k) (token_type k)) (node_content p r x (parser_machine.seen t k) (token_type k)) u v
 content_told hs h t k tag p r c x (Some g) u v = resolved hs h t k tag p r c x (resolve hs g.handle g.suffix) u v
 
 kept_if : {A : Type 0} → (b : Bool) (o : Option A) → is_some o ≡ b → only_if b o ≡ o
@@ -177,26 +177,26 @@ tag_kept_if hs false None e = refl
 tag_kept_if hs false (Some x) e = no (sym e)
 
 asked : (x : Keeping) (hs : Handles) (h : Texts) (t : Token) (k : unnamed_yaml_token_t_data) (tag : ℕ) (p : NodePlace)
-    (r : a.PropertiesRead) (c d : Stacks) → x ≡ properties r.anchor r.tag → Holds x h → tag_by x tag ≡ tag_read_of hs h.tag
-    → parser.content_behind h.tag p r d h (config_with c hs no_fault None) t k
+    (r : automaton.PropertiesRead) (c d : Stacks) → x ≡ properties r.anchor r.tag → Holds x h → tag_by x tag ≡ tag_read_of hs h.tag
+    → parser_machine.content_behind h.tag p r d h (config_with c hs no_fault None) t k
     ≡ told_with h hs t k (content_by_fact (tag_if r.tag tag) tag p r d (token_with hs t k))
 asked x hs h t k tag p r c d e = rw e (λ f q.
     content_told hs h t k tag p r c d h.tag (kept_if r.anchor h.anchor f.1.0) (tag_kept_if hs r.tag h.tag f.1.1)
     ∙ ap (λ (y : TagRead). told_with h hs t k (content_by_fact y tag p r d (token_with hs t k))) (sym q))
 
 first_version : (hs : Handles) (h : Texts) (t : Token) (v : unnamed_yaml_token_t_data_version_directive) (tag : ℕ) (b : Bool) (m : yaml_mark_t) (c d : Stacks)
-    → parser.put h None None (config_with c hs no_fault None) t (tok.VersionDirective v)
-    (a.first_version b m d (parser.seen t (tok.VersionDirective v)))
+    → parser_machine.put h None None (config_with c hs no_fault None) t (tok.VersionDirective v)
+    (automaton.first_version b m d (parser_machine.seen t (tok.VersionDirective v)))
     ≡ told_with h hs t (tok.VersionDirective v) (put_by_fact NoTag tag (token_with hs t (tok.VersionDirective v))
-    (a.first_version b m d (parser.seen t (tok.VersionDirective v))))
+    (automaton.first_version b m d (parser_machine.seen t (tok.VersionDirective v))))
 first_version hs h t v tag true m c d = refl
 first_version hs h t v tag false m c d = refl
 
 tag_directive : (hs : Handles) (h : Texts) (t : Token) (g : unnamed_yaml_token_t_data_tag_directive) (tag : ℕ) (b q : Bool) (m : yaml_mark_t) (c d : Stacks)
-    → parser.put h None None (config_with c hs no_fault None) t (tok.TagDirective g)
-    (a.tag_directive b m q d (parser.seen t (tok.TagDirective g)))
+    → parser_machine.put h None None (config_with c hs no_fault None) t (tok.TagDirective g)
+    (automaton.tag_directive b m q d (parser_machine.seen t (tok.TagDirective g)))
     ≡ told_with h hs t (tok.TagDirective g) (put_by_fact NoTag tag (token_with hs t (tok.TagDirective g))
-    (a.tag_directive b m q d (parser.seen t (tok.TagDirective g))))
+    (automaton.tag_directive b m q d (parser_machine.seen t (tok.TagDirective g))))
 tag_directive hs h t g tag true q m c d = refl
 tag_directive hs h t g tag false q m c d = refl
 
@@ -210,37 +210,37 @@ is_tag_directive _ = false
 
 version_told : (hs : Handles) (h : Texts) (t : Token) (k : unnamed_yaml_token_t_data) (tag : ℕ) (m : yaml_mark_t)
     (c d : Stacks) → token_type k ≡ kinds.YAML_VERSION_DIRECTIVE_TOKEN
-    → parser.with_texts h (config_with c hs no_fault None) t k (a.AsksVersion m d)
-    ≡ told_with h hs t k (with_facts tag (token_with hs t k) (a.AsksVersion m d))
+    → parser_machine.with_texts h (config_with c hs no_fault None) t k (automaton.AsksVersion m d)
+    ≡ told_with h hs t k (with_facts tag (token_with hs t k) (automaton.AsksVersion m d))
 version_told hs h t (tok.VersionDirective v) tag m c d e = rw (flag_bit (is_accepted v.major v.minor))
     (first_version hs h t v tag (is_accepted v.major v.minor) m c d)
 version_told hs h t _ tag m c d e = no (ap is_version e)
 
 handle_told : (hs : Handles) (h : Texts) (t : Token) (k : unnamed_yaml_token_t_data) (tag : ℕ) (m : yaml_mark_t) (q : Bool)
     (c d : Stacks) → token_type k ≡ kinds.YAML_TAG_DIRECTIVE_TOKEN
-    → parser.with_texts h (config_with c hs no_fault None) t k (a.AsksHandle m q d)
-    ≡ told_with h hs t k (with_facts tag (token_with hs t k) (a.AsksHandle m q d))
+    → parser_machine.with_texts h (config_with c hs no_fault None) t k (automaton.AsksHandle m q d)
+    ≡ told_with h hs t k (with_facts tag (token_with hs t k) (automaton.AsksHandle m q d))
 handle_told hs h t (tok.TagDirective g) tag m q c d e = rw (flag_bit (is_some (get hs g.handle)))
     (tag_directive hs h t g tag (is_some (get hs g.handle)) q m c d)
 handle_told hs h t _ tag m q c d e = no (ap is_tag_directive e)
 
 same : (x : Keeping) (hs : Handles) (h : Texts) (t : Token) (k : unnamed_yaml_token_t_data) (tag : ℕ) (c : Stacks)
-    (s : a.Step) → Holds x h → tag_by x tag ≡ tag_read_of hs h.tag → Follows x (token_type k) s
-    → parser.with_texts h (config_with c hs no_fault None) t k s ≡ told_with h hs t k (with_facts tag (token_with hs t k) s)
-same x hs h t k tag c (a.Gives e d) f q y = gives_same hs h t k tag false false None None c d e y refl refl
-same x hs h t k tag c (a.Wants u d) f q y = rw ((keeps x u h k f y).0, declares x u hs k y) refl
-same x hs h t k tag c (a.Fails z) f q y = refl
-same x hs h t k tag c (a.AsksVersion m d) f q y = version_told hs h t k tag m c d y.0
-same x hs h t k tag c (a.AsksHandle m z d) f q y = handle_told hs h t k tag m z c d y.0
-same x hs h t k tag c (a.AsksContent p r d) f q y = asked x hs h t k tag p r c d y f q
+    (s : automaton.Step) → Holds x h → tag_by x tag ≡ tag_read_of hs h.tag → Follows x (token_type k) s
+    → parser_machine.with_texts h (config_with c hs no_fault None) t k s ≡ told_with h hs t k (with_facts tag (token_with hs t k) s)
+same x hs h t k tag c (automaton.Gives e d) f q y = gives_same hs h t k tag false false None None c d e y refl refl
+same x hs h t k tag c (automaton.Wants u d) f q y = rw ((keeps x u h k f y).0, declares x u hs k y) refl
+same x hs h t k tag c (automaton.Fails z) f q y = refl
+same x hs h t k tag c (automaton.AsksVersion m d) f q y = version_told hs h t k tag m c d y.0
+same x hs h t k tag c (automaton.AsksHandle m z d) f q y = handle_told hs h t k tag m z c d y.0
+same x hs h t k tag c (automaton.AsksContent p r d) f q y = asked x hs h t k tag p r c d y f q
 
 -- a step of the parser is what is told of it
 pub steps_told : (v : StepWant) (hs : Handles) (h : Texts) (t : Token) (c : Stacks) → Holds (keeping v.next) h
     → tag_for v.next v.tag ≡ tag_read_of hs h.tag
-    → parser.step (record { next = v.next; texts = h }) (config_with c hs no_fault None) t
+    → parser_machine.step (record { next = v.next; texts = h }) (config_with c hs no_fault None) t
     ≡ told_with h hs t t.content (step_by_fact v c (token_of hs t))
 steps_told v hs h t c f q = same (keeping v.next) hs h t t.content v.tag c _ f
-    (sym (tag_for_by v.next v.tag) ∙ q) (follows v.next c (parser.seen t t.content) (token_type t.content))
+    (sym (tag_for_by v.next v.tag) ∙ q) (follows v.next c (parser_machine.seen t t.content) (token_type t.content))
 
 -- what is kept then
 
@@ -251,54 +251,54 @@ After hs h k (Ok (Wants v, c)) = Holds (keeping v.next) (kept_behind h k)
 After hs h k (Err f) = Unit {0}
 
 after_content : (hs : Handles) (h : Texts) (t : Token) (k : unnamed_yaml_token_t_data) (g : TagRead) (tag : ℕ) (b z : Bool)
-    (s : a.Step) → Content b z (token_type k) s → After hs h k (put_by_fact g tag (token_with hs t k) s)
-after_content hs h t k g tag b z (a.Gives e d) f = tt
-after_content hs h t k g tag b z (a.Fails x) f = tt
+    (s : automaton.Step) → Content b z (token_type k) s → After hs h k (put_by_fact g tag (token_with hs t k) s)
+after_content hs h t k g tag b z (automaton.Gives e d) f = tt
+after_content hs h t k g tag b z (automaton.Fails x) f = tt
 after_content hs h t k g tag b z _ f = absurd f
 
 after_asked : (hs : Handles) (h : Texts) (t : Token) (k : unnamed_yaml_token_t_data) (g : TagRead) (tag : ℕ)
-    (p : NodePlace) (r : a.PropertiesRead) (d : Stacks) → After hs h k (content_by_fact g tag p r d (token_with hs t k))
-after_asked hs h t k told.Undefined tag p r d = tt
-after_asked hs h t k told.NoTag tag p r d = after_content hs h t k told.NoTag tag r.anchor r.tag _
-    (node_content p r d (parser.seen t k) (token_type k))
-after_asked hs h t k told.EmptyTag tag p r d = after_content hs h t k told.EmptyTag tag r.anchor r.tag _
-    (node_content p r d (parser.seen t k) (token_type k))
-after_asked hs h t k told.Bang tag p r d = after_content hs h t k told.Bang tag r.anchor r.tag _
-    (node_content p r d (parser.seen t k) (token_type k))
-after_asked hs h t k told.OtherTag tag p r d = after_content hs h t k told.OtherTag tag r.anchor r.tag _
-    (node_content p r d (parser.seen t k) (token_type k))
+    (p : NodePlace) (r : automaton.PropertiesRead) (d : Stacks) → After hs h k (content_by_fact g tag p r d (token_with hs t k))
+after_asked hs h t k facts.Undefined tag p r d = tt
+after_asked hs h t k facts.NoTag tag p r d = after_content hs h t k facts.NoTag tag r.anchor r.tag _
+    (node_content p r d (parser_machine.seen t k) (token_type k))
+after_asked hs h t k facts.EmptyTag tag p r d = after_content hs h t k facts.EmptyTag tag r.anchor r.tag _
+    (node_content p r d (parser_machine.seen t k) (token_type k))
+after_asked hs h t k facts.Bang tag p r d = after_content hs h t k facts.Bang tag r.anchor r.tag _
+    (node_content p r d (parser_machine.seen t k) (token_type k))
+after_asked hs h t k facts.OtherTag tag p r d = after_content hs h t k facts.OtherTag tag r.anchor r.tag _
+    (node_content p r d (parser_machine.seen t k) (token_type k))
 
 after_version : (x : Keeping) (hs : Handles) (h : Texts) (t : Token) (k : unnamed_yaml_token_t_data) (tag : ℕ) (b : Bool)
     (m : yaml_mark_t) (d : Stacks) → Holds x h → tag_by x tag ≡ tag_read_of hs h.tag
-    → Follows x (token_type k) (a.AsksVersion m d)
-    → After hs h k (put_by_fact NoTag tag (token_with hs t k) (a.first_version b m d (parser.seen t k)))
+    → Follows x (token_type k) (automaton.AsksVersion m d)
+    → After hs h k (put_by_fact NoTag tag (token_with hs t k) (automaton.first_version b m d (parser_machine.seen t k)))
 after_version x hs h t k tag true m d f q y = (
-  (keeps x (a.BehindDirective m true) h k f y.1).1,
-  tags x (a.BehindDirective m true) hs h k tag f q y.1,
+  (keeps x (automaton.BehindDirective m true) h k f y.1).1,
+  tags x (automaton.BehindDirective m true) hs h k tag f q y.1,
 )
 after_version x hs h t k tag false m d f q y = tt
 
 after_handle : (x : Keeping) (hs : Handles) (h : Texts) (t : Token) (k : unnamed_yaml_token_t_data) (tag : ℕ) (b z : Bool)
     (m : yaml_mark_t) (d : Stacks) → Holds x h → tag_by x tag ≡ tag_read_of hs h.tag
-    → Follows x (token_type k) (a.AsksHandle m z d)
-    → After hs h k (put_by_fact NoTag tag (token_with hs t k) (a.tag_directive b m z d (parser.seen t k)))
+    → Follows x (token_type k) (automaton.AsksHandle m z d)
+    → After hs h k (put_by_fact NoTag tag (token_with hs t k) (automaton.tag_directive b m z d (parser_machine.seen t k)))
 after_handle x hs h t k tag true z m d f q y = tt
 after_handle x hs h t k tag false z m d f q y = (
-  (keeps x (a.BehindDirective m z) h k f y.1).1,
-  tags x (a.BehindDirective m z) hs h k tag f q y.1,
+  (keeps x (automaton.BehindDirective m z) h k f y.1).1,
+  tags x (automaton.BehindDirective m z) hs h k tag f q y.1,
 )
 
-after_step : (x : Keeping) (hs : Handles) (h : Texts) (t : Token) (k : unnamed_yaml_token_t_data) (tag : ℕ) (s : a.Step)
+after_step : (x : Keeping) (hs : Handles) (h : Texts) (t : Token) (k : unnamed_yaml_token_t_data) (tag : ℕ) (s : automaton.Step)
     → Holds x h → tag_by x tag ≡ tag_read_of hs h.tag → Follows x (token_type k) s
     → After hs h k (with_facts tag (token_with hs t k) s)
-after_step x hs h t k tag (a.Gives e d) f q y = tt
-after_step x hs h t k tag (a.Wants u d) f q y = ((keeps x u h k f y).1, tags x u hs h k tag f q y)
-after_step x hs h t k tag (a.Fails z) f q y = tt
-after_step x hs h t k tag (a.AsksVersion m d) f q y = after_version x hs h t k tag (flag (fact_of hs k)) m d f q y
-after_step x hs h t k tag (a.AsksHandle m z d) f q y = after_handle x hs h t k tag (flag (fact_of hs k)) z m d f q y
-after_step x hs h t k tag (a.AsksContent p r d) f q y = after_asked hs h t k (tag_if r.tag tag) tag p r d
+after_step x hs h t k tag (automaton.Gives e d) f q y = tt
+after_step x hs h t k tag (automaton.Wants u d) f q y = ((keeps x u h k f y).1, tags x u hs h k tag f q y)
+after_step x hs h t k tag (automaton.Fails z) f q y = tt
+after_step x hs h t k tag (automaton.AsksVersion m d) f q y = after_version x hs h t k tag (flag (fact_of hs k)) m d f q y
+after_step x hs h t k tag (automaton.AsksHandle m z d) f q y = after_handle x hs h t k tag (flag (fact_of hs k)) z m d f q y
+after_step x hs h t k tag (automaton.AsksContent p r d) f q y = after_asked hs h t k (tag_if r.tag tag) tag p r d
 
 pub kept_after : (v : StepWant) (hs : Handles) (h : Texts) (t : Token) (c : Stacks) → Holds (keeping v.next) h
     → tag_for v.next v.tag ≡ tag_read_of hs h.tag → After hs h t.content (step_by_fact v c (token_of hs t))
 kept_after v hs h t c f q = after_step (keeping v.next) hs h t t.content v.tag _ f
-    (sym (tag_for_by v.next v.tag) ∙ q) (follows v.next c (parser.seen t t.content) (token_type t.content))
+    (sym (tag_for_by v.next v.tag) ∙ q) (follows v.next c (parser_machine.seen t t.content) (token_type t.content))

@@ -3,10 +3,10 @@ use mathlib.Core.Bool.{true≢false}
 use Rattle.std.proofs.Common.{◌≡◌, ◌∙◌, ℕ, List, Bool, true, false, refl, sym, ap, subst, ◌⊎◌, inl, inr}
 use Rattle.libyaml_types.specs.declared.mark.yaml_mark_t.{yaml_mark_t}
 use Rattle.libyaml_types.specs.declared.enums.yaml_token_type_t.{yaml_token_type_t}
-use Rattle.libyaml_types.specs.declared.enums.yaml_token_type_t.TheVariants as tok
+use Rattle.libyaml_types.specs.declared.enums.yaml_token_type_t.TheVariants as kinds
 use Rattle.libyaml_types.specs.declared.enums.yaml_parser_state_t.{yaml_parser_state_t}
 use Rattle.libyaml_automaton.specs.declared.action.Action.{Action}
-use Rattle.libyaml_automaton.specs.declared.action.Action.TheVariants as led
+use Rattle.libyaml_automaton.specs.declared.action.Action.TheVariants as action
 use Rattle.libyaml_automaton.specs.declared.next.Next.{Next}
 use Rattle.libyaml_automaton.specs.declared.next.Next.TheVariants as next
 use Rattle.libyaml_automaton.specs.declared.automaton.Automaton.{Automaton}
@@ -32,40 +32,40 @@ use Rattle.token_steps.specs.declared.records.step_fault_t.{step_fault_t}
 use Rattle.token_steps.specs.Tells.{FitsTold, IsTold, IsDone, IsUntold, IsGiven, Tells}
 
 pub told_in_step : (a : Action) (k : yaml_token_type_t) (r : Reading) (s : yaml_parser_state_t) → FitsStep a k r s
-    → (a ≡ led.FullStates → ⊥) → (a ≡ led.FullMarks → ⊥) → (a ≡ led.Document → ⊥)
-    → (a ≡ led.AsksContent → ⊥) → IsTold a
-told_in_step led.FullStates k r s f n m d c = n refl
-told_in_step led.FullMarks k r s f n m d c = m refl
-told_in_step led.Document k r s f n m d c = d refl
-told_in_step led.AsksContent k r s f n m d c = c refl
-told_in_step led.AsksVersion k r s f n m d c = f
-told_in_step led.AsksHandle k r s f n m d c = f
-told_in_step led.Enter k r s f n m d c = f
-told_in_step led.Node k r s f n m d c = f
+    → (a ≡ action.FullStates → ⊥) → (a ≡ action.FullMarks → ⊥) → (a ≡ action.Document → ⊥)
+    → (a ≡ action.AsksContent → ⊥) → IsTold a
+told_in_step action.FullStates k r s f n m d c = n refl
+told_in_step action.FullMarks k r s f n m d c = m refl
+told_in_step action.Document k r s f n m d c = d refl
+told_in_step action.AsksContent k r s f n m d c = c refl
+told_in_step action.AsksVersion k r s f n m d c = f
+told_in_step action.AsksHandle k r s f n m d c = f
+told_in_step action.Enter k r s f n m d c = f
+told_in_step action.Node k r s f n m d c = f
 told_in_step _ k r s f n m d c = tt
 
 pub told_in_document : (a : Action) (k : yaml_token_type_t) (r : Reading) (s : yaml_parser_state_t) → FitsDocument a k r s
-    → (a ≡ led.FullStates → ⊥) → (a ≡ led.AsksVersion → ⊥) → (a ≡ led.AsksHandle → ⊥) → IsTold a
-told_in_document led.FullStates k r s f n d c = n refl
-told_in_document led.AsksVersion k r s f n d c = d refl
-told_in_document led.AsksHandle k r s f n d c = c refl
-told_in_document led.FullMarks k r s f n d c = f
-told_in_document led.Document k r s f n d c = f
-told_in_document led.AsksContent k r s f n d c = f
-told_in_document led.Enter k r s f n d c = f
-told_in_document led.Node k r s f n d c = f
+    → (a ≡ action.FullStates → ⊥) → (a ≡ action.AsksVersion → ⊥) → (a ≡ action.AsksHandle → ⊥) → IsTold a
+told_in_document action.FullStates k r s f n d c = n refl
+told_in_document action.AsksVersion k r s f n d c = d refl
+told_in_document action.AsksHandle k r s f n d c = c refl
+told_in_document action.FullMarks k r s f n d c = f
+told_in_document action.Document k r s f n d c = f
+told_in_document action.AsksContent k r s f n d c = f
+told_in_document action.Enter k r s f n d c = f
+told_in_document action.Node k r s f n d c = f
 told_in_document _ k r s f n d c = tt
 
-pub told_content : (a : Action) (k : yaml_token_type_t) (r : Reading) → FitsContent a k r → (a ≡ led.FullMarks → ⊥)
+pub told_content : (a : Action) (k : yaml_token_type_t) (r : Reading) → FitsContent a k r → (a ≡ action.FullMarks → ⊥)
     → IsTold a
-told_content led.FullMarks k r f n = n refl
-told_content led.Document k r f n = f
-told_content led.AsksVersion k r f n = f
-told_content led.AsksHandle k r f n = f
-told_content led.AsksContent k r f n = f
-told_content led.FullStates k r f n = f
-told_content led.Enter k r f n = f
-told_content led.Node k r f n = f
+told_content action.FullMarks k r f n = n refl
+told_content action.Document k r f n = f
+told_content action.AsksVersion k r f n = f
+told_content action.AsksHandle k r f n = f
+told_content action.AsksContent k r f n = f
+told_content action.FullStates k r f n = f
+told_content action.Enter k r f n = f
+told_content action.Node k r f n = f
 told_content _ k r f n = tt
 
 -- what is wanted
@@ -75,22 +75,22 @@ simple n s e = true≢false (sym s ∙ ap is_simple e)
 
 pub fits_in_step : (a : Action) (k : yaml_token_type_t) (r : Reading) (s : yaml_parser_state_t) → FitsStep a k r s
     → FitsTold a k r NoTag
-fits_in_step led.Wants k r s f = simple (next_of r.next) f.0
-fits_in_step led.WantsAnchor k r s f = f.0
-fits_in_step led.WantsTag k r s f = f
-fits_in_step led.Empty k r s f = refl
-fits_in_step led.EmptyBehind k r s f = refl
-fits_in_step led.Pair k r s f = refl
+fits_in_step action.Wants k r s f = simple (next_of r.next) f.0
+fits_in_step action.WantsAnchor k r s f = f.0
+fits_in_step action.WantsTag k r s f = f
+fits_in_step action.Empty k r s f = refl
+fits_in_step action.EmptyBehind k r s f = refl
+fits_in_step action.Pair k r s f = refl
 fits_in_step _ k r s f = tt
 
 pub fits_in_document : (a : Action) (k : yaml_token_type_t) (r : Reading) (s : yaml_parser_state_t) → FitsDocument a k r s
     → FitsTold a k r NoTag
-fits_in_document led.Wants k r s f = simple (next_of r.next) f.0
-fits_in_document led.WantsAnchor k r s f = absurd f
-fits_in_document led.WantsTag k r s f = absurd f
-fits_in_document led.Empty k r s f = refl
-fits_in_document led.EmptyBehind k r s f = refl
-fits_in_document led.Pair k r s f = refl
+fits_in_document action.Wants k r s f = simple (next_of r.next) f.0
+fits_in_document action.WantsAnchor k r s f = absurd f
+fits_in_document action.WantsTag k r s f = absurd f
+fits_in_document action.Empty k r s f = refl
+fits_in_document action.EmptyBehind k r s f = refl
+fits_in_document action.Pair k r s f = refl
 fits_in_document _ k r s f = tt
 
 -- a handle
@@ -268,8 +268,8 @@ is_asking _ = true
 
 opening_asks : (q p : NodePlace) (r : PropertiesRead) (c : Stacks) (t : automaton.KindAndMarks) (k : yaml_token_type_t)
     → opens_at q k ≡ true → is_asking (automaton.behind_properties p r c t k) ≡ true
-opening_asks q p r c t tok.YAML_ANCHOR_TOKEN e = no e
-opening_asks q p r c t tok.YAML_TAG_TOKEN e = no e
+opening_asks q p r c t kinds.YAML_ANCHOR_TOKEN e = no e
+opening_asks q p r c t kinds.YAML_TAG_TOKEN e = no e
 opening_asks q p r c t _ e = refl
 
 content_asks : (g : TagRead) (q p : NodePlace) (r : PropertiesRead) (c : Stacks) (t : automaton.KindAndMarks) (k : yaml_token_type_t)
@@ -282,14 +282,14 @@ content_asks OtherTag q p r c t k e = opening_asks q p r c t k e
 
 asks_nothing : (s : Step) (a : Action) (h : PropertiesRead) (t : automaton.KindAndMarks) (r : Reading) (c : Stacks)
     → IsOutcome s (outcome a h t r c) → IsTold a → is_asking s ≡ false
-asks_nothing s led.Document h t r c e x = absurd x
-asks_nothing s led.AsksVersion h t r c e x = absurd x
-asks_nothing s led.AsksHandle h t r c e x = absurd x
-asks_nothing s led.AsksContent h t r c e x = absurd x
-asks_nothing s led.FullStates h t r c e x = absurd x
-asks_nothing s led.FullMarks h t r c e x = absurd x
-asks_nothing s led.Enter h t r c e x = absurd x
-asks_nothing s led.Node h t r c e x = absurd x
+asks_nothing s action.Document h t r c e x = absurd x
+asks_nothing s action.AsksVersion h t r c e x = absurd x
+asks_nothing s action.AsksHandle h t r c e x = absurd x
+asks_nothing s action.AsksContent h t r c e x = absurd x
+asks_nothing s action.FullStates h t r c e x = absurd x
+asks_nothing s action.FullMarks h t r c e x = absurd x
+asks_nothing s action.Enter h t r c e x = absurd x
+asks_nothing s action.Node h t r c e x = absurd x
 asks_nothing s _ h t r c e x = ap is_asking e
 
 plainly : (tag : ℕ) (t : StepToken) (s : Step) → is_asking s ≡ false → with_facts tag t s ≡ put_by_fact NoTag tag t s

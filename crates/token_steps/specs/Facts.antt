@@ -3,7 +3,7 @@ use Rattle.std.specs.Prelude.{◌==◌, ℕ, Bool, true, false, not, Result, Ok,
 use Rattle.libyaml_types.specs.Events.{zero_mark}
 use Rattle.libyaml_types.specs.declared.mark.yaml_mark_t.{yaml_mark_t}
 use Rattle.libyaml_types.specs.declared.enums.yaml_token_type_t.{yaml_token_type_t}
-use Rattle.libyaml_types.specs.declared.enums.yaml_token_type_t.TheVariants as tok
+use Rattle.libyaml_types.specs.declared.enums.yaml_token_type_t.TheVariants as kinds
 use Rattle.libyaml_automaton.specs.declared.node_place.NodePlace.{NodePlace}
 use Rattle.libyaml_automaton.specs.Automaton as automaton
 use Rattle.libyaml_automaton.specs.Automaton.{NumberedFault, PropertiesRead}
@@ -111,7 +111,7 @@ event_of_shape g fact e = record {
 
 -- a TAG's fact is kept where properties follow it
 abbrev pub tag_at : (tag : ℕ) → yaml_token_type_t → (fact : ℕ) → ℕ
-tag_at tag tok.YAML_TAG_TOKEN fact = fact
+tag_at tag kinds.YAML_TAG_TOKEN fact = fact
 tag_at tag _ fact = tag
 
 abbrev pub fact_behind : automaton.Purpose → (tag : ℕ) → yaml_token_type_t → (fact : ℕ) → ℕ

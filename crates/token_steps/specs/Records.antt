@@ -2,11 +2,11 @@
 use Rattle.std.specs.Prelude.{◌≡◌, ◌≤◌, ◌==◌, ◌||◌, ℕ, Bool, true, false, if◌then◌else◌}
 use Rattle.libyaml_types.specs.declared.mark.yaml_mark_t.{yaml_mark_t}
 use Rattle.libyaml_types.specs.declared.enums.yaml_token_type_t.{yaml_token_type_t}
-use Rattle.libyaml_types.specs.declared.enums.yaml_token_type_t.TheVariants as tok
+use Rattle.libyaml_types.specs.declared.enums.yaml_token_type_t.TheVariants as kinds
 use Rattle.libyaml_automaton.specs.Numbers.{flag}
 use Rattle.libyaml_automaton.specs.Automaton.{NumberedFault, PropertiesRead}
 use Rattle.token_steps.specs.Facts.{StepEvent, StepShape, TagRead, StepToken, Undefined, tag_if}
-use Rattle.token_steps.specs.Facts as ev
+use Rattle.token_steps.specs.Facts as facts
 use Rattle.token_steps.specs.declared.records.step_span_t.{step_span_t}
 use Rattle.token_steps.specs.declared.records.step_event_t.{step_event_t}
 use Rattle.token_steps.specs.declared.records.step_fault_t.{step_fault_t}
@@ -15,28 +15,28 @@ use Rattle.token_steps.specs.declared.head.Head.{Head}
 -- the kind of libyaml's number; of other bytes none
 abbrev pub kind_of : ℕ → yaml_token_type_t
 kind_of byte =
-    if byte == 1 then tok.YAML_STREAM_START_TOKEN else
-    if byte == 2 then tok.YAML_STREAM_END_TOKEN else
-    if byte == 3 then tok.YAML_VERSION_DIRECTIVE_TOKEN else
-    if byte == 4 then tok.YAML_TAG_DIRECTIVE_TOKEN else
-    if byte == 5 then tok.YAML_DOCUMENT_START_TOKEN else
-    if byte == 6 then tok.YAML_DOCUMENT_END_TOKEN else
-    if byte == 7 then tok.YAML_BLOCK_SEQUENCE_START_TOKEN else
-    if byte == 8 then tok.YAML_BLOCK_MAPPING_START_TOKEN else
-    if byte == 9 then tok.YAML_BLOCK_END_TOKEN else
-    if byte == 10 then tok.YAML_FLOW_SEQUENCE_START_TOKEN else
-    if byte == 11 then tok.YAML_FLOW_SEQUENCE_END_TOKEN else
-    if byte == 12 then tok.YAML_FLOW_MAPPING_START_TOKEN else
-    if byte == 13 then tok.YAML_FLOW_MAPPING_END_TOKEN else
-    if byte == 14 then tok.YAML_BLOCK_ENTRY_TOKEN else
-    if byte == 15 then tok.YAML_FLOW_ENTRY_TOKEN else
-    if byte == 16 then tok.YAML_KEY_TOKEN else
-    if byte == 17 then tok.YAML_VALUE_TOKEN else
-    if byte == 18 then tok.YAML_ALIAS_TOKEN else
-    if byte == 19 then tok.YAML_ANCHOR_TOKEN else
-    if byte == 20 then tok.YAML_TAG_TOKEN else
-    if byte == 21 then tok.YAML_SCALAR_TOKEN else
-    tok.YAML_NO_TOKEN
+    if byte == 1 then kinds.YAML_STREAM_START_TOKEN else
+    if byte == 2 then kinds.YAML_STREAM_END_TOKEN else
+    if byte == 3 then kinds.YAML_VERSION_DIRECTIVE_TOKEN else
+    if byte == 4 then kinds.YAML_TAG_DIRECTIVE_TOKEN else
+    if byte == 5 then kinds.YAML_DOCUMENT_START_TOKEN else
+    if byte == 6 then kinds.YAML_DOCUMENT_END_TOKEN else
+    if byte == 7 then kinds.YAML_BLOCK_SEQUENCE_START_TOKEN else
+    if byte == 8 then kinds.YAML_BLOCK_MAPPING_START_TOKEN else
+    if byte == 9 then kinds.YAML_BLOCK_END_TOKEN else
+    if byte == 10 then kinds.YAML_FLOW_SEQUENCE_START_TOKEN else
+    if byte == 11 then kinds.YAML_FLOW_SEQUENCE_END_TOKEN else
+    if byte == 12 then kinds.YAML_FLOW_MAPPING_START_TOKEN else
+    if byte == 13 then kinds.YAML_FLOW_MAPPING_END_TOKEN else
+    if byte == 14 then kinds.YAML_BLOCK_ENTRY_TOKEN else
+    if byte == 15 then kinds.YAML_FLOW_ENTRY_TOKEN else
+    if byte == 16 then kinds.YAML_KEY_TOKEN else
+    if byte == 17 then kinds.YAML_VALUE_TOKEN else
+    if byte == 18 then kinds.YAML_ALIAS_TOKEN else
+    if byte == 19 then kinds.YAML_ANCHOR_TOKEN else
+    if byte == 20 then kinds.YAML_TAG_TOKEN else
+    if byte == 21 then kinds.YAML_SCALAR_TOKEN else
+    kinds.YAML_NO_TOKEN
 
 abbrev pub span_token : yaml_token_type_t → ℕ → step_span_t → StepToken
 span_token kind fact at = record {
@@ -49,19 +49,19 @@ span_token kind fact at = record {
 -- libyaml's numbers of events; of other bytes a mapping's end
 abbrev pub shape_of : step_event_t → StepShape
 shape_of e =
-    if e.kind == 1 then ev.StreamStart else
-    if e.kind == 2 then ev.StreamEnd else
-    if e.kind == 3 then ev.DocumentStart (flag e.implicit) else
-    if e.kind == 4 then ev.DocumentEnd (flag e.implicit) else
-    if e.kind == 5 then ev.Alias else
-    if e.kind == 6 then ev.Scalar (flag e.has_anchor) (flag e.has_tag) (flag e.implicit)
+    if e.kind == 1 then facts.StreamStart else
+    if e.kind == 2 then facts.StreamEnd else
+    if e.kind == 3 then facts.DocumentStart (flag e.implicit) else
+    if e.kind == 4 then facts.DocumentEnd (flag e.implicit) else
+    if e.kind == 5 then facts.Alias else
+    if e.kind == 6 then facts.Scalar (flag e.has_anchor) (flag e.has_tag) (flag e.implicit)
     (flag e.quoted_implicit) else
-    if e.kind == 7 then ev.SequenceStart (flag e.has_anchor) (flag e.has_tag) (flag e.implicit)
+    if e.kind == 7 then facts.SequenceStart (flag e.has_anchor) (flag e.has_tag) (flag e.implicit)
     (flag e.is_flow) else
-    if e.kind == 8 then ev.SequenceEnd else
-    if e.kind == 9 then ev.MappingStart (flag e.has_anchor) (flag e.has_tag) (flag e.implicit)
+    if e.kind == 8 then facts.SequenceEnd else
+    if e.kind == 9 then facts.MappingStart (flag e.has_anchor) (flag e.has_tag) (flag e.implicit)
     (flag e.is_flow) else
-    ev.MappingEnd
+    facts.MappingEnd
 
 -- its flags are 1 or 0
 abbrev pub AreFlags : step_event_t → Type 0

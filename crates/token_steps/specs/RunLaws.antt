@@ -7,7 +7,7 @@ use Rattle.libyaml_grammar.specs.grammar.Events.{Event}
 use Rattle.libyaml_automaton.specs.Config.{Stacks, Within, stacks_of}
 use Rattle.libyaml_automaton.specs.Purposes.{purpose_of}
 use Rattle.libyaml_events.specs.machine.Config.{Handles, config_with}
-use Rattle.libyaml_events.specs.machine.Machine as parser
+use Rattle.libyaml_events.specs.machine.Machine as parser_machine
 use Rattle.libyaml_events.specs.machine.Machine.{fault_with}
 use Rattle.libyaml_events.specs.machine.Want.{Texts, Want}
 use Rattle.libyaml_events.specs.sources.Pushed.{Fed}
@@ -59,4 +59,4 @@ ForFailed P = (d d' : steps_t) (ss ss' : List ℕ) (ms ms' : List yaml_mark_t) (
 abbrev pub FailsInHand : List Token → List Event → Fault → Type 0
 FailsInHand l g f = (w : Want) × (c : Stacks) × (hs : Handles) × (t : Token)
     × Fed w (config_with c hs no_fault None) (Some t) l g
-    × (parser.step w (config_with c hs no_fault None) t ≡ Err f)
+    × (parser_machine.step w (config_with c hs no_fault None) t ≡ Err f)

@@ -1,9 +1,9 @@
 -- What a call says of the automaton's step at its token.
 use Rattle.std.specs.Prelude.{◌≡◌, ℕ, true, false, Ok, Err}
 use Rattle.libyaml_types.specs.declared.enums.yaml_token_type_t.{yaml_token_type_t}
-use Rattle.libyaml_types.specs.declared.enums.yaml_token_type_t.TheVariants as tok
+use Rattle.libyaml_types.specs.declared.enums.yaml_token_type_t.TheVariants as kinds
 use Rattle.libyaml_automaton.specs.declared.action.Action.{Action}
-use Rattle.libyaml_automaton.specs.declared.action.Action.TheVariants as led
+use Rattle.libyaml_automaton.specs.declared.action.Action.TheVariants as action
 use Rattle.libyaml_automaton.specs.declared.next.Next.TheVariants as next
 use Rattle.libyaml_automaton.specs.declared.reading.Reading.{Reading}
 use Rattle.libyaml_automaton.specs.Automaton.{AtState}
@@ -60,24 +60,24 @@ IsDone _ = Unit {0}
 
 -- a result that asks nothing further
 abbrev pub IsTold : Action → Type 0
-IsTold led.Document = ⊥
-IsTold led.AsksVersion = ⊥
-IsTold led.AsksHandle = ⊥
-IsTold led.AsksContent = ⊥
-IsTold led.FullStates = ⊥
-IsTold led.FullMarks = ⊥
-IsTold led.Enter = ⊥
-IsTold led.Node = ⊥
+IsTold action.Document = ⊥
+IsTold action.AsksVersion = ⊥
+IsTold action.AsksHandle = ⊥
+IsTold action.AsksContent = ⊥
+IsTold action.FullStates = ⊥
+IsTold action.FullMarks = ⊥
+IsTold action.Enter = ⊥
+IsTold action.Node = ⊥
 IsTold _ = Unit {0}
 
 -- a property alone has the next token wanted after properties, and g is the tag of the node that the event is of
 abbrev pub FitsTold : Action → yaml_token_type_t → Reading → (g : TagRead) → Type 0
-FitsTold led.Wants k r g = next_of r.next ≡ next.BehindProperties → ⊥
-FitsTold led.WantsAnchor k r g = k ≡ tok.YAML_ANCHOR_TOKEN
-FitsTold led.WantsTag k r g = (k ≡ tok.YAML_TAG_TOKEN) × (next_of r.next ≡ next.BehindProperties)
-FitsTold led.Empty k r g = g ≡ NoTag
-FitsTold led.EmptyBehind k r g = g ≡ NoTag
-FitsTold led.Pair k r g = g ≡ NoTag
+FitsTold action.Wants k r g = next_of r.next ≡ next.BehindProperties → ⊥
+FitsTold action.WantsAnchor k r g = k ≡ kinds.YAML_ANCHOR_TOKEN
+FitsTold action.WantsTag k r g = (k ≡ kinds.YAML_TAG_TOKEN) × (next_of r.next ≡ next.BehindProperties)
+FitsTold action.Empty k r g = g ≡ NoTag
+FitsTold action.EmptyBehind k r g = g ≡ NoTag
+FitsTold action.Pair k r g = g ≡ NoTag
 FitsTold _ k r g = Unit {0}
 
 -- the same by the number that C sees

@@ -18,7 +18,7 @@ use Rattle.libyaml_events.specs.machine.Config.{Handles, no_handles}
 use Rattle.libyaml_events.specs.machine.Machine.{resolve, text_in, style_in, encoding_in, sequence_style_by, mapping_style_by, document_with, document_end}
 use Rattle.libyaml_events.specs.machine.Want.{Texts}
 use Rattle.token_steps.specs.Facts.{StepToken, TagRead, NoTag, tag_read, StepShape, StepEvent}
-use Rattle.token_steps.specs.Facts as told
+use Rattle.token_steps.specs.Facts as facts
 
 -- facts
 
@@ -78,12 +78,12 @@ scalar_style false k = style_in k
 
 -- the content of an event of this shape at the token content k, with the texts that are kept and the token's
 abbrev pub content_of_shape : Handles → Texts → unnamed_yaml_token_t_data → (stays : Bool) → StepShape → unnamed_yaml_event_t_data
-content_of_shape hs h k y told.StreamStart = ev.StreamStart (record { encoding = encoding_in k })
-content_of_shape hs h k y told.StreamEnd = ev.StreamEnd
-content_of_shape hs h k y (told.DocumentStart implicit) = document_with implicit h
-content_of_shape hs h k y (told.DocumentEnd implicit) = document_end implicit
-content_of_shape hs h k y told.Alias = ev.Alias (record { anchor = text_in k })
-content_of_shape hs h k y (told.Scalar anchor tag plain quoted) = ev.Scalar (record {
+content_of_shape hs h k y facts.StreamStart = ev.StreamStart (record { encoding = encoding_in k })
+content_of_shape hs h k y facts.StreamEnd = ev.StreamEnd
+content_of_shape hs h k y (facts.DocumentStart implicit) = document_with implicit h
+content_of_shape hs h k y (facts.DocumentEnd implicit) = document_end implicit
+content_of_shape hs h k y facts.Alias = ev.Alias (record { anchor = text_in k })
+content_of_shape hs h k y (facts.Scalar anchor tag plain quoted) = ev.Scalar (record {
   anchor = only_if anchor h.anchor;
   tag = only_if tag (resolved_tag hs h.tag);
   value = scalar_text y k;
@@ -91,25 +91,25 @@ content_of_shape hs h k y (told.Scalar anchor tag plain quoted) = ev.Scalar (rec
   quoted_implicit = quoted;
   style = scalar_style y k;
 })
-content_of_shape hs h k y (told.SequenceStart anchor tag implicit is_flow) = ev.SequenceStart (record {
+content_of_shape hs h k y (facts.SequenceStart anchor tag implicit is_flow) = ev.SequenceStart (record {
   anchor = only_if anchor h.anchor;
   tag = only_if tag (resolved_tag hs h.tag);
   implicit = implicit;
   style = sequence_style_by is_flow;
 })
-content_of_shape hs h k y told.SequenceEnd = ev.SequenceEnd
-content_of_shape hs h k y (told.MappingStart anchor tag implicit is_flow) = ev.MappingStart (record {
+content_of_shape hs h k y facts.SequenceEnd = ev.SequenceEnd
+content_of_shape hs h k y (facts.MappingStart anchor tag implicit is_flow) = ev.MappingStart (record {
   anchor = only_if anchor h.anchor;
   tag = only_if tag (resolved_tag hs h.tag);
   implicit = implicit;
   style = mapping_style_by is_flow;
 })
-content_of_shape hs h k y told.MappingEnd = ev.MappingEnd
+content_of_shape hs h k y facts.MappingEnd = ev.MappingEnd
 
 abbrev pub event_with : Handles → Texts → unnamed_yaml_token_t_data → StepEvent → grammar.Event
 event_with hs h k e = event (content_of_shape hs h k e.stays e.shape) e.start_mark e.end_mark
 
 -- a document's handles end with it
 abbrev pub handles_past : Handles → StepShape → Handles
-handles_past hs (told.DocumentEnd implicit) = no_handles
+handles_past hs (facts.DocumentEnd implicit) = no_handles
 handles_past hs _ = hs

@@ -1,7 +1,7 @@
 //! What holds of a caller's run of calls. Each function does nothing when it runs: its contract is the law.
 ghost use Rattle.std.specs.Prelude.{◌≡◌, ◌≤◌, ◌+◌, ◌*◌, ◌++◌, ◌∷◌, List, [], ℕ, length, is_some, true, false};
 ghost use Rattle.std.specs.FinMap.{get};
-ghost use Rattle.libyaml_types.specs.declared.token.unnamed_yaml_token_t_data.TheVariants as token;
+ghost use Rattle.libyaml_types.specs.declared.token.unnamed_yaml_token_t_data.TheVariants as tok;
 ghost use Rattle.libyaml_types.specs.declared.token.unnamed_yaml_token_t_data_version_directive as version;
 ghost use Rattle.libyaml_types.specs.Models.{TagDirectiveToken, TagToken};
 ghost use Rattle.libyaml_types.specs.Fault.{Fault};
@@ -63,19 +63,19 @@ pub fn run_fails()
 pub fn tables_follow()
     ensures tag { (texts : List ℕ) (table : List handle_t) (tag : TagToken)
         → tag_fact (resolve (handles_at texts table) tag.handle tag.suffix)
-        ≡ fact_of (handles_at texts table) (token.Tag tag) }
+        ≡ fact_of (handles_at texts table) (tok.Tag tag) }
     ensures directive { (texts : List ℕ) (table : List handle_t) (directive : TagDirectiveToken)
         → bit (is_some (get (handles_at texts table) directive.handle))
-        ≡ fact_of (handles_at texts table) (token.TagDirective directive) }
+        ≡ fact_of (handles_at texts table) (tok.TagDirective directive) }
     ensures version { (handles : Handles) (directive : version.unnamed_yaml_token_t_data_version_directive)
         → bit (is_accepted directive.major directive.minor)
-        ≡ fact_of handles (token.VersionDirective directive) }
+        ≡ fact_of handles (tok.VersionDirective directive) }
     ensures begins { (texts : List ℕ) → handles_at texts [] ≡ no_handles }
     ensures declares { (texts more : List ℕ) (table : List handle_t) (entry : handle_t) (handles : Handles)
         (directive : TagDirectiveToken) → handles ≡ handles_at texts table → AreHandlesWithin texts table
-        → fact_of handles (token.TagDirective directive) ≡ 0
+        → fact_of handles (tok.TagDirective directive) ≡ 0
         → bytes_at (texts ++ more) entry.handle ≡ directive.handle
         → bytes_at (texts ++ more) entry.prefix ≡ directive.prefix
-        → declared_by handles (token.TagDirective directive)
+        → declared_by handles (tok.TagDirective directive)
         ≡ handles_at (texts ++ more) (table ++ entry ∷ []) }
 {}

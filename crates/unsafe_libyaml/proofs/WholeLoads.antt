@@ -33,7 +33,7 @@ use Rattle.libyaml_loader.proofs.exported.LoadsInTurn.{none_in_turn, one_more}
 use Rattle.libyaml_loader.specs.loads.LoadsInTurn.{LoadedInTurn}
 use Rattle.unsafe_libyaml.specs.WholeRun.{ending_of}
 use Rattle.unsafe_libyaml.specs.WholeLoads.{GathersLoads, LoadsTo, as_whole_loads}
-use Rattle.unsafe_libyaml.specs.WholeLoads as told
+use Rattle.unsafe_libyaml.specs.WholeLoads as whole_loads
 use Rattle.unsafe_libyaml.proofs.WholeRuns.{GaveSoFar, Tells, asked_all, asked_until, none_is_some, stopped_so}
 use Rattle.unsafe_libyaml.specs.declared.load_all.yaml_documents_t.{yaml_documents_t}
 use Rattle.libyaml_events.specs.sources.Trace.{here}
@@ -276,7 +276,7 @@ loads_to g source all w l f a h tells = subst (LoadsTo g source all) (sym h.all)
   where
     told_so : (y : Ending) → ending_of all.fault ≡ y → (w.taken ≡ h.events) × (y ≡ h.ending)
         → LoadsTo g source all (loads h.events h.ending)
-    told_so y i k = told.whole (w.are_loads ∙ ap₂ loads k.0 (i ∙ k.1))
+    told_so y i k = whole_loads.whole (w.are_loads ∙ ap₂ loads k.0 (i ∙ k.1))
 
     begins : Begins w.taken h.events
     begins = tells.begins w.begins_run
@@ -285,10 +285,10 @@ loads_to g source all w l f a h tells = subst (LoadsTo g source all) (sym h.all)
     go None i = told_so Ends (ap ending_of i) (tells.whole (w.whole i))
     go (Some p) i = ⊎_elim (λ s. ⊎_elim (told_so (Fails (faults.fault_of p)) (ap ending_of i))
         (λ b. let (rest, k) = w.are_first begins.0 h.ending in
-        told.broken_off (answers w.asked w.last) w.tokens.stands (faults.fault_of p) w.tokens.gave b
+        whole_loads.broken_off (answers w.asked w.last) w.tokens.stands (faults.fault_of p) w.tokens.gave b
         (ap ending_of i) rest (ap (λ (l : List Event). loads l h.ending) begins.1 ∙ k))
         (tells.stopped (faults.fault_of p) s))
-        (λ c. told.whole (sym (c begins.0 h.ending) ∙ ap (λ (l : List Event). loads l h.ending) (sym begins.1)))
+        (λ c. whole_loads.whole (sym (c begins.0 h.ending) ∙ ap (λ (l : List Event). loads l h.ending) (sym begins.1)))
         (w.stopped p i)
 
 -- after a document with a root fewer events are left

@@ -15,7 +15,7 @@ use Rattle.libyaml_types.specs.Fault.{Fault, Answer, fault_of}
 use Rattle.libyaml_events.specs.sources.History.{ForHistory, History, is_over, answers, kept_fault, new_parser}
 use Rattle.libyaml_events.specs.sources.Needs.{EachNeeded}
 use Rattle.libyaml_events.specs.sources.Parsing.{CarriesOn, Cause, FailsBy, HasFailed, IsWhole, StopsShort}
-use Rattle.libyaml_events.specs.sources.Parsing as cause
+use Rattle.libyaml_events.specs.sources.Parsing as parsing
 use Rattle.libyaml_grammar.specs.runs.Runs.{Ending, Ends, Fails, IsRun}
 use Rattle.libyaml_types.specs.Source.{Follows, coming}
 use Rattle.libyaml_grammar.specs.grammar.Tokens.{Token}
@@ -64,9 +64,9 @@ none_needed asked given front x behind h = absurd (no_answer front x behind h)
 stopped_by : (c : Config) (asked : List Token) (given : List Event) (more : List Answer) (f : Fault)
     → Cause c asked given more f
     → f.error ≢ YAML_MEMORY_ERROR → StoppedBy asked more given f
-stopped_by c asked given more f (cause.of_memory l a b d e) other = absurd (other (ap (λ (g : Fault). g.error) e))
-stopped_by c asked given more f (cause.of_grammar l a b) other = of_grammar l a b
-stopped_by c asked given more f (cause.of_source l a b d) other = of_source l a b d
+stopped_by c asked given more f (parsing.of_memory l a b d e) other = absurd (other (ap (λ (g : Fault). g.error) e))
+stopped_by c asked given more f (parsing.of_grammar l a b) other = of_grammar l a b
+stopped_by c asked given more f (parsing.of_source l a b d) other = of_source l a b d
 
 -- what a source was asked for, and until a call failed
 module _ {S : Type 0} {gives : S → Answer → S → Type 0} {source : S} {p : Parser S} {given : List Event}

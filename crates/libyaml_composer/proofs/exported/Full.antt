@@ -1,7 +1,7 @@
 -- The stack is full at starts of collections alone, and where it has no room.
 use Rattle.std.proofs.Common.{◌≡◌, ◌∷◌, ℕ, suc, ℤ, pos, List, [], Bool, true, false, length, nat_le, refl, sym, ap, ◌∙◌}
 use Rattle.libyaml_types.specs.declared.enums.yaml_event_type_t.{yaml_event_type_t}
-use Rattle.libyaml_types.specs.declared.enums.yaml_event_type_t.TheVariants as ev
+use Rattle.libyaml_types.specs.declared.enums.yaml_event_type_t.TheVariants as event_kinds
 use Rattle.libyaml_composer.specs.declared.deed.Deed.{Deed}
 use Rattle.libyaml_composer.specs.declared.deed.Deed.TheVariants as deed
 use Rattle.libyaml_composer.specs.declared.records.open_t.{open_t}
@@ -50,16 +50,16 @@ full_starts k f p c h = go c.is_within k h
   where
     within : (k : yaml_event_type_t) → (within_step k f p c).deed ≡ deed.FullStack
         → (is_start k ≡ true) × (nat_le c.room (length c.stack) ≡ true)
-    within ev.YAML_ALIAS_EVENT h = absurd (alias_full (is_id f) f p c h)
-    within ev.YAML_SCALAR_EVENT h = absurd (child_not_full c.stack (placed_full f p c (adding c) h))
-    within ev.YAML_SEQUENCE_START_EVENT h = (refl, start_full 0 f p c h)
-    within ev.YAML_MAPPING_START_EVENT h = (refl, start_full 1 f p c h)
-    within ev.YAML_SEQUENCE_END_EVENT h = absurd (end_full c.stack p c h)
-    within ev.YAML_MAPPING_END_EVENT h = absurd (end_full c.stack p c h)
+    within event_kinds.YAML_ALIAS_EVENT h = absurd (alias_full (is_id f) f p c h)
+    within event_kinds.YAML_SCALAR_EVENT h = absurd (child_not_full c.stack (placed_full f p c (adding c) h))
+    within event_kinds.YAML_SEQUENCE_START_EVENT h = (refl, start_full 0 f p c h)
+    within event_kinds.YAML_MAPPING_START_EVENT h = (refl, start_full 1 f p c h)
+    within event_kinds.YAML_SEQUENCE_END_EVENT h = absurd (end_full c.stack p c h)
+    within event_kinds.YAML_MAPPING_END_EVENT h = absurd (end_full c.stack p c h)
     within _ h = absurd cc
 
     between : (k : yaml_event_type_t) → (between_step k p c).deed ≡ deed.FullStack → ⊥
-    between ev.YAML_DOCUMENT_START_EVENT h = cc
+    between event_kinds.YAML_DOCUMENT_START_EVENT h = cc
     between _ h = cc
 
     go : (b : Bool) (k : yaml_event_type_t) → (step_in b k f p c).deed ≡ deed.FullStack

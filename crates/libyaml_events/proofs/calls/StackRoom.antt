@@ -11,7 +11,7 @@ use Rattle.libyaml_events.specs.sources.Pushed.{Fed}
 use Rattle.libyaml_events.proofs.calls.Marked.{MarksAt, MarksFit, OneMore, marked, owned}
 use Rattle.libyaml_events.proofs.calls.StageFacts.{depth}
 use Rattle.libyaml_events.proofs.calls.StackStages.{DueOn, GoodIn, InPair, Inside, IsStack, NodeDue, StackOn, around, deeper}
-use Rattle.libyaml_events.proofs.machine.StepKinds as kinds
+use Rattle.libyaml_events.proofs.machine.StepKinds as step_kinds
 use Rattle.libyaml_events.proofs.machine.StepKinds.{Kind, kind, kind_of}
 use Rattle.libyaml_events.proofs.pushes.HistoryInvariant.{fed_to, ran_staged}
 
@@ -33,10 +33,10 @@ around_holds (s ∷ ss) ms h f = go (kind s) h f (λ l. around_holds ss l)
   where
     go : (k : Kind) → StackOn k ss (IsStack ss) → OneMore (owned k) (MarksFit ss) ms
         → ((l : List Mark) → IsStack ss → MarksFit ss l → length l ≤ around ss) → length ms ≤ deeper k (around ss)
-    go kinds.root_end e f i = none_over ss ms zero e f
-    go kinds.indentless e f i = let j = i ms e f in omega arith
-    go kinds.inner e f i = one_more true (around ss) (MarksFit ss) ms f (λ l g. i l e g)
-    go kinds.pair e f i = let j = one_more true (around ss) (MarksFit ss) ms f (λ l g. i l e g) in omega arith
+    go step_kinds.root_end e f i = none_over ss ms zero e f
+    go step_kinds.indentless e f i = let j = i ms e f in omega arith
+    go step_kinds.inner e f i = one_more true (around ss) (MarksFit ss) ms f (λ l g. i l e g)
+    go step_kinds.pair e f i = let j = one_more true (around ss) (MarksFit ss) ms f (λ l g. i l e g) in omega arith
     go _ e f i = absurd e
 
 module _ (ss : List yaml_parser_state_t) (ms : List Mark) (st : Stage) where
@@ -56,24 +56,24 @@ due [] ms st h f = absurd h
 due (s ∷ ss) ms st h f = go (kind s) h f
   where
     go : (k : Kind) → DueOn k ss st → OneMore (owned k) (MarksFit ss) ms → length ms ≤ open_collections st
-    go kinds.root_end h f = none_over ss ms _ h.0 f
-    go kinds.indentless h f = inside ss ms st false h f
-    go kinds.inner h f = inside ss ms st true h f
-    go kinds.pair h f = in_pair ss ms st true h f
+    go step_kinds.root_end h f = none_over ss ms _ h.0 f
+    go step_kinds.indentless h f = inside ss ms st false h f
+    go step_kinds.inner h f = inside ss ms st true h f
+    go step_kinds.pair h f = in_pair ss ms st true h f
     go _ h f = absurd h
 
 -- at most a mark for each open collection
 marks_open : (k : Kind) (ss : List yaml_parser_state_t) (ms : List Mark) (o : Option Token) (st : Stage)
     → GoodIn k ss o st → MarksAt k ss ms → length ms ≤ open_collections st
-marks_open kinds.stream_start ss ms o st h f = none_over ss ms _ h.0 f
-marks_open kinds.between ss ms o st h f = none_over ss ms _ h.0 f
-marks_open kinds.node_due ss ms o st h f = due ss ms st h f
-marks_open kinds.root_end ss ms o st h f = none_over ss ms _ h.0 f
-marks_open kinds.pair_key ss ms o st h f = in_pair ss ms st true h f
-marks_open kinds.pair ss ms o st h f = in_pair ss ms st true h f
-marks_open kinds.stream_end ss ms o st h f = none_over ss ms _ h.0 f
-marks_open kinds.indentless ss ms o st h f = inside ss ms st false h f
-marks_open kinds.inner ss ms o st h f = inside ss ms st true h f
+marks_open step_kinds.stream_start ss ms o st h f = none_over ss ms _ h.0 f
+marks_open step_kinds.between ss ms o st h f = none_over ss ms _ h.0 f
+marks_open step_kinds.node_due ss ms o st h f = due ss ms st h f
+marks_open step_kinds.root_end ss ms o st h f = none_over ss ms _ h.0 f
+marks_open step_kinds.pair_key ss ms o st h f = in_pair ss ms st true h f
+marks_open step_kinds.pair ss ms o st h f = in_pair ss ms st true h f
+marks_open step_kinds.stream_end ss ms o st h f = none_over ss ms _ h.0 f
+marks_open step_kinds.indentless ss ms o st h f = inside ss ms st false h f
+marks_open step_kinds.inner ss ms o st h f = inside ss ms st true h f
 
 -- after a call
 module _ {S : Type 0} (p : Parser S) where

@@ -12,7 +12,7 @@ use Rattle.libyaml_types.specs.declared.enums.yaml_sequence_style_t.TheVariants.
 use Rattle.libyaml_types.specs.declared.enums.yaml_mapping_style_t.TheVariants.{YAML_BLOCK_MAPPING_STYLE, YAML_FLOW_MAPPING_STYLE}
 use Rattle.libyaml_grammar.specs.grammar.Events.{event}
 use Rattle.libyaml_automaton.specs.declared.action.Action.{Action}
-use Rattle.libyaml_automaton.specs.declared.action.Action.TheVariants as did
+use Rattle.libyaml_automaton.specs.declared.action.Action.TheVariants as action
 use Rattle.libyaml_automaton.specs.declared.node_place.NodePlace.{NodePlace}
 use Rattle.libyaml_automaton.specs.declared.reading.Reading.{Reading}
 use Rattle.libyaml_automaton.specs.Automaton as automaton
@@ -22,7 +22,7 @@ use Rattle.libyaml_automaton.specs.Numbers.{flag, place_of}
 use Rattle.libyaml_automaton.specs.Purposes.{properties}
 use Rattle.libyaml_events.specs.declared.pending.Pending.{Pending}
 use Rattle.libyaml_events.specs.declared.step.Step.{Step}
-use Rattle.libyaml_events.specs.declared.step.Step.TheVariants as led
+use Rattle.libyaml_events.specs.declared.step.Step.TheVariants as stepped
 use Rattle.libyaml_events.specs.machine.Outcomes.{result_of, only_if, standing_by}
 use Rattle.libyaml_events.specs.machine.Config.{Config, config_of}
 use Rattle.libyaml_events.specs.machine.Machine.{Progressed, content_behind, mapping_start_with, put, seen, sequence_start_with}
@@ -32,12 +32,12 @@ use Rattle.libyaml_events.specs.automaton.AutomatonResults.{IsContent, IsOpening
 
 -- what a step leads to that wants no token hangs on the parser that it leaves alone
 pub steps_from : (out : Progressed) (old old' : Config) (s : Step) (t : yaml_token_t) (q : Pending) (e : yaml_event_t)
-    (new : Config) → (s ≡ led.Wants → ⊥) → Steps out old (result_of s q e new) (standing_by s t new)
+    (new : Config) → (s ≡ stepped.Wants → ⊥) → Steps out old (result_of s q e new) (standing_by s t new)
     → Steps out old' (result_of s q e new) (standing_by s t new)
-steps_from out old old' led.Given t q e new n h = h
-steps_from out old old' led.GivenBefore t q e new n h = h
-steps_from out old old' led.Wants t q e new n h = absurd (n refl)
-steps_from out old old' led.Failed t q e new n h = h
+steps_from out old old' stepped.Given t q e new n h = h
+steps_from out old old' stepped.GivenBefore t q e new n h = h
+steps_from out old old' stepped.Wants t q e new n h = absurd (n refl)
+steps_from out old old' stepped.Failed t q e new n h = h
 
 -- the start of the collection that a token of this kind opens
 block_sequence : (k : unnamed_yaml_token_t_data) (a g : Option (List ℕ))
@@ -64,13 +64,13 @@ flow_mapping _ a g e = absurd cc
 pub opening_put : (out : Progressed) (h : Texts) (a g : Option (List ℕ)) (t : yaml_token_t) (x : Action) (r r' : Reading)
     (d : Config) (start : yaml_mark_t) → IsOpening x → FitsContent x (token_type t.content) r' → r.start_mark ≡ start
     → SaysContent out h a g t x r r' d → out ≡ Ok (Given (event (collection_start a g t.content) start t.end_mark), d)
-opening_put out h a g t did.BlockSequence r r' d start o f e s
+opening_put out h a g t action.BlockSequence r r' d start o f e s
     = rw (sym (block_sequence t.content a g f), sym e) s
-opening_put out h a g t did.BlockMapping r r' d start o f e s
+opening_put out h a g t action.BlockMapping r r' d start o f e s
     = rw (sym (block_mapping t.content a g f), sym e) s
-opening_put out h a g t did.FlowSequence r r' d start o f e s
+opening_put out h a g t action.FlowSequence r r' d start o f e s
     = rw (sym (flow_sequence t.content a g f), sym e) s
-opening_put out h a g t did.FlowMapping r r' d start o f e s
+opening_put out h a g t action.FlowMapping r r' d start o f e s
     = rw (sym (flow_mapping t.content a g f), sym e) s
 opening_put out h a g t _ r r' d start o f e s = absurd o
 
@@ -85,7 +85,7 @@ tag_read (Some tag) (Some g) p r x h c t k e = rw e refl
 
 -- what was asked is then what the content does
 pub asked_content : (out : Progressed) (h : Texts) (t : yaml_token_t) (q : Pending) (c : Config) (g : Option (List ℕ))
-    → ReadsTag (only_if (flag q.reading.has_tag) q.properties.tag) c g → Led out h t did.AsksContent q c
+    → ReadsTag (only_if (flag q.reading.has_tag) q.properties.tag) c g → Led out h t action.AsksContent q c
     → IsContent out h (only_if (flag q.reading.has_anchor) q.properties.anchor) g t q.reading c
 asked_content out h t q c g e l =
     let texts = l.0 in
@@ -102,7 +102,7 @@ module _ (o : Progressed) (h : Texts) (g : Option (List ℕ)) (t : yaml_token_t)
   pub content_put : (x : Action) (r' : Reading) (a' : Option (List ℕ)) (start end : yaml_mark_t) → a' ≡ a
       → r.start_mark ≡ start → r.end_mark ≡ end → (IsContent o h a g t r was → SaysContent o h a g t x r r' mid)
       → PutsContent a' g start end x t r' mid s t' q e new → IsContent o h a0 g t r0 old
-      → Steps o old (result_of s q e new) (standing_by s t' new) × (s ≡ led.Wants → ⊥)
+      → Steps o old (result_of s q e new) (standing_by s t' new) × (s ≡ stepped.Wants → ⊥)
   content_put x r' a' start end ea' es ee leads puts i =
       let j : IsContent o h a g t r was = rw (ea, er, same) i in
       let w = puts o h r es ee (rw ea' (leads j)) in
@@ -110,8 +110,8 @@ module _ (o : Progressed) (h : Texts) (g : Option (List ℕ)) (t : yaml_token_t)
 
   -- or from the parser as it was, where nothing was done
   pub content_again : (IsContent o h a g t r was
-      → Steps o was (result_of s q e new) (standing_by s t' new) × (s ≡ led.Wants → ⊥))
-      → IsContent o h a0 g t r0 old → Steps o old (result_of s q e new) (standing_by s t' new) × (s ≡ led.Wants → ⊥)
+      → Steps o was (result_of s q e new) (standing_by s t' new) × (s ≡ stepped.Wants → ⊥))
+      → IsContent o h a0 g t r0 old → Steps o old (result_of s q e new) (standing_by s t' new) × (s ≡ stepped.Wants → ⊥)
   content_again puts i =
       let w = puts (rw (ea, er, same) i) in
       (steps_from o was old s t' q e new w.1 w.0, w.1)

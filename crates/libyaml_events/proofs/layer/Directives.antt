@@ -9,7 +9,7 @@ use Rattle.libyaml_types.specs.declared.token.yaml_token_t.{yaml_token_t}
 use Rattle.libyaml_types.specs.declared.token.unnamed_yaml_token_t_data.{unnamed_yaml_token_t_data}
 use Rattle.libyaml_types.specs.declared.token.unnamed_yaml_token_t_data.TheVariants as tok
 use Rattle.libyaml_automaton.specs.declared.action.Action.{Action}
-use Rattle.libyaml_automaton.specs.declared.action.Action.TheVariants as did
+use Rattle.libyaml_automaton.specs.declared.action.Action.TheVariants as action
 use Rattle.libyaml_automaton.specs.declared.next.Next.{Next}
 use Rattle.libyaml_automaton.specs.declared.next.Next.TheVariants as next
 use Rattle.libyaml_automaton.specs.declared.reading.Reading.{Reading}
@@ -20,7 +20,7 @@ use Rattle.libyaml_automaton.specs.Fits.{FitsDocument, Documents}
 use Rattle.libyaml_automaton.specs.Growth.{pushes_at_directive, pushes_at_document, pushes_in_documents, stack_part_of}
 use Rattle.libyaml_automaton.specs.Numbers.{next_of}
 use Rattle.libyaml_automaton.specs.Purposes.{IsAt, kind_and_marks, wanted_by}
-use Rattle.libyaml_automaton.specs.Purposes as automaton_want
+use Rattle.libyaml_automaton.specs.Purposes as purposes
 use Rattle.libyaml_events.specs.declared.pending.Pending.{Pending}
 use Rattle.libyaml_events.specs.machine.Outcomes.{directive_texts, wanted}
 use Rattle.libyaml_events.specs.machine.Config.{Config, Handles, config_of, config_with}
@@ -34,7 +34,7 @@ use Rattle.libyaml_events.proofs.layer.StepWithTexts.{says_texts}
 pub document_leads : (hs : Handles) (f : Fault) (o : Option yaml_token_t) (a b : automaton_config.Stacks) (c : Config)
     (t : yaml_token_t) (q : Pending) (r' : Reading) (x : Action) (k : yaml_token_type_t) → config_with a hs f o ≡ c
     → k ≡ token_type t.content → (wanted q).texts ≡ directive_texts q.directives
-    → IsOutcome (automaton.step (automaton_want.purpose_of q.reading) a (kind_and_marks k t.start_mark t.end_mark) k)
+    → IsOutcome (automaton.step (purposes.purpose_of q.reading) a (kind_and_marks k t.start_mark t.end_mark) k)
     (outcome x (automaton.no_properties (kind_and_marks k t.start_mark t.end_mark)) (kind_and_marks k t.start_mark t.end_mark) r' b)
     → LedDocument (step (wanted q) c t) (wanted q).texts t x (record q { reading = r' }) (config_with b hs f o)
 document_leads hs f o a b c t q r' x k ec ek declared s =
@@ -98,9 +98,9 @@ pub handle_grows : (hs : Handles) (f : Fault) (o : Option yaml_token_t) (a b : a
     (t : yaml_token_t) (q : Pending) (r' : Reading) (x : Action) (k : yaml_token_type_t) → config_with a hs f o ≡ c
     → Ready q c → k ≡ token_type t.content → FitsDocument x k r' b.state
     → stack_part_of (next_of q.reading.next) ≡ Documents
-    → IsOutcome (automaton.step (automaton_want.purpose_of q.reading) a (kind_and_marks k t.start_mark t.end_mark) k)
+    → IsOutcome (automaton.step (purposes.purpose_of q.reading) a (kind_and_marks k t.start_mark t.end_mark) k)
     (outcome x (automaton.no_properties (kind_and_marks k t.start_mark t.end_mark)) (kind_and_marks k t.start_mark t.end_mark) r' b)
-    → x ≡ did.AsksHandle → may_grow (wanted q) c t.content ≡ true
+    → x ≡ action.AsksHandle → may_grow (wanted q) c t.content ≡ true
 handle_grows hs f o a b c t q r' x k ec y ek fits d s i =
     subst (λ (z : Config). IsAt (next_of q.reading.next) z.state → may_grow (wanted q) z t.content ≡ true) ec
     (λ at. handle_there (next_of q.reading.next) q.reading (wanted q).texts (config_with a hs f o)

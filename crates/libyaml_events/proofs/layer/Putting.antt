@@ -12,7 +12,7 @@ use Rattle.libyaml_types.specs.declared.token.unnamed_yaml_token_t_data.{unnamed
 use Rattle.libyaml_types.specs.declared.token.unnamed_yaml_token_t_data.TheVariants as tok
 use Rattle.libyaml_types.specs.declared.token.unnamed_yaml_token_t_data_tag_directive.{unnamed_yaml_token_t_data_tag_directive}
 use Rattle.libyaml_automaton.specs.declared.action.Action.{Action}
-use Rattle.libyaml_automaton.specs.declared.action.Action.TheVariants as did
+use Rattle.libyaml_automaton.specs.declared.action.Action.TheVariants as action
 use Rattle.libyaml_automaton.specs.declared.next.Next.{Next}
 use Rattle.libyaml_automaton.specs.declared.next.Next.TheVariants as next
 use Rattle.libyaml_automaton.specs.declared.reading.Reading.{Reading}
@@ -22,10 +22,10 @@ use Rattle.libyaml_automaton.specs.Config as automaton_config
 use Rattle.libyaml_automaton.specs.Fits.{FitsAtDirective}
 use Rattle.libyaml_automaton.specs.Numbers.{next_of}
 use Rattle.libyaml_automaton.specs.Purposes.{wanted_by}
-use Rattle.libyaml_automaton.specs.Purposes as automaton_want
+use Rattle.libyaml_automaton.specs.Purposes as purposes
 use Rattle.libyaml_events.specs.declared.pending.Pending.{Pending}
 use Rattle.libyaml_events.specs.declared.step.Step.{Step}
-use Rattle.libyaml_events.specs.declared.step.Step.TheVariants as led
+use Rattle.libyaml_events.specs.declared.step.Step.TheVariants as stepped
 use Rattle.libyaml_events.specs.machine.Outcomes.{result_of, directive_texts, standing_by, texts_for, wanted}
 use Rattle.libyaml_events.specs.machine.Config.{Config, Handles, config_with}
 use Rattle.libyaml_events.specs.machine.Machine.{Progressed, declared_by, fault_with, handles_behind, put, seen, step}
@@ -44,14 +44,14 @@ from_before out old mid (Err e) new o m h = h
 
 -- an event is given, before the token or not
 pub given_by : (out : Progressed) (old : Config) (s : Step) (t : yaml_token_t) (q : Pending) (e : yaml_event_t)
-    (new : Config) → (s ≡ led.Given) ⊎ (s ≡ led.GivenBefore) → Steps out old (result_of s q e new) (standing_by s t new)
+    (new : Config) → (s ≡ stepped.Given) ⊎ (s ≡ stepped.GivenBefore) → Steps out old (result_of s q e new) (standing_by s t new)
     → Steps out old (Ok (Given e)) (standing_by s t new)
-given_by out old led.Given t q e new i h = h
-given_by out old led.GivenBefore t q e new i h = h
-given_by out old led.Wants t q e new (inl i) h = absurd cc
-given_by out old led.Wants t q e new (inr i) h = absurd cc
-given_by out old led.Failed t q e new (inl i) h = absurd cc
-given_by out old led.Failed t q e new (inr i) h = absurd cc
+given_by out old stepped.Given t q e new i h = h
+given_by out old stepped.GivenBefore t q e new i h = h
+given_by out old stepped.Wants t q e new (inl i) h = absurd cc
+given_by out old stepped.Wants t q e new (inr i) h = absurd cc
+given_by out old stepped.Failed t q e new (inl i) h = absurd cc
+given_by out old stepped.Failed t q e new (inr i) h = absurd cc
 
 -- an error is kept
 pub fails_as : (out : Progressed) (new : Config) (f : Fault) → new.fault.error ≡ YAML_PARSER_ERROR → new.fault ≡ f
@@ -60,12 +60,12 @@ fails_as out new f e k o = subst (λ (x : yaml_error_type_t). FailsAs new out x)
 
 -- a directive that is refused
 pub refused : (x : Action) (d : Config) (t : yaml_token_t) (r' : Reading) (out : Progressed) (h : Texts)
-    (y : automaton.Step) (a' : automaton_config.Stacks) → FitsAtDirective x r' → (x ≡ did.Wants → ⊥)
+    (y : automaton.Step) (a' : automaton_config.Stacks) → FitsAtDirective x r' → (x ≡ action.Wants → ⊥)
     → out ≡ put h None None d t t.content y
     → IsOutcome y (outcome x (automaton.no_properties (seen t t.content)) (seen t t.content) r' a')
     → out ≡ Err (fault_with (record { problem = r'.problem; context_mark = zero_mark; mark = t.start_mark }))
-refused did.Wants d t r' out h y a' f n o s = absurd (n refl)
-refused did.FailedDocument d t r' out h y a' f n o s
+refused action.Wants d t r' out h y a' f n o s = absurd (n refl)
+refused action.FailedDocument d t r' out h y a' f n o s
     = o ∙ ap (λ (z : automaton.Step). put h None None d t t.content z) s
 refused _ d t r' out h y a' f n o s = absurd f
 
@@ -80,7 +80,7 @@ goes_on : (n : Next) (r : Reading) (h : Texts) (k : unnamed_yaml_token_t_data) (
 goes_on next.BehindDirective r h k p ds a hs f o new n i j = rw (i, j) refl
 goes_on _ r h k p ds a hs f o new n i j = absurd cc
 
-at_directive : (n : Next) (r : Reading) (c : Config) → n ≡ next.BehindDirective → automaton_want.IsAt n c.state
+at_directive : (n : Next) (r : Reading) (c : Config) → n ≡ next.BehindDirective → purposes.IsAt n c.state
 at_directive next.BehindDirective r c e = tt
 at_directive _ r c e = absurd cc
 
@@ -88,7 +88,7 @@ pub directive_wants : (out : Progressed) (d : Config) (t : yaml_token_t) (q : Pe
     (a : automaton_config.Stacks) (new : Config) → next_of q.reading.next ≡ next.BehindDirective
     → with_directive h t.content ≡ directive_texts q.directives
     → config_with a (declared_by d.handles t.content) d.fault d.lookahead ≡ new → d.lookahead ≡ None
-    → out ≡ put h None None d t t.content (automaton.Wants (automaton_want.purpose_of q.reading) a)
+    → out ≡ put h None None d t t.content (automaton.Wants (purposes.purpose_of q.reading) a)
     → Steps out d (Ok (Wants (wanted q))) new × Ready q new
 directive_wants out d t q h a new n i j l o =
     let same : new.lookahead ≡ d.lookahead = sym (ap (λ (x : Config). x.lookahead) j) in (
@@ -107,14 +107,14 @@ handle_of _ e = absurd cc
 
 -- the directive is kept, or there was no memory for it
 pub wants_or_fails : (out : Progressed) (old : Config) (s : Step) (t : yaml_token_t) (q : Pending) (e : yaml_event_t)
-    (new : Config) → (s ≡ led.Given → ⊥) → (s ≡ led.GivenBefore → ⊥)
-    → (s ≡ led.Wants → Steps out old (Ok (Wants (wanted q))) new × Ready q new)
-    → (s ≡ led.Failed → new.fault ≡ memory_fault)
-    → Steps out old (result_of s q e new) (standing_by s t new) × (s ≡ led.Wants → Ready q new)
-wants_or_fails out old led.Given t q e new g b w f = absurd (g refl)
-wants_or_fails out old led.GivenBefore t q e new g b w f = absurd (b refl)
-wants_or_fails out old led.Wants t q e new g b w f = let y = w refl in (y.0, λ i. y.1)
-wants_or_fails out old led.Failed t q e new g b w f =
+    (new : Config) → (s ≡ stepped.Given → ⊥) → (s ≡ stepped.GivenBefore → ⊥)
+    → (s ≡ stepped.Wants → Steps out old (Ok (Wants (wanted q))) new × Ready q new)
+    → (s ≡ stepped.Failed → new.fault ≡ memory_fault)
+    → Steps out old (result_of s q e new) (standing_by s t new) × (s ≡ stepped.Wants → Ready q new)
+wants_or_fails out old stepped.Given t q e new g b w f = absurd (g refl)
+wants_or_fails out old stepped.GivenBefore t q e new g b w f = absurd (b refl)
+wants_or_fails out old stepped.Wants t q e new g b w f = let y = w refl in (y.0, λ i. y.1)
+wants_or_fails out old stepped.Failed t q e new g b w f =
     let m = f refl in (
       subst (λ (x : yaml_error_type_t). FailsAs new out x) (sym (ap (λ (x : Fault). x.error) m)) m,
       λ i. absurd cc,

@@ -6,7 +6,7 @@ pub use Rattle.libyaml_automaton.proofs.exported.Stacks.{marks_none, state_of_nu
 use Rattle.libyaml_automaton.specs.Numbers.{state_of}
 use Rattle.libyaml_automaton.specs.Config.{states_of, marks_of}
 use Rattle.libyaml_automaton.specs.declared.action.Action.{Action}
-use Rattle.libyaml_automaton.specs.declared.action.Action.TheVariants as did
+use Rattle.libyaml_automaton.specs.declared.action.Action.TheVariants as action
 use Rattle.libyaml_automaton.specs.declared.reading.Reading.{Reading}
 use Rattle.libyaml_automaton.specs.Fits.{SameReading, Stays}
 use Rattle.libyaml_automaton.specs.Purposes.{purpose_of}
@@ -26,5 +26,5 @@ pub ruleset cleared = (states_none, marks_none)
 
 -- what a step that was undone leaves is read as before
 pub same_reading : (a : Action) (r r' : Reading) → Stays a r r' → SameReading r r'
-same_reading did.AsksContent r r' e = (ap (λ (x : Reading). x.next) e, ap purpose_of e)
+same_reading action.AsksContent r r' e = (ap (λ (x : Reading). x.next) e, ap purpose_of e)
 same_reading _ r r' e = e

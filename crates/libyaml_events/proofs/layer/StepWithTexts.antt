@@ -11,7 +11,7 @@ use Rattle.libyaml_types.specs.declared.enums.yaml_token_type_t.TheVariants as k
 use Rattle.libyaml_types.specs.declared.enums.yaml_parser_state_t.TheVariants as st
 use Rattle.libyaml_types.specs.declared.token.unnamed_yaml_token_t_data.TheVariants as tok
 use Rattle.libyaml_automaton.specs.declared.action.Action.{Action}
-use Rattle.libyaml_automaton.specs.declared.action.Action.TheVariants as did
+use Rattle.libyaml_automaton.specs.declared.action.Action.TheVariants as action
 use Rattle.libyaml_automaton.specs.declared.next.Next.{Next}
 use Rattle.libyaml_automaton.specs.declared.next.Next.TheVariants as next
 use Rattle.libyaml_automaton.specs.declared.node_place.NodePlace.{NodePlace}
@@ -23,7 +23,7 @@ use Rattle.libyaml_automaton.specs.Fits.{FitsStep, IsFull, is_simple, SameReadin
 use Rattle.libyaml_automaton.specs.Growth.{opens, pushes}
 use Rattle.libyaml_automaton.specs.Numbers.{next_of, place_of}
 use Rattle.libyaml_automaton.specs.Purposes.{IsAt, properties, kind_and_marks, wanted_by}
-use Rattle.libyaml_automaton.specs.Purposes as automaton_want
+use Rattle.libyaml_automaton.specs.Purposes as purposes
 use Rattle.libyaml_events.specs.declared.pending.Pending.{Pending}
 use Rattle.libyaml_events.specs.machine.Outcomes.{property_texts, texts_for, wanted}
 use Rattle.libyaml_events.specs.machine.Config.{Config, Handles, config_of, config_with}
@@ -138,23 +138,23 @@ asked n r p d e = rw e refl
 -- what the texts that were held have to do with those that are held now
 held : (q : Pending) (r' : Reading) (a : Action) (c : automaton_config.Stacks) (t : automaton.KindAndMarks)
     (k : yaml_token_type_t) (s : yaml_parser_state_t) (x : automaton_config.Stacks) → FitsStep a k r' s
-    → (a ≡ did.AsksContent → r' ≡ q.reading)
-    → IsOutcome (automaton.step (automaton_want.purpose_of q.reading) c t k) (outcome a (automaton.no_properties t) t r' x)
+    → (a ≡ action.AsksContent → r' ≡ q.reading)
+    → IsOutcome (automaton.step (purposes.purpose_of q.reading) c t k) (outcome a (automaton.no_properties t) t r' x)
     → IsHeld a (wanted q).texts (record q { reading = r' })
-held q r' did.Wants c t k s x f u e = plain (next_of r'.next) r' f.0
-held q r' did.WantsAnchor c t k s x f u e = λ a.
+held q r' action.Wants c t k s x f u e = plain (next_of r'.next) r' f.0
+held q r' action.WantsAnchor c t k s x f u e = λ a.
     subst (λ (y : automaton.Step). AnchorIn q.properties q.directives a (wanted q).texts y) e
     (subst (λ (z : yaml_token_type_t). AnchorIn q.properties q.directives a (wanted q).texts
-    (automaton.step (automaton_want.purpose_of q.reading) c t z)) (sym f.0)
-    (anchor_in q.properties q.directives c t a (automaton_want.purpose_of q.reading)))
-held q r' did.WantsTag c t k s x f u e = λ g.
+    (automaton.step (purposes.purpose_of q.reading) c t z)) (sym f.0)
+    (anchor_in q.properties q.directives c t a (purposes.purpose_of q.reading)))
+held q r' action.WantsTag c t k s x f u e = λ g.
     subst (λ (y : automaton.Step). TagIn q.properties q.directives g (wanted q).texts y) e
     (subst (λ (z : yaml_token_type_t). TagIn q.properties q.directives g (wanted q).texts
-    (automaton.step (automaton_want.purpose_of q.reading) c t z)) (sym f.0)
-    (tag_in q.properties q.directives c t g (automaton_want.purpose_of q.reading)))
-held q r' did.AsksContent c t k s x f u e =
+    (automaton.step (purposes.purpose_of q.reading) c t z)) (sym f.0)
+    (tag_in q.properties q.directives c t g (purposes.purpose_of q.reading)))
+held q r' action.AsksContent c t k s x f u e =
     let i : r' ≡ q.reading = u refl in
-    subst (λ (y : Reading). texts_for (automaton_want.purpose_of q.reading) q.properties q.directives
+    subst (λ (y : Reading). texts_for (purposes.purpose_of q.reading) q.properties q.directives
     ≡ property_texts (properties y) q.properties) (sym i)
     (asked (next_of q.reading.next) q.reading q.properties q.directives (ap (λ (y : Reading). next_of y.next) (sym i) ∙ f))
 held q r' _ c t k s x f u e = tt
@@ -162,8 +162,8 @@ held q r' _ c t k s x f u e = tt
 -- a step of the automaton is a step of the parser
 pub leads : (hs : Handles) (f : Fault) (o : Option yaml_token_t) (a b : automaton_config.Stacks) (c : Config)
     (t : yaml_token_t) (q : Pending) (r' : Reading) (x : Action) (k : yaml_token_type_t) → config_with a hs f o ≡ c
-    → k ≡ token_type t.content → FitsStep x k r' b.state → (x ≡ did.AsksContent → r' ≡ q.reading)
-    → IsOutcome (automaton.step (automaton_want.purpose_of q.reading) a (kind_and_marks k t.start_mark t.end_mark) k)
+    → k ≡ token_type t.content → FitsStep x k r' b.state → (x ≡ action.AsksContent → r' ≡ q.reading)
+    → IsOutcome (automaton.step (purposes.purpose_of q.reading) a (kind_and_marks k t.start_mark t.end_mark) k)
     (outcome x (automaton.no_properties (kind_and_marks k t.start_mark t.end_mark)) (kind_and_marks k t.start_mark t.end_mark) r' b)
     → Led (step (wanted q) c t) (wanted q).texts t x (record q { reading = r' }) (config_with b hs f o)
 leads hs f o a b c t q r' x k ec ek fits u s =
@@ -241,10 +241,10 @@ content_grows n r p d c t m r' x k i e (inr j) = rw i (either _ _ (inr j))
 
 pub grows_asked : (hs : Handles) (f : Fault) (o : Option yaml_token_t) (a b : automaton_config.Stacks) (c : Config)
     (t : yaml_token_t) (q : Pending) (r' : Reading) (x : Action) (k : yaml_token_type_t) → config_with a hs f o ≡ c
-    → k ≡ token_type t.content → FitsStep x k r' b.state → (x ≡ did.AsksContent → r' ≡ q.reading)
-    → IsOutcome (automaton.step (automaton_want.purpose_of q.reading) a (kind_and_marks k t.start_mark t.end_mark) k)
+    → k ≡ token_type t.content → FitsStep x k r' b.state → (x ≡ action.AsksContent → r' ≡ q.reading)
+    → IsOutcome (automaton.step (purposes.purpose_of q.reading) a (kind_and_marks k t.start_mark t.end_mark) k)
     (outcome x (automaton.no_properties (kind_and_marks k t.start_mark t.end_mark)) (kind_and_marks k t.start_mark t.end_mark) r' b)
-    → x ≡ did.AsksContent → GrowsBehind (record q { reading = r' }) (config_with b hs f o) t
+    → x ≡ action.AsksContent → GrowsBehind (record q { reading = r' }) (config_with b hs f o) t
     → may_grow (wanted q) c t.content ≡ true
 grows_asked hs f o a b c t q r' x k ec ek fits u s i g =
     let e : r' ≡ q.reading = u i in
@@ -252,8 +252,8 @@ grows_asked hs f o a b c t q r' x k ec ek fits u s i g =
     (kind_and_marks (token_type t.content) t.start_mark t.end_mark) (place_of r'.place) (properties r') b t.content
     (ap (λ (y : Reading). next_of y.next) (sym e) ∙ (rw i at fits)) (rw (i, ek) at s) (rw e at g))
 
-pub pushes_full : (x : Action) (p o : Bool) → (x ≡ did.FullStates → p ≡ true) → (x ≡ did.FullMarks → o ≡ true) → IsFull x
+pub pushes_full : (x : Action) (p o : Bool) → (x ≡ action.FullStates → p ≡ true) → (x ≡ action.FullMarks → o ≡ true) → IsFull x
     → (p ≡ true) ⊎ (o ≡ true)
-pushes_full did.FullStates p o s m f = inl (s refl)
-pushes_full did.FullMarks p o s m f = inr (m refl)
+pushes_full action.FullStates p o s m f = inl (s refl)
+pushes_full action.FullMarks p o s m f = inr (m refl)
 pushes_full _ p o s m f = absurd f

@@ -3,7 +3,7 @@ use Rattle.std.specs.Prelude.{◌||◌, not, bytes_eq}
 use Rattle.std.proofs.Common.{◌≡◌, ℕ, ◌++◌, List, [], ◌∷◌, Option, Some, None, refl, sym, ap, ◌∙◌, Bool, true, false, cond, codes, is_some, append_assoc}
 use Rattle.std.specs.Cmp.Lexicographic.{nat_list_eq_equiv, nat_list_cmp_total}
 use Rattle.std.specs.FinMap.{get, insert, get-from_entries}
-use Rattle.libyaml_events.specs.machine.Machine as mach
+use Rattle.libyaml_events.specs.machine.Machine as parser_machine
 use Rattle.libyaml_events.specs.machine.Machine.{put, machine, or_default, resolve, seen, with_prefix}
 use Rattle.libyaml_grammar.specs.partial.PartialFaults.{directive_fault}
 use Rattle.libyaml_grammar.specs.grammar.Tokens.{HandleDeclared, Mark, Marks, TagDirective, TagName, Token, VersionAsked, VersionDirective, tok}
@@ -27,7 +27,7 @@ same_swapped a b = nat_list_eq_equiv.symm a b
 abbrev text_or : Bool → List ℕ → List ℕ → List ℕ
 text_or u x y = elim u [ true ↦ x | false ↦ y ]
 
-default_same : (h : List ℕ) → mach.undeclared_prefix h
+default_same : (h : List ℕ) → parser_machine.undeclared_prefix h
     ≡ cond (bytes_eq (codes "!") h) (Some (codes "!"))
     (cond (bytes_eq (codes "!!") h) (Some (codes "tag:yaml.org,2002:")) None)
 default_same h = ap (λ (u : Bool). cond u (Some (codes "!"))

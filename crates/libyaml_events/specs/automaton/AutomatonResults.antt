@@ -15,16 +15,16 @@ use Rattle.libyaml_types.specs.Fault.{memory_fault}
 use Rattle.libyaml_types.specs.Types.{token_type}
 use Rattle.libyaml_grammar.specs.partial.FaultTexts.{tag_fault}
 use Rattle.libyaml_automaton.specs.declared.action.Action.{Action}
-use Rattle.libyaml_automaton.specs.declared.action.Action.TheVariants as did
+use Rattle.libyaml_automaton.specs.declared.action.Action.TheVariants as action
 use Rattle.libyaml_automaton.specs.declared.reading.Reading.{Reading}
 use Rattle.libyaml_automaton.specs.Numbers.{place_of}
-use Rattle.libyaml_automaton.specs.Purposes as automaton_want
+use Rattle.libyaml_automaton.specs.Purposes as purposes
 use Rattle.libyaml_automaton.specs.Purposes.{properties}
 use Rattle.libyaml_automaton.specs.Automaton as automaton
 use Rattle.libyaml_automaton.specs.Outcomes.{Outcome, NothingDone, Does, outcome}
 use Rattle.libyaml_automaton.specs.Fits.{opens_at}
 use Rattle.libyaml_events.specs.declared.step.Step.{Step}
-use Rattle.libyaml_events.specs.declared.step.Step.TheVariants as led
+use Rattle.libyaml_events.specs.declared.step.Step.TheVariants as stepped
 use Rattle.libyaml_events.specs.declared.pending.Pending.{Pending}
 use Rattle.libyaml_events.specs.machine.Config.{Config, config_of, with_fault}
 use Rattle.libyaml_events.specs.machine.Want.{Texts}
@@ -58,14 +58,14 @@ IsPlain _ = Unit {0}
 
 -- what the texts h that were held have to do with those that are held now
 abbrev pub IsHeld : Action → Texts → Pending → Type 0
-IsHeld did.Wants h q = IsPlain (automaton_want.purpose_of q.reading)
-IsHeld did.WantsAnchor h q = (anchor : List ℕ)
-    → texts_for (automaton_want.purpose_of q.reading) (record q.properties { anchor = Some anchor }) q.directives
+IsHeld action.Wants h q = IsPlain (purposes.purpose_of q.reading)
+IsHeld action.WantsAnchor h q = (anchor : List ℕ)
+    → texts_for (purposes.purpose_of q.reading) (record q.properties { anchor = Some anchor }) q.directives
     ≡ record h { anchor = Some anchor }
-IsHeld did.WantsTag h q = (tag : unnamed_yaml_token_t_data_tag)
-    → texts_for (automaton_want.purpose_of q.reading) (record q.properties { tag = Some tag }) q.directives
+IsHeld action.WantsTag h q = (tag : unnamed_yaml_token_t_data_tag)
+    → texts_for (purposes.purpose_of q.reading) (record q.properties { tag = Some tag }) q.directives
     ≡ record h { tag = Some tag }
-IsHeld did.AsksContent h q = h ≡ property_texts (properties q.reading) q.properties
+IsHeld action.AsksContent h q = h ≡ property_texts (properties q.reading) q.properties
 IsHeld _ h q = Unit {0}
 
 -- the result a of a step
@@ -75,13 +75,13 @@ Led out h t a q d = IsHeld a h q × IsWithTexts out h t a q.reading d
 -- so each step of the parser that the result says is done
 abbrev pub Puts : Action → yaml_token_t → Pending → Config → Step → yaml_token_t → Pending → yaml_event_t → Config → Type 0
 Puts a t q old s t' q' e new = (out : Progressed) (h : Texts) → Led out h t a q old
-    → Steps out old (result_of s q' e new) (standing_by s t' new) × (s ≡ led.Wants → Ready q' new)
+    → Steps out old (result_of s q' e new) (standing_by s t' new) × (s ≡ stepped.Wants → Ready q' new)
 
 -- the result is put
 abbrev pub IsPut : Action → Type 0
-IsPut did.Document = ⊥
-IsPut did.FullStates = ⊥
-IsPut did.FullMarks = ⊥
+IsPut action.Document = ⊥
+IsPut action.FullStates = ⊥
+IsPut action.FullMarks = ⊥
 IsPut _ = Unit {0}
 
 -- directives: those that were held are those that are kept
@@ -91,10 +91,10 @@ LedDocument out h t a q d = (h ≡ directive_texts q.directives) × IsWithTexts 
 abbrev pub PutsDocument : Action → yaml_token_t → Pending → Config → Step → yaml_token_t → Pending → yaml_event_t → Config
     → Type 0
 PutsDocument a t q old s t' q' e new = (out : Progressed) (h : Texts) → LedDocument out h t a q old
-    → Steps out old (result_of s q' e new) (standing_by s t' new) × (s ≡ led.Wants → Ready q' new)
+    → Steps out old (result_of s q' e new) (standing_by s t' new) × (s ≡ stepped.Wants → Ready q' new)
 
 abbrev pub IsPutDocument : Action → Type 0
-IsPutDocument did.FullStates = ⊥
+IsPutDocument action.FullStates = ⊥
 IsPutDocument _ = Unit {0}
 
 -- the start of the collection that this token opens
@@ -123,14 +123,14 @@ abbrev pub PutsContent : (anchor tag : Option (List ℕ)) → (start end : yaml_
     → Config → Step → yaml_token_t → Pending → yaml_event_t → Config → Type 0
 PutsContent a g start end x t r' old s t' q e new = (out : Progressed) (h : Texts) (r : Reading) → r.start_mark ≡ start
     → r.end_mark ≡ end → SaysContent out h a g t x r r' old
-    → Steps out old (result_of s q e new) (standing_by s t' new) × (s ≡ led.Wants → ⊥)
+    → Steps out old (result_of s q e new) (standing_by s t' new) × (s ≡ stepped.Wants → ⊥)
 
 -- a collection whose start is kept
 abbrev pub IsOpening : Action → Type 0
-IsOpening did.BlockSequence = Unit {0}
-IsOpening did.BlockMapping = Unit {0}
-IsOpening did.FlowSequence = Unit {0}
-IsOpening did.FlowMapping = Unit {0}
+IsOpening action.BlockSequence = Unit {0}
+IsOpening action.BlockMapping = Unit {0}
+IsOpening action.FlowSequence = Unit {0}
+IsOpening action.FlowMapping = Unit {0}
 IsOpening _ = ⊥
 
 -- the content after properties may take memory: the tag is joined, or a collection's start is pushed

@@ -10,7 +10,7 @@ use Rattle.libyaml_types.specs.declared.enums.yaml_error_type_t.{yaml_error_type
 use Rattle.libyaml_types.specs.declared.enums.yaml_error_type_t.TheVariants.{YAML_NO_ERROR, YAML_MEMORY_ERROR, YAML_READER_ERROR, YAML_SCANNER_ERROR, YAML_PARSER_ERROR, YAML_COMPOSER_ERROR, YAML_WRITER_ERROR, YAML_EMITTER_ERROR}
 use Rattle.libyaml_types.specs.declared.enums.yaml_parser_state_t.{yaml_parser_state_t}
 use Rattle.libyaml_types.specs.declared.enums.yaml_parser_state_t.TheVariants as st
-use Rattle.libyaml_automaton.specs.Config as automaton
+use Rattle.libyaml_automaton.specs.Config as automaton_config
 use Rattle.libyaml_events.specs.declared.lookahead.Lookahead.{Lookahead}
 use Rattle.libyaml_types.specs.Fault.{Fault, no_fault}
 
@@ -92,16 +92,16 @@ abbrev pub pushed : yaml_parser_state_t → Config → Config
 pushed state c = record c { states = state ∷ c.states }
 
 abbrev pub popped : Config → Config
-popped c = record c { state = automaton.top c.states; states = automaton.below c.states }
+popped c = record c { state = automaton_config.top c.states; states = automaton_config.below c.states }
 
 abbrev pub pushed_mark : yaml_mark_t → Config → Config
 pushed_mark mark c = record c { marks = mark ∷ c.marks }
 
 abbrev pub popped_mark : Config → Config
-popped_mark c = record c { marks = automaton.below c.marks }
+popped_mark c = record c { marks = automaton_config.below c.marks }
 
 -- the parser without its texts
-abbrev pub config_of : Config → automaton.Stacks
+abbrev pub config_of : Config → automaton_config.Stacks
 config_of c = record {
   state = c.state;
   states = c.states;
@@ -110,7 +110,7 @@ config_of c = record {
 }
 
 -- and with them
-abbrev pub config_with : automaton.Stacks → Handles → Fault → Option yaml_token_t → Config
+abbrev pub config_with : automaton_config.Stacks → Handles → Fault → Option yaml_token_t → Config
 config_with x hs f o = record {
   lookahead = o;
   state = x.state;

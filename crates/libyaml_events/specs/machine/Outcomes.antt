@@ -4,9 +4,9 @@ use Rattle.libyaml_types.specs.declared.event.yaml_event_t.{yaml_event_t}
 use Rattle.libyaml_types.specs.declared.enums.yaml_error_type_t.{yaml_error_type_t}
 use Rattle.libyaml_automaton.specs.Automaton.{BehindDirective, BehindProperties}
 use Rattle.libyaml_automaton.specs.Automaton as automaton
-use Rattle.libyaml_automaton.specs.Purposes as automaton_want
+use Rattle.libyaml_automaton.specs.Purposes as purposes
 use Rattle.libyaml_events.specs.declared.step.Step.{Step}
-use Rattle.libyaml_events.specs.declared.step.Step.TheVariants as led
+use Rattle.libyaml_events.specs.declared.step.Step.TheVariants as stepped
 use Rattle.libyaml_events.specs.declared.pending.Pending.{Pending}
 use Rattle.libyaml_types.specs.declared.token.yaml_token_t.{yaml_token_t}
 use Rattle.libyaml_events.specs.machine.Config.{Config, staying}
@@ -35,18 +35,18 @@ texts_for _ p d = no_texts
 -- what the next token is wanted for
 abbrev pub wanted : Pending → Want
 wanted p = record {
-  next = automaton_want.purpose_of p.reading;
-  texts = texts_for (automaton_want.purpose_of p.reading) p.properties p.directives;
+  next = purposes.purpose_of p.reading;
+  texts = texts_for (purposes.purpose_of p.reading) p.properties p.directives;
 }
 
 -- a step that failed has the kind of the error that is kept
 abbrev pub result_of : Step → Pending → yaml_event_t → Config → Result Progress yaml_error_type_t
-result_of led.Given p e c = Ok (Given e)
-result_of led.GivenBefore p e c = Ok (Given e)
-result_of led.Wants p e c = Ok (Wants (wanted p))
-result_of led.Failed p e c = Err c.fault.error
+result_of stepped.Given p e c = Ok (Given e)
+result_of stepped.GivenBefore p e c = Ok (Given e)
+result_of stepped.Wants p e c = Ok (Wants (wanted p))
+result_of stepped.Failed p e c = Err c.fault.error
 
 -- where the parser then stands: the token t stays where the event comes before it
 abbrev pub standing_by : Step → (t : yaml_token_t) → Config → Config
-standing_by led.GivenBefore t c = staying t c
+standing_by stepped.GivenBefore t c = staying t c
 standing_by _ t c = c

@@ -19,7 +19,7 @@ use Rattle.libyaml_composer.specs.declared.deed.Deed.TheVariants as deed
 use Rattle.libyaml_composer.specs.declared.records.open_t.{open_t}
 use Rattle.libyaml_composer.specs.declared.records.place_t.{place_t}
 use Rattle.libyaml_types.specs.declared.enums.yaml_event_type_t.{yaml_event_type_t}
-use Rattle.libyaml_types.specs.declared.enums.yaml_event_type_t.TheVariants as kind
+use Rattle.libyaml_types.specs.declared.enums.yaml_event_type_t.TheVariants as event_kinds
 use Rattle.libyaml_composer.specs.Composing.{Composer, Told, adding, at_carrier, between_step, deed_for, deed_in, collection_ended, handing, if_placed, is_list_full, new_id, with_open_node, composer_step, step_in, told, unless, within_step}
 use Rattle.libyaml_composer.specs.Held as held
 use Rattle.libyaml_composer.specs.Held.{Held, IsRefused, anchor_in, anchored, anchored_by, applied_part, event_fact, fault_part, open_of, with_made_node}
@@ -249,16 +249,16 @@ pub repeated : (k : yaml_event_type_t) (f : ℤ) (p : place_t) (c : Composer) �
 repeated k f p c h = go c.is_within k h
   where
     within : (k : yaml_event_type_t) → (within_step k f p c).deed ≡ deed.RepeatedAnchor → is_id f ≡ true
-    within kind.YAML_ALIAS_EVENT h = absurd (alias_first (is_id f) f p c h)
-    within kind.YAML_SCALAR_EVENT h = placed_first f p c (adding c) (child_first c.stack) h
-    within kind.YAML_SEQUENCE_START_EVENT h = placed_first f p c _ (start_first (nat_le c.room (length c.stack)) 0 p c) h
-    within kind.YAML_MAPPING_START_EVENT h = placed_first f p c _ (start_first (nat_le c.room (length c.stack)) 1 p c) h
-    within kind.YAML_SEQUENCE_END_EVENT h = absurd (end_first c.stack p c h)
-    within kind.YAML_MAPPING_END_EVENT h = absurd (end_first c.stack p c h)
+    within event_kinds.YAML_ALIAS_EVENT h = absurd (alias_first (is_id f) f p c h)
+    within event_kinds.YAML_SCALAR_EVENT h = placed_first f p c (adding c) (child_first c.stack) h
+    within event_kinds.YAML_SEQUENCE_START_EVENT h = placed_first f p c _ (start_first (nat_le c.room (length c.stack)) 0 p c) h
+    within event_kinds.YAML_MAPPING_START_EVENT h = placed_first f p c _ (start_first (nat_le c.room (length c.stack)) 1 p c) h
+    within event_kinds.YAML_SEQUENCE_END_EVENT h = absurd (end_first c.stack p c h)
+    within event_kinds.YAML_MAPPING_END_EVENT h = absurd (end_first c.stack p c h)
     within _ h = absurd cc
 
     between : (k : yaml_event_type_t) → (between_step k p c).deed ≡ deed.RepeatedAnchor → ⊥
-    between kind.YAML_DOCUMENT_START_EVENT h = cc
+    between event_kinds.YAML_DOCUMENT_START_EVENT h = cc
     between _ h = cc
 
     go : (b : Bool) (k : yaml_event_type_t) → (step_in b k f p c).deed ≡ deed.RepeatedAnchor → is_id f ≡ true

@@ -15,9 +15,9 @@ use Rattle.libyaml_grammar.specs.grammar.Events.{Event}
 use Rattle.libyaml_types.specs.Fault.{Fault, fault_of, memory_fault}
 use Rattle.libyaml_graphs.specs.graphs.GraphParts as parts
 use Rattle.libyaml_graphs.specs.graphs.GraphParts.{closing_of, opening_of, part_of}
-use Rattle.libyaml_graphs.specs.machine.Loader as machine
+use Rattle.libyaml_graphs.specs.machine.Loader as loader
 use Rattle.libyaml_graphs.specs.machine.Loader.{Loader, between, bounded_option, failed, fresh, no_anchors, within}
-use Rattle.libyaml_loader.specs.declared.composer.Composer as loader
+use Rattle.libyaml_loader.specs.declared.composer.Composer as builder
 use Rattle.libyaml_loader.specs.declared.context.loader_ctx.{loader_ctx}
 use Rattle.libyaml_loader.specs.declared.refusal.Refusal.{Refusal}
 use Rattle.libyaml_loader.specs.declared.refusal.Refusal.TheVariants.{Memory}
@@ -37,7 +37,7 @@ context_is_fresh : (c : loader_ctx) (o : parts.Opening) → c.document ≡ begun
 context_is_fresh c o document stack anchors =
     ap (λ (d : Document). record { nodes = d.nodes; stack = map open_of c.collections.stack; anchors = c.anchors }) document
     ∙ ap (λ (s : List open_t). record { nodes = []; stack = map open_of s; anchors = c.anchors }) stack
-    ∙ ap (λ (a : machine.Anchors). record { nodes = []; stack = []; anchors = a }) anchors
+    ∙ ap (λ (a : loader.Anchors). record { nodes = []; stack = []; anchors = a }) anchors
 
 -- it begins
 module _ (old c : loader_ctx) (o : parts.Opening) (anchors : old.anchors ≡ no_anchors)
@@ -64,11 +64,11 @@ module _ (old c : loader_ctx) (o : parts.Opening) (anchors : old.anchors ≡ no_
     opens = subst (λ (s : List open_t). Opens (length c.document.nodes) c.document.nodes (length c.document.nodes) s)
         (sym (ap (λ (x : Composer). x.stack) collections)) tt;
     carried = λ (a : List ℕ). subst (IsCarried (length c.document.nodes))
-        (sym (ap (λ (x : machine.Anchors). get x a) none ∙ get-from_entries nat_list_cmp_total [] a)) tt;
+        (sym (ap (λ (x : loader.Anchors). get x a) none ∙ get-from_entries nat_list_cmp_total [] a)) tt;
   }
 
 -- an event adds to it, or is refused
-module _ (old : loader.Composer) (new : loader_ctx) (e : Event) (sound : IsSound old) (is_open : old.is_open ≡ true) where
+module _ (old : builder.Composer) (new : loader_ctx) (e : Event) (sound : IsSound old) (is_open : old.is_open ≡ true) where
   pub refused : (r : Refusal) (f : Fault) → closing_of e ≡ None → Refuses old.ctx new (part_of e) e.start_mark r
       → f ≡ fault_by r new.first_mark e.start_mark → RefusesEvent ⊥ old.max_entries (composer_state old) e f
   refused r f no_end h fault =
@@ -84,7 +84,7 @@ module _ (old : loader.Composer) (new : loader_ctx) (e : Event) (sound : IsSound
           (ap (λ (n : ℕ). bounded_option n (loader_of old.ctx) (part_of e)) (sym sound.bound) ∙ (w ∙ ap failed (sym fault))))
 
 -- What an event did, where a list takes the documents that end.
-module _ (Full : Type 0) (old mid : loader.Composer) (e : Event) (before : List Document)
+module _ (Full : Type 0) (old mid : builder.Composer) (e : Event) (before : List Document)
     (r : Result (Option Closing) yaml_error_type_t) (h : ComposesEvent old e r mid) where
   refused_first : (f : Fault) → RefusesEvent Full old.max_entries (composer_state old) e f
       → RefusesOneOf Full old.max_entries (composer_state old) (e ∷ []) [] f
@@ -99,7 +99,7 @@ module _ (Full : Type 0) (old mid : loader.Composer) (e : Event) (before : List 
   }
 
   -- the document ended, and the list had no room for it
-  pub into_full : (new : loader.Composer) (c : Closing) (z : yaml_error_type_t) → r ≡ Ok (Some c)
+  pub into_full : (new : builder.Composer) (c : Closing) (z : yaml_error_type_t) → r ≡ Ok (Some c)
       → fault_of new.fault ≡ memory_fault → Full → Composes Full old (e ∷ []) before (Err z) new before
   into_full new c z is fault full =
       let ends : (old.is_open ≡ true) × (closing_of e ≡ Some (closing_by c)) × (mid ≡ old) = rw is at h in

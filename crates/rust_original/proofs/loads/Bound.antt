@@ -13,9 +13,9 @@ use Rattle.libyaml_documents.specs.LoadedNodes.{mapping_loaded, scalar_loaded, s
 use Rattle.libyaml_graphs.specs.graphs.GraphParts.{Part, alias_part, end_part, leaf_part, part_in, start_part}
 use Rattle.libyaml_graphs.specs.graphs.Graphs.{Carrier}
 use Rattle.libyaml_graphs.specs.machine.Loader.{content_full, list_full, no_anchors, node_full}
-use Rattle.libyaml_graphs.specs.machine.Loader as machine
+use Rattle.libyaml_graphs.specs.machine.Loader as loader
 use Rattle.libyaml_graphs.proofs.exported.Building.{AllLess, Falls, Less, key_in, loader_of, stack_of, AllHas, Built, Has, Held, nodes_in}
-use Rattle.rust_original.specs.loader.Loader as orig
+use Rattle.rust_original.specs.loader.Loader as orig_loader
 use Rattle.rust_original.specs.loader.Loader.{FAIL, LoaderResult, OK, alias_of, yaml_alias_data_t}
 use Rattle.rust_original.proofs.loads.Halves.{AllSound, Sound, halves, last_waits, none_waits, with_half}
 use Rattle.rust_original.proofs.loads.Steps.{finish_there, ids, load_alias, load_event, pushed, there}
@@ -35,7 +35,7 @@ over_there n (end_part m) b = false
 
 abbrev pub full_there : ℕ → Part → Built → Bool
 full_there n (end_part m) b = false
-full_there n p b = orig.is_parent_full n (ids b.places) (halves b.held)
+full_there n p b = orig_loader.is_parent_full n (ids b.places) (halves b.held)
 
 abbrev pub guard_part : ℕ → Option Part → Built → LoaderResult → LoaderResult
 guard_part n None b o = o
@@ -49,7 +49,7 @@ not_less a n = go (nat_lt a n) refl
     go false e = let h = ltb-false a n e in sym (lt-ltb n (suc a) (omega arith))
 
 full_same : (n : ℕ) (k : Option ℤ) (c : unnamed_yaml_node_t_data) → Sound k c
-    → orig.is_full n (with_half k c) ≡ content_full n k c
+    → orig_loader.is_full n (with_half k c) ≡ content_full n k c
 full_same n None (Scalar s) h = refl
 full_same n None (Sequence s) h = not_less (length s.items) n
 full_same n None (Mapping m) h
@@ -62,13 +62,13 @@ full_same n (Some k) (Mapping m) h
     (nat_lt (length (m.pairs ++ record { key = k; value = pos 0 } ∷ [])) n)) (last_waits m.pairs k h.0)
 
 place_full : (n p : ℕ) (hs : List Held) → AllSound hs
-    → orig.full_at n p (halves hs) ≡ node_full n (key_in p hs) (slice_get (nodes_in hs) p)
+    → orig_loader.full_at n p (halves hs) ≡ node_full n (key_in p hs) (slice_get (nodes_in hs) p)
 place_full n p [] h = refl
 place_full n zero (x ∷ hs) h = full_same n x.key x.node.content h.0
 place_full n (suc p) (x ∷ hs) h = place_full n p hs h.1
 
 any_full : (n : ℕ) (s : List ℕ) (hs : List Held) → AllSound hs
-    → orig.is_parent_full n (ids s) (halves hs) ≡ machine.parent_full n (stack_of s hs) (nodes_in hs)
+    → orig_loader.is_parent_full n (ids s) (halves hs) ≡ loader.parent_full n (stack_of s hs) (nodes_in hs)
 any_full n [] hs h = refl
 any_full n (p ∷ s) hs h = place_full n p hs h
 
@@ -81,13 +81,13 @@ part_full n (end_part m) b h = refl
 
 -- a parent's list is as full after a node was put after the others
 still_full : (n p : ℕ) (hs : List Held) (x : yaml_node_t) → Has p hs
-    → orig.full_at n p (halves hs ++ x ∷ []) ≡ orig.full_at n p (halves hs)
+    → orig_loader.full_at n p (halves hs ++ x ∷ []) ≡ orig_loader.full_at n p (halves hs)
 still_full n p [] x h = absurd h
 still_full n zero (y ∷ hs) x h = refl
 still_full n (suc p) (y ∷ hs) x h = still_full n p hs x h
 
 parent_still : (n : ℕ) (s : List ℕ) (hs : List Held) (x : yaml_node_t) → AllHas s hs
-    → orig.is_parent_full n (ids s) (halves hs ++ x ∷ []) ≡ orig.is_parent_full n (ids s) (halves hs)
+    → orig_loader.is_parent_full n (ids s) (halves hs ++ x ∷ []) ≡ orig_loader.is_parent_full n (ids s) (halves hs)
 parent_still n [] hs x h = refl
 parent_still n (p ∷ s) hs x h = still_full n p hs x h.0
 
@@ -110,10 +110,10 @@ stack_short : (s : List ℕ) (hs : List Held) → AllHas s hs → Falls s → le
 stack_short [] hs h f = omega arith
 stack_short (p ∷ s) hs h f = let i = has_place p hs h.0 in let j = falls_short s p f.0 f.1 in omega arith
 
-kept_ctx : (l : orig.OriginalLoader) (i : ℕ) (c : List ℕ) → l.ctx ≡ c → (orig.child_added l i).ctx ≡ l.ctx
+kept_ctx : (l : orig_loader.OriginalLoader) (i : ℕ) (c : List ℕ) → l.ctx ≡ c → (orig_loader.child_added l i).ctx ≡ l.ctx
 kept_ctx l i c e = go l.ctx
   where
-    go : (s : List ℕ) → (orig.child_added (record l { ctx = s }) i).ctx ≡ s
+    go : (s : List ℕ) → (orig_loader.child_added (record l { ctx = s }) i).ctx ≡ s
     go [] = refl
     go (p ∷ s) = refl
 
@@ -122,58 +122,58 @@ module _ (n : ℕ) (x : yaml_node_t) (opens : Bool) (b : Built) (has : AllHas b.
     abbrev index : ℕ
     index = suc (length (halves b.held))
 
-    abbrev pushed_node : List yaml_alias_data_t → orig.OriginalLoader
+    abbrev pushed_node : List yaml_alias_data_t → orig_loader.OriginalLoader
     pushed_node ys = record { aliases = ys; nodes = halves b.held ++ x ∷ []; ctx = ids b.places }
 
     opened_there : (ys : List yaml_alias_data_t) → nat_lt (length (halves b.held)) n ≡ true
-        → orig.if_ok (orig.yaml_parser_load_node_add n (pushed_node ys) index)
-        (λ s. if opens then orig.STACK_LIMIT n (length s.ctx) (OK (record s { ctx = index ∷ s.ctx })) else OK s)
-        ≡ guarded false (orig.is_parent_full n (ids b.places) (halves b.held))
+        → orig_loader.if_ok (orig_loader.yaml_parser_load_node_add n (pushed_node ys) index)
+        (λ s. if opens then orig_loader.STACK_LIMIT n (length s.ctx) (OK (record s { ctx = index ∷ s.ctx })) else OK s)
+        ≡ guarded false (orig_loader.is_parent_full n (ids b.places) (halves b.held))
         (OK (finish_there opens (pushed_node ys) index))
     opened_there ys e
-        = ap (λ (u : Bool). orig.if_ok (if u then FAIL memory_fault else OK (orig.child_added (pushed_node ys) index))
-        (λ s. if opens then orig.STACK_LIMIT n (length s.ctx) (OK (record s { ctx = index ∷ s.ctx })) else OK s))
+        = ap (λ (u : Bool). orig_loader.if_ok (if u then FAIL memory_fault else OK (orig_loader.child_added (pushed_node ys) index))
+        (λ s. if opens then orig_loader.STACK_LIMIT n (length s.ctx) (OK (record s { ctx = index ∷ s.ctx })) else OK s))
         (parent_still n b.places b.held x has)
-        ∙ go (orig.is_parent_full n (ids b.places) (halves b.held)) opens
+        ∙ go (orig_loader.is_parent_full n (ids b.places) (halves b.held)) opens
       where
         fits : nat_lt (length (ids b.places)) n ≡ true
         fits = let i = ltb-true (length (halves b.held)) n e in let j
             = stack_short b.places b.held has falls in lt-ltb (length (ids b.places)) n (omega arith)
 
-        go : (u o : Bool) → orig.if_ok (if u then FAIL memory_fault else OK (orig.child_added (pushed_node ys) index))
-            (λ s. if o then orig.STACK_LIMIT n (length s.ctx) (OK (record s { ctx = index ∷ s.ctx })) else OK s)
+        go : (u o : Bool) → orig_loader.if_ok (if u then FAIL memory_fault else OK (orig_loader.child_added (pushed_node ys) index))
+            (λ s. if o then orig_loader.STACK_LIMIT n (length s.ctx) (OK (record s { ctx = index ∷ s.ctx })) else OK s)
             ≡ guarded false u (OK (finish_there o (pushed_node ys) index))
         go true o = refl
         go false false = refl
         go false true
-            = ap (λ (c : List ℕ). orig.STACK_LIMIT n (length c)
-            (OK (record (orig.child_added (pushed_node ys) index) { ctx = index ∷ c })))
+            = ap (λ (c : List ℕ). orig_loader.STACK_LIMIT n (length c)
+            (OK (record (orig_loader.child_added (pushed_node ys) index) { ctx = index ∷ c })))
             (kept_ctx (pushed_node ys) index (ids b.places) refl)
             ∙ ap (λ (u : Bool). if u then OK
-            (record (orig.child_added (pushed_node ys) index) { ctx = index ∷ ids b.places }) else FAIL memory_fault)
+            (record (orig_loader.child_added (pushed_node ys) index) { ctx = index ∷ ids b.places }) else FAIL memory_fault)
             fits
 
     node_limited : (a : Option (List ℕ)) (xs : List yaml_alias_data_t)
-        → orig.node_pushed n (there xs b) a x opens
-        ≡ guarded (not (nat_lt (length (halves b.held)) n)) (orig.is_parent_full n (ids b.places) (halves b.held))
+        → orig_loader.node_pushed n (there xs b) a x opens
+        ≡ guarded (not (nat_lt (length (halves b.held)) n)) (orig_loader.is_parent_full n (ids b.places) (halves b.held))
         (pushed (there xs b) a x opens)
     node_limited a xs = go (nat_lt (length (halves b.held)) n) refl
       where
         after : List yaml_alias_data_t → LoaderResult
-        after ys = orig.if_ok (orig.yaml_parser_load_node_add n (pushed_node ys) index)
-            (λ s. if opens then orig.STACK_LIMIT n (length s.ctx) (OK (record s { ctx = index ∷ s.ctx })) else OK s)
+        after ys = orig_loader.if_ok (orig_loader.yaml_parser_load_node_add n (pushed_node ys) index)
+            (λ s. if opens then orig_loader.STACK_LIMIT n (length s.ctx) (OK (record s { ctx = index ∷ s.ctx })) else OK s)
 
         registered : (o : Option Carrier) (c : List ℕ) → nat_lt (length (halves b.held)) n ≡ true
             → elim o [
-              | Some y ↦ orig.yaml_parser_set_composer_error_context (codes "found duplicate anchor; first occurrence")
+              | Some y ↦ orig_loader.yaml_parser_set_composer_error_context (codes "found duplicate anchor; first occurrence")
                   y.mark (codes "second occurrence") x.start_mark
-              | None ↦ orig.if_ok
-                  (orig.yaml_parser_load_node_add n
+              | None ↦ orig_loader.if_ok
+                  (orig_loader.yaml_parser_load_node_add n
                   (pushed_node
                   (xs ++ record { anchor = c; carrier = record { id = index; mark = x.start_mark } } ∷ [])) index)
-                  (λ s. if opens then orig.STACK_LIMIT n (length s.ctx) (OK (record s { ctx = index ∷ s.ctx })) else OK s)
-            ] ≡ guarded false (orig.is_parent_full n (ids b.places) (halves b.held)) (elim o [
-              | Some y ↦ orig.yaml_parser_set_composer_error_context (codes "found duplicate anchor; first occurrence")
+                  (λ s. if opens then orig_loader.STACK_LIMIT n (length s.ctx) (OK (record s { ctx = index ∷ s.ctx })) else OK s)
+            ] ≡ guarded false (orig_loader.is_parent_full n (ids b.places) (halves b.held)) (elim o [
+              | Some y ↦ orig_loader.yaml_parser_set_composer_error_context (codes "found duplicate anchor; first occurrence")
                   y.mark (codes "second occurrence") x.start_mark
               | None ↦ OK
                   (finish_there opens
@@ -184,33 +184,33 @@ module _ (n : ℕ) (x : yaml_node_t) (opens : Bool) (b : Built) (has : AllHas b.
         registered None c e = opened_there _ e
 
         with_room : (c : Option (List ℕ)) → nat_lt (length (halves b.held)) n ≡ true
-            → orig.yaml_parser_register_anchor (pushed_node xs) index x.start_mark c
-            (λ r. orig.if_ok (orig.yaml_parser_load_node_add n r index)
-            (λ s. if opens then orig.STACK_LIMIT n (length s.ctx) (OK (record s { ctx = index ∷ s.ctx })) else OK s))
-            ≡ guarded false (orig.is_parent_full n (ids b.places) (halves b.held)) (pushed (there xs b) c x opens)
+            → orig_loader.yaml_parser_register_anchor (pushed_node xs) index x.start_mark c
+            (λ r. orig_loader.if_ok (orig_loader.yaml_parser_load_node_add n r index)
+            (λ s. if opens then orig_loader.STACK_LIMIT n (length s.ctx) (OK (record s { ctx = index ∷ s.ctx })) else OK s))
+            ≡ guarded false (orig_loader.is_parent_full n (ids b.places) (halves b.held)) (pushed (there xs b) c x opens)
         with_room None e = opened_there xs e
         with_room (Some c) e = registered (alias_of xs c) c e
 
         go : (u : Bool) → nat_lt (length (halves b.held)) n ≡ u
-            → (if u then orig.yaml_parser_register_anchor (pushed_node xs) index x.start_mark a
-            (λ r. orig.if_ok (orig.yaml_parser_load_node_add n r index)
-            (λ s. if opens then orig.STACK_LIMIT n (length s.ctx) (OK (record s { ctx = index ∷ s.ctx })) else OK s))
+            → (if u then orig_loader.yaml_parser_register_anchor (pushed_node xs) index x.start_mark a
+            (λ r. orig_loader.if_ok (orig_loader.yaml_parser_load_node_add n r index)
+            (λ s. if opens then orig_loader.STACK_LIMIT n (length s.ctx) (OK (record s { ctx = index ∷ s.ctx })) else OK s))
             else FAIL memory_fault)
-            ≡ guarded (not u) (orig.is_parent_full n (ids b.places) (halves b.held)) (pushed (there xs b) a x opens)
+            ≡ guarded (not u) (orig_loader.is_parent_full n (ids b.places) (halves b.held)) (pushed (there xs b) a x opens)
         go true e = with_room a e
         go false e = refl
 
 alias_limited : (n : ℕ) (a : List ℕ) (m : Mark) (xs : List yaml_alias_data_t) (b : Built)
-    → orig.yaml_parser_load_alias n (there xs b) a m ≡ guarded false (orig.is_parent_full n (ids b.places) (halves b.held))
+    → orig_loader.yaml_parser_load_alias n (there xs b) a m ≡ guarded false (orig_loader.is_parent_full n (ids b.places) (halves b.held))
     (load_alias (there xs b) a m)
-alias_limited n a m xs b = go (alias_of xs a) (orig.is_parent_full n (ids b.places) (halves b.held))
+alias_limited n a m xs b = go (alias_of xs a) (orig_loader.is_parent_full n (ids b.places) (halves b.held))
   where
     go : (o : Option Carrier) (u : Bool) → elim o [
-      | Some found ↦ if u then FAIL memory_fault else OK (orig.child_added (there xs b) found.id)
-      | None ↦ orig.yaml_parser_set_composer_error (codes "found undefined alias") m
+      | Some found ↦ if u then FAIL memory_fault else OK (orig_loader.child_added (there xs b) found.id)
+      | None ↦ orig_loader.yaml_parser_set_composer_error (codes "found undefined alias") m
     ] ≡ guarded false u (elim o [
-      | Some found ↦ OK (orig.child_added (there xs b) found.id)
-      | None ↦ orig.yaml_parser_set_composer_error (codes "found undefined alias") m
+      | Some found ↦ OK (orig_loader.child_added (there xs b) found.id)
+      | None ↦ orig_loader.yaml_parser_set_composer_error (codes "found undefined alias") m
     ])
     go None u = refl
     go (Some c) true = refl
@@ -218,7 +218,7 @@ alias_limited n a m xs b = go (alias_of xs a) (orig.is_parent_full n (ids b.plac
 
 pub event_limited : (n : ℕ) (k : unnamed_yaml_event_t_data) (m m' : Mark) (b : Built) (xs : List yaml_alias_data_t)
     → AllHas b.places b.held → Falls b.places
-    → orig.load_event n (there xs b) (event k m m') ≡ guard_part n (part_in k m m') b
+    → orig_loader.load_event n (there xs b) (event k m m') ≡ guard_part n (part_in k m m') b
     (load_event (there xs b) (event k m m'))
 event_limited n (ev.Alias a) m m' b xs h f = alias_limited n a.anchor m xs b
 event_limited n (ev.Scalar s) m m' b xs h f = node_limited n (scalar_loaded s m m') false b h f s.anchor xs

@@ -10,7 +10,7 @@ use Rattle.libyaml_grammar.specs.grammar.Tokens.{Mark, Token}
 use Rattle.libyaml_graphs.specs.loads.Bounds.{IsBoundedLoads, bounded_loads}
 use Rattle.libyaml_documents.specs.Documents.{Document}
 use Rattle.libyaml_graphs.specs.loads.Loads.{Load, last_load}
-use Rattle.rust_original.specs.loader.Loader as orig
+use Rattle.rust_original.specs.loader.Loader as orig_loader
 use Rattle.rust_original.specs.loader.Loader.{FAIL, LoaderResult, OK, OriginalState, between, original_loads_from, loads_there, new_loader, within}
 use Rattle.rust_original.specs.loader.LoadsThere.{LoadsCompare, LoadsThere, loads_part, same_loads}
 use Rattle.rust_original.specs.parser.Differences.{Compares, parts, same}
@@ -48,7 +48,7 @@ module _ (n : ℕ) (r t : List Event) (x y : Ending) where
       loaded : (k : unnamed_yaml_event_t_data) → Shares (original_loads_from n (within o l) (event k m m' ∷ b) Ends)
           (original_loads_from n (within o l) (event k m m' ∷ b ++ r) x) (original_loads_from n (within o l) (event k m m' ∷ b ++ t) y)
       loaded (ev.DocumentEnd d) = more _ (ih between)
-      loaded k = go (orig.load_event n l (event k m m'))
+      loaded k = go (orig_loader.load_event n l (event k m m'))
 
   shared : (b : List Event) → Shared b
   shared [] between = begin [] _ _ refl refl refl

@@ -16,7 +16,7 @@ use Rattle.libyaml_graphs.specs.loads.Bounds.{first_stop, if_above, if_wrong, li
 use Rattle.libyaml_graphs.proofs.exported.BoundedLoader.{Within, all_begin_more, held_so_far, reaches}
 use Rattle.libyaml_graphs.proofs.exported.Building.{graph_sizes, list_grows, sizes, build_stands, BeginsEmpty, Built, Held, build}
 use Rattle.libyaml_graphs.proofs.exported.Building as built
-use Rattle.rust_original.specs.loader.Loader as orig
+use Rattle.rust_original.specs.loader.Loader as orig_loader
 use Rattle.rust_original.specs.loader.Loader.{FAIL, LoaderResult, OK, yaml_alias_data_t}
 use Rattle.rust_original.proofs.loads.Halves.{AllSound, halves}
 use Rattle.rust_original.proofs.loads.Steps.{Agrees, Follows, event_follows, halves_length, load_event, there}
@@ -24,14 +24,14 @@ use Rattle.rust_original.proofs.loads.Bound.{event_limited, full_there, guard_pa
 
 -- the events of a document, from one on
 module _ (n : ℕ) (o : Opening) (x : Ending) where
-  abbrev loaded_there : List Event → orig.OriginalLoader → List Load
-  loaded_there r l = orig.original_loads_from n (orig.within o l) r x
+  abbrev loaded_there : List Event → orig_loader.OriginalLoader → List Load
+  loaded_there r l = orig_loader.original_loads_from n (orig_loader.within o l) r x
 
   abbrev Same : List Event → Type 0
   Same r = (es : List Start) (F : List Part) (b : Built) (xs : List yaml_alias_data_t) → Within n es F b → Agrees es xs
       → AllSound b.held → loaded_there r (there xs b) ≡ load_then (first_stop n es F (parts r)) (end_of_document r) o
       (halves (built.finished es (parts r) b)) (last_load x)
-      (orig.original_loads_from n orig.between (behind_document r) x)
+      (orig_loader.original_loads_from n orig_loader.between (behind_document r) x)
 
   module _ (r : List Event) (ih : Same r) (p : Part) (e : BeginsEmpty p) (es : List Start) (F : List Part) (b : Built)
       (s : Within n es F b) (h : AllSound b.held) where
@@ -40,7 +40,7 @@ module _ (n : ℕ) (o : Opening) (x : Ending) where
         = load_then (if_above c (if_wrong w (if_above d (first_stop n (behind p es) (F ++ p ∷ []) (parts r)))))
         (end_of_document r) o
         (halves (built.finished es (p ∷ parts r) b)) (last_load x)
-        (orig.original_loads_from n orig.between (behind_document r) x)
+        (orig_loader.original_loads_from n orig_loader.between (behind_document r) x)
 
     over_is : (q : Part) → over_there n q b ≡ nat_lt n (length (behind q es))
     over_is (alias_part a m) = sym s.few
@@ -76,7 +76,7 @@ module _ (n : ℕ) (o : Opening) (x : Ending) where
         }) g t
         ∙ (ap (λ (hs : List Held). load_then (first_stop n (behind p es) (F ++ p ∷ []) (parts r)) (end_of_document r) o
         (halves hs) (last_load x)
-        (orig.original_loads_from n orig.between (behind_document r) x)) (built.build_finished p es (parts r) b e s.stands.there)
+        (orig_loader.original_loads_from n orig_loader.between (behind_document r) x)) (built.build_finished p es (parts r) b e s.stands.there)
         ∙ ap (λ (v : Option Fault). ends_as false v false) (sym w)))
 
     event_ends : (y : LoaderResult) → Follows y (composer_part_fault es p) (behind p es) (build es p b)
@@ -93,10 +93,10 @@ module _ (n : ℕ) (o : Opening) (x : Ending) where
       → AllSound b.held
       → Follows (load_event (there xs b) (event k m m')) (composer_part_fault es p) (behind p es) (build es p b)
       → ◌≡◌ {A = List Load}
-      (elim (orig.load_event n (there xs b) (event k m m')) [ FAIL f ↦ Err f ∷ [] | OK l ↦ loaded_there r l ])
+      (elim (orig_loader.load_event n (there xs b) (event k m m')) [ FAIL f ↦ Err f ∷ [] | OK l ↦ loaded_there r l ])
       (load_then (first_stop n es F (p ∷ parts r)) (end_of_document r) o (halves (built.finished es (p ∷ parts r) b))
       (last_load x)
-      (orig.original_loads_from n orig.between (behind_document r) x))
+      (orig_loader.original_loads_from n orig_loader.between (behind_document r) x))
   limited_same k m m' r ih p i e es F b xs s h w =
       ap (λ (y : LoaderResult). elim y [ FAIL f ↦ Err f ∷ [] | OK l ↦ loaded_there r l ])
       (event_limited n k m m' b xs s.stands.there s.stands.falls
@@ -106,7 +106,7 @@ module _ (n : ℕ) (o : Opening) (x : Ending) where
   event_same : (k : unnamed_yaml_event_t_data) (m m' : Mark) (r : List Event) → Same r → Same (event k m m' ∷ r)
   event_same (ev.DocumentEnd d) m m' r ih es F b xs s g h
       = ap (λ (hs : List Held). Ok (document o (halves hs) (record { is_implicit = d.implicit; mark = m' }))
-      ∷ orig.original_loads_from n orig.between r x) (sym (built.finished_none es b))
+      ∷ orig_loader.original_loads_from n orig_loader.between r x) (sym (built.finished_none es b))
   event_same (ev.Alias a) m m' r ih es F b xs s g h
       = limited_same (ev.Alias a) m m' r ih (alias_part a.anchor m) refl tt es F b xs s h
       (event_follows (ev.Alias a) m m' es b xs s.stands.size g h)
@@ -132,7 +132,7 @@ module _ (n : ℕ) (o : Opening) (x : Ending) where
   pub document_same : (r : List Event) → Same r
   document_same [] es F b xs s g h = go x
     where
-      go : (y : Ending) → orig.original_loads_from n (orig.within o (there xs b)) [] y ≡ last_load y ∷ []
+      go : (y : Ending) → orig_loader.original_loads_from n (orig_loader.within o (there xs b)) [] y ≡ last_load y ∷ []
       go Ends = refl
       go (Fails f) = refl
   document_same (e ∷ r) es F b xs s g h

@@ -8,7 +8,7 @@ use Rattle.libyaml_documents.specs.declared.pairs.yaml_node_pair_t.{yaml_node_pa
 use Rattle.libyaml_grammar.specs.grammar.Tokens.{Mark}
 use Rattle.libyaml_graphs.specs.machine.Loader.{content_and_child, key_behind}
 use Rattle.libyaml_graphs.proofs.exported.Building.{Held, change, end_at, hold}
-use Rattle.rust_original.specs.loader.Loader as orig
+use Rattle.rust_original.specs.loader.Loader as orig_loader
 use Rattle.rust_original.specs.loader.Loader.{with_value}
 
 -- a mapping whose key waits has a pair without value there
@@ -52,15 +52,15 @@ AllSound [] = Unit {0}
 AllSound (h ∷ hs) = Sound h.key h.node.content × AllSound hs
 
 -- pairs
-id_not_zero : (z : ℤ) → IsId z → orig.is_zero z ≡ false
+id_not_zero : (z : ℤ) → IsId z → orig_loader.is_zero z ≡ false
 id_not_zero (pos zero) h = absurd h
 id_not_zero (pos (suc n)) h = refl
 id_not_zero (negsuc n) h = absurd h
 
-pub none_waits : (ps : List yaml_node_pair_t) → AllFull ps → orig.waits ps ≡ false
+pub none_waits : (ps : List yaml_node_pair_t) → AllFull ps → orig_loader.waits ps ≡ false
 none_waits [] h = refl
 none_waits (p ∷ []) h
-    = ap (λ (u : Bool). not (orig.is_zero p.key) && u) (id_not_zero p.value h.0) ∙ no_both (not (orig.is_zero p.key))
+    = ap (λ (u : Bool). not (orig_loader.is_zero p.key) && u) (id_not_zero p.value h.0) ∙ no_both (not (orig_loader.is_zero p.key))
   where
     no_both : (b : Bool) → b && false ≡ false
     no_both true = refl
@@ -68,7 +68,7 @@ none_waits (p ∷ []) h
 none_waits (p ∷ q ∷ ps) h = none_waits (q ∷ ps) h.1
 
 pub last_waits : (ps : List yaml_node_pair_t) (k : ℤ) → IsId k
-    → orig.waits (ps ++ record { key = k; value = pos 0 } ∷ []) ≡ true
+    → orig_loader.waits (ps ++ record { key = k; value = pos 0 } ∷ []) ≡ true
 last_waits [] k h = ap (λ (u : Bool). not u && true) (id_not_zero k h)
 last_waits (p ∷ []) k h = last_waits [] k h
 last_waits (p ∷ q ∷ ps) k h = last_waits (q ∷ ps) k h
@@ -85,7 +85,7 @@ full_append (q ∷ ps) p h i = (h.0, full_append ps p h.1 i)
 
 -- a child handed to a node
 added : (i : ℕ) (k : Option ℤ) (c : unnamed_yaml_node_t_data) → Sound k c
-    → orig.content_with_child (suc i) (with_half k c) ≡ with_half (key_behind k (pos (suc i)) c)
+    → orig_loader.content_with_child (suc i) (with_half k c) ≡ with_half (key_behind k (pos (suc i)) c)
     (content_and_child k (pos (suc i)) c)
 added i None (Scalar s) h = refl
 added i None (Sequence s) h = refl
@@ -114,7 +114,7 @@ stays_sound i (Some k) (Sequence s) h = absurd h
 stays_sound i (Some k) (Mapping m) h = full_append m.pairs (record { key = k; value = pos (suc i) }) h.1 tt
 
 abbrev with_child_there : ℕ → yaml_node_t → yaml_node_t
-with_child_there i x = record x { content = orig.content_with_child i x.content }
+with_child_there i x = record x { content = orig_loader.content_with_child i x.content }
 
 pub held_there : (p i : ℕ) (hs : List Held) → AllSound hs
     → changed_at p (with_child_there (suc i)) (halves hs) ≡ halves (change p (hold (suc i)) hs)

@@ -16,7 +16,7 @@ use Rattle.libyaml_graphs.proofs.exported.BoundedLoader.{within_unbuilt}
 use Rattle.libyaml_graphs.proofs.exported.Building.{prefix_closes, value_behind, unbuilt}
 use Rattle.libyaml_graphs.proofs.exported.Building as built
 use Rattle.libyaml_types.specs.declared.event.unnamed_yaml_event_t_data_document_start.{unnamed_yaml_event_t_data_document_start}
-use Rattle.rust_original.specs.loader.Loader as orig
+use Rattle.rust_original.specs.loader.Loader as orig_loader
 use Rattle.rust_original.proofs.loads.Halves.{halves}
 use Rattle.rust_original.proofs.loads.Documents.{document_same}
 use Rattle.rust_original.proofs.loads.Keys.{none_half, value_keys}
@@ -36,12 +36,12 @@ mutual
 -- loads within the bound
 module _ (limit : ℕ) where
   abbrev Agree : Ending → List Event → Type 0
-  Agree x r = orig.original_loads_from limit orig.between r x ≡ bounded_loads limit r x
+  Agree x r = orig_loader.original_loads_from limit orig_loader.between r x ≡ bounded_loads limit r x
 
   begun_same : (x : Ending) (o : Opening) (r : List Event)
-      → orig.original_loads_from limit (orig.within o orig.new_loader) r x
+      → orig_loader.original_loads_from limit (orig_loader.within o orig_loader.new_loader) r x
       ≡ load_then (first_stop limit [] [] (parts r)) (end_of_document r) o (halves (built.held_graph [] (parts r)))
-      (last_load x) (orig.original_loads_from limit orig.between (behind_document r) x)
+      (last_load x) (orig_loader.original_loads_from limit orig_loader.between (behind_document r) x)
   begun_same x o r = document_same limit o x r [] [] unbuilt [] (within_unbuilt limit) (λ a. refl) tt
 
   text_agrees : (x : Ending) (d : unnamed_yaml_event_t_data_document_start) (m n : Mark) (v : Value) (i : Bool)
@@ -52,12 +52,12 @@ module _ (limit : ℕ) where
       let V : List Event = value_events v (document_end_at i p q ∷ r) in
       begun_same x o V
       ∙ (ap (λ (ns : List yaml_node_t). load_then (first_stop limit [] [] (parts V)) (end_of_document V) o ns (last_load x)
-      (orig.original_loads_from limit orig.between (behind_document V) x))
+      (orig_loader.original_loads_from limit orig_loader.between (behind_document V) x))
       (none_half (built.held_graph [] (parts V)) (value_keys v [] (document_end_at i p q ∷ r) h tt) ∙ built.graph_nodes
       (parts V) [])
       ∙ ap (λ (l : List Load). load_then (first_stop limit [] [] (parts V)) (end_of_document V) o (graph [] (parts V))
       (last_load x) l)
-      (ap (λ (l : List Event). orig.original_loads_from limit orig.between l x) (value_left v (document_end_at i p q ∷ r)) ∙
+      (ap (λ (l : List Event). orig_loader.original_loads_from limit orig_loader.between l x) (value_left v (document_end_at i p q ∷ r)) ∙
       (g ∙ sym (ap (loads_by (first_stop limit [] []) x) (value_behind v (document_end_at i p q ∷ r))))))
 
   texts_agree : (x : Ending) (ts : DocumentTexts) (r : List Event) → TextsHavePairs ts → Agree x r → Agree x (texts_events ts r)
@@ -81,7 +81,7 @@ module _ (limit : ℕ) where
       (begun_same x o f ∙
       (ap (λ (c : Option Closing). load_then (first_stop limit [] [] (parts f)) c o
       (halves (built.held_graph [] (parts f))) (last_load x)
-      (orig.original_loads_from limit orig.between (behind_document f) x)) (prefix_closes f b)
+      (orig_loader.original_loads_from limit orig_loader.between (behind_document f) x)) (prefix_closes f b)
       ∙ (cut_off (first_stop limit [] [] (parts f)) o _ _ (last_load x) _ _
       ∙ sym (ap
       (λ (c : Option Closing). load_then (first_stop limit [] [] (parts f)) c o (graph [] (parts f)) (last_load x)

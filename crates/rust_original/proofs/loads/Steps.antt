@@ -13,7 +13,7 @@ use Rattle.libyaml_documents.specs.LoadedNodes.{mapping_loaded, scalar_loaded, s
 use Rattle.libyaml_graphs.specs.graphs.GraphParts.{Part, alias_part, behind, end_part, part_in, carrier_start}
 use Rattle.libyaml_graphs.specs.graphs.Graphs.{Carrier, Start, carrier, carries, id_or}
 use Rattle.libyaml_graphs.proofs.exported.Building.{Built, Held, bare, build, hold_top}
-use Rattle.rust_original.specs.loader.Loader as orig
+use Rattle.rust_original.specs.loader.Loader as orig_loader
 use Rattle.rust_original.specs.loader.Loader.{FAIL, LoaderResult, OK, alias_of, yaml_alias_data_t}
 use Rattle.rust_original.proofs.loads.Halves.{AllSound, Sound, end_sound, ended_there, half, halves, held_there, hold_sound}
 
@@ -22,7 +22,7 @@ abbrev pub ids : List ℕ → List ℕ
 ids [] = []
 ids (p ∷ s) = suc p ∷ ids s
 
-abbrev pub there : List yaml_alias_data_t → Built → orig.OriginalLoader
+abbrev pub there : List yaml_alias_data_t → Built → orig_loader.OriginalLoader
 there xs b = record { aliases = xs; nodes = halves b.held; ctx = ids b.places }
 
 abbrev pub Agrees : List Start → List yaml_alias_data_t → Type 0
@@ -65,26 +65,26 @@ top_sound i [] hs h = h
 top_sound i (p ∷ s) hs h = hold_sound p i hs h
 
 -- the original's functions without the bound
-abbrev pub pushed : orig.OriginalLoader → Option (List ℕ) → yaml_node_t → Bool → LoaderResult
+abbrev pub pushed : orig_loader.OriginalLoader → Option (List ℕ) → yaml_node_t → Bool → LoaderResult
 pushed l anchor x opens
-    = orig.yaml_parser_register_anchor (record l { nodes = l.nodes ++ x ∷ [] }) (suc (length l.nodes)) x.start_mark
+    = orig_loader.yaml_parser_register_anchor (record l { nodes = l.nodes ++ x ∷ [] }) (suc (length l.nodes)) x.start_mark
     anchor λ r.
-    OK (if opens then record (orig.child_added r (suc (length l.nodes))) { ctx = suc (length l.nodes) ∷ r.ctx } else
-    orig.child_added r (suc (length l.nodes)))
+    OK (if opens then record (orig_loader.child_added r (suc (length l.nodes))) { ctx = suc (length l.nodes) ∷ r.ctx } else
+    orig_loader.child_added r (suc (length l.nodes)))
 
-abbrev pub load_alias : orig.OriginalLoader → List ℕ → Mark → LoaderResult
+abbrev pub load_alias : orig_loader.OriginalLoader → List ℕ → Mark → LoaderResult
 load_alias l anchor mark = elim (alias_of l.aliases anchor) [
-  | Some found ↦ OK (orig.child_added l found.id)
-  | None ↦ orig.yaml_parser_set_composer_error (codes "found undefined alias") mark
+  | Some found ↦ OK (orig_loader.child_added l found.id)
+  | None ↦ orig_loader.yaml_parser_set_composer_error (codes "found undefined alias") mark
 ]
 
 -- the child of an id, handed to the innermost collection
 node_add : (xs : List yaml_alias_data_t) (i : ℕ) (s : List ℕ) (hs : List Held) → AllSound hs
-    → orig.child_added (record { aliases = xs; nodes = halves hs; ctx = ids s }) (suc i)
+    → orig_loader.child_added (record { aliases = xs; nodes = halves hs; ctx = ids s }) (suc i)
     ≡ record { aliases = xs; nodes = halves (hold_top (suc i) s hs); ctx = ids s }
 node_add xs i [] hs h = refl
 node_add xs i (p ∷ s) hs h
-    = ap (λ (l : List yaml_node_t). let m : orig.OriginalLoader = record { aliases = xs; nodes = l; ctx = suc p ∷ ids s } in m)
+    = ap (λ (l : List yaml_node_t). let m : orig_loader.OriginalLoader = record { aliases = xs; nodes = l; ctx = suc p ∷ ids s } in m)
     (held_there p i hs h)
 
 alias_follows : (a : List ℕ) (m : Mark) (es : List Start) (b : Built) (xs : List yaml_alias_data_t) → Agrees es xs
@@ -94,8 +94,8 @@ alias_follows a m es b xs g h = go (alias_of xs a) (carrier a es) (g a) refl
   where
     go : (o c : Option Carrier) → o ≡ c → carrier a es ≡ c
         → Follows (elim o [
-          | Some found ↦ OK (orig.child_added (there xs b) found.id)
-          | None ↦ orig.yaml_parser_set_composer_error (codes "found undefined alias") m
+          | Some found ↦ OK (orig_loader.child_added (there xs b) found.id)
+          | None ↦ orig_loader.yaml_parser_set_composer_error (codes "found undefined alias") m
         ]) (alias_fault c m) es
         (record { places = b.places; held = hold_top (id_or c) b.places b.held })
     go None None e k = refl
@@ -107,7 +107,7 @@ alias_follows a m es b xs g h = go (alias_of xs a) (carrier a es) (g a) refl
           refl,
           (
             xs,
-            ap (orig.child_added (there xs b)) same ∙ (node_add xs i.0 b.places b.held h
+            ap (orig_loader.child_added (there xs b)) same ∙ (node_add xs i.0 b.places b.held h
                 ∙ ap (λ (n : ℕ). there xs (record { places = b.places; held = hold_top n b.places b.held })) (sym i.1)),
             g,
             subst (λ (n : ℕ). AllSound (hold_top n b.places b.held)) (sym i.1) (top_sound i.0 b.places b.held h),
@@ -158,9 +158,9 @@ put opens x n b
     = opened opens (length b.held)
     (record { places = b.places; held = hold_top (suc n) b.places (b.held ++ bare x ∷ []) })
 
-abbrev pub finish_there : Bool → orig.OriginalLoader → ℕ → orig.OriginalLoader
+abbrev pub finish_there : Bool → orig_loader.OriginalLoader → ℕ → orig_loader.OriginalLoader
 finish_there opens r index
-    = if opens then record (orig.child_added r index) { ctx = index ∷ r.ctx } else orig.child_added r index
+    = if opens then record (orig_loader.child_added r index) { ctx = index ∷ r.ctx } else orig_loader.child_added r index
 
 module _ (x : yaml_node_t) (opens : Bool) (es : List Start) (b : Built) (size : length b.held ≡ length es)
     (h : AllSound b.held) (i : Sound None x.content) where
@@ -183,9 +183,9 @@ module _ (x : yaml_node_t) (opens : Bool) (es : List Start) (b : Built) (size : 
           → finish_there o (record { aliases = ys; nodes = halves (b.held ++ bare x ∷ []); ctx = ids b.places })
           (suc (length es))
           ≡ there ys (put o x (length es) b)
-      go true = ap (λ (l : orig.OriginalLoader). let m : orig.OriginalLoader = record l { ctx = suc (length es) ∷ ids b.places } in m)
+      go true = ap (λ (l : orig_loader.OriginalLoader). let m : orig_loader.OriginalLoader = record l { ctx = suc (length es) ∷ ids b.places } in m)
           (node_add ys (length es) b.places (b.held ++ bare x ∷ []) (sound_append b.held x h i))
-          ∙ ap (λ (n : ℕ). let m : orig.OriginalLoader =
+          ∙ ap (λ (n : ℕ). let m : orig_loader.OriginalLoader =
           record {
             aliases = ys;
             nodes = halves (hold_top (suc (length es)) b.places (b.held ++ bare x ∷ []));
@@ -210,7 +210,7 @@ module _ (x : yaml_node_t) (opens : Bool) (es : List Start) (b : Built) (size : 
     where
       go : (o : Option Carrier) → alias_of xs a ≡ o → (c : Option Carrier) → alias_of xs a ≡ c
           → Follows (elim o [
-            | Some y ↦ orig.yaml_parser_set_composer_error_context (codes "found duplicate anchor; first occurrence")
+            | Some y ↦ orig_loader.yaml_parser_set_composer_error_context (codes "found duplicate anchor; first occurrence")
                 y.mark (codes "second occurrence") x.start_mark
             | None ↦ OK (finish_there opens (record {
               aliases = xs ++
@@ -231,14 +231,14 @@ module _ (x : yaml_node_t) (opens : Bool) (es : List Start) (b : Built) (size : 
         ),
       )
 
-abbrev pub load_event : orig.OriginalLoader → Event → LoaderResult
+abbrev pub load_event : orig_loader.OriginalLoader → Event → LoaderResult
 load_event l e = elim e.content [
   | ev.Alias a ↦ load_alias l a.anchor e.start_mark
   | ev.Scalar s ↦ pushed l s.anchor (scalar_loaded s e.start_mark e.end_mark) false
   | ev.SequenceStart s ↦ pushed l s.anchor (sequence_loaded s.tag s.style [] e.start_mark e.end_mark) true
-  | ev.SequenceEnd ↦ OK (orig.node_ended l e)
+  | ev.SequenceEnd ↦ OK (orig_loader.node_ended l e)
   | ev.MappingStart s ↦ pushed l s.anchor (mapping_loaded s.tag s.style [] e.start_mark e.end_mark) true
-  | ev.MappingEnd ↦ OK (orig.node_ended l e)
+  | ev.MappingEnd ↦ OK (orig_loader.node_ended l e)
   | _ ↦ OK l
 ]
 
@@ -249,7 +249,7 @@ Moves o (Some p) es b xs = Follows o (composer_part_fault es p) (behind p es) (b
 
 end_follows : (n : Mark) (xs : List yaml_alias_data_t) (es : List Start) (s : List ℕ) (hs : List Held)
     (k : unnamed_yaml_event_t_data) (m : Mark) → Agrees es xs → AllSound hs
-    → Follows (OK (orig.node_ended (there xs (record { places = s; held = hs })) (event k m n))) None es
+    → Follows (OK (orig_loader.node_ended (there xs (record { places = s; held = hs })) (event k m n))) None es
     (build es (end_part n) (record { places = s; held = hs }))
 end_follows n xs es [] hs k m g h = (refl, (xs, refl, g, h))
 end_follows n xs es (p ∷ s) hs k m g h
@@ -258,7 +258,7 @@ end_follows n xs es (p ∷ s) hs k m g h
       (
         xs,
         ap
-            (λ (l : List yaml_node_t). let r : orig.OriginalLoader = record { aliases = xs; nodes = l; ctx = ids s } in r)
+            (λ (l : List yaml_node_t). let r : orig_loader.OriginalLoader = record { aliases = xs; nodes = l; ctx = ids s } in r)
             (ended_there p n hs),
         g,
         end_sound p n hs h,

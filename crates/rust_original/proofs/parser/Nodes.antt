@@ -15,7 +15,7 @@ use Rattle.libyaml_automaton.specs.declared.node_place.NodePlace.TheVariants.{Bl
 use Rattle.libyaml_automaton.specs.Automaton as automaton
 use Rattle.libyaml_automaton.specs.Automaton.{PropertiesRead, Step, content_problem, is_block_place, may_be_indentless}
 use Rattle.libyaml_events.specs.machine.Config.{Config, Handles, config_of}
-use Rattle.libyaml_events.specs.machine.Machine as mach
+use Rattle.libyaml_events.specs.machine.Machine as parser_machine
 use Rattle.libyaml_events.specs.machine.Machine.{Progressed, fault_with, or_default, put, seen, with_prefix, with_texts}
 use Rattle.libyaml_events.specs.machine.Want.{Texts, no_texts}
 use Rattle.rust_original.specs.parser.Parser as orig
@@ -98,11 +98,11 @@ module _ (f : Fault) (tags : List yaml_tag_directive_t) (hs : Handles) (agree : 
         (props anchor tag a c g) (config_of (conf ss)) (seen (tk k m n) k))) l)
     alone h None None a b c g k m n l o = missing_content (is_block_place p) a m o ∙ problem_of p m
     alone h None (Some tag) a b c g k m n l o = (
-      ap (event (mach.scalar_with None (Some tag) [] (is_missing (Some tag)) false YAML_PLAIN_SCALAR_STYLE) a) o,
+      ap (event (parser_machine.scalar_with None (Some tag) [] (is_missing (Some tag)) false YAML_PLAIN_SCALAR_STYLE) a) o,
       standing refl (popped_fits ss inner agree) (popped_fresh ss _ inner),
     )
     alone h (Some anchor) tag a b c g k m n l o = (
-      ap (event (mach.scalar_with (Some anchor) tag [] (is_missing tag) false YAML_PLAIN_SCALAR_STYLE) a) (ends tag o),
+      ap (event (parser_machine.scalar_with (Some anchor) tag [] (is_missing tag) false YAML_PLAIN_SCALAR_STYLE) a) (ends tag o),
       standing refl (popped_fits ss inner agree) (popped_fresh ss _ inner),
     )
       where
@@ -167,7 +167,7 @@ module _ (f : Fault) (tags : List yaml_tag_directive_t) (hs : Handles) (agree : 
 
     abbrev content_here : (anchor : Option (List ℕ)) → TagName → (a b y : Mark) → Token → Option (List ℕ) → Progressed
     content_here anchor g a b y t tag
-        = mach.content_resolved tag p (props anchor (Some g.suffix) a b y) (config_of (conf ss)) (texts anchor (Some g))
+        = parser_machine.content_resolved tag p (props anchor (Some g.suffix) a b y) (config_of (conf ss)) (texts anchor (Some g))
         (conf ss) t t.content
 
     found : (anchor : Option (List ℕ)) (g : TagName) (h : List ℕ) (a b y : Mark) (t : Token) (l : List Token)
@@ -179,7 +179,7 @@ module _ (f : Fault) (tags : List yaml_tag_directive_t) (hs : Handles) (agree : 
 
     resolved : (anchor : Option (List ℕ)) (g : TagName) (h : List ℕ) (a b y : Mark) (t : Token) (l : List Token)
         → Matches f (orig.node_tag (par ss (t ∷ l)) a (Some (written h g y)) (content_there anchor a b t l))
-        (fed f (content_here anchor g a b y t (mach.resolve hs h g.suffix)) l)
+        (fed f (content_here anchor g a b y t (parser_machine.resolve hs h g.suffix)) l)
     resolved anchor g [] a b y t l
         = content (texts anchor (Some g)) anchor (Some _) a b b y t.content t.start_mark t.end_mark l refl
     resolved anchor g (z ∷ zs) a b y t l
@@ -189,7 +189,7 @@ module _ (f : Fault) (tags : List yaml_tag_directive_t) (hs : Handles) (agree : 
 
     abbrev behind_here : (anchor : Option (List ℕ)) (tag : Option TagName) (a c y : Mark) → Token → Progressed
     behind_here anchor tag a c y t
-        = mach.content_behind tag p (props anchor (written_text tag) a c y) (config_of (conf ss)) (texts anchor tag)
+        = parser_machine.content_behind tag p (props anchor (written_text tag) a c y) (config_of (conf ss)) (texts anchor tag)
         (conf ss) t t.content
 
     behind : (anchor : Option (List ℕ)) (tag : Option TagName) (a b c y : Mark) (t : Token) (l : List Token)

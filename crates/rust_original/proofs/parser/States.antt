@@ -3,7 +3,7 @@ use Rattle.std.proofs.Common.{◌≡◌, ◌∷◌, List, [], None, Bool, true, 
 use Rattle.libyaml_types.specs.declared.directive.yaml_tag_directive_t.{yaml_tag_directive_t}
 use Rattle.libyaml_types.specs.declared.enums.yaml_parser_state_t.{yaml_parser_state_t}
 use Rattle.libyaml_types.specs.declared.enums.yaml_parser_state_t.TheVariants as st
-use Rattle.libyaml_types.specs.declared.enums.yaml_token_type_t.TheVariants as ty
+use Rattle.libyaml_types.specs.declared.enums.yaml_token_type_t.TheVariants as kinds
 use Rattle.libyaml_types.specs.Fault.{Fault}
 use Rattle.libyaml_grammar.specs.grammar.ValidLists.{is_end}
 use Rattle.libyaml_grammar.specs.grammar.Tokens.{BlockEnd, BlockEntry, Content, DocumentEnd, DocumentStart, FlowEntry, FlowMappingEnd, FlowSequenceEnd, Key, Mark, StreamEnd, TagDirective, Token, Value, VersionDirective}
@@ -23,12 +23,12 @@ behind n = record { next = n; texts = no_texts }
 
 -- a token that is no STREAM-END is skipped
 end_same : (k : Content) (m n : Mark)
-    → is_one_of (record { content = k; start_mark = m; end_mark = n }) (ty.YAML_STREAM_END_TOKEN ∷ []) ≡ is_end k
+    → is_one_of (record { content = k; start_mark = m; end_mark = n }) (kinds.YAML_STREAM_END_TOKEN ∷ []) ≡ is_end k
 end_same StreamEnd m n = refl
 end_same k m n = refl
 
 pub skipped : (t : Token) → is_end t.content ≡ false → (P : Bool → Type 0) → P false
-    → P (is_one_of t (ty.YAML_STREAM_END_TOKEN ∷ []))
+    → P (is_one_of t (kinds.YAML_STREAM_END_TOKEN ∷ []))
 skipped t e P h = subst P (sym (end_same t.content t.start_mark t.end_mark)) (subst P (sym e) h)
 
 module _ (f : Fault) (tags : List yaml_tag_directive_t) (hs : Handles) (be flag : Bool) (x : Fault)

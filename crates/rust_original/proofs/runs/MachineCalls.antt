@@ -9,7 +9,7 @@ use Rattle.libyaml_events.specs.machine.Machine.{Progressed, step}
 use Rattle.libyaml_events.specs.machine.Want.{AtState, Given, Want, Wants}
 use Rattle.libyaml_events.specs.sources.History.{is_stream_end}
 use Rattle.libyaml_events.specs.sources.Pushed.{Fed}
-use Rattle.libyaml_events.proofs.exported.Pushes as pushed
+use Rattle.libyaml_events.proofs.exported.Pushes as push_lemmas
 use Rattle.libyaml_events.proofs.exported.Pushes.{fault_runs, fed_ended, fed_determined, gives_end, wants_runs}
 use Rattle.libyaml_events.proofs.exported.RunStops.{short_run}
 use Rattle.rust_original.proofs.parser.Relation.{HereCall, feed, given, led, stopped, tokens_of}
@@ -41,14 +41,14 @@ module _ (f : Fault) where
     where
       go : (o : Progressed) → step w c u ≡ o → Does l g rest (led o rest (λ v d. feed f v d rest))
       go (Err x) i = fails (fault_runs h x i rest f)
-      go (Ok (Wants v, d)) i = next v d l g (pushed.wants w c u h i) (wants_runs h v d i)
+      go (Ok (Wants v, d)) i = next v d l g (push_lemmas.wants w c u h i) (wants_runs h v d i)
       go (Ok (Given e, d)) i
-          = gives [] refl (rw (← (append-nil l)) at (pushed.gives_on w c u h e d i)) (gives_end h e d i)
+          = gives [] refl (rw (← (append-nil l)) at (push_lemmas.gives_on w c u h e d i)) (gives_end h e d i)
 
   by_tokens : (rest : List Token) → DoesFrom rest
   by_tokens [] w c l g h n = fails (rw (← (append-nil l)) at (short_run l g f (fed_determined h (sym (fed_ended h) ∙ n))))
   by_tokens (t ∷ rest) w c l g h n
-      = one_more t (by_hand rest (by_tokens rest) w c t (l ++ t ∷ []) g (pushed.takes w c l g t h n))
+      = one_more t (by_hand rest (by_tokens rest) w c t (l ++ t ∷ []) g (push_lemmas.takes w c l g t h n))
 
   pub does : (d : Config) (rest l : List Token) (g : List Event) → Fed AtState (taken d) d.lookahead l g
       → ended_or_failed d ≡ false → Does l g rest (feed f AtState (taken d) (tokens_of d.lookahead rest))

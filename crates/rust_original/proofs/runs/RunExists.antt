@@ -5,7 +5,7 @@ use Rattle.libyaml_types.specs.declared.directive.yaml_tag_directive_t.{yaml_tag
 use Rattle.libyaml_types.specs.declared.enums.yaml_parser_state_t.{yaml_parser_state_t}
 use Rattle.libyaml_types.specs.declared.enums.yaml_parser_state_t.TheVariants as st
 use Rattle.libyaml_types.specs.declared.enums.yaml_scalar_style_t.TheVariants.{YAML_PLAIN_SCALAR_STYLE}
-use Rattle.libyaml_types.specs.declared.enums.yaml_token_type_t.TheVariants as ty
+use Rattle.libyaml_types.specs.declared.enums.yaml_token_type_t.TheVariants as kinds
 use Rattle.libyaml_types.specs.Fault.{Fault}
 use Rattle.libyaml_grammar.specs.runs.Runs.{Ending, Ends, Fails, IsRun}
 use Rattle.libyaml_grammar.specs.grammar.Events.{Event, event}
@@ -16,7 +16,7 @@ use Rattle.libyaml_events.specs.machine.Machine.{step}
 use Rattle.libyaml_events.specs.machine.Want.{AtState, Given}
 use Rattle.libyaml_events.specs.sources.History.{is_stream_end}
 use Rattle.libyaml_events.specs.sources.Pushed.{Fed}
-use Rattle.libyaml_events.proofs.exported.Pushes as pushed
+use Rattle.libyaml_events.proofs.exported.Pushes as push_lemmas
 use Rattle.libyaml_events.proofs.exported.Pushes.{fed_count, fed_ended, fed_nests, fed_whole, gives_end, hand_runs, none_kept}
 use Rattle.libyaml_events.proofs.exported.RunStops.{whole_run}
 use Rattle.rust_original.specs.parser.Differences.{Differs, bare_document, call_here, pair_key, value_first}
@@ -80,9 +80,9 @@ fresh_none s None e h = refl
 fresh_none s (Some t) e h = absurd (subst (λ (x : yaml_parser_state_t). IsFresh x (Some t)) e h)
 
 no_end : (k : Content) (m n : Mark)
-    → is_one_of (tk k m n) (ty.YAML_VALUE_TOKEN ∷ ty.YAML_FLOW_ENTRY_TOKEN ∷ ty.YAML_FLOW_SEQUENCE_END_TOKEN ∷ []) ≡
+    → is_one_of (tk k m n) (kinds.YAML_VALUE_TOKEN ∷ kinds.YAML_FLOW_ENTRY_TOKEN ∷ kinds.YAML_FLOW_SEQUENCE_END_TOKEN ∷ []) ≡
     true
-    → is_one_of (tk k m n) (ty.YAML_STREAM_END_TOKEN ∷ []) ≡ false
+    → is_one_of (tk k m n) (kinds.YAML_STREAM_END_TOKEN ∷ []) ≡ false
 no_end StreamEnd m n e = absurd cc
 no_end k m n e = refl
 
@@ -207,7 +207,7 @@ module _ (f : Fault) (m : Mends) (b : Bool)
       let tokens : tokens_of d.lookahead rest ≡ t ∷ k = sym fits.4 ∙ (sym (ap (λ (p : OriginalParser). p.tokens) a.stands.is) ∙ e) in
       let left : rest ≡ t ∷ k = ap (λ (o : Option Token). tokens_of o rest) (sym none) ∙ tokens in
       let hand : Fed AtState (taken d) (Some (empty_token t.end_mark)) (l ++ empty_token t.end_mark ∷ []) g
-      = pushed.takes AtState (taken d) l g (empty_token t.end_mark)
+      = push_lemmas.takes AtState (taken d) l g (empty_token t.end_mark)
       (subst (λ (o : Option Token). Fed AtState (taken d) o l g) none a.fed) begun in
       let led = empty_step t.end_mark d fits.2 in
       let one : length (l ++ empty_token t.end_mark ∷ []) ≡ length l + 1 = length-append l (empty_token t.end_mark ∷ []) in
@@ -233,7 +233,7 @@ module _ (f : Fault) (m : Mends) (b : Bool)
           fits = inside tt fits.0 fits.1;
           fresh = tt;
         };
-        fed = pushed.gives_on AtState (taken d) (empty_token t.end_mark) hand (empty_at t.end_mark) (behind_pair_key d) led;
+        fed = push_lemmas.gives_on AtState (taken d) (empty_token t.end_mark) hand (empty_at t.end_mark) (behind_pair_key d) led;
         few = omega arith;
       })
       (gives_end hand (empty_at t.end_mark) (behind_pair_key d) led) (λ j. absurd (not_both j may)) less next
@@ -257,4 +257,4 @@ pub has_run : (f : Fault) (m : Mends) (b : Bool)
     → (places : (p : OriginalParser) → (call m p ≡ call_here p) ⊎ ((b ≡ true) × Differs p (call m p) (call_here p)))
     → (l : List Token) → HasRun f m b places (length l) (new_original_parser l f) l []
 has_run f m b places l = total f m b places (length l) (suc (4 * length l)) (new_original_parser l f) start l [] []
-    (record { stands = standing refl before tt; fed = pushed.begins; few = omega arith }) (omega arith) refl
+    (record { stands = standing refl before tt; fed = push_lemmas.begins; few = omega arith }) (omega arith) refl

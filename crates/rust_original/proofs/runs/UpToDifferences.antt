@@ -2,7 +2,7 @@
 use Rattle.std.proofs.Common.{◌≡◌, ◌∷◌, ◌⊎◌, ◌||◌, if◌then◌else◌, inl, inr, List, [], None, Bool, true, false, refl, sym, ap, ◌∙◌, subst, codes}
 use Rattle.libyaml_types.specs.declared.enums.yaml_parser_state_t.{yaml_parser_state_t}
 use Rattle.libyaml_types.specs.declared.enums.yaml_parser_state_t.TheVariants as st
-use Rattle.libyaml_types.specs.declared.enums.yaml_token_type_t.TheVariants as ty
+use Rattle.libyaml_types.specs.declared.enums.yaml_token_type_t.TheVariants as kinds
 use Rattle.libyaml_types.specs.Events.{empty_event}
 use Rattle.libyaml_types.specs.Fault.{Fault, no_fault}
 use Rattle.libyaml_grammar.specs.partial.FaultTexts.{parser_fault}
@@ -55,8 +55,8 @@ record Bare (p : OriginalParser) (o u : ParserResult) : Type 0 where
   skipped : skip_document_ends p.tokens p ≡ q
   tokens : q.tokens ≡ t ∷ l
   kind : is_one_of t
-      (ty.YAML_VERSION_DIRECTIVE_TOKEN ∷ ty.YAML_TAG_DIRECTIVE_TOKEN ∷ ty.YAML_DOCUMENT_START_TOKEN ∷
-      ty.YAML_STREAM_END_TOKEN ∷ []) ≡ false
+      (kinds.YAML_VERSION_DIRECTIVE_TOKEN ∷ kinds.YAML_TAG_DIRECTIVE_TOKEN ∷ kinds.YAML_DOCUMENT_START_TOKEN ∷
+      kinds.YAML_STREAM_END_TOKEN ∷ []) ≡ false
   fault_there : o ≡ FAIL (parser_fault (codes "did not find expected <document start>") t.start_mark)
   begun_here : u ≡ implicit_document_start t.start_mark q
 

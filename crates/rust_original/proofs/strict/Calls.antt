@@ -6,7 +6,7 @@ use Rattle.libyaml_grammar.specs.runs.Runs.{Ends, Fails}
 use Rattle.libyaml_grammar.specs.grammar.Events.{Event}
 use Rattle.libyaml_grammar.specs.grammar.ValidLists.{has_end}
 use Rattle.libyaml_grammar.specs.grammar.Tokens.{Token}
-use Rattle.libyaml_automaton.specs.Automaton as a
+use Rattle.libyaml_automaton.specs.Automaton as automaton
 use Rattle.libyaml_automaton.specs.Config.{Stacks, stacks_of}
 use Rattle.libyaml_automaton.specs.Numbers.{state_of}
 use Rattle.libyaml_automaton.specs.Purposes.{purpose_of}
@@ -36,8 +36,8 @@ abbrev is_over : steps_t → Bool
 is_over d = is_end_state (state_of d.machine.state)
 
 -- between two events the state says what is wanted
-at_state : (d : steps_t) → purpose_of d.read ≡ a.AtState → want_with d no_texts ≡ AtState
-at_state d e = ap (λ (p : a.Purpose). record { next = p; texts = no_texts }) e
+at_state : (d : steps_t) → purpose_of d.read ≡ automaton.AtState → want_with d no_texts ≡ AtState
+at_state d e = ap (λ (p : automaton.Purpose). record { next = p; texts = no_texts }) e
 
 -- with a token in hand the stream is not over
 in_hand : (d : steps_t) (ss : List ℕ) (ms : List yaml_mark_t) (hs : Handles) (h : Texts) (t : Token) (l : List Token)
@@ -55,7 +55,7 @@ leads (begins d ss ms e i) k n f more later x s
     (subst (λ (c : Stacks). StrictFrom f (want_with d no_texts) (config_with c no_handles no_fault None) more later x) i s)
 leads (moves d d' ss ss' ms ms' hs h o l g r v w e) k n f more later x s
     = leads r k (ap (λ (c : Stacks). is_end_state c.state) (sym e) ∙ n) f more later x
-    (subst (λ (p : a.Purpose). StrictFrom f (record { next = p; texts = h }) (config_at d ss ms hs) (to_come o more) later x) v
+    (subst (λ (p : automaton.Purpose). StrictFrom f (record { next = p; texts = h }) (config_at d ss ms hs) (to_come o more) later x) v
     (subst (λ (c : Stacks). StrictFrom f (want_with d' h) (config_with c hs no_fault None) (to_come o more) later x) e s))
 leads (takes d ss ms hs h l g t r e) k n f more later x s
     = subst (λ (z : List Token). StrictOver z f (g ++ later) x) (sym (append_assoc l (t ∷ []) more))

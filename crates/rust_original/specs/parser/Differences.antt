@@ -3,7 +3,7 @@
 use Rattle.std.specs.Prelude.{◌≡◌, ◌∷◌, ◌++◌, List, [], true, false, codes}
 use Rattle.libyaml_types.specs.declared.enums.yaml_parser_state_t.TheVariants as st
 use Rattle.libyaml_types.specs.declared.token.unnamed_yaml_token_t_data.TheVariants.{Value}
-use Rattle.libyaml_types.specs.declared.enums.yaml_token_type_t.TheVariants as ty
+use Rattle.libyaml_types.specs.declared.enums.yaml_token_type_t.TheVariants as kinds
 use Rattle.libyaml_grammar.specs.partial.FaultTexts.{parser_fault, parser_fault_in}
 use Rattle.libyaml_grammar.specs.runs.Runs.{Ending}
 use Rattle.libyaml_grammar.specs.grammar.Events.{Event}
@@ -30,7 +30,7 @@ pub data Differs (p : OriginalParser) : ParserResult → ParserResult → Type 0
   -- here it stays, and the key stands at its start.
   pair_key : (t : Token) (l : List Token) → p.state ≡ st.YAML_PARSE_FLOW_SEQUENCE_ENTRY_MAPPING_KEY_STATE
       → p.tokens ≡ t ∷ l
-      → is_one_of t (ty.YAML_VALUE_TOKEN ∷ ty.YAML_FLOW_ENTRY_TOKEN ∷ ty.YAML_FLOW_SEQUENCE_END_TOKEN ∷ [])
+      → is_one_of t (kinds.YAML_VALUE_TOKEN ∷ kinds.YAML_FLOW_ENTRY_TOKEN ∷ kinds.YAML_FLOW_SEQUENCE_END_TOKEN ∷ [])
       ≡ true
       → Differs p
       (yaml_parser_process_empty_scalar t.end_mark
@@ -47,8 +47,8 @@ pub data Differs (p : OriginalParser) : ParserResult → ParserResult → Type 0
   -- begins an implicit one here.
   bare_document : (q : OriginalParser) (t : Token) (l : List Token) → p.state ≡ st.YAML_PARSE_DOCUMENT_START_STATE
       → p.behind_explicit_end ≡ true → skip_document_ends p.tokens p ≡ q → q.tokens ≡ t ∷ l → is_one_of t (
-      ty.YAML_VERSION_DIRECTIVE_TOKEN ∷ ty.YAML_TAG_DIRECTIVE_TOKEN ∷ ty.YAML_DOCUMENT_START_TOKEN
-      ∷ ty.YAML_STREAM_END_TOKEN ∷ []
+      kinds.YAML_VERSION_DIRECTIVE_TOKEN ∷ kinds.YAML_TAG_DIRECTIVE_TOKEN ∷ kinds.YAML_DOCUMENT_START_TOKEN
+      ∷ kinds.YAML_STREAM_END_TOKEN ∷ []
       ) ≡ false
       → Differs p
       (FAIL (parser_fault (codes "did not find expected <document start>") t.start_mark))

@@ -21,7 +21,7 @@ use Rattle.libyaml_types.specs.declared.enums.yaml_scalar_style_t.TheVariants.{Y
 use Rattle.libyaml_types.specs.declared.enums.yaml_sequence_style_t.{yaml_sequence_style_t}
 use Rattle.libyaml_types.specs.declared.enums.yaml_sequence_style_t.TheVariants.{YAML_BLOCK_SEQUENCE_STYLE, YAML_FLOW_SEQUENCE_STYLE}
 use Rattle.libyaml_types.specs.declared.enums.yaml_token_type_t.{yaml_token_type_t}
-use Rattle.libyaml_types.specs.declared.enums.yaml_token_type_t.TheVariants as ty
+use Rattle.libyaml_types.specs.declared.enums.yaml_token_type_t.TheVariants as kinds
 use Rattle.libyaml_types.specs.declared.event.unnamed_yaml_event_t_data.{unnamed_yaml_event_t_data}
 use Rattle.libyaml_types.specs.declared.event.unnamed_yaml_event_t_data.TheVariants as ev
 use Rattle.libyaml_types.specs.declared.token.unnamed_yaml_token_t_data.TheVariants as tok
@@ -74,7 +74,7 @@ abbrev pub SKIP_TOKEN : OriginalParser → OriginalParser
 SKIP_TOKEN p = elim p.tokens [
   | [] ↦ p
   | token ∷ rest ↦
-      record p { tokens = rest; stream_end_produced = is_one_of token (ty.YAML_STREAM_END_TOKEN ∷ []) }
+      record p { tokens = rest; stream_end_produced = is_one_of token (kinds.YAML_STREAM_END_TOKEN ∷ []) }
 ]
 
 -- stacks and the state
@@ -265,11 +265,11 @@ yaml_parser_parse_document_start mends p implicit =
     let q : OriginalParser = if implicit then p else skip_document_ends p.tokens p in
     PEEK_TOKEN q λ token.
     if may_be_implicit mends implicit q && not (is_one_of token (
-    ty.YAML_VERSION_DIRECTIVE_TOKEN ∷ ty.YAML_TAG_DIRECTIVE_TOKEN ∷ ty.YAML_DOCUMENT_START_TOKEN
-    ∷ ty.YAML_STREAM_END_TOKEN ∷ []
+    kinds.YAML_VERSION_DIRECTIVE_TOKEN ∷ kinds.YAML_TAG_DIRECTIVE_TOKEN ∷ kinds.YAML_DOCUMENT_START_TOKEN
+    ∷ kinds.YAML_STREAM_END_TOKEN ∷ []
     ))
     then implicit_document_start token.start_mark q
-    else if not (is_one_of token (ty.YAML_STREAM_END_TOKEN ∷ []))
+    else if not (is_one_of token (kinds.YAML_STREAM_END_TOKEN ∷ []))
     then explicit_document_start token.start_mark q
     else end_of_stream token q
 
@@ -400,8 +400,8 @@ yaml_parser_parse_node p block indentless_sequence = PEEK_TOKEN p λ token. elim
 abbrev pub yaml_parser_parse_document_content : OriginalParser → ParserResult
 yaml_parser_parse_document_content p = PEEK_TOKEN p λ token.
     if is_one_of token (
-    ty.YAML_VERSION_DIRECTIVE_TOKEN ∷ ty.YAML_TAG_DIRECTIVE_TOKEN ∷ ty.YAML_DOCUMENT_START_TOKEN
-    ∷ ty.YAML_DOCUMENT_END_TOKEN ∷ ty.YAML_STREAM_END_TOKEN ∷ []
+    kinds.YAML_VERSION_DIRECTIVE_TOKEN ∷ kinds.YAML_TAG_DIRECTIVE_TOKEN ∷ kinds.YAML_DOCUMENT_START_TOKEN
+    ∷ kinds.YAML_DOCUMENT_END_TOKEN ∷ kinds.YAML_STREAM_END_TOKEN ∷ []
     )
     then yaml_parser_process_empty_scalar token.start_mark (POP_state p)
     else yaml_parser_parse_node p true false
@@ -437,7 +437,7 @@ yaml_parser_parse_block_sequence_entry p first
       | tok.BlockEntry ↦
           let r : OriginalParser = SKIP_TOKEN q in
           PEEK_TOKEN r λ second.
-          if not (is_one_of second (ty.YAML_BLOCK_ENTRY_TOKEN ∷ ty.YAML_BLOCK_END_TOKEN ∷ []))
+          if not (is_one_of second (kinds.YAML_BLOCK_ENTRY_TOKEN ∷ kinds.YAML_BLOCK_END_TOKEN ∷ []))
           then yaml_parser_parse_node (PUSH_state st.YAML_PARSE_BLOCK_SEQUENCE_ENTRY_STATE r) true false
           else yaml_parser_process_empty_scalar token.end_mark
           (set_state st.YAML_PARSE_BLOCK_SEQUENCE_ENTRY_STATE r)
@@ -454,7 +454,7 @@ yaml_parser_parse_indentless_sequence_entry p = PEEK_TOKEN p λ token. elim toke
       let q : OriginalParser = SKIP_TOKEN p in
       PEEK_TOKEN q λ second.
       if not (is_one_of second
-      (ty.YAML_BLOCK_ENTRY_TOKEN ∷ ty.YAML_KEY_TOKEN ∷ ty.YAML_VALUE_TOKEN ∷ ty.YAML_BLOCK_END_TOKEN ∷ []))
+      (kinds.YAML_BLOCK_ENTRY_TOKEN ∷ kinds.YAML_KEY_TOKEN ∷ kinds.YAML_VALUE_TOKEN ∷ kinds.YAML_BLOCK_END_TOKEN ∷ []))
       then yaml_parser_parse_node (PUSH_state st.YAML_PARSE_INDENTLESS_SEQUENCE_ENTRY_STATE q) true false
       else yaml_parser_process_empty_scalar token.end_mark
       (set_state st.YAML_PARSE_INDENTLESS_SEQUENCE_ENTRY_STATE q)
@@ -472,7 +472,7 @@ yaml_parser_parse_block_mapping_key mends p first = past_opening first p λ q. P
       | tok.Key ↦
           let r : OriginalParser = SKIP_TOKEN q in
           PEEK_TOKEN r λ second.
-          if not (is_one_of second (ty.YAML_KEY_TOKEN ∷ ty.YAML_VALUE_TOKEN ∷ ty.YAML_BLOCK_END_TOKEN ∷ []))
+          if not (is_one_of second (kinds.YAML_KEY_TOKEN ∷ kinds.YAML_VALUE_TOKEN ∷ kinds.YAML_BLOCK_END_TOKEN ∷ []))
           then yaml_parser_parse_node (PUSH_state st.YAML_PARSE_BLOCK_MAPPING_VALUE_STATE r) true true
           else yaml_parser_process_empty_scalar token.end_mark
           (set_state st.YAML_PARSE_BLOCK_MAPPING_VALUE_STATE r)
@@ -492,7 +492,7 @@ yaml_parser_parse_block_mapping_value p = PEEK_TOKEN p λ token. elim token.cont
   | tok.Value ↦
       let q : OriginalParser = SKIP_TOKEN p in
       PEEK_TOKEN q λ second.
-      if not (is_one_of second (ty.YAML_KEY_TOKEN ∷ ty.YAML_VALUE_TOKEN ∷ ty.YAML_BLOCK_END_TOKEN ∷ []))
+      if not (is_one_of second (kinds.YAML_KEY_TOKEN ∷ kinds.YAML_VALUE_TOKEN ∷ kinds.YAML_BLOCK_END_TOKEN ∷ []))
       then yaml_parser_parse_node (PUSH_state st.YAML_PARSE_BLOCK_MAPPING_KEY_STATE q) true true
       else yaml_parser_process_empty_scalar token.end_mark (set_state st.YAML_PARSE_BLOCK_MAPPING_KEY_STATE q)
   | _ ↦ yaml_parser_process_empty_scalar token.start_mark (set_state st.YAML_PARSE_BLOCK_MAPPING_KEY_STATE p)
@@ -533,7 +533,7 @@ yaml_parser_parse_flow_sequence_entry p first = past_opening first p (sequence_e
 abbrev pub yaml_parser_parse_flow_sequence_entry_mapping_key : Mends → OriginalParser → ParserResult
 yaml_parser_parse_flow_sequence_entry_mapping_key mends p = PEEK_TOKEN p λ token.
     if not (is_one_of token
-    (ty.YAML_VALUE_TOKEN ∷ ty.YAML_FLOW_ENTRY_TOKEN ∷ ty.YAML_FLOW_SEQUENCE_END_TOKEN ∷ []))
+    (kinds.YAML_VALUE_TOKEN ∷ kinds.YAML_FLOW_ENTRY_TOKEN ∷ kinds.YAML_FLOW_SEQUENCE_END_TOKEN ∷ []))
     then yaml_parser_parse_node (PUSH_state st.YAML_PARSE_FLOW_SEQUENCE_ENTRY_MAPPING_VALUE_STATE p) false
     false
     else if mends.pair_key_stays
@@ -551,7 +551,7 @@ yaml_parser_parse_flow_sequence_entry_mapping_value p = PEEK_TOKEN p λ token.
       | tok.Value ↦
           let q : OriginalParser = SKIP_TOKEN p in
           PEEK_TOKEN q λ second.
-          if not (is_one_of second (ty.YAML_FLOW_ENTRY_TOKEN ∷ ty.YAML_FLOW_SEQUENCE_END_TOKEN ∷ []))
+          if not (is_one_of second (kinds.YAML_FLOW_ENTRY_TOKEN ∷ kinds.YAML_FLOW_SEQUENCE_END_TOKEN ∷ []))
           then yaml_parser_parse_node (PUSH_state st.YAML_PARSE_FLOW_SEQUENCE_ENTRY_MAPPING_END_STATE q) false
           false
           else empty second.start_mark q
@@ -575,7 +575,7 @@ mapping_key_behind_start first q = PEEK_TOKEN q λ token. elim token.content [
             let s : OriginalParser = SKIP_TOKEN r in
             PEEK_TOKEN s λ second.
             if not (is_one_of second
-            (ty.YAML_VALUE_TOKEN ∷ ty.YAML_FLOW_ENTRY_TOKEN ∷ ty.YAML_FLOW_MAPPING_END_TOKEN ∷ []))
+            (kinds.YAML_VALUE_TOKEN ∷ kinds.YAML_FLOW_ENTRY_TOKEN ∷ kinds.YAML_FLOW_MAPPING_END_TOKEN ∷ []))
             then yaml_parser_parse_node (PUSH_state st.YAML_PARSE_FLOW_MAPPING_VALUE_STATE s) false false
             else yaml_parser_process_empty_scalar second.start_mark
             (set_state st.YAML_PARSE_FLOW_MAPPING_VALUE_STATE s)
@@ -599,7 +599,7 @@ yaml_parser_parse_flow_mapping_value p empty = PEEK_TOKEN p λ token.
       | tok.Value ↦
           let q : OriginalParser = SKIP_TOKEN p in
           PEEK_TOKEN q λ second.
-          if not (is_one_of second (ty.YAML_FLOW_ENTRY_TOKEN ∷ ty.YAML_FLOW_MAPPING_END_TOKEN ∷ []))
+          if not (is_one_of second (kinds.YAML_FLOW_ENTRY_TOKEN ∷ kinds.YAML_FLOW_MAPPING_END_TOKEN ∷ []))
           then yaml_parser_parse_node (PUSH_state st.YAML_PARSE_FLOW_MAPPING_KEY_STATE q) false false
           else nothing second.start_mark q
       | _ ↦ nothing token.start_mark p

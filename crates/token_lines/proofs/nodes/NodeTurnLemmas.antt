@@ -22,7 +22,7 @@ use Rattle.libyaml_graphs.specs.loads.Loads.{left_over}
 use Rattle.libyaml_loader.specs.document.Ids.{magnitude}
 use Rattle.libyaml_loader.specs.loads.Loading.{DocumentOrError, HasEnded, LoadsFrom}
 use Rattle.libyaml_loader.proofs.exported.LoadsInTurn.{none_in_turn}
-use Rattle.libyaml_loader.proofs.exported.LoadsInTurn as loader
+use Rattle.libyaml_loader.proofs.exported.LoadsInTurn as loads_in_turn
 use Rattle.line_writing.specs.DocumentText.{document_lines}
 use Rattle.line_writing.specs.FaultText.{fault_text}
 use Rattle.token_lines.specs.declared.run.run_end_t.{run_end_t}
@@ -88,7 +88,7 @@ module _ {S : Type 0} (g : Ghosts S) (n : ℕ) where
           → StepForLoad step.Written r (kept_fault q) b c → AllLoaded g.gives n first q a c asked given
       go (Ok d) load (some, wrote) = record {
         documents = w.documents ++ d ∷ [];
-        loaded = loader.one_more g n asked given first p q w.documents d w.loaded load some;
+        loaded = loads_in_turn.one_more g n asked given first p q w.documents d w.loaded load some;
         wrote = subst (Appends a c) (texts_more w.documents d)
             (Appends-trans a b c (concat (flat_map document_lines w.documents)) (concat (document_lines d)) w.wrote wrote);
       }

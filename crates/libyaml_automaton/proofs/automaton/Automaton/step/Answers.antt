@@ -1,5 +1,5 @@
 use Rattle.std.proofs.Common.{inl, refl}
-use Rattle.libyaml_types.specs.declared.enums.yaml_token_type_t.TheVariants as tok
+use Rattle.libyaml_types.specs.declared.enums.yaml_token_type_t.TheVariants as kinds
 use Rattle.libyaml_automaton.specs.Numbers.{next_of}
 use Rattle.libyaml_automaton.proofs.NodeEntered.{bare_full, full_states_where, full_marks_where, full_of, undone_at}
 use Rattle.libyaml_automaton.proofs.automaton.Automaton.step.Goals as goal
@@ -8,14 +8,14 @@ pub returns-in-YAML_ANCHOR_TOKEN-clause-undone : goal.returns-in-YAML_ANCHOR_TOK
 returns-in-YAML_ANCHOR_TOKEN-clause-undone c = λ u.
     let g = c.in-Enter.ensures.goes in
     undone_at _ _ _ _ _ _ _ _ _ _ _ _ _ _ _ g.1.1.0 g.1.1.1.1.0 g.1.1.1.1.1.0
-    (full_of c.enter.result tok.YAML_ANCHOR_TOKEN c.enter.new.read c.enter.ensures.fits u) (c.enter.ensures.undone)
+    (full_of c.enter.result kinds.YAML_ANCHOR_TOKEN c.enter.new.read c.enter.ensures.fits u) (c.enter.ensures.undone)
 
 pub returns-in-YAML_TAG_TOKEN-clause-undone : goal.returns-in-YAML_TAG_TOKEN-clause-undone
 returns-in-YAML_TAG_TOKEN-clause-undone c = λ u.
     let g = c.in-Enter.ensures.goes in
     let e = c.enter-in-YAML_TAG_TOKEN in
     undone_at _ _ _ _ _ _ _ _ _ _ _ _ _ _ _ g.1.1.0 g.1.1.1.1.0 g.1.1.1.1.1.0
-    (full_of e.result tok.YAML_TAG_TOKEN e.new.read e.ensures.fits u) (e.ensures.undone)
+    (full_of e.result kinds.YAML_TAG_TOKEN e.new.read e.ensures.fits u) (e.ensures.undone)
 
 pub returns-in_default-kind-clause-full_states : goal.returns-in_default-kind-clause-full_states
 returns-in_default-kind-clause-full_states c =
