@@ -39,7 +39,7 @@ LEAKS = {
             "replace_by_sequence_end", "replace_by_mapping_end", "replace_by_alias",
         )
     },
-    "content_forgotten_put_node": ("libyaml_events/src/states/behind_properties.rt", "put_node", "make_light(&mut self.spare, &mut out.content);", "let _ = self.spare.len();"),
+    "content_forgotten_put_node": ("libyaml_events/src/states/after_properties.rt", "put_node", "make_light(&mut self.spare, &mut out.content);", "let _ = self.spare.len();"),
     "handles_forgotten": ("libyaml_events/src/parser/handles.rt", "forget_handles", "self.handles = BTreeMap::new(self.alloc);", "mem::forget(mem::replace(&mut self.handles, BTreeMap::new(self.alloc)));"),
     "half_a_document_forgotten": ("libyaml_loader/src/composer.rt", "keep", "self.ctx = loader_ctx::new(self.ctx.alloc, self.max_entries);", "let fresh = loader_ctx::new(self.ctx.alloc, self.max_entries); mem::forget(mem::replace(&mut self.ctx, fresh));"),
 }

@@ -31,7 +31,7 @@ full_marks_where n k p a m d marks b s f = rw (b, sym s) f
 -- what was read is wanted still
 wanted_still : (n : Next) (k : yaml_token_type_t) (p : NodePlace) (r : Reading) (entering place : ℕ)
     → begun_place n k ≡ Some p → wanted_by n (record r { entering = entering; place = place }) ≡ wanted_by n r
-wanted_still next.BehindProperties k p r e q b = absurd cc
+wanted_still next.AfterProperties k p r e q b = absurd cc
 wanted_still _ k p r e q b = refl
 
 pub stays : (k : yaml_token_type_t) (p : NodePlace) (r d : Reading) (entering place : ℕ)

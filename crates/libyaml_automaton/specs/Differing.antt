@@ -25,16 +25,16 @@ differs_before_key kinds.YAML_VALUE_TOKEN = ValueFirst
 differs_before_key _ = Nowhere
 
 -- after the KEY of a flow sequence's pair
-abbrev pub differs_behind_pair_key : yaml_token_type_t → Difference
-differs_behind_pair_key kinds.YAML_VALUE_TOKEN = PairKey
-differs_behind_pair_key kinds.YAML_FLOW_ENTRY_TOKEN = PairKey
-differs_behind_pair_key kinds.YAML_FLOW_SEQUENCE_END_TOKEN = PairKey
-differs_behind_pair_key _ = Nowhere
+abbrev pub differs_after_pair_key : yaml_token_type_t → Difference
+differs_after_pair_key kinds.YAML_VALUE_TOKEN = PairKey
+differs_after_pair_key kinds.YAML_FLOW_ENTRY_TOKEN = PairKey
+differs_after_pair_key kinds.YAML_FLOW_SEQUENCE_END_TOKEN = PairKey
+differs_after_pair_key _ = Nowhere
 
 abbrev pub differs_at : yaml_parser_state_t → (behind_document_end : Bool) → yaml_token_type_t → Difference
 differs_at st.YAML_PARSE_IMPLICIT_DOCUMENT_START_STATE b k = differs_before_document b k
 differs_at st.YAML_PARSE_BLOCK_MAPPING_KEY_STATE b k = differs_before_key k
-differs_at st.YAML_PARSE_FLOW_SEQUENCE_ENTRY_MAPPING_KEY_STATE b k = differs_behind_pair_key k
+differs_at st.YAML_PARSE_FLOW_SEQUENCE_ENTRY_MAPPING_KEY_STATE b k = differs_after_pair_key k
 differs_at _ b k = Nowhere
 
 -- a token that follows another within a production is taken as there

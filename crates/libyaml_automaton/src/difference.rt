@@ -43,15 +43,15 @@ impl Automaton {
             (flag self.now.behind_document_end) kind }
     {
         match Next::of_number(read.next) {
-            Next::BehindDirective
-            | Next::BehindProperties
-            | Next::BehindBlockEntry
-            | Next::BehindIndentlessEntry
-            | Next::BehindKey
-            | Next::BehindValue
-            | Next::BehindFlowSequenceValue
-            | Next::BehindFlowMappingKey
-            | Next::BehindFlowMappingValue => Difference::Nowhere,
+            Next::AfterDirective
+            | Next::AfterProperties
+            | Next::AfterBlockEntry
+            | Next::AfterIndentlessEntry
+            | Next::AfterKey
+            | Next::AfterValue
+            | Next::AfterFlowSequenceValue
+            | Next::AfterFlowMappingKey
+            | Next::AfterFlowMappingValue => Difference::Nowhere,
             _ => self.differs_at_state(kind),
         }
     }

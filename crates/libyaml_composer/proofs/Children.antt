@@ -17,7 +17,7 @@ use Rattle.libyaml_composer.specs.Composing.{deed_for, deed_in, full_in, holding
 use Rattle.libyaml_composer.specs.Numbers.{is_set, is_id}
 use Rattle.libyaml_composer.specs.Held.{key_of, open_of, placed}
 use Rattle.libyaml_composer.specs.Standing.{FitsParent, IsAlike, IsKeyIn, IsOpenNode, IsOpenBy, Opens, TakesOneMore}
-use Rattle.libyaml_composer.proofs.Opens.{get_behind, get_there, length_changed, opens_other}
+use Rattle.libyaml_composer.proofs.Opens.{get_after, get_there, length_changed, opens_other}
 
 -- The nodes and the stack after a child, whether its parent's list was full, and what stays: each collection that is open
 -- is among the first m nodes.
@@ -103,7 +103,7 @@ module _ (z : ℤ) (k : ℕ) (is : z ≡ pos (suc k)) (f : yaml_node_t → yaml_
   change_count = ap length changes ∙ length_changed k f nodes
 
   change_later : (m : ℕ) → k < m → (j : ℕ) → m ≤ j → slice_get (with_changed z f nodes) j ≡ slice_get nodes j
-  change_later m lt j le = ap (λ (l : List yaml_node_t). slice_get l j) changes ∙ get_behind f nodes k j (omega arith)
+  change_later m lt j le = ap (λ (l : List yaml_node_t). slice_get l j) changes ∙ get_after f nodes k j (omega arith)
 
   change_opens : (total m : ℕ) → k < m → (o : open_t) (s : List open_t) → o.node ≡ pos (suc k)
       → IsOpenNode (option_map f (slice_get nodes k)) o → IsKeyIn total o.key → Opens total nodes k s

@@ -14,12 +14,12 @@ get_before f (x ∷ xs) zero k h = absurd (omega arith)
 get_before f (x ∷ xs) (suc j) zero h = refl
 get_before f (x ∷ xs) (suc j) (suc k) h = get_before f xs j k (omega arith)
 
-pub get_behind : (f : yaml_node_t → yaml_node_t) (nodes : List yaml_node_t) (j k : ℕ) → j < k
+pub get_after : (f : yaml_node_t → yaml_node_t) (nodes : List yaml_node_t) (j k : ℕ) → j < k
     → slice_get (changed_at j f nodes) k ≡ slice_get nodes k
-get_behind f [] j k h = refl
-get_behind f (x ∷ xs) j zero h = absurd (omega arith)
-get_behind f (x ∷ xs) zero (suc k) h = refl
-get_behind f (x ∷ xs) (suc j) (suc k) h = get_behind f xs j k (omega arith)
+get_after f [] j k h = refl
+get_after f (x ∷ xs) j zero h = absurd (omega arith)
+get_after f (x ∷ xs) zero (suc k) h = refl
+get_after f (x ∷ xs) (suc j) (suc k) h = get_after f xs j k (omega arith)
 
 pub get_there : (f : yaml_node_t → yaml_node_t) (nodes : List yaml_node_t) (k : ℕ)
     → slice_get (changed_at k f nodes) k ≡ option_map f (slice_get nodes k)

@@ -9,7 +9,7 @@ use Rattle.libyaml_documents.specs.declared.node.yaml_node_t.{yaml_node_t}
 use Rattle.libyaml_documents.specs.declared.pairs.yaml_node_pair_t.{yaml_node_pair_t}
 use Rattle.libyaml_documents.specs.declared.node.unnamed_yaml_node_t_data.{unnamed_yaml_node_t_data}
 use Rattle.libyaml_documents.specs.declared.node.unnamed_yaml_node_t_data.TheVariants.{Scalar, Sequence, Mapping}
-use Rattle.libyaml_documents.specs.Nodes.{ids_of, ids_of_pairs, IsIdUpTo, EveryIdNamesANode, node_type, type_of, type_at, KeepsTypes, changed_at, item_behind, pair_behind}
+use Rattle.libyaml_documents.specs.Nodes.{ids_of, ids_of_pairs, IsIdUpTo, EveryIdNamesANode, node_type, type_of, type_at, KeepsTypes, changed_at, item_after, pair_after}
 use Rattle.libyaml_documents.specs.Documents.{Document, AreNodes, most_nodes, with_changed_node}
 use Rattle.std.specs.Prelude.{Bool, true, false, cond, slice_get, All}
 
@@ -54,7 +54,7 @@ changed_at-set (suc n) f (node ∷ nodes) d = ap (λ r. node ∷ r) (changed_at-
 -- one more child keeps the ids in range
 pub with_item-keeps : (n : ℕ) (id : ℤ) (content : unnamed_yaml_node_t_data) → IsIdUpTo n id
     → All (IsIdUpTo n) (ids_of content)
-    → All (IsIdUpTo n) (ids_of (item_behind id content))
+    → All (IsIdUpTo n) (ids_of (item_after id content))
 with_item-keeps n id (Scalar s) k h = h
 with_item-keeps n id (Sequence s) k h = All-push (IsIdUpTo n) s.items id h k
 with_item-keeps n id (Mapping m) k h = h
@@ -66,7 +66,7 @@ ids_of_pairs-push (first ∷ pairs) p = ap (λ (ids : List ℤ). first.key ∷ f
 
 pub with_pair-keeps : (n : ℕ) (p : yaml_node_pair_t) (content : unnamed_yaml_node_t_data) → IsIdUpTo n p.key
     → IsIdUpTo n p.value
-    → All (IsIdUpTo n) (ids_of content) → All (IsIdUpTo n) (ids_of (pair_behind p content))
+    → All (IsIdUpTo n) (ids_of content) → All (IsIdUpTo n) (ids_of (pair_after p content))
 with_pair-keeps n p (Scalar s) k v h = h
 with_pair-keeps n p (Sequence s) k v h = h
 with_pair-keeps n p (Mapping m) k v h =
@@ -141,17 +141,17 @@ KeepsTypes-set n f nodes old new old_is new_is keeps =
     (ap f (sym old_is) ∙ sym new_is))
     (KeepsTypes-changed_at n f nodes keeps)
 
-pub item_behind-type : (id : ℤ) (content : unnamed_yaml_node_t_data)
-    → node_type (item_behind id content) ≡ node_type content
-item_behind-type id (Scalar s) = refl
-item_behind-type id (Sequence s) = refl
-item_behind-type id (Mapping m) = refl
+pub item_after-type : (id : ℤ) (content : unnamed_yaml_node_t_data)
+    → node_type (item_after id content) ≡ node_type content
+item_after-type id (Scalar s) = refl
+item_after-type id (Sequence s) = refl
+item_after-type id (Mapping m) = refl
 
-pub pair_behind-type : (p : yaml_node_pair_t) (content : unnamed_yaml_node_t_data)
-    → node_type (pair_behind p content) ≡ node_type content
-pair_behind-type p (Scalar s) = refl
-pair_behind-type p (Sequence s) = refl
-pair_behind-type p (Mapping m) = refl
+pub pair_after-type : (p : yaml_node_pair_t) (content : unnamed_yaml_node_t_data)
+    → node_type (pair_after p content) ≡ node_type content
+pair_after-type p (Scalar s) = refl
+pair_after-type p (Sequence s) = refl
+pair_after-type p (Mapping m) = refl
 
 -- the place of a node that has a type
 pub inside-type : (nodes : List yaml_node_t) (n : ℕ) (t : yaml_node_type_t) → (YAML_NO_NODE ≡ t → ⊥)

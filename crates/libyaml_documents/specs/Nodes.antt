@@ -98,22 +98,22 @@ mapping_node tag style = node_of (tag_or (codes "tag:yaml.org,2002:map") tag)
     (Mapping (record { pairs = []; style = style }))
 
 -- one more item after those of a sequence
-abbrev pub item_behind : ℤ → unnamed_yaml_node_t_data → unnamed_yaml_node_t_data
-item_behind id (Scalar s) = Scalar s
-item_behind id (Sequence s) = Sequence (record s { items = s.items ++ id ∷ [] })
-item_behind id (Mapping m) = Mapping m
+abbrev pub item_after : ℤ → unnamed_yaml_node_t_data → unnamed_yaml_node_t_data
+item_after id (Scalar s) = Scalar s
+item_after id (Sequence s) = Sequence (record s { items = s.items ++ id ∷ [] })
+item_after id (Mapping m) = Mapping m
 
 abbrev pub with_item : ℤ → yaml_node_t → yaml_node_t
-with_item id node = record node { content = item_behind id node.content }
+with_item id node = record node { content = item_after id node.content }
 
 -- one more pair after those of a mapping
-abbrev pub pair_behind : yaml_node_pair_t → unnamed_yaml_node_t_data → unnamed_yaml_node_t_data
-pair_behind p (Scalar s) = Scalar s
-pair_behind p (Sequence s) = Sequence s
-pair_behind p (Mapping m) = Mapping (record m { pairs = m.pairs ++ p ∷ [] })
+abbrev pub pair_after : yaml_node_pair_t → unnamed_yaml_node_t_data → unnamed_yaml_node_t_data
+pair_after p (Scalar s) = Scalar s
+pair_after p (Sequence s) = Sequence s
+pair_after p (Mapping m) = Mapping (record m { pairs = m.pairs ++ p ∷ [] })
 
 abbrev pub with_pair : ℤ → ℤ → yaml_node_t → yaml_node_t
-with_pair key value node = record node { content = pair_behind (record { key = key; value = value }) node.content }
+with_pair key value node = record node { content = pair_after (record { key = key; value = value }) node.content }
 
 -- the nodes with the one of an id changed, and all others as they are
 abbrev pub changed_at : ℕ → (yaml_node_t → yaml_node_t) → List yaml_node_t → List yaml_node_t

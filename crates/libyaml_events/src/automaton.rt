@@ -156,7 +156,7 @@ impl AutomatonWithStacks {
     /// Takes the content after properties, after `step` returned `AsksContent`, if the tag's handle is
     /// defined. If the stack of marks has no room, nothing changes.
     #[inline(always)]
-    pub(crate) fn content_behind(
+    pub(crate) fn content_after(
         &mut self,
         read: &mut Reading,
         kind: yaml_token_type_t,
@@ -170,7 +170,7 @@ impl AutomatonWithStacks {
         ensures full { result ≡ Action.FullMarks → opens_at (place_of read.old.place) kind ≡ true }
         ensures undone { result ≡ Action.FullMarks → (self.new ≡ self.old) × (read.new ≡ read.old) }
     {
-        self.automaton.content_behind(
+        self.automaton.content_after(
             read,
             self.states.as_slice(),
             self.marks.as_mut_slice(),

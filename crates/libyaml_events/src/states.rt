@@ -17,10 +17,10 @@ ghost use Rattle.libyaml_events.specs.machine.Machine.{fault_with, step};
 ghost use Rattle.libyaml_events.specs.machine.Steps.{Steps};
 ghost use Rattle.libyaml_events.specs.machine.Outcomes.{result_of, standing_by, wanted};
 ghost use Rattle.libyaml_events.specs.machine.Growth.{may_grow};
-ghost use Rattle.libyaml_events.specs.automaton.AutomatonResults.{GrowsBehind, IsPut, Led, Puts};
+ghost use Rattle.libyaml_events.specs.automaton.AutomatonResults.{GrowsAfter, IsPut, Led, Puts};
 ghost use Rattle.libyaml_events.specs.automaton.View.{Ready};
 
-mod behind_properties;
+mod after_properties;
 mod contents;
 mod documents;
 mod node_events;
@@ -126,7 +126,7 @@ impl Machine {
         ensures documents { result ≡ Action.Document
             → stack_part_of (next_of pending.new.reading.next) ≡ Documents }
         ensures grows { IsFull result → may_grow (wanted pending.old) self.old token.now.content ≡ true }
-        ensures content { result ≡ Action.AsksContent → GrowsBehind pending.new self.new token.now
+        ensures content { result ≡ Action.AsksContent → GrowsAfter pending.new self.new token.now
             → may_grow (wanted pending.old) self.old token.now.content ≡ true }
     {
         self.automaton.step(
@@ -151,7 +151,7 @@ impl Machine {
         requires fits { FitsStep led (token_type token.old.content) pending.old.reading self.old.state }
         ensures puts { Puts led token.old pending.old self.old result token.new pending.new out.new self.new }
         ensures grows { result ≡ Step.Failed → self.new.fault.error ≡ yaml_error_type_t.YAML_MEMORY_ERROR
-            → (led ≡ Action.AsksContent) × GrowsBehind pending.old self.old token.old }
+            → (led ≡ Action.AsksContent) × GrowsAfter pending.old self.old token.old }
     {
         match led {
             Action::Wants => Step::Wants,
@@ -169,7 +169,7 @@ impl Machine {
                 put_empty_scalar(&mut self.spare, &mut out.content);
                 Step::GivenBefore
             }
-            Action::EmptyBehind => {
+            Action::EmptyAfter => {
                 out.start_mark = pending.reading.mark;
                 out.end_mark = pending.reading.mark;
                 put_empty_scalar(&mut self.spare, &mut out.content);
@@ -269,9 +269,9 @@ impl Machine {
             }
             Action::AsksContent => {
                 if pending.reading.has_tag == 0 {
-                    return self.put_content_behind_anchor(token, pending, out);
+                    return self.put_content_after_anchor(token, pending, out);
                 }
-                self.put_content_behind(token, pending, out)
+                self.put_content_after(token, pending, out)
             }
             Action::WantsAnchor => {
                 self.hold_anchor(token, pending);

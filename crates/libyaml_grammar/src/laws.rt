@@ -20,7 +20,7 @@ ghost use Rattle.libyaml_grammar.specs.grammar.Nesting.{IsNested, NestsSoFar};
 ghost use Rattle.libyaml_grammar.specs.grammar.Order.{in_order};
 ghost use Rattle.libyaml_grammar.specs.partial.Rest.{rest};
 ghost use Rattle.libyaml_grammar.specs.runs.Runs.{Ending, Ends, Fails, HasFault, IsRun, RunsWhole};
-ghost use Rattle.libyaml_grammar.specs.runs.Runs.{is_behind_properties};
+ghost use Rattle.libyaml_grammar.specs.runs.Runs.{is_after_properties};
 ghost use Rattle.libyaml_grammar.specs.grammar.ValidLists.{IsValidList, IsViablePrefix, IsBadToken};
 ghost use Rattle.libyaml_grammar.specs.grammar.ValidLists.{EitherNotBoth, has_end};
 ghost use Rattle.libyaml_grammar.specs.partial.DeterminedEvents.{IsPrefixTree, IsOpen, Determines, sure};
@@ -100,10 +100,10 @@ pub fn run_of_tree()
     ensures valid_list { (t : Stream) (r : List Token) (f : Fault) → in_order t ≡ true
         → IsRun (tokens t ++ r) f (events t) Ends }
     ensures partial_tree { (l : List Token) (b : Token) (r : List Token) (c : PartialTree) (f : Fault) → Fits l b c
-        → is_behind_properties c r ≡ true
+        → is_after_properties c r ≡ true
         → IsRun (l ++ b ∷ r) f (partial_events c b) (Fails (fault c b.content b.start_mark)) }
     ensures amid_properties { (l : List Token) (b : Token) (r : List Token) (c : PartialTree) (f : Fault) → Fits l b c
-        → is_behind_properties c r ≡ false → IsRun (l ++ b ∷ r) f (partial_events c b) (Fails f) }
+        → is_after_properties c r ≡ false → IsRun (l ++ b ∷ r) f (partial_events c b) (Fails f) }
     ensures viable_prefix { (l : List Token) (e : List Event) (f : Fault) → IsViablePrefix l → has_end l ≡ false
         → Determines l e → IsRun l f e (Fails f) }
 {}

@@ -18,7 +18,7 @@ ghost use Rattle.libyaml_grammar.specs.partial.Fits.{Fits};
 ghost use Rattle.libyaml_grammar.specs.grammar.Nesting.{HasPairs, IsNested, NestsSoFar, DocumentTexts};
 ghost use Rattle.libyaml_grammar.specs.grammar.Nesting.{TextsHavePairs, Value, scalar_value, value_events};
 ghost use Rattle.libyaml_grammar.specs.grammar.Order.{in_order};
-ghost use Rattle.libyaml_grammar.specs.runs.Runs.{Ending, Ends, Fails, is_behind_properties};
+ghost use Rattle.libyaml_grammar.specs.runs.Runs.{Ending, Ends, Fails, is_after_properties};
 ghost use Rattle.libyaml_grammar.specs.grammar.ValidLists.{IsViablePrefix, has_end};
 ghost use Rattle.libyaml_grammar.specs.partial.DeterminedEvents.{Determines};
 ghost use Rattle.libyaml_grammar.specs.grammar.Tokens.{Mark, Marks, StreamEnd, Token, tok};
@@ -32,7 +32,7 @@ ghost use Rattle.libyaml_graphs.specs.loads.GraphLaws.{ChildrenAreLater, EachHol
 ghost use Rattle.libyaml_graphs.specs.loads.GraphLaws.{EachIdNames, EachIsLater, HoldsItsChildren};
 ghost use Rattle.libyaml_graphs.specs.loads.GraphLaws.{LoadsWhole};
 ghost use Rattle.libyaml_graphs.specs.loads.GraphLaws.{NestedLoads, RootsFollow, load_at, unless_fault};
-ghost use Rattle.libyaml_graphs.specs.graphs.Graphs.{Start, nodes_of, starts_behind};
+ghost use Rattle.libyaml_graphs.specs.graphs.Graphs.{Start, nodes_of, starts_after};
 ghost use Rattle.libyaml_graphs.specs.loads.Loads.{IsLoads, Load, last_load, left_over};
 ghost use Rattle.libyaml_graphs.specs.loads.Loads.{loads, loads_of, next_load};
 ghost use Rattle.libyaml_graphs.specs.graphs.GraphParts.{Part, graph, parts};
@@ -97,10 +97,10 @@ pub fn loads_of_tree()
     ensures valid_list { (t : Stream) (r : List Token) (f : Fault) → in_order t ≡ true
         → (n : IsNested (events t)) × IsLoads (tokens t ++ r) f (loads_of n.texts (last_load Ends ∷ [])) }
     ensures partial_tree { (l : List Token) (b : Token) (r : List Token) (c : PartialTree) (f : Fault) → Fits l b c
-        → is_behind_properties c r ≡ true → (a : List Load) × IsLoads (l ++ b ∷ r) f a
+        → is_after_properties c r ≡ true → (a : List Load) × IsLoads (l ++ b ∷ r) f a
         × NestedLoads (partial_events c b) (Fails (fault c b.content b.start_mark)) a }
     ensures amid_properties { (l : List Token) (b : Token) (r : List Token) (c : PartialTree) (f : Fault) → Fits l b c
-        → is_behind_properties c r ≡ false → (a : List Load) × IsLoads (l ++ b ∷ r) f a
+        → is_after_properties c r ≡ false → (a : List Load) × IsLoads (l ++ b ∷ r) f a
         × NestedLoads (partial_events c b) (Fails f) a }
     ensures viable_prefix { (l : List Token) (e : List Event) (f : Fault) → IsViablePrefix l → has_end l ≡ false
         → Determines l e → (a : List Load) × IsLoads l f a × NestedLoads e (Fails f) a }
@@ -109,7 +109,7 @@ pub fn loads_of_tree()
 /// The graph of a value by its parts is its graph by its tree.
 pub fn graph_of_tree()
     ensures { (v : Value) (es : List Start) (r : List Event)
-        → graph es (parts (value_events v r)) ≡ nodes_of v es (graph (starts_behind v es) (parts r)) }
+        → graph es (parts (value_events v r)) ≡ nodes_of v es (graph (starts_after v es) (parts r)) }
 {}
 
 /// A document's graph doesn't determine its events, not even up to marks and styles: of a scalar it forgets

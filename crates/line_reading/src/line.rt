@@ -2,7 +2,7 @@
 ghost use Rattle.std.specs.Prelude.{◌≡◌, ◌≢◌, ◌≤◌, ◌<◌, ◌+◌, ◌++◌, ◌↔◌, ◌⊎◌, ℕ, List, Option, [], All};
 ghost use Rattle.std.specs.Prelude.{length, IfOk, IfErr, OnOk, OnErr, OnSome, Ok, IsOk, None, Some};
 ghost use Rattle.std.specs.Io.KnownBytes.{Consumes, Keeps, IsAtEnd};
-ghost use Rattle.line_reading.specs.sources.Line.{appended, line_feed, GoesOn, EndsBehind};
+ghost use Rattle.line_reading.specs.sources.Line.{appended, line_feed, GoesOn, EndsAfter};
 ghost use Rattle.line_reading.specs.sources.ReadLines.{longest_line};
 ghost use Rattle.line_reading.specs.sources.NextLine.{ReadsNext, IsReadProblem};
 
@@ -115,7 +115,7 @@ fn take_rest<R: BufRead>(
     ensures too_long { result ≡ Ok None ↔ ((length line.new.items ≡ longest_line + 1)
         × IsOk result) }
     ensures end { result ≡ Ok (Some LineEnd.End)
-        → EndsBehind (R.remaining reader.old) (R.remaining reader.new) line.old.items }
+        → EndsAfter (R.remaining reader.old) (R.remaining reader.new) line.old.items }
     ensures err { OnErr result (GoesOn (R.remaining reader.old) (R.remaining reader.new)
         line.old.items line.new.items) }
     ensures problem { IfErr result IsReadProblem }

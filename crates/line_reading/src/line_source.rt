@@ -5,7 +5,7 @@ ghost use Rattle.libyaml_types.specs.Source.{answer_in};
 ghost use Rattle.line_reading.specs.sources.LineSource.{Gives, known_of, BreaksOff};
 ghost use Rattle.line_reading.specs.sources.LineSourceLaws.{source_falls, source_follows, source_repeats};
 ghost use Rattle.line_reading.specs.sources.ReadLines.{longest_line, read_lines};
-ghost use Rattle.line_reading.specs.sources.NextLine.{TakesAtMost, IsBehindLine, IsWithinLine};
+ghost use Rattle.line_reading.specs.sources.NextLine.{TakesAtMost, IsAfterLine, IsWithinLine};
 ghost use Rattle.line_reading.specs.sources.LineFault.{line_fault};
 ghost use Rattle.line_reading.specs.declared.line_problem.LineProblem.TheVariants.{BadTokenLine, LineTooLong};
 
@@ -108,11 +108,11 @@ impl<R: BufRead> yaml_token_source_t for yaml_line_source_t<R> {
     /// Why there is none. A kept error is returned again; then `too many tokens` comes before a line is read.
     fn next_token(&mut self) -> Result<yaml_token_t, yaml_source_fault_t>
         ensures gives { Gives R.remaining self.old (answer_of result) self.new }
-        ensures leaves { IfOk result (λ _. IsBehindLine (R.remaining self.old.reader)
+        ensures leaves { IfOk result (λ _. IsAfterLine (R.remaining self.old.reader)
             (R.remaining self.new.reader)) }
         ensures bad_line { self.old.fault ≡ None
             → answer_of result ≡ Err (line_fault BadTokenLine self.old.given)
-            → IsBehindLine (R.remaining self.old.reader) (R.remaining self.new.reader) }
+            → IsAfterLine (R.remaining self.old.reader) (R.remaining self.new.reader) }
         ensures too_long { self.old.fault ≡ None
             → answer_of result ≡ Err (line_fault LineTooLong self.old.given)
             → IsWithinLine (longest_line + 1) (R.remaining self.old.reader)
@@ -130,11 +130,11 @@ impl<R: BufRead> yaml_token_source_t for yaml_line_source_t<R> {
     /// A line that lies whole in the reader's buffer, with its LF, is read there; any other is copied first.
     fn next_token_into(&mut self, token: &mut yaml_token_t) -> Result<(), yaml_source_fault_t>
         ensures gives { Gives R.remaining self.old (answer_in result token.new) self.new }
-        ensures leaves { IfOk result (λ _. IsBehindLine (R.remaining self.old.reader)
+        ensures leaves { IfOk result (λ _. IsAfterLine (R.remaining self.old.reader)
             (R.remaining self.new.reader)) }
         ensures bad_line { self.old.fault ≡ None
             → answer_in result token.new ≡ Err (line_fault BadTokenLine self.old.given)
-            → IsBehindLine (R.remaining self.old.reader) (R.remaining self.new.reader) }
+            → IsAfterLine (R.remaining self.old.reader) (R.remaining self.new.reader) }
         ensures too_long { self.old.fault ≡ None
             → answer_in result token.new ≡ Err (line_fault LineTooLong self.old.given)
             → IsWithinLine (longest_line + 1) (R.remaining self.old.reader)

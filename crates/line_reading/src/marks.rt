@@ -8,7 +8,7 @@
 //! 16 bytes and is returned in two registers, while an `Option` of it would have 24 and be returned in
 //! memory. Outside this file the 0 becomes an `Option` (`number.rt`) or an error (`token_line.rt`).
 ghost use Rattle.std.specs.Prelude.{◌≡◌, ◌+◌, ◌≤◌, ◌<◌, Some, None, true, false, length, drop, slice_index};
-ghost use Rattle.line_reading.specs.tokens.Prefixes.{behind_first, behind_field, further, mark_at};
+ghost use Rattle.line_reading.specs.tokens.Prefixes.{after_first, after_field, further, mark_at};
 ghost use Rattle.line_reading.specs.tokens.Prefixes.{HasDigits, IsNumberRead, IsRowRead, BeginsWithNoDigit};
 ghost use Rattle.std.specs.Char.{is_ascii_digit};
 
@@ -105,8 +105,8 @@ fn read_row(line: &[u8], at: usize, earlier: &RowRead) -> NumberRead
 fn is_byte_at(line: &[u8], at: usize, byte: u8) -> bool
     requires { at ≤ length line.now }
     ensures yes { result ≡ true → (at < length line.now)
-        × (behind_first byte (drop at line.now) ≡ Some (drop (at + 1) line.now)) }
-    ensures no { result ≡ false → behind_first byte (drop at line.now) ≡ None }
+        × (after_first byte (drop at line.now) ≡ Some (drop (at + 1) line.now)) }
+    ensures no { result ≡ false → after_first byte (drop at line.now) ≡ None }
 {
     at < line.len() && line[at] == byte
 }
@@ -115,8 +115,8 @@ fn is_byte_at(line: &[u8], at: usize, byte: u8) -> bool
 #[inline(always)]
 fn ends_field(line: &[u8], at: usize) -> bool
     requires { at ≤ length line.now }
-    ensures yes { result ≡ true → behind_field (drop at line.now) ≡ Some (further (drop at line.now)) }
-    ensures no { result ≡ false → behind_field (drop at line.now) ≡ None }
+    ensures yes { result ≡ true → after_field (drop at line.now) ≡ Some (further (drop at line.now)) }
+    ensures no { result ≡ false → after_field (drop at line.now) ≡ None }
 {
     at == line.len() || line[at] == b' '
 }

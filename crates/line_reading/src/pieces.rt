@@ -1,7 +1,7 @@
 //! A text cut at a byte.
 ghost use Rattle.std.specs.Prelude.{◌≡◌, ◌==◌, [], ◌∷◌, MatchOption, option_copied};
 ghost use Rattle.std.specs.List.{slice_split};
-ghost use Rattle.line_reading.specs.tokens.Prefixes.{before_byte, behind_byte};
+ghost use Rattle.line_reading.specs.tokens.Prefixes.{before_byte, after_byte};
 ghost use Rattle.line_reading.specs.tokens.Pieces.{pieces_of};
 
 use crate::search::len_before;
@@ -55,7 +55,7 @@ impl<'a> Pieces<'a> {
 /// Returns the bytes before the first `separator`, and those after it, if it is there.
 fn cut(text: &[u8], separator: u8) -> (&[u8], Option<&[u8]>)
     ensures before { result.0.now ≡ before_byte separator text.now }
-    ensures behind { option_copied result.1 ≡ behind_byte separator text.now }
+    ensures behind { option_copied result.1 ≡ after_byte separator text.now }
 {
     let len = len_before(text, separator);
     if len < text.len() {

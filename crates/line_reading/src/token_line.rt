@@ -50,13 +50,13 @@ fn take_token(alloc: Global, line: &[u8], token: &mut yaml_token_t) -> Result<()
     if end == 0 {
         return Err(LineProblem::BadTokenLine);
     }
-    let fields = Pieces::behind(fields_behind(line, end), b' ');
+    let fields = Pieces::behind(fields_after(line, end), b' ');
     read_content(alloc, type_, fields, &mut token.content)
 }
 
 /// Returns the further fields after one that ends at an index, if there are some.
 #[inline(always)]
-fn fields_behind(line: &[u8], end: usize) -> Option<&[u8]>
+fn fields_after(line: &[u8], end: usize) -> Option<&[u8]>
     requires { end ≤ length line.now }
     ensures { option_copied result ≡ further (drop end line.now) }
 {

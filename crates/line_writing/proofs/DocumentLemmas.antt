@@ -7,16 +7,16 @@ use Rattle.std.proofs.lemmas.List.{append-nil, length-take-le, take_more, map-ap
 use Rattle.std.proofs.lemmas.List.Folds.{concat-append}
 use Rattle.libyaml_documents.specs.declared.node.yaml_node_t.{yaml_node_t}
 use Rattle.line_writing.specs.DocumentText.{WroteBefore, node_line, node_lines}
-use Rattle.line_writing.specs.FieldTexts.{behind_spaces}
-use Rattle.line_writing.proofs.SpacedLemmas.{behind_spaces-append}
+use Rattle.line_writing.specs.FieldTexts.{after_spaces}
+use Rattle.line_writing.proofs.SpacedLemmas.{after_spaces-append}
 
 -- one more of the fields that a list gives
 pub fields_more : {X : Type 0} (f : X → List ℕ) (xs : List X) (i : ℕ) (d : X) → i < length xs
-    → behind_spaces (map f (take (i + 1) xs)) ≡ behind_spaces (map f (take i xs)) ++ behind_spaces (f (get_or xs i d) ∷ [])
+    → after_spaces (map f (take (i + 1) xs)) ≡ after_spaces (map f (take i xs)) ++ after_spaces (f (get_or xs i d) ∷ [])
 fields_more f xs i d within =
-    ap (λ l. behind_spaces (map f l)) (take_more xs i d within)
-    ∙ ap behind_spaces (map-append f (take i xs) (get_or xs i d ∷ []))
-    ∙ behind_spaces-append (map f (take i xs)) (f (get_or xs i d) ∷ [])
+    ap (λ l. after_spaces (map f l)) (take_more xs i d within)
+    ∙ ap after_spaces (map-append f (take i xs) (get_or xs i d ∷ []))
+    ∙ after_spaces-append (map f (take i xs)) (f (get_or xs i d) ∷ [])
 
 -- the lines of some nodes, and then of others
 lines_then : (id : ℕ) (xs ys : List yaml_node_t) → node_lines id (xs ++ ys) ≡ node_lines id xs
@@ -65,9 +65,9 @@ pub wrote_none : (line : List ℕ) (rest : List (List ℕ)) (a : Option (List �
 wrote_none line rest a = record { written = []; line = line; rest = rest; all = refl; wrote = Appends-nil a }
 
 -- the first line was written, and a later one found no memory
-pub wrote_behind : (line : List ℕ) (rest : List (List ℕ)) (a b c : Option (List ℕ)) → Appends a b line
+pub wrote_after : (line : List ℕ) (rest : List (List ℕ)) (a b c : Option (List ℕ)) → Appends a b line
     → WroteBefore b c rest → WroteBefore a c (line ∷ rest)
-wrote_behind line rest a b c first h = record {
+wrote_after line rest a b c first h = record {
   written = line ∷ h.written;
   line = h.line;
   rest = h.rest;

@@ -20,13 +20,13 @@ abbrev pub line_text : List (List ℕ) → List ℕ
 line_text fields = join_with_byte 0x20 fields ++ codes "\n"
 
 -- the fields, each after a space
-abbrev pub behind_spaces : List (List ℕ) → List ℕ
-behind_spaces [] = []
-behind_spaces (f ∷ fs) = 0x20 ∷ (f ++ behind_spaces fs)
+abbrev pub after_spaces : List (List ℕ) → List ℕ
+after_spaces [] = []
+after_spaces (f ∷ fs) = 0x20 ∷ (f ++ after_spaces fs)
 
 -- the last fields of a line, each after a space, and the line feed that ends it
 abbrev pub line_rest : List (List ℕ) → List ℕ
-line_rest fields = behind_spaces fields ++ codes "\n"
+line_rest fields = after_spaces fields ++ codes "\n"
 
 -- a field that is absent
 abbrev pub absent : List ℕ

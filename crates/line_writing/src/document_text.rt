@@ -6,7 +6,7 @@ ghost use Rattle.std.specs.Io.KnownBytes.{Appends};
 ghost use Rattle.line_writing.specs.DocumentText.{WroteBefore, document_fields, document_line};
 ghost use Rattle.line_writing.specs.DocumentText.{document_lines, node_fields, node_line};
 ghost use Rattle.line_writing.specs.DocumentText.{node_lines, pair_text};
-ghost use Rattle.line_writing.specs.FieldTexts.{behind_spaces, line_rest, string_text};
+ghost use Rattle.line_writing.specs.FieldTexts.{after_spaces, line_rest, string_text};
 
 use crate::event_line::write_line;
 use crate::field_text::{
@@ -104,7 +104,7 @@ fn append_node(line: &mut String, id: usize, node: &yaml_node_t) -> Result<(), A
 /// Appends the tag, the default of the node's kind with one `push_str`.
 fn append_tag(line: &mut String, node: &yaml_node_t) -> Result<(), AllocError>
     ensures { OnOk result (string_bytes line.new ≡ string_bytes line.old
-        ++ behind_spaces (string_text node.now.tag ∷ [])) }
+        ++ after_spaces (string_text node.now.tag ∷ [])) }
 {
     let tag = node.tag.as_str();
     match node.content {
@@ -150,7 +150,7 @@ fn append_sequence_node(
     sequence: &unnamed_yaml_node_t_data_sequence,
 ) -> Result<(), AllocError>
     ensures { OnOk result (string_bytes line.new ≡ string_bytes line.old
-        ++ behind_spaces (node_fields (unnamed_yaml_node_t_data.Sequence sequence.now))) }
+        ++ after_spaces (node_fields (unnamed_yaml_node_t_data.Sequence sequence.now))) }
 {
     append_sequence_style(line, sequence.style)?;
     append_number(line, sequence.items.len())?;
@@ -162,7 +162,7 @@ fn append_mapping_node(
     mapping: &unnamed_yaml_node_t_data_mapping,
 ) -> Result<(), AllocError>
     ensures { OnOk result (string_bytes line.new ≡ string_bytes line.old
-        ++ behind_spaces (node_fields (unnamed_yaml_node_t_data.Mapping mapping.now))) }
+        ++ after_spaces (node_fields (unnamed_yaml_node_t_data.Mapping mapping.now))) }
 {
     append_mapping_style(line, mapping.style)?;
     append_number(line, mapping.pairs.len())?;
@@ -172,7 +172,7 @@ fn append_mapping_node(
 /// Appends the id of each item.
 fn append_items(line: &mut String, items: &[yaml_node_item_t]) -> Result<(), AllocError>
     ensures { OnOk result (string_bytes line.new ≡ string_bytes line.old
-        ++ behind_spaces (map signed_decimal items.now)) }
+        ++ after_spaces (map signed_decimal items.now)) }
 {
     for item in items {
         append_id(line, *item)?;
@@ -183,7 +183,7 @@ fn append_items(line: &mut String, items: &[yaml_node_item_t]) -> Result<(), All
 /// Appends the ids of each key and its value.
 fn append_pairs(line: &mut String, pairs: &[yaml_node_pair_t]) -> Result<(), AllocError>
     ensures { OnOk result (string_bytes line.new ≡ string_bytes line.old
-        ++ behind_spaces (map pair_text pairs.now)) }
+        ++ after_spaces (map pair_text pairs.now)) }
 {
     for pair in pairs {
         append_pair(line, pair)?;
@@ -194,14 +194,14 @@ fn append_pairs(line: &mut String, pairs: &[yaml_node_pair_t]) -> Result<(), All
 #[inline(always)]
 fn append_id(line: &mut String, id: yaml_node_item_t) -> Result<(), AllocError>
     ensures { OnOk result (string_bytes line.new ≡ string_bytes line.old
-        ++ behind_spaces (signed_decimal id ∷ [])) }
+        ++ after_spaces (signed_decimal id ∷ [])) }
 {
     append_field(line, Buffer::new().format(id))
 }
 
 fn append_pair(line: &mut String, pair: &yaml_node_pair_t) -> Result<(), AllocError>
     ensures { OnOk result (string_bytes line.new ≡ string_bytes line.old
-        ++ behind_spaces (pair_text pair.now ∷ [])) }
+        ++ after_spaces (pair_text pair.now ∷ [])) }
 {
     append_id(line, pair.key)?;
     line.push_str(":")?;

@@ -2,7 +2,7 @@
 ghost use Rattle.std.specs.Prelude.{◌≡◌, ◌++◌, OnOk, Err, IsOkUnless, string_bytes};
 ghost use Rattle.std.specs.Io.KnownBytes.{Appends};
 ghost use Rattle.line_writing.specs.EventText.{event_name, event_fields, event_line};
-ghost use Rattle.line_writing.specs.FieldTexts.{behind_spaces, line_rest};
+ghost use Rattle.line_writing.specs.FieldTexts.{after_spaces, line_rest};
 
 use crate::field_text::{
     append_directives, append_encoding, append_flag, append_flags_and_style, append_mapping_style,
@@ -113,7 +113,7 @@ fn append_document_start(
     start: &unnamed_yaml_event_t_data_document_start,
 ) -> Result<(), AllocError>
     ensures { OnOk result (string_bytes line.new ≡ string_bytes line.old
-        ++ behind_spaces (event_fields (unnamed_yaml_event_t_data.DocumentStart start.now))) }
+        ++ after_spaces (event_fields (unnamed_yaml_event_t_data.DocumentStart start.now))) }
 {
     let directives = start.tag_directives.as_slice();
     append_flag(line, start.implicit)?;
@@ -143,7 +143,7 @@ fn append_sequence_start(
     start: &unnamed_yaml_event_t_data_sequence_start,
 ) -> Result<(), AllocError>
     ensures { OnOk result (string_bytes line.new ≡ string_bytes line.old
-        ++ behind_spaces (event_fields (unnamed_yaml_event_t_data.SequenceStart start.now))) }
+        ++ after_spaces (event_fields (unnamed_yaml_event_t_data.SequenceStart start.now))) }
 {
     append_properties(line, &start.anchor, &start.tag)?;
     append_flag(line, start.implicit)?;
@@ -155,7 +155,7 @@ fn append_mapping_start(
     start: &unnamed_yaml_event_t_data_mapping_start,
 ) -> Result<(), AllocError>
     ensures { OnOk result (string_bytes line.new ≡ string_bytes line.old
-        ++ behind_spaces (event_fields (unnamed_yaml_event_t_data.MappingStart start.now))) }
+        ++ after_spaces (event_fields (unnamed_yaml_event_t_data.MappingStart start.now))) }
 {
     append_properties(line, &start.anchor, &start.tag)?;
     append_flag(line, start.implicit)?;

@@ -1,6 +1,6 @@
 //! The fields of a line as they are written, each after a space.
 ghost use Rattle.std.specs.Prelude.{◌≡◌, ◌++◌, [], ◌∷◌, OnOk, string_bytes, decimal, option_map};
-ghost use Rattle.line_writing.specs.FieldTexts.{behind_spaces, optional_version_text, flag_text};
+ghost use Rattle.line_writing.specs.FieldTexts.{after_spaces, optional_version_text, flag_text};
 ghost use Rattle.line_writing.specs.FieldTexts.{string_text, optional_string_text, directive_fields};
 ghost use Rattle.line_writing.specs.FieldTexts.{encoding_text, scalar_style_text};
 ghost use Rattle.line_writing.specs.FieldTexts.{sequence_style_text, mapping_style_text, line_rest};
@@ -18,7 +18,7 @@ pub(crate) const ABSENT: &str = "-";
 
 /// Appends a field that needs no escapes.
 pub(crate) fn append_field(line: &mut String, field: &str) -> Result<(), AllocError>
-    ensures { OnOk result (string_bytes line.new ≡ string_bytes line.old ++ behind_spaces (field.now ∷ [])) }
+    ensures { OnOk result (string_bytes line.new ≡ string_bytes line.old ++ after_spaces (field.now ∷ [])) }
 {
     line.push_str(" ")?;
     line.push_str(field)
@@ -27,7 +27,7 @@ pub(crate) fn append_field(line: &mut String, field: &str) -> Result<(), AllocEr
 #[inline(always)]
 pub(crate) fn append_number(line: &mut String, number: usize) -> Result<(), AllocError>
     ensures { OnOk result (string_bytes line.new ≡ string_bytes line.old
-        ++ behind_spaces (decimal number ∷ [])) }
+        ++ after_spaces (decimal number ∷ [])) }
 {
     append_field(line, Buffer::new().format(number))
 }
@@ -37,7 +37,7 @@ pub(crate) fn append_version(
     version: Option<yaml_version_directive_t>,
 ) -> Result<(), AllocError>
     ensures { OnOk result (string_bytes line.new ≡ string_bytes line.old
-        ++ behind_spaces (optional_version_text version ∷ [])) }
+        ++ after_spaces (optional_version_text version ∷ [])) }
 {
     let Some(version) = version else {
         return append_field(line, ABSENT);
@@ -50,7 +50,7 @@ pub(crate) fn append_version(
 
 pub(crate) fn append_flag(line: &mut String, flag: bool) -> Result<(), AllocError>
     ensures { OnOk result (string_bytes line.new ≡ string_bytes line.old
-        ++ behind_spaces (flag_text flag ∷ [])) }
+        ++ after_spaces (flag_text flag ∷ [])) }
 {
     line.push_str(if flag { " 1" } else { " 0" })
 }
@@ -62,7 +62,7 @@ pub(crate) fn append_two_flags(
     second: bool,
 ) -> Result<(), AllocError>
     ensures { OnOk result (string_bytes line.new ≡ string_bytes line.old
-        ++ behind_spaces (flag_text first ∷ flag_text second ∷ [])) }
+        ++ after_spaces (flag_text first ∷ flag_text second ∷ [])) }
 {
     line.push_str(match (first, second) {
         (false, false) => " 0 0",
@@ -74,7 +74,7 @@ pub(crate) fn append_two_flags(
 
 pub(crate) fn append_string(line: &mut String, text: &str) -> Result<(), AllocError>
     ensures { OnOk result (string_bytes line.new ≡ string_bytes line.old
-        ++ behind_spaces (string_text text.now ∷ [])) }
+        ++ after_spaces (string_text text.now ∷ [])) }
 {
     line.push_str(" =")?;
     append_escaped(line, text)
@@ -85,7 +85,7 @@ pub(crate) fn append_optional_string(
     text: &Option<String>,
 ) -> Result<(), AllocError>
     ensures { OnOk result (string_bytes line.new ≡ string_bytes line.old
-        ++ behind_spaces (optional_string_text (option_map string_bytes text.now) ∷ [])) }
+        ++ after_spaces (optional_string_text (option_map string_bytes text.now) ∷ [])) }
 {
     match text {
         Some(text) => append_string(line, text),
@@ -100,7 +100,7 @@ pub(crate) fn append_properties(
     tag: &Option<String>,
 ) -> Result<(), AllocError>
     ensures { OnOk result (string_bytes line.new ≡ string_bytes line.old
-        ++ behind_spaces (optional_string_text (option_map string_bytes anchor.now)
+        ++ after_spaces (optional_string_text (option_map string_bytes anchor.now)
         ∷ optional_string_text (option_map string_bytes tag.now) ∷ [])) }
 {
     if anchor.is_none() && tag.is_none() {
@@ -118,7 +118,7 @@ pub(crate) fn append_node_text(
     text: &str,
 ) -> Result<(), AllocError>
     ensures { OnOk result (string_bytes line.new ≡ string_bytes line.old
-        ++ behind_spaces (optional_string_text (option_map string_bytes anchor.now)
+        ++ after_spaces (optional_string_text (option_map string_bytes anchor.now)
         ∷ optional_string_text (option_map string_bytes tag.now) ∷ string_text text.now ∷ [])) }
 {
     match (anchor, tag) {
@@ -139,7 +139,7 @@ pub(crate) fn append_directives(
     directives: &[yaml_tag_directive_t],
 ) -> Result<(), AllocError>
     ensures { OnOk result (string_bytes line.new ≡ string_bytes line.old
-        ++ behind_spaces (directive_fields directives.now)) }
+        ++ after_spaces (directive_fields directives.now)) }
 {
     for directive in directives {
         append_string(line, &directive.handle)?;
@@ -153,7 +153,7 @@ pub(crate) fn append_encoding(
     encoding: yaml_encoding_t,
 ) -> Result<(), AllocError>
     ensures { OnOk result (string_bytes line.new ≡ string_bytes line.old
-        ++ behind_spaces (encoding_text encoding ∷ [])) }
+        ++ after_spaces (encoding_text encoding ∷ [])) }
 {
     match encoding {
         yaml_encoding_t::YAML_ANY_ENCODING => line.push_str(" any"),
@@ -208,7 +208,7 @@ pub(crate) fn append_sequence_style(
     style: yaml_sequence_style_t,
 ) -> Result<(), AllocError>
     ensures { OnOk result (string_bytes line.new ≡ string_bytes line.old
-        ++ behind_spaces (sequence_style_text style ∷ [])) }
+        ++ after_spaces (sequence_style_text style ∷ [])) }
 {
     match style {
         yaml_sequence_style_t::YAML_ANY_SEQUENCE_STYLE => line.push_str(" any"),
@@ -222,7 +222,7 @@ pub(crate) fn append_mapping_style(
     style: yaml_mapping_style_t,
 ) -> Result<(), AllocError>
     ensures { OnOk result (string_bytes line.new ≡ string_bytes line.old
-        ++ behind_spaces (mapping_style_text style ∷ [])) }
+        ++ after_spaces (mapping_style_text style ∷ [])) }
 {
     match style {
         yaml_mapping_style_t::YAML_ANY_MAPPING_STYLE => line.push_str(" any"),

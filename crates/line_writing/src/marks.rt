@@ -1,7 +1,7 @@
 //! Marks as they are written. Their digits are gathered first, from the last to the first.
 ghost use Rattle.std.specs.Prelude.{◌≡◌, ◌≤◌, ◌<◌, ◌+◌, ◌++◌, [], ◌∷◌, length, drop, OnOk};
 ghost use Rattle.std.specs.Prelude.{string_bytes, decimal, IsAscii};
-ghost use Rattle.line_writing.specs.FieldTexts.{behind_spaces, mark_text};
+ghost use Rattle.line_writing.specs.FieldTexts.{after_spaces, mark_text};
 
 use itoa::write_digits;
 use libyaml_types::yaml_mark_t;
@@ -18,7 +18,7 @@ pub(crate) fn append_marks(
     end: &yaml_mark_t,
 ) -> Result<(), AllocError>
     ensures { OnOk result (string_bytes line.new ≡ string_bytes line.old
-        ++ behind_spaces (mark_text start.now ∷ mark_text end.now ∷ [])) }
+        ++ after_spaces (mark_text start.now ∷ mark_text end.now ∷ [])) }
 {
     let mut text = [0; TWO_MARKS];
     let from = write_mark(end, &mut text, TWO_MARKS);
@@ -30,7 +30,7 @@ pub(crate) fn append_marks(
 pub(crate) fn write_mark(mark: &yaml_mark_t, text: &mut [u8], end: usize) -> usize
     requires { (63 ≤ end) × (end ≤ length text.old) }
     ensures start { (result < end) × (end ≤ result + 63) }
-    ensures written { drop result text.new ≡ behind_spaces (mark_text mark.now ∷ []) ++ drop end text.old }
+    ensures written { drop result text.new ≡ after_spaces (mark_text mark.now ∷ []) ++ drop end text.old }
     ensures ascii { IsAscii (mark_text mark.now) }
 {
     let column = write_number(b':', mark.column, text, end);

@@ -2,7 +2,7 @@
 ghost use Rattle.std.specs.Prelude.{◌≡◌, ◌≤◌, ◌+◌, ◌++◌, [], ◌∷◌, length, drop, OnOk};
 ghost use Rattle.std.specs.Prelude.{string_bytes, decimal};
 ghost use Rattle.line_writing.specs.DocumentText.{node_name};
-ghost use Rattle.line_writing.specs.FieldTexts.{behind_spaces, mark_text};
+ghost use Rattle.line_writing.specs.FieldTexts.{after_spaces, mark_text};
 
 use crate::marks::{TWO_MARKS, write_mark};
 use itoa::write_digits;
@@ -20,7 +20,7 @@ pub(crate) fn append_node_start(
     node: &yaml_node_t,
 ) -> Result<(), AllocError>
     ensures { OnOk result (string_bytes line.new ≡ string_bytes line.old ++ (decimal id
-        ++ behind_spaces (node_name node.now.content ∷ mark_text node.now.start_mark
+        ++ after_spaces (node_name node.now.content ∷ mark_text node.now.start_mark
         ∷ mark_text node.now.end_mark ∷ []))) }
 {
     let mut text = [0; START];
@@ -35,7 +35,7 @@ pub(crate) fn append_node_start(
 fn write_name(content: &unnamed_yaml_node_t_data, text: &mut [u8], end: usize) -> usize
     requires { (9 ≤ end) × (end ≤ length text.old) }
     ensures start { (result ≤ end) × (end ≤ result + 9) }
-    ensures written { drop result text.new ≡ behind_spaces (node_name content.now ∷ [])
+    ensures written { drop result text.new ≡ after_spaces (node_name content.now ∷ [])
         ++ drop end text.old }
 {
     match content {

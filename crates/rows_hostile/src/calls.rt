@@ -283,7 +283,7 @@ fn has_lines(alloc: Global, document: &yaml_document_t, wanted: &[u8]) -> Result
 }
 
 /// Makes a call, again where it returns `Memory`, which has to leave the document with the lines from before.
-fn make_behind(
+fn make_after(
     alloc: Global,
     document: &mut yaml_document_t,
     call: Call,
@@ -302,7 +302,7 @@ fn make_behind(
 
 fn make_again(alloc: Global, document: &mut yaml_document_t, call: Call) -> Result<(), RowError> {
     let before = lines_of_document(alloc, document)?;
-    make_behind(alloc, document, call, before.as_slice())
+    make_after(alloc, document, call, before.as_slice())
 }
 
 fn make_all(alloc: Global, document: &mut yaml_document_t, most: usize) -> Lines {

@@ -90,7 +90,7 @@ pub fn is_right_in_memory(alloc: Global, row: Run<'_>) -> bool {
 type Left<'a> = Result<&'a [u8], Passage>;
 
 /// What is left after these lines.
-fn behind<'a>(rest: &'a [u8], written: &[u8]) -> Left<'a> {
+fn following<'a>(rest: &'a [u8], written: &[u8]) -> Left<'a> {
     match rest.strip_prefix(written) {
         Some(rest) => Ok(rest),
         None => Err(Passage::Wrong),
@@ -99,20 +99,20 @@ fn behind<'a>(rest: &'a [u8], written: &[u8]) -> Left<'a> {
 
 /// What is left after an event's line, for which the writer is called once. It is written again where its
 /// allocation failed, before which the writer may not be called.
-fn behind_event<'a>(alloc: Global, event: &yaml_event_t, rest: &'a [u8]) -> Left<'a> {
+fn after_event<'a>(alloc: Global, event: &yaml_event_t, rest: &'a [u8]) -> Left<'a> {
     let mut writer = Room::new();
     let mut wrote = write_event(alloc, event, &mut writer);
     if wrote == Err(line_refusal_t::Memory) && writer.writes == 0 {
         wrote = write_event(alloc, event, &mut writer);
     }
     match wrote {
-        Ok(()) if writer.writes == 1 => behind(rest, writer.written()),
+        Ok(()) if writer.writes == 1 => following(rest, writer.written()),
         _ => Err(Passage::Wrong),
     }
 }
 
 /// The same of a document's lines, of which then only whole ones may be written.
-fn behind_document<'a>(alloc: Global, document: &yaml_document_t, rest: &'a [u8]) -> Left<'a> {
+fn after_document<'a>(alloc: Global, document: &yaml_document_t, rest: &'a [u8]) -> Left<'a> {
     let mut writer = Room::new();
     let mut wrote = write_document(alloc, document, &mut writer);
     if wrote == Err(line_refusal_t::Memory) && are_first_lines(writer.written(), rest) {
@@ -120,7 +120,7 @@ fn behind_document<'a>(alloc: Global, document: &yaml_document_t, rest: &'a [u8]
         wrote = write_document(alloc, document, &mut writer);
     }
     match wrote {
-        Ok(()) => behind(rest, writer.written()),
+        Ok(()) => following(rest, writer.written()),
         Err(_) => Err(Passage::Wrong),
     }
 }
@@ -145,7 +145,7 @@ fn ended(rest: &[u8]) -> Passage {
     }
 }
 
-fn behind_parsed<'a>(
+fn after_parsed<'a>(
     alloc: Global,
     parsed: &Result<yaml_event_t, yaml_error_type_t>,
     rest: &'a [u8],
@@ -154,34 +154,34 @@ fn behind_parsed<'a>(
         Ok(event) if matches!(event.content, unnamed_yaml_event_t_data::NoEvent) => {
             Err(ended(rest))
         }
-        Ok(event) => behind_event(alloc, event, rest),
+        Ok(event) => after_event(alloc, event, rest),
         Err(error) => Err(failed(*error, rest)),
     }
 }
 
-fn behind_loaded<'a>(
+fn after_loaded<'a>(
     alloc: Global,
     loaded: &Result<yaml_document_t, yaml_error_type_t>,
     rest: &'a [u8],
 ) -> Left<'a> {
     match loaded {
         Ok(document) if document.nodes().is_empty() => Err(ended(rest)),
-        Ok(document) => behind_document(alloc, document, rest),
+        Ok(document) => after_document(alloc, document, rest),
         Err(error) => Err(failed(*error, rest)),
     }
 }
 
 /// What is left after the next event or document of a parser.
-fn behind_next<'a, S: yaml_token_source_t>(
+fn after_next<'a, S: yaml_token_source_t>(
     alloc: Global,
     of: LinesOf,
     parser: &mut yaml_parser_t<S>,
     rest: &'a [u8],
 ) -> Left<'a> {
     match of {
-        LinesOf::Events => behind_parsed(alloc, &yaml_parser_parse(parser), rest),
+        LinesOf::Events => after_parsed(alloc, &yaml_parser_parse(parser), rest),
         LinesOf::Documents if yaml_parser_between_documents(parser) => {
-            behind_loaded(alloc, &yaml_parser_load(parser), rest)
+            after_loaded(alloc, &yaml_parser_load(parser), rest)
         }
         LinesOf::Documents => Err(Passage::Wrong),
     }
@@ -193,7 +193,7 @@ fn come_through(alloc: Global, row: Run<'_>) -> Passage {
     let mut parser = yaml_parser_initialize(alloc, source);
     let mut rest = row.lines;
     for _ in 0..1000u32 {
-        match behind_next(alloc, row.of, &mut parser, rest) {
+        match after_next(alloc, row.of, &mut parser, rest) {
             Ok(left) => rest = left,
             Err(passage) => return passage,
         }

@@ -192,13 +192,13 @@ const START: &str = "STREAM-START 0:0:0 1:0:1 utf8\n";
 
 /// The lines of a stream with one scalar, with so many bytes after the first line.
 fn lines_with(alloc: Global, left: usize) -> Result<String, AllocError> {
-    let (before, behind) = ("SCALAR 2:0:2 3:0:3 =", " plain\nSTREAM-END 4:0:4 5:0:5\n");
-    let others = before.len().saturating_add(behind.len());
+    let (before, following) = ("SCALAR 2:0:2 3:0:3 =", " plain\nSTREAM-END 4:0:4 5:0:5\n");
+    let others = before.len().saturating_add(following.len());
     let text = "x".repeat(alloc, left.saturating_sub(others))?;
     let mut lines = String::from_str(alloc, START)?;
     lines.push_str(before)?;
     lines.push_str(text.as_str())?;
-    lines.push_str(behind)?;
+    lines.push_str(following)?;
     Ok(lines)
 }
 

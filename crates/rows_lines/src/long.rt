@@ -73,10 +73,10 @@ fn long_text(
     before: &str,
     text: &str,
     times: usize,
-    behind: &str,
+    following: &str,
 ) -> Result<String, AllocError> {
     let middle = text.repeat(alloc, times)?;
-    [before, middle.as_str(), behind].concat(alloc)
+    [before, middle.as_str(), following].concat(alloc)
 }
 
 /// Whether a run is right in pieces that are none of a line's length, and in memory.
@@ -90,7 +90,7 @@ fn is_run_right(rt: &(impl Print + AllocGlobal), run: Run<'_>) -> Result<bool> {
 }
 
 fn is_right(rt: &(impl Print + AllocGlobal), row: Row) -> Result<bool> {
-    let (_, of, scalar, before, len, behind, outcome) = row;
+    let (_, of, scalar, before, len, following, outcome) = row;
     let alloc: Global = rt.alloc();
     let front = "STREAM-START 0:0:0 1:0:1 utf8\nSCALAR 2:0:2 3:0:3 =";
     let tokens = long_text(
@@ -100,7 +100,7 @@ fn is_right(rt: &(impl Print + AllocGlobal), row: Row) -> Result<bool> {
         scalar,
         " plain\nSTREAM-END 4:0:4 5:0:5\n",
     )?;
-    let lines = long_text(alloc, before, "x", len, behind)?;
+    let lines = long_text(alloc, before, "x", len, following)?;
     let run = Run {
         tokens: tokens.as_bytes(),
         of,

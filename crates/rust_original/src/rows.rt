@@ -5,15 +5,15 @@ ghost use Rattle.rust_original.specs.rows.ExampleRows.{RowLoadsOfFault};
 ghost use Rattle.rust_original.specs.rows.AlikeRows.{RowAtTheBound, RowBeyondTheBound};
 ghost use Rattle.rust_original.specs.rows.AlikeRows.{RowBlockSequenceAsAPairsKey};
 ghost use Rattle.rust_original.specs.rows.AlikeRows.{RowIndentlessSequenceAlike};
-ghost use Rattle.rust_original.specs.rows.DifferenceRows.{RowNoNodeBehindADocumentEnd};
+ghost use Rattle.rust_original.specs.rows.DifferenceRows.{RowNoNodeAfterADocumentEnd};
 ghost use Rattle.rust_original.specs.rows.DifferenceRows.{RowPairKeyThenEnd, RowPairKeyThenEntry};
 ghost use Rattle.rust_original.specs.rows.DifferenceRows.{RowPairKeyThenTwoEnds};
 ghost use Rattle.rust_original.specs.rows.DifferenceRows.{RowPairKeyThenTwoEntries};
 ghost use Rattle.rust_original.specs.rows.DifferenceRows.{RowPairKeyThenTwoValues, RowPairKeyThenValue};
 ghost use Rattle.rust_original.specs.rows.DifferenceRows.{RowPairKeyThenValueAlone};
-ghost use Rattle.rust_original.specs.rows.DifferenceRows.{RowScalarBehindADocumentEnd};
-ghost use Rattle.rust_original.specs.rows.DifferenceRows.{RowTagBehindADocumentEnd};
-ghost use Rattle.rust_original.specs.rows.DifferenceRows.{RowValueBehindAnEntry, RowValueFirst};
+ghost use Rattle.rust_original.specs.rows.DifferenceRows.{RowScalarAfterADocumentEnd};
+ghost use Rattle.rust_original.specs.rows.DifferenceRows.{RowTagAfterADocumentEnd};
+ghost use Rattle.rust_original.specs.rows.DifferenceRows.{RowValueAfterAnEntry, RowValueFirst};
 ghost use Rattle.rust_original.specs.rows.TextRows.{RowAliasWithAZeroByte, RowAnchorWithAZeroByte};
 ghost use Rattle.rust_original.specs.rows.TextRows.{RowHandleOfAZeroByte};
 ghost use Rattle.rust_original.specs.rows.TextRows.{RowPrefixAndSuffixWithZeroBytes};
@@ -51,10 +51,10 @@ pub fn difference_rows()
     ensures pair_key_then_end { RowPairKeyThenEnd }
     ensures pair_key_then_two_ends { RowPairKeyThenTwoEnds }
     ensures value_first { RowValueFirst }
-    ensures value_behind_an_entry { RowValueBehindAnEntry }
-    ensures scalar_behind_a_document_end { RowScalarBehindADocumentEnd }
-    ensures tag_behind_a_document_end { RowTagBehindADocumentEnd }
-    ensures no_node_behind_a_document_end { RowNoNodeBehindADocumentEnd }
+    ensures value_after_an_entry { RowValueAfterAnEntry }
+    ensures scalar_after_a_document_end { RowScalarAfterADocumentEnd }
+    ensures tag_after_a_document_end { RowTagAfterADocumentEnd }
+    ensures no_node_after_a_document_end { RowNoNodeAfterADocumentEnd }
 {}
 
 /// Texts with zero bytes.

@@ -14,7 +14,7 @@ use Rattle.libyaml_automaton.specs.declared.slot.Slot.TheVariants as slot
 use Rattle.libyaml_automaton.specs.Automaton as automaton
 use Rattle.libyaml_automaton.specs.Automaton.{PropertiesRead, Shape, Step, KindAndMarks, Purpose}
 use Rattle.libyaml_automaton.specs.Config.{Stacks, with_state}
-use Rattle.libyaml_automaton.specs.Slots.{is_nothing_before, state_behind, left_out, entered, slot_place}
+use Rattle.libyaml_automaton.specs.Slots.{is_nothing_before, state_after, left_out, entered, slot_place}
 use Rattle.token_steps.specs.Numbers.{IsFaultNumber}
 
 pub no : {A : Type 0} → false ≡ true → A
@@ -36,8 +36,8 @@ pub data Keeping : Type 0 where
   properties : (anchor tag : Bool) → Keeping
 
 abbrev pub keeping : Purpose → Keeping
-keeping (automaton.BehindDirective m v) = directives
-keeping (automaton.BehindProperties p r) = properties r.anchor r.tag
+keeping (automaton.AfterDirective m v) = directives
+keeping (automaton.AfterProperties p r) = properties r.anchor r.tag
 keeping _ = nothing
 
 -- which token is taken without an event
@@ -167,21 +167,21 @@ bare v k (automaton.AsksVersion m c) x = absurd x
 bare v k (automaton.AsksHandle m h c) x = absurd x
 bare v k (automaton.AsksContent p r c) x = absurd x
 
-anchor_behind : (b : Bool) (p : NodePlace) (r : PropertiesRead) (c : Stacks) (t : KindAndMarks)
-    → Follows (properties r.anchor r.tag) kinds.YAML_ANCHOR_TOKEN (automaton.anchor_behind b p r c t)
-anchor_behind false p r c t = (refl, refl)
-anchor_behind true p r c t = refl
+anchor_after : (b : Bool) (p : NodePlace) (r : PropertiesRead) (c : Stacks) (t : KindAndMarks)
+    → Follows (properties r.anchor r.tag) kinds.YAML_ANCHOR_TOKEN (automaton.anchor_after b p r c t)
+anchor_after false p r c t = (refl, refl)
+anchor_after true p r c t = refl
 
-tag_behind : (b : Bool) (p : NodePlace) (r : PropertiesRead) (c : Stacks) (t : KindAndMarks)
-    → Follows (properties r.anchor r.tag) kinds.YAML_TAG_TOKEN (automaton.tag_behind b p r c t)
-tag_behind false p r c t = (refl, refl)
-tag_behind true p r c t = refl
+tag_after : (b : Bool) (p : NodePlace) (r : PropertiesRead) (c : Stacks) (t : KindAndMarks)
+    → Follows (properties r.anchor r.tag) kinds.YAML_TAG_TOKEN (automaton.tag_after b p r c t)
+tag_after false p r c t = (refl, refl)
+tag_after true p r c t = refl
 
-behind_properties : (p : NodePlace) (r : PropertiesRead) (c : Stacks) (t : KindAndMarks) (k : yaml_token_type_t)
-    → Follows (properties r.anchor r.tag) k (automaton.behind_properties p r c t k)
-behind_properties p r c t kinds.YAML_ANCHOR_TOKEN = anchor_behind r.anchor p r c t
-behind_properties p r c t kinds.YAML_TAG_TOKEN = tag_behind r.tag p r c t
-behind_properties p r c t _ = refl
+parse_after_properties : (p : NodePlace) (r : PropertiesRead) (c : Stacks) (t : KindAndMarks) (k : yaml_token_type_t)
+    → Follows (properties r.anchor r.tag) k (automaton.parse_after_properties p r c t k)
+parse_after_properties p r c t kinds.YAML_ANCHOR_TOKEN = anchor_after r.anchor p r c t
+parse_after_properties p r c t kinds.YAML_TAG_TOKEN = tag_after r.tag p r c t
+parse_after_properties p r c t _ = refl
 
 parse_node : (p : NodePlace) (c : Stacks) (t : KindAndMarks) (k : yaml_token_type_t) → Follows nothing k (automaton.parse_node p c t k)
 parse_node p c t kinds.YAML_ALIAS_TOKEN = tt
@@ -190,9 +190,9 @@ parse_node p c t kinds.YAML_TAG_TOKEN = (refl, refl)
 parse_node p c t k = bare nothing k (automaton.node_content p (automaton.no_properties t) c t k) (node_content p (automaton.no_properties t) c t k)
 
 at_slot : (s : Slot) (m : yaml_mark_t) (c : Stacks) (t : KindAndMarks) (k : yaml_token_type_t) → Follows nothing k (automaton.at_slot s m c t k)
-at_slot s m c t k = either nothing k (is_nothing_before s k) (automaton.process_empty_scalar m (left_out (state_behind s) c))
-    (automaton.parse_node (slot_place s) (entered (state_behind s) c) t k) (refl, (refl, refl))
-    (parse_node (slot_place s) (entered (state_behind s) c) t k)
+at_slot s m c t k = either nothing k (is_nothing_before s k) (automaton.process_empty_scalar m (left_out (state_after s) c))
+    (automaton.parse_node (slot_place s) (entered (state_after s) c) t k) (refl, (refl, refl))
+    (parse_node (slot_place s) (entered (state_after s) c) t k)
 
 -- collections
 
@@ -277,12 +277,12 @@ at_state _ c t k = (omega arith, omega arith)
 
 pub follows : (v : Purpose) (c : Stacks) (t : KindAndMarks) (k : yaml_token_type_t) → Follows (keeping v) k (automaton.step v c t k)
 follows automaton.AtState c t k = at_state c.state c t k
-follows (automaton.BehindDirective m h) c t k = explicit_document directives m h c t k tt
-follows (automaton.BehindProperties p r) c t k = behind_properties p r c t k
-follows (automaton.BehindBlockEntry m) c t k = at_slot slot.BlockEntry m c t k
-follows (automaton.BehindIndentlessEntry m) c t k = at_slot slot.IndentlessEntry m c t k
-follows (automaton.BehindKey m) c t k = at_slot slot.BlockKey m c t k
-follows (automaton.BehindValue m) c t k = at_slot slot.BlockValue m c t k
-follows automaton.BehindFlowSequenceValue c t k = at_slot slot.PairValue t.start_mark c t k
-follows automaton.BehindFlowMappingKey c t k = at_slot slot.FlowKey t.start_mark c t k
-follows automaton.BehindFlowMappingValue c t k = at_slot slot.FlowValue t.start_mark c t k
+follows (automaton.AfterDirective m h) c t k = explicit_document directives m h c t k tt
+follows (automaton.AfterProperties p r) c t k = parse_after_properties p r c t k
+follows (automaton.AfterBlockEntry m) c t k = at_slot slot.BlockEntry m c t k
+follows (automaton.AfterIndentlessEntry m) c t k = at_slot slot.IndentlessEntry m c t k
+follows (automaton.AfterKey m) c t k = at_slot slot.BlockKey m c t k
+follows (automaton.AfterValue m) c t k = at_slot slot.BlockValue m c t k
+follows automaton.AfterFlowSequenceValue c t k = at_slot slot.PairValue t.start_mark c t k
+follows automaton.AfterFlowMappingKey c t k = at_slot slot.FlowKey t.start_mark c t k
+follows automaton.AfterFlowMappingValue c t k = at_slot slot.FlowValue t.start_mark c t k

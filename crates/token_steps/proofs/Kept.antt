@@ -10,10 +10,10 @@ use Rattle.libyaml_automaton.specs.declared.node_place.NodePlace.{NodePlace}
 use Rattle.libyaml_automaton.specs.Automaton as automaton
 use Rattle.libyaml_automaton.specs.Automaton.{Purpose}
 use Rattle.libyaml_events.specs.machine.Config.{Handles}
-use Rattle.libyaml_events.specs.machine.Machine.{declared_by, handles_behind}
-use Rattle.libyaml_events.specs.machine.Want.{Texts, no_texts, texts_behind, with_property}
-use Rattle.token_steps.specs.Facts.{TagRead, NoTag, fact_behind, tag_for, tag_if}
-use Rattle.token_steps.specs.Texts.{fact_of, kept_behind, tag_read_of}
+use Rattle.libyaml_events.specs.machine.Machine.{declared_by, handles_after_directive}
+use Rattle.libyaml_events.specs.machine.Want.{Texts, no_texts, texts_after, with_property}
+use Rattle.token_steps.specs.Facts.{TagRead, NoTag, fact_after, tag_for, tag_if}
+use Rattle.token_steps.specs.Texts.{fact_of, texts_kept_after, tag_read_of}
 use Rattle.token_steps.proofs.Follows.{no, Keeping, nothing, directives, properties, keeping, Adds, is_directive, is_property}
 
 -- nothing, the texts of directives alone, or those of properties alone, which are these
@@ -38,14 +38,14 @@ directive_added (properties b g) k d = absurd d
 
 at_directive : (h : Texts) (k : unnamed_yaml_token_t_data) (m : yaml_mark_t) (b : Bool) → (h.anchor ≡ None) × (h.tag ≡ None)
     → is_directive (token_type k) ≡ true
-    → (texts_behind h k (automaton.BehindDirective m b) ≡ kept_behind h k) × Holds directives (kept_behind h k)
+    → (texts_after h k (automaton.AfterDirective m b) ≡ texts_kept_after h k) × Holds directives (texts_kept_after h k)
 at_directive h (tok.VersionDirective v) m b n e = (refl, n)
 at_directive h (tok.TagDirective g) m b n e = (refl, n)
 at_directive h _ m b n e = no e
 
 at_property : (x : Keeping) (h : Texts) (k : unnamed_yaml_token_t_data) (b g : Bool) → Holds x h
     → Adds x (token_type k) (properties b g)
-    → (with_property h k ≡ kept_behind h k) × Holds (properties b g) (kept_behind h k)
+    → (with_property h k ≡ texts_kept_after h k) × Holds (properties b g) (texts_kept_after h k)
 at_property nothing h (tok.Anchor y) b g f d = (
   refl,
   (
@@ -67,7 +67,7 @@ at_property nothing h _ b g f d = absurd d
 at_property (properties u v) h _ b g f d = absurd d
 
 untouched : (h : Texts) (k : unnamed_yaml_token_t_data) → is_directive (token_type k) ≡ false
-    → is_property (token_type k) ≡ false → kept_behind h k ≡ h
+    → is_property (token_type k) ≡ false → texts_kept_after h k ≡ h
 untouched h (tok.Anchor x) d p = no (sym p)
 untouched h (tok.Tag x) d p = no (sym p)
 untouched h (tok.VersionDirective x) d p = no (sym d)
@@ -75,17 +75,17 @@ untouched h (tok.TagDirective x) d p = no (sym d)
 untouched h _ d p = refl
 
 at_other : (x : Keeping) (h : Texts) (k : unnamed_yaml_token_t_data) → Holds x h → Adds x (token_type k) nothing
-    → (no_texts ≡ kept_behind h k) × (kept_behind h k ≡ no_texts)
+    → (no_texts ≡ texts_kept_after h k) × (texts_kept_after h k ≡ no_texts)
 at_other nothing h k f d = let same = untouched h k d.0 d.1 ∙ f in (sym same, same)
 at_other directives h k f d = absurd d
 at_other (properties b g) h k f d = absurd d
 
 pub keeps : (x : Keeping) (u : Purpose) (h : Texts) (k : unnamed_yaml_token_t_data) → Holds x h
     → Adds x (token_type k) (keeping u)
-    → (texts_behind h k u ≡ kept_behind h k) × Holds (keeping u) (kept_behind h k)
-keeps x (automaton.BehindDirective m b) h k f d = at_directive h k m b (without_properties x h (token_type k) f d)
+    → (texts_after h k u ≡ texts_kept_after h k) × Holds (keeping u) (texts_kept_after h k)
+keeps x (automaton.AfterDirective m b) h k f d = at_directive h k m b (without_properties x h (token_type k) f d)
     (directive_added x (token_type k) d)
-keeps x (automaton.BehindProperties p r) h k f d = at_property x h k r.anchor r.tag f d
+keeps x (automaton.AfterProperties p r) h k f d = at_property x h k r.anchor r.tag f d
 keeps x _ h k f d = at_other x h k f d
 
 -- the same handles
@@ -109,9 +109,9 @@ plain directives k d = absurd d
 plain (properties b g) k d = absurd d
 
 pub declares : (x : Keeping) (u : Purpose) (hs : Handles) (k : unnamed_yaml_token_t_data) → Adds x (token_type k) (keeping u)
-    → handles_behind hs k u ≡ declared_by hs k
-declares x (automaton.BehindDirective m b) hs k d = refl
-declares x (automaton.BehindProperties p r) hs k d = sym (undeclared hs k (property_added x (token_type k) r.anchor r.tag d))
+    → handles_after_directive hs k u ≡ declared_by hs k
+declares x (automaton.AfterDirective m b) hs k d = refl
+declares x (automaton.AfterProperties p r) hs k d = sym (undeclared hs k (property_added x (token_type k) r.anchor r.tag d))
 declares x _ hs k d = sym (undeclared hs k (plain x (token_type k) d))
 
 -- the same tag
@@ -121,13 +121,13 @@ tag_by (properties b g) tag = tag_if g tag
 tag_by _ tag = NoTag
 
 pub tag_for_by : (u : Purpose) (tag : ℕ) → tag_for u tag ≡ tag_by (keeping u) tag
-tag_for_by (automaton.BehindProperties p r) tag = refl
+tag_for_by (automaton.AfterProperties p r) tag = refl
 tag_for_by _ tag = refl
 
 tag_at_property : (x : Keeping) (p : NodePlace) (r : automaton.PropertiesRead) (hs : Handles) (h : Texts) (k : unnamed_yaml_token_t_data)
     (tag : ℕ) → Holds x h → tag_by x tag ≡ tag_read_of hs h.tag → Adds x (token_type k) (properties r.anchor r.tag)
-    → tag_for (automaton.BehindProperties p r) (fact_behind (automaton.BehindProperties p r) tag (token_type k) (fact_of hs k))
-    ≡ tag_read_of (declared_by hs k) (kept_behind h k).tag
+    → tag_for (automaton.AfterProperties p r) (fact_after (automaton.AfterProperties p r) tag (token_type k) (fact_of hs k))
+    ≡ tag_read_of (declared_by hs k) (texts_kept_after h k).tag
 tag_at_property nothing p r hs h (tok.Anchor y) tag f e d = rw (d.1, f) refl
 tag_at_property nothing p r hs h (tok.Tag y) tag f e d = rw d.1 refl
 tag_at_property (properties u v) p r hs h (tok.Anchor y) tag f e d = rw d.1 e
@@ -138,8 +138,8 @@ tag_at_property (properties u v) p r hs h _ tag f e d = absurd d
 
 pub tags : (x : Keeping) (u : Purpose) (hs : Handles) (h : Texts) (k : unnamed_yaml_token_t_data) (tag : ℕ) → Holds x h
     → tag_by x tag ≡ tag_read_of hs h.tag → Adds x (token_type k) (keeping u)
-    → tag_for u (fact_behind u tag (token_type k) (fact_of hs k)) ≡ tag_read_of (declared_by hs k) (kept_behind h k).tag
-tags x (automaton.BehindDirective m b) hs h k tag f e d
-    = sym (ap (tag_read_of (declared_by hs k)) (keeps x (automaton.BehindDirective m b) h k f d).1.1)
-tags x (automaton.BehindProperties p r) hs h k tag f e d = tag_at_property x p r hs h k tag f e d
+    → tag_for u (fact_after u tag (token_type k) (fact_of hs k)) ≡ tag_read_of (declared_by hs k) (texts_kept_after h k).tag
+tags x (automaton.AfterDirective m b) hs h k tag f e d
+    = sym (ap (tag_read_of (declared_by hs k)) (keeps x (automaton.AfterDirective m b) h k f d).1.1)
+tags x (automaton.AfterProperties p r) hs h k tag f e d = tag_at_property x p r hs h k tag f e d
 tags x _ hs h k tag f e d = sym (ap (λ (y : Texts). tag_read_of (declared_by hs k) y.tag) (at_other x h k f d).1)

@@ -25,7 +25,7 @@ use Rattle.token_steps.specs.Records.{shape_of, event_of}
 use Rattle.token_steps.specs.RunLaws.{RunIsFed}
 use Rattle.token_steps.specs.Runs.{Run, begins, moves, takes, wants, gave, stays}
 use Rattle.token_steps.specs.Tells.{Tells, want_in, tag_in}
-use Rattle.token_steps.specs.Texts.{event_with, handles_past, kept_behind, tag_read_of, token_of}
+use Rattle.token_steps.specs.Texts.{event_with, handles_past, texts_kept_after, tag_read_of, token_of}
 use Rattle.token_steps.proofs.Follows.{no, keeping}
 use Rattle.token_steps.proofs.Kept.{Holds}
 use Rattle.token_steps.proofs.Tied.{After, kept_after, steps_told, told_with}
@@ -59,7 +59,7 @@ between d c hs o l es e f = at_want automaton.AtState (purpose_of d.read) facts.
 after_wants : (x : Did) (d d' : steps_t) (c c' : Stacks) (hs : Handles) (h : Texts) (l : List Token) (es : List Event)
     (t : Token) (e : step_event_t) (f : step_fault_t) → StoodAt d c hs h (Some t) l es → 0 ≡ number x
     → Tells x (step_by_fact (want_in d) c (token_of hs t)) d' e f c'
-    → StoodAt d' c' (declared_by hs t.content) (kept_behind h t.content) None l es
+    → StoodAt d' c' (declared_by hs t.content) (texts_kept_after h t.content) None l es
 after_wants did.Wants d d' c c' hs h l es t e f s q y =
     let kept = subst (After hs h t.content) y (kept_after (want_in d) hs h t c s.holds s.tag) in
     let stepped = steps_told (want_in d) hs h t c s.holds s.tag ∙ ap (told_with h hs t t.content) y in record {

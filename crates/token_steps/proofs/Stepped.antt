@@ -22,7 +22,7 @@ use Rattle.token_steps.specs.Records.{event_of, shape_of, step_fault}
 use Rattle.token_steps.specs.RunLaws.{want_with}
 use Rattle.token_steps.specs.Runs.{Run, StepCalls}
 use Rattle.token_steps.specs.Tells.{Tells, want_in}
-use Rattle.token_steps.specs.Texts.{event_with, handles_past, kept_behind, token_of}
+use Rattle.token_steps.specs.Texts.{event_with, handles_past, texts_kept_after, token_of}
 use Rattle.token_steps.proofs.Failing.{told}
 use Rattle.token_steps.proofs.Follows.{no}
 use Rattle.token_steps.proofs.Running.{stood}
@@ -65,7 +65,7 @@ pub step_wants : (d d' : steps_t) (ss ss' : List ℕ) (ms ms' : List yaml_mark_t
     → Run d ss ms hs kept (Some t) l g → StepCalls 0 d ss ms hs t d' ss' ms' e f
     → step (want_with d kept) (config_with (stacks_of d.machine ss ms) hs no_fault None) t
     ≡ Ok (
-      parser.Wants (want_with d' (kept_behind kept t.content)),
+      parser.Wants (want_with d' (texts_kept_after kept t.content)),
       config_with (stacks_of d'.machine ss' ms') (declared_by hs t.content) no_fault None,
     )
 step_wants d d' ss ss' ms ms' hs kept l g t e f r c =

@@ -29,7 +29,7 @@ use Rattle.libyaml_events.specs.machine.Want.{Texts}
 use Rattle.token_steps.specs.Facts.{Given, StepResult, TagRead, NoTag, StepWant, Wants, put_by_fact, without_fact, step_by_fact, tag_for, tag_if, content_by_fact, shape_with, tag_read, with_facts}
 use Rattle.token_steps.specs.Facts as facts
 use Rattle.token_steps.specs.Records.{is_undefined}
-use Rattle.token_steps.specs.Texts.{bit, content_of_shape, event_with, fact_of, handles_past, kept_behind, tag_fact, resolved_tag, tag_read_of, token_of, token_with}
+use Rattle.token_steps.specs.Texts.{bit, content_of_shape, event_with, fact_of, handles_past, texts_kept_after, tag_fact, resolved_tag, tag_read_of, token_of, token_with}
 use Rattle.libyaml_events.specs.machine.Outcomes.{only_if}
 use Rattle.token_steps.proofs.Follows.{no, Keeping, properties, keeping, Content, Follows, GivesWith, follows, node_content}
 use Rattle.token_steps.proofs.Kept.{Holds, declares, keeps, tag_by, tag_for_by, tags}
@@ -125,7 +125,7 @@ told_with h hs t k (Ok (Given e, c)) = Ok (
   config_with c (handles_past hs e.shape) no_fault (lookahead_after e.stays t None),
 )
 told_with h hs t k (Ok (Wants v, c)) = Ok (
-  parser_want.Wants (record { next = v.next; texts = kept_behind h k }),
+  parser_want.Wants (record { next = v.next; texts = texts_kept_after h k }),
   config_with c (declared_by hs k) no_fault None,
 )
 told_with h hs t k (Err f) = Err (fault_with f)
@@ -159,7 +159,7 @@ resolved hs h t k tag p r c x (Some g) u v = content_put hs h t k tag r.anchor r
 content_told : (hs : Handles) (h : Texts) (t : Token) (k : unnamed_yaml_token_t_data) (tag : ℕ) (p : NodePlace)
     (r : automaton.PropertiesRead) (c x : Stacks) (o : Option unnamed_yaml_token_t_data_tag) → only_if r.anchor h.anchor ≡ h.anchor
     → only_if r.tag (resolved_tag hs h.tag) ≡ resolved_tag hs o
-    → parser_machine.content_behind o p r x h (config_with c hs no_fault None) t k
+    → parser_machine.content_after o p r x h (config_with c hs no_fault None) t k
     ≡ told_with h hs t k (content_by_fact (tag_read_of hs o) tag p r x (token_with hs t k))
 content_told hs h t k tag p r c x None u v = content_put hs h t k tag r.anchor r.tag h.anchor None c
     (automaton.node_content p r x (parser_machine.seen t k) (token_type k)) (node_content p r x (parser_machine.seen t k) (token_type k)) u v
@@ -178,7 +178,7 @@ tag_kept_if hs false (Some x) e = no (sym e)
 
 asked : (x : Keeping) (hs : Handles) (h : Texts) (t : Token) (k : unnamed_yaml_token_t_data) (tag : ℕ) (p : NodePlace)
     (r : automaton.PropertiesRead) (c d : Stacks) → x ≡ properties r.anchor r.tag → Holds x h → tag_by x tag ≡ tag_read_of hs h.tag
-    → parser_machine.content_behind h.tag p r d h (config_with c hs no_fault None) t k
+    → parser_machine.content_after h.tag p r d h (config_with c hs no_fault None) t k
     ≡ told_with h hs t k (content_by_fact (tag_if r.tag tag) tag p r d (token_with hs t k))
 asked x hs h t k tag p r c d e = rw e (λ f q.
     content_told hs h t k tag p r c d h.tag (kept_if r.anchor h.anchor f.1.0) (tag_kept_if hs r.tag h.tag f.1.1)
@@ -246,8 +246,8 @@ steps_told v hs h t c f q = same (keeping v.next) hs h t t.content v.tag c _ f
 
 abbrev pub After : Handles → Texts → unnamed_yaml_token_t_data → StepResult → Type 0
 After hs h k (Ok (Given e, c)) = Unit {0}
-After hs h k (Ok (Wants v, c)) = Holds (keeping v.next) (kept_behind h k)
-    × (tag_for v.next v.tag ≡ tag_read_of (declared_by hs k) (kept_behind h k).tag)
+After hs h k (Ok (Wants v, c)) = Holds (keeping v.next) (texts_kept_after h k)
+    × (tag_for v.next v.tag ≡ tag_read_of (declared_by hs k) (texts_kept_after h k).tag)
 After hs h k (Err f) = Unit {0}
 
 after_content : (hs : Handles) (h : Texts) (t : Token) (k : unnamed_yaml_token_t_data) (g : TagRead) (tag : ℕ) (b z : Bool)
@@ -273,8 +273,8 @@ after_version : (x : Keeping) (hs : Handles) (h : Texts) (t : Token) (k : unname
     → Follows x (token_type k) (automaton.AsksVersion m d)
     → After hs h k (put_by_fact NoTag tag (token_with hs t k) (automaton.first_version b m d (parser_machine.seen t k)))
 after_version x hs h t k tag true m d f q y = (
-  (keeps x (automaton.BehindDirective m true) h k f y.1).1,
-  tags x (automaton.BehindDirective m true) hs h k tag f q y.1,
+  (keeps x (automaton.AfterDirective m true) h k f y.1).1,
+  tags x (automaton.AfterDirective m true) hs h k tag f q y.1,
 )
 after_version x hs h t k tag false m d f q y = tt
 
@@ -284,8 +284,8 @@ after_handle : (x : Keeping) (hs : Handles) (h : Texts) (t : Token) (k : unnamed
     → After hs h k (put_by_fact NoTag tag (token_with hs t k) (automaton.tag_directive b m z d (parser_machine.seen t k)))
 after_handle x hs h t k tag true z m d f q y = tt
 after_handle x hs h t k tag false z m d f q y = (
-  (keeps x (automaton.BehindDirective m z) h k f y.1).1,
-  tags x (automaton.BehindDirective m z) hs h k tag f q y.1,
+  (keeps x (automaton.AfterDirective m z) h k f y.1).1,
+  tags x (automaton.AfterDirective m z) hs h k tag f q y.1,
 )
 
 after_step : (x : Keeping) (hs : Handles) (h : Texts) (t : Token) (k : unnamed_yaml_token_t_data) (tag : ℕ) (s : automaton.Step)

@@ -70,7 +70,7 @@ told_content _ k r f n = tt
 
 -- what is wanted
 
-simple : (n : Next) → is_simple n ≡ true → n ≡ next.BehindProperties → ⊥
+simple : (n : Next) → is_simple n ≡ true → n ≡ next.AfterProperties → ⊥
 simple n s e = true≢false (sym s ∙ ap is_simple e)
 
 pub fits_in_step : (a : Action) (k : yaml_token_type_t) (r : Reading) (s : yaml_parser_state_t) → FitsStep a k r s
@@ -79,7 +79,7 @@ fits_in_step action.Wants k r s f = simple (next_of r.next) f.0
 fits_in_step action.WantsAnchor k r s f = f.0
 fits_in_step action.WantsTag k r s f = f
 fits_in_step action.Empty k r s f = refl
-fits_in_step action.EmptyBehind k r s f = refl
+fits_in_step action.EmptyAfter k r s f = refl
 fits_in_step action.Pair k r s f = refl
 fits_in_step _ k r s f = tt
 
@@ -89,7 +89,7 @@ fits_in_document action.Wants k r s f = simple (next_of r.next) f.0
 fits_in_document action.WantsAnchor k r s f = absurd f
 fits_in_document action.WantsTag k r s f = absurd f
 fits_in_document action.Empty k r s f = refl
-fits_in_document action.EmptyBehind k r s f = refl
+fits_in_document action.EmptyAfter k r s f = refl
 fits_in_document action.Pair k r s f = refl
 fits_in_document _ k r s f = tt
 
@@ -122,28 +122,28 @@ by_documents Documents p q e = refl
 -- a step that pushes a state is a node's, and follows no properties
 pub pushes_nodes : (n : Next) (k : yaml_token_type_t) → pushes n k ≡ true → stack_part_of n ≡ Documents → ⊥
 pushes_nodes next.AtPairKey k e d = true≢false (ap is_nodes d)
-pushes_nodes next.BehindBlockEntry k e d = true≢false (ap is_nodes d)
-pushes_nodes next.BehindIndentlessEntry k e d = true≢false (ap is_nodes d)
-pushes_nodes next.BehindKey k e d = true≢false (ap is_nodes d)
-pushes_nodes next.BehindValue k e d = true≢false (ap is_nodes d)
+pushes_nodes next.AfterBlockEntry k e d = true≢false (ap is_nodes d)
+pushes_nodes next.AfterIndentlessEntry k e d = true≢false (ap is_nodes d)
+pushes_nodes next.AfterKey k e d = true≢false (ap is_nodes d)
+pushes_nodes next.AfterValue k e d = true≢false (ap is_nodes d)
 pushes_nodes next.AtFlowSequenceFirstEntry k e d = true≢false (ap is_nodes d)
-pushes_nodes next.BehindFlowSequenceValue k e d = true≢false (ap is_nodes d)
+pushes_nodes next.AfterFlowSequenceValue k e d = true≢false (ap is_nodes d)
 pushes_nodes next.AtFlowMappingFirstKey k e d = true≢false (ap is_nodes d)
-pushes_nodes next.BehindFlowMappingKey k e d = true≢false (ap is_nodes d)
-pushes_nodes next.BehindFlowMappingValue k e d = true≢false (ap is_nodes d)
+pushes_nodes next.AfterFlowMappingKey k e d = true≢false (ap is_nodes d)
+pushes_nodes next.AfterFlowMappingValue k e d = true≢false (ap is_nodes d)
 pushes_nodes _ k e d = no e
 
-pub pushes_elsewhere : (n : Next) (k : yaml_token_type_t) → pushes n k ≡ true → n ≡ next.BehindProperties → ⊥
+pub pushes_elsewhere : (n : Next) (k : yaml_token_type_t) → pushes n k ≡ true → n ≡ next.AfterProperties → ⊥
 pushes_elsewhere n k e p = true≢false (sym e ∙ ap (λ (x : Next). pushes x k) p)
 
-pub mark_elsewhere : (n : Next) (g : TagRead) (p : NodePlace) (k : yaml_token_type_t) → (n ≡ next.BehindProperties → ⊥)
+pub mark_elsewhere : (n : Next) (g : TagRead) (p : NodePlace) (k : yaml_token_type_t) → (n ≡ next.AfterProperties → ⊥)
     → pushes_mark n g p k ≡ opens n k
-mark_elsewhere next.BehindProperties g p k n = absurd (n refl)
+mark_elsewhere next.AfterProperties g p k n = absurd (n refl)
 mark_elsewhere _ g p k n = refl
 
-pub mark_behind : (n : Next) (g : TagRead) (p : NodePlace) (k : yaml_token_type_t) → n ≡ next.BehindProperties
+pub mark_after : (n : Next) (g : TagRead) (p : NodePlace) (k : yaml_token_type_t) → n ≡ next.AfterProperties
     → pushes_mark n g p k ≡ content_opens g p k
-mark_behind n g p k e = rw e refl
+mark_after n g p k e = rw e refl
 
 pub no_mark : (n : Next) (g : TagRead) (p : NodePlace) (k : yaml_token_type_t) → stack_part_of n ≡ Documents
     → pushes_mark n g p k ≡ false
@@ -152,12 +152,12 @@ no_mark next.AtImplicitDocumentStart g p k d = refl
 no_mark next.AtDocumentStart g p k d = refl
 no_mark next.AtDocumentEnd g p k d = refl
 no_mark next.AtEnd g p k d = refl
-no_mark next.BehindDirective g p k d = refl
+no_mark next.AfterDirective g p k d = refl
 no_mark next.AtBlockSequenceFirstEntry g p k d = refl
 no_mark next.AtBlockMappingFirstKey g p k d = refl
 no_mark _ g p k d = no (sym (ap is_nodes d))
 
-pub opens_elsewhere : (n : Next) (k : yaml_token_type_t) → opens n k ≡ true → n ≡ next.BehindProperties → ⊥
+pub opens_elsewhere : (n : Next) (k : yaml_token_type_t) → opens n k ≡ true → n ≡ next.AfterProperties → ⊥
 opens_elsewhere n k e p = true≢false (sym e ∙ ap (λ (x : Next). opens x k) p)
 
 -- the same stack is full for a call as for the automaton's step
@@ -267,13 +267,13 @@ is_asking (automaton.Fails f) = false
 is_asking _ = true
 
 opening_asks : (q p : NodePlace) (r : PropertiesRead) (c : Stacks) (t : automaton.KindAndMarks) (k : yaml_token_type_t)
-    → opens_at q k ≡ true → is_asking (automaton.behind_properties p r c t k) ≡ true
+    → opens_at q k ≡ true → is_asking (automaton.parse_after_properties p r c t k) ≡ true
 opening_asks q p r c t kinds.YAML_ANCHOR_TOKEN e = no e
 opening_asks q p r c t kinds.YAML_TAG_TOKEN e = no e
 opening_asks q p r c t _ e = refl
 
 content_asks : (g : TagRead) (q p : NodePlace) (r : PropertiesRead) (c : Stacks) (t : automaton.KindAndMarks) (k : yaml_token_type_t)
-    → content_opens g q k ≡ true → is_asking (automaton.behind_properties p r c t k) ≡ true
+    → content_opens g q k ≡ true → is_asking (automaton.parse_after_properties p r c t k) ≡ true
 content_asks Undefined q p r c t k e = no e
 content_asks NoTag q p r c t k e = opening_asks q p r c t k e
 content_asks EmptyTag q p r c t k e = opening_asks q p r c t k e
@@ -315,28 +315,28 @@ told_step w w' tag c t a h u r d e s x = ap (λ (y : automaton.Purpose). with_fa
 -- and leaves no mark unput after properties
 pub told_opens_none : (n : Next) (g : TagRead) (q : NodePlace) (m : Reading) (c : Stacks) (t : automaton.KindAndMarks)
     (k : yaml_token_type_t) (a : Action) (h : PropertiesRead) (r : Reading) (d : Stacks)
-    → IsOutcome (automaton.step (wanted_by n m) c t k) (outcome a h t r d) → IsTold a → n ≡ next.BehindProperties
+    → IsOutcome (automaton.step (wanted_by n m) c t k) (outcome a h t r d) → IsTold a → n ≡ next.AfterProperties
     → pushes_mark n g q k ≡ true → ⊥
 told_opens_none n g q m c t k a h r d e x b o =
     let says = subst (λ (y : Next). IsOutcome (automaton.step (wanted_by y m) c t k) (outcome a h t r d)) b e in
-    let asks : is_asking (automaton.step (wanted_by next.BehindProperties m) c t k) ≡ true
-    = content_asks g q _ _ c t k (sym (mark_behind n g q k b) ∙ o) in
+    let asks : is_asking (automaton.step (wanted_by next.AfterProperties m) c t k) ≡ true
+    = content_asks g q _ _ c t k (sym (mark_after n g q k b) ∙ o) in
     true≢false (sym asks ∙ asks_nothing _ a h t r d says x)
 
-abbrev is_behind : Next → Bool
-is_behind next.BehindProperties = true
-is_behind _ = false
+abbrev is_after : Next → Bool
+is_after next.AfterProperties = true
+is_after _ = false
 
-by_next : (n : Next) → (n ≡ next.BehindProperties) ⊎ (n ≡ next.BehindProperties → ⊥)
-by_next next.BehindProperties = inl refl
-by_next _ = inr (λ e. true≢false (sym (ap is_behind e)))
+by_next : (n : Next) → (n ≡ next.AfterProperties) ⊎ (n ≡ next.AfterProperties → ⊥)
+by_next next.AfterProperties = inl refl
+by_next _ = inr (λ e. true≢false (sym (ap is_after e)))
 
 pub room_for_marks : (n n' : Next) (g : TagRead) (q : NodePlace) (m : Reading) (c : Stacks) (t : automaton.KindAndMarks)
     (k : yaml_token_type_t) (a : Action) (h : PropertiesRead) (r : Reading) (d : Stacks) (ms : List yaml_mark_t) (j : ℕ)
     → n' ≡ n → n' ≡ next_of m.next → IsOutcome (automaton.step (purpose_of m) c t k) (outcome a h t r d) → IsTold a
     → (HasNoRoom (opens n' k) ms j → ⊥) → HasNoRoom (pushes_mark n g q k) ms j → ⊥
 room_for_marks n n' g q m c t k a h r d ms j e v s x f y = by_place (by_next n) where
-  by_place : (n ≡ next.BehindProperties) ⊎ (n ≡ next.BehindProperties → ⊥) → ⊥
+  by_place : (n ≡ next.AfterProperties) ⊎ (n ≡ next.AfterProperties → ⊥) → ⊥
   by_place (inl b) = told_opens_none (next_of m.next) g q m c t k a h r d s x (sym v ∙ (e ∙ b))
       (ap (λ (z : Next). pushes_mark z g q k) (sym v ∙ e) ∙ y.0)
   by_place (inr b) = f (ap (λ (z : Next). opens z k) e ∙ (sym (mark_elsewhere n g q k b) ∙ y.0), y.1)

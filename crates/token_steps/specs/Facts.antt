@@ -41,7 +41,7 @@ pub record StepWant : Type 0 where
 
 -- the tag of the node whose properties are read
 abbrev pub tag_for : automaton.Purpose → ℕ → TagRead
-tag_for (automaton.BehindProperties p r) fact = tag_if r.tag fact
+tag_for (automaton.AfterProperties p r) fact = tag_if r.tag fact
 tag_for _ fact = NoTag
 
 -- An event without its texts and marks. A flag of a property says that there is one. A scalar has its token's text,
@@ -114,14 +114,14 @@ abbrev pub tag_at : (tag : ℕ) → yaml_token_type_t → (fact : ℕ) → ℕ
 tag_at tag kinds.YAML_TAG_TOKEN fact = fact
 tag_at tag _ fact = tag
 
-abbrev pub fact_behind : automaton.Purpose → (tag : ℕ) → yaml_token_type_t → (fact : ℕ) → ℕ
-fact_behind (automaton.BehindProperties p r) tag k fact = tag_at tag k fact
-fact_behind _ tag k fact = tag
+abbrev pub fact_after : automaton.Purpose → (tag : ℕ) → yaml_token_type_t → (fact : ℕ) → ℕ
+fact_after (automaton.AfterProperties p r) tag k fact = tag_at tag k fact
+fact_after _ tag k fact = tag
 
 -- what the automaton did that asks nothing, where the fact `tag` is kept, of a node with the tag g
 abbrev pub put_by_fact : TagRead → (tag : ℕ) → StepToken → automaton.Step → StepResult
 put_by_fact g tag t (automaton.Gives e c) = Ok (Given (event_of_shape g t.fact e), c)
-put_by_fact g tag t (automaton.Wants w c) = Ok (Wants (record { next = w; tag = fact_behind w tag t.kind t.fact }), c)
+put_by_fact g tag t (automaton.Wants w c) = Ok (Wants (record { next = w; tag = fact_after w tag t.kind t.fact }), c)
 put_by_fact g tag t (automaton.Fails f) = Err f
 put_by_fact g tag t _ = Err (record { problem = 0; context_mark = zero_mark; mark = zero_mark })
 

@@ -21,7 +21,7 @@ pushes_by Documents pushes in_documents = in_documents
 
 -- a call at a token of this kind puts a state on the stack
 abbrev pub pushes_state : Next → (behind_document_end : Bool) → yaml_token_type_t → Bool
-pushes_state n behind k = pushes_by (stack_part_of n) (pushes n k) (pushes_in_documents n behind k)
+pushes_state n after_end k = pushes_by (stack_part_of n) (pushes n k) (pushes_in_documents n after_end k)
 
 abbrev pub grows_states : steps_t → yaml_token_type_t → Bool
 grows_states d k = pushes_state (next_in d) (flag d.machine.behind_document_end) k
@@ -32,7 +32,7 @@ content_opens Undefined p k = false
 content_opens g p k = opens_at p k
 
 abbrev pub pushes_mark : Next → TagRead → NodePlace → yaml_token_type_t → Bool
-pushes_mark next.BehindProperties g p k = content_opens g p k
+pushes_mark next.AfterProperties g p k = content_opens g p k
 pushes_mark n g p k = opens n k
 
 abbrev pub grows_marks : steps_t → yaml_token_type_t → Bool

@@ -16,7 +16,7 @@ use Rattle.token_steps.specs.declared.records.step_fault_t.{step_fault_t}
 use Rattle.token_steps.specs.Facts.{step_by_fact}
 use Rattle.token_steps.specs.Records.{shape_of, event_of}
 use Rattle.token_steps.specs.Tells.{TellsNumber, want_in, tag_in}
-use Rattle.token_steps.specs.Texts.{event_with, handles_past, kept_behind, token_of}
+use Rattle.token_steps.specs.Texts.{event_with, handles_past, texts_kept_after, token_of}
 
 -- A call with this record and these stacks at the token t, with its fact by the handles hs, returned the
 -- number n to C, and left that record, those stacks, the event e and the error f.
@@ -47,7 +47,7 @@ pub data Run : steps_t → (states : List ℕ) → (marks : List yaml_mark_t) �
   wants : (d d' : steps_t) (ss ss' : List ℕ) (ms ms' : List yaml_mark_t) (hs : Handles) (h : Texts)
       (l : List Token) (g : List Event) (t : Token) (e : step_event_t) (f : step_fault_t)
       → Run d ss ms hs h (Some t) l g → StepCalls 0 d ss ms hs t d' ss' ms' e f
-      → Run d' ss' ms' (declared_by hs t.content) (kept_behind h t.content) None l g
+      → Run d' ss' ms' (declared_by hs t.content) (texts_kept_after h t.content) None l g
   -- 1: with one
   gave : (d d' : steps_t) (ss ss' : List ℕ) (ms ms' : List yaml_mark_t) (hs : Handles) (h : Texts)
       (l : List Token) (g : List Event) (t : Token) (e : step_event_t) (f : step_fault_t)

@@ -72,11 +72,11 @@ IsTold _ = Unit {0}
 
 -- a property alone has the next token wanted after properties, and g is the tag of the node that the event is of
 abbrev pub FitsTold : Action → yaml_token_type_t → Reading → (g : TagRead) → Type 0
-FitsTold action.Wants k r g = next_of r.next ≡ next.BehindProperties → ⊥
+FitsTold action.Wants k r g = next_of r.next ≡ next.AfterProperties → ⊥
 FitsTold action.WantsAnchor k r g = k ≡ kinds.YAML_ANCHOR_TOKEN
-FitsTold action.WantsTag k r g = (k ≡ kinds.YAML_TAG_TOKEN) × (next_of r.next ≡ next.BehindProperties)
+FitsTold action.WantsTag k r g = (k ≡ kinds.YAML_TAG_TOKEN) × (next_of r.next ≡ next.AfterProperties)
 FitsTold action.Empty k r g = g ≡ NoTag
-FitsTold action.EmptyBehind k r g = g ≡ NoTag
+FitsTold action.EmptyAfter k r g = g ≡ NoTag
 FitsTold action.Pair k r g = g ≡ NoTag
 FitsTold _ k r g = Unit {0}
 

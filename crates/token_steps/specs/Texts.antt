@@ -53,13 +53,13 @@ tag_read_of hs None = NoTag
 tag_read_of hs (Some g) = tag_read (tag_fact (resolve hs g.handle g.suffix))
 
 -- what is kept once a token was taken: a property or a directive is added
-abbrev pub kept_behind : Texts → unnamed_yaml_token_t_data → Texts
-kept_behind h (tok.Anchor a) = record h { anchor = Some a.value }
-kept_behind h (tok.Tag g) = record h { tag = Some g }
-kept_behind h (tok.VersionDirective v) = record h { version = Some (record { major = v.major; minor = v.minor }) }
-kept_behind h (tok.TagDirective g)
+abbrev pub texts_kept_after : Texts → unnamed_yaml_token_t_data → Texts
+texts_kept_after h (tok.Anchor a) = record h { anchor = Some a.value }
+texts_kept_after h (tok.Tag g) = record h { tag = Some g }
+texts_kept_after h (tok.VersionDirective v) = record h { version = Some (record { major = v.major; minor = v.minor }) }
+texts_kept_after h (tok.TagDirective g)
     = record h { tag_directives = h.tag_directives ++ record { handle = g.handle; prefix = g.prefix } ∷ [] }
-kept_behind h _ = h
+texts_kept_after h _ = h
 
 -- events
 

@@ -137,7 +137,7 @@ impl steps_t {
         if head.is_undefined() {
             return self.fail(&start, &self.read.tag_mark, UNDEFINED_HANDLE, fault);
         }
-        match self.machine.content_behind(
+        match self.machine.content_after(
             &mut self.read,
             states,
             marks,

@@ -239,7 +239,7 @@ impl steps_t {
                 put_event(event, SCALAR, true, &at.start_mark, &at.start_mark);
                 self.rest(Did::Stays)
             }
-            Action::EmptyBehind => {
+            Action::EmptyAfter => {
                 put_event(event, SCALAR, true, &self.read.mark, &self.read.mark);
                 self.rest(Did::Stays)
             }

@@ -23,7 +23,7 @@ use Rattle.libyaml_graphs.specs.loads.Bounds.{NoneLacksMemory, bounded_loads, ne
 use Rattle.libyaml_graphs.specs.loads.GraphLaws.{RootsFollow}
 use Rattle.libyaml_graphs.specs.loads.Loads.{IsLoads, Load, last_load, left_over, loads, loads_of}
 use Rattle.libyaml_graphs.proofs.exported.BoundedPrefixes.{IsPrefixTree, prefix_of_loads, met, same, unmet_loads}
-use Rattle.libyaml_graphs.proofs.exported.LoadLists.{roots_behind}
+use Rattle.libyaml_graphs.proofs.exported.LoadLists.{roots_after}
 use Rattle.libyaml_graphs.proofs.exported.Roots.{fault_of, last_of, roots_follow}
 use Rattle.libyaml_graphs.proofs.exported.RunLoads.{valid_list_loads}
 use Rattle.libyaml_loader.specs.document.Ids.{magnitude}
@@ -60,27 +60,27 @@ none_lacks (d ∷ ds) l h = none_lacks ds l h
 same_document : (c d : Document) (a b : List Load) → ◌≡◌ {A = List Load} (Ok c ∷ a) (Ok d ∷ b) → c ≡ d
 same_document c d a b h = cc
 
-same_behind : (c d : Document) (a b : List Load) → ◌≡◌ {A = List Load} (Ok c ∷ a) (Ok d ∷ b) → a ≡ b
-same_behind c d a b h = cc
+same_after : (c d : Document) (a b : List Load) → ◌≡◌ {A = List Load} (Ok c ∷ a) (Ok d ∷ b) → a ≡ b
+same_after c d a b h = cc
 
-oks_first : (loaded ds : List Document) (behind rest : List Load)
-    → ◌≡◌ {A = List Load} (oks ds ++ (Err memory_fault ∷ [])) (oks loaded ++ behind)
+oks_first : (loaded ds : List Document) (following rest : List Load)
+    → ◌≡◌ {A = List Load} (oks ds ++ (Err memory_fault ∷ [])) (oks loaded ++ following)
     → (t : List Load) × (oks ds ++ rest ≡ oks loaded ++ t)
-oks_first [] ds behind rest h = (oks ds ++ rest, refl)
-oks_first (d ∷ loaded) [] behind rest h = absurd cc
-oks_first (d ∷ loaded) (c ∷ ds) behind rest h =
-    let k = oks_first loaded ds behind rest
-    (same_behind c d (oks ds ++ (Err memory_fault ∷ [])) (oks loaded ++ behind) h) in (
+oks_first [] ds following rest h = (oks ds ++ rest, refl)
+oks_first (d ∷ loaded) [] following rest h = absurd cc
+oks_first (d ∷ loaded) (c ∷ ds) following rest h =
+    let k = oks_first loaded ds following rest
+    (same_after c d (oks ds ++ (Err memory_fault ∷ [])) (oks loaded ++ following) h) in (
       k.0,
       ap₂ (λ (x : Document) (l : List Load). Ok x ∷ l)
-          (same_document c d (oks ds ++ (Err memory_fault ∷ [])) (oks loaded ++ behind) h) k.1,
+          (same_document c d (oks ds ++ (Err memory_fault ∷ [])) (oks loaded ++ following) h) k.1,
     )
 
-loaded_first : (within all : List Load) → IsPrefixTree within all → (loaded : List Document) (behind : List Load)
-    → within ≡ oks loaded ++ behind
+loaded_first : (within all : List Load) → IsPrefixTree within all → (loaded : List Document) (following : List Load)
+    → within ≡ oks loaded ++ following
     → (t : List Load) × (all ≡ oks loaded ++ t)
-loaded_first within all (same e) loaded behind h = (behind, sym e ∙ h)
-loaded_first within all (met ds rest i j) loaded behind h = let k = oks_first loaded ds behind rest (sym i ∙ h)
+loaded_first within all (same e) loaded following h = (following, sym e ∙ h)
+loaded_first within all (met ds rest i j) loaded following h = let k = oks_first loaded ds following rest (sym i ∙ h)
     in (k.0, j ∙ k.1)
 
 pub loaded_none : {S : Type 0} (g : Ghosts S) (source : S) (p : Parser S) → p ≡ new_parser source
@@ -117,9 +117,9 @@ module _ {S : Type 0} (g : Ghosts S) (source : S) (old new : Parser S) (r : Docu
       = both_calls g.gives (new_parser source) old p [] [] given taken so
       (took.history so.more given so.history)
 
-  so_far_behind : (taken rest : List Event) (x : Ending) → bounded_loads most ((given ++ taken) ++ rest) x
+  so_far_after : (taken rest : List Event) (x : Ending) → bounded_loads most ((given ++ taken) ++ rest) x
       ≡ oks loaded ++ bounded_loads most (taken ++ rest) x
-  so_far_behind taken rest x = ap (λ (l : List Event). bounded_loads most l x) (append_assoc given taken rest)
+  so_far_after taken rest x = ap (λ (l : List Event). bounded_loads most l x) (append_assoc given taken rest)
       ∙ was.in_turn.loads (taken ++ rest) x
 
   -- after one document more
@@ -147,7 +147,7 @@ module _ {S : Type 0} (g : Ghosts S) (source : S) (old new : Parser S) (r : Docu
         let e = (given ++ taken) ++ rest in
         let (later, h) = loaded_first (bounded_loads most e x) (loads e x) (prefix_of_loads e x most) loaded
         (bounded_loads most (taken ++ rest) x)
-        (so_far_behind taken rest x) in
+        (so_far_after taken rest x) in
         (later, h ∙ ap (λ (ds : List Document). oks ds ++ later) (sym items))
 
     pub gathers_loads : (d : Document) → r ≡ Ok d → d.nodes ≡ [] → all.fault ≡ None → GathersLoads g.gives source all
@@ -160,7 +160,7 @@ module _ {S : Type 0} (g : Ghosts S) (source : S) (old new : Parser S) (r : Docu
         no_end h = cc
 
         roots_of : (taken : List Event) → Took g old new taken → RootsFollow taken
-        roots_of taken took = roots_behind given taken
+        roots_of taken took = roots_after given taken
             (roots_follow (given ++ taken) (histories.nests new _ _ (gave_on new taken took).history))
 
         go : Loads g (next_bounded most) left_over old new d → GathersLoads g.gives source all
@@ -256,7 +256,7 @@ module _ {S : Type 0} (g : Ghosts S) (source : S) (old new : Parser S) (r : Docu
               → loads ((given ++ taken) ++ rest) x ≡ as_whole_loads all.documents.items (ending_of all.fault)
           error is_kept rest x = sym (stands (taken ++ rest) x
               (fails rest x ∙ ap (λ (w : Fault). Err w) (sym is_kept)) ((given ++ taken) ++ rest)
-              (so_far_behind taken rest x))
+              (so_far_after taken rest x))
 
       pub gathers_to_fault : GathersLoads g.gives source all
       gathers_to_fault = go (loads_of_call (Err y) is)

@@ -53,13 +53,13 @@ the_same : (p q : yaml_parser_t_prefix) → ◌≡◌ {A = Option yaml_parser_t_
 the_same p q h = cc
 
 -- nothing that was asked for was not needed
-no_answer : (front : List Token) (x : Answer) (behind : List Answer)
-    → ◌≡◌ {A = List Answer} [] (answers front (x ∷ behind)) → ⊥
-no_answer [] x behind h = cc
-no_answer (t ∷ l) x behind h = cc
+no_answer : (front : List Token) (x : Answer) (following : List Answer)
+    → ◌≡◌ {A = List Answer} [] (answers front (x ∷ following)) → ⊥
+no_answer [] x following h = cc
+no_answer (t ∷ l) x following h = cc
 
 pub none_needed : (asked : List Token) (given : List Event) → EachNeeded asked [] given
-none_needed asked given front x behind h = absurd (no_answer front x behind h)
+none_needed asked given front x following h = absurd (no_answer front x following h)
 
 stopped_by : (c : Config) (asked : List Token) (given : List Event) (more : List Answer) (f : Fault)
     → Cause c asked given more f

@@ -7,7 +7,7 @@ ghost use Rattle.libyaml_grammar.specs.grammar.Events.{Event, events};
 ghost use Rattle.libyaml_types.specs.Fault.{Fault};
 ghost use Rattle.libyaml_grammar.specs.partial.Fits.{Fits};
 ghost use Rattle.libyaml_grammar.specs.grammar.Order.{in_order};
-ghost use Rattle.libyaml_grammar.specs.runs.Runs.{Ending, Ends, Fails, IsRun, is_behind_properties};
+ghost use Rattle.libyaml_grammar.specs.runs.Runs.{Ending, Ends, Fails, IsRun, is_after_properties};
 ghost use Rattle.libyaml_types.specs.Source.{coming};
 ghost use Rattle.libyaml_grammar.specs.grammar.Tokens.{Token};
 ghost use Rattle.libyaml_grammar.specs.grammar.Trees.{Stream, tokens};
@@ -47,9 +47,9 @@ pub fn yaml_parser_parse_all<S: yaml_token_source_t + Drop>(
         → S.known source ≡ Some (coming (tokens t) f)
         → IfOk result (λ run. RunsTo S.yaml_token_source_t source run (events t) Ends) }
     // a partial tree that fits gives its events, and its error
-    ensures of_partial_tree { (before : List Token) (token : Token) (behind : List Token) (c : PartialTree) (f : Fault)
+    ensures of_partial_tree { (before : List Token) (token : Token) (following : List Token) (c : PartialTree) (f : Fault)
         → Fits before token c
-        → is_behind_properties c behind ≡ true → S.known source ≡ Some (coming (before ++ token ∷ behind) f)
+        → is_after_properties c following ≡ true → S.known source ≡ Some (coming (before ++ token ∷ following) f)
         → IfOk result (λ run. RunsTo S.yaml_token_source_t source run (partial_events c token)
         (Fails (fault c token.content token.start_mark))) }
     // any list of tokens gives its run

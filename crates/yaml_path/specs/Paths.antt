@@ -53,14 +53,14 @@ child_at nodes id word = option_or (value_at nodes id word)
     (option_and_then (λ index. item_at nodes id index) (index_of word))
 
 -- what the words of a path lead to, one by one, from the node of this id
-abbrev pub id_behind : List yaml_node_t → ℤ → List (List ℕ) → Option ℤ
-id_behind nodes id [] = Some id
-id_behind nodes id (word ∷ words) = option_and_then (λ child. id_behind nodes child words) (child_at nodes id word)
+abbrev pub id_after : List yaml_node_t → ℤ → List (List ℕ) → Option ℤ
+id_after nodes id [] = Some id
+id_after nodes id (word ∷ words) = option_and_then (λ child. id_after nodes child words) (child_at nodes id word)
 
 -- the same from the root, where there is one
 abbrev pub id_at : List yaml_node_t → List (List ℕ) → Option ℤ
 id_at [] words = None
-id_at (root ∷ nodes) words = id_behind (root ∷ nodes) (pos 1) words
+id_at (root ∷ nodes) words = id_after (root ∷ nodes) (pos 1) words
 
 -- the text of the scalar at the end of a path
 abbrev pub text_at : List yaml_node_t → List (List ℕ) → Option (List ℕ)

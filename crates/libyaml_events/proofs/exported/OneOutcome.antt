@@ -6,10 +6,10 @@ use Rattle.libyaml_types.specs.declared.source.yaml_token_source_t.{Ghosts}
 use Rattle.libyaml_grammar.specs.grammar.Tokens.{Anchor, Content, Token}
 use Rattle.libyaml_grammar.specs.grammar.Trees.{tokens}
 use Rattle.libyaml_grammar.specs.grammar.Events.{Event}
-use Rattle.libyaml_grammar.specs.partial.PartialTrees.{PartialTree, at_tag, at_tag_behind}
+use Rattle.libyaml_grammar.specs.partial.PartialTrees.{PartialTree, at_tag, at_tag_after}
 use Rattle.libyaml_grammar.specs.partial.PartialEvents.{partial_events}
 use Rattle.libyaml_grammar.specs.partial.DeterminedEvents.{Begins, BeginsEach, next_event}
-use Rattle.libyaml_grammar.specs.runs.Runs.{Ending, Fails, IsRun, has_token, is_behind, is_behind_properties}
+use Rattle.libyaml_grammar.specs.runs.Runs.{Ending, Fails, IsRun, has_token, is_after, is_after_properties}
 use Rattle.libyaml_grammar.proofs.exported.Running.{one_run_proof, some_run_proof, partial_run, amid_run}
 use Rattle.libyaml_grammar.proofs.exported.Injectivity.{err_same, fault_same, head_same, not_cons, ok_not_err, ok_same, tail_same}
 use Rattle.libyaml_events.specs.machine.Config.{Parser}
@@ -122,37 +122,37 @@ determined_needs_no_more l given e each runs (for_next_event o) =
     let x = next_there given o.first_events a.0 e (sym o.first_goes_on ∙ a.1) in
     let y = next_there given o.second_events b.0 e (sym o.second_goes_on ∙ b.1) in
     o.differ (ap next_event x ∙ sym (ap next_event y))
-determined_needs_no_more l given e each runs (amid_properties before token behind c a i b g) =
-    let r = rw (← a) at (amid_run before token behind c no_fault i b) in
+determined_needs_no_more l given e each runs (amid_properties before token following c a i b g) =
+    let r = rw (← a) at (amid_run before token following c no_fault i b) in
     let n = runs [] no_fault (partial_events c token) (Fails no_fault)
     (run_here l no_fault (partial_events c token) (Fails no_fault) r) in
     not_ahead given n.0 e (g ∙ n.1)
 
-pub waited : (c : PartialTree) (l : List Token) → HasWaited c l → is_behind_properties c l ≡ true
-waited c l (at_once e f) = ap (is_behind_properties c) e ∙ f
+pub waited : (c : PartialTree) (l : List Token) → HasWaited c l → is_after_properties c l ≡ true
+waited c l (at_once e f) = ap (is_after_properties c) e ∙ f
 waited c l (by_last front t e f g) = g
 
 some_token : (a b : List Token) → has_token a ≡ true → has_token (a ++ b) ≡ true
 some_token [] b h = absurd cc
 some_token (t ∷ a) b h = refl
 
-behind_more : (c : PartialTree) (a b : List Token) → is_behind_properties c a ≡ true → is_behind_properties c (a ++ b) ≡ true
-behind_more (at_tag p) [] b h = absurd cc
-behind_more (at_tag p) (t ∷ a) b h = go t.content h
+after_more : (c : PartialTree) (a b : List Token) → is_after_properties c a ≡ true → is_after_properties c (a ++ b) ≡ true
+after_more (at_tag p) [] b h = absurd cc
+after_more (at_tag p) (t ∷ a) b h = go t.content h
   where
-    go : (k : Content) → is_behind k a ≡ true → is_behind k (a ++ b) ≡ true
+    go : (k : Content) → is_after k a ≡ true → is_after k (a ++ b) ≡ true
     go (Anchor x) h = some_token a b h
     go _ h = refl
-behind_more (at_tag_behind p x m) a b h = some_token a b h
-behind_more _ a b h = refl
+after_more (at_tag_after p x m) a b h = some_token a b h
+after_more _ a b h = refl
 
 -- the run of tokens that have an error, whatever comes after them
 pub failed_run : (l : List Token) (g : List Event) (f : Fault) (more : List Token) (s : Fault) → HasFailed l g f
     → IsRun (l ++ more) s g (Fails f)
 failed_run l g f more s h = rw (← (ap (λ (x : List Token). x ++ more) h.all_tokens ∙ append_assoc h.before (h.token ∷
-    h.behind) more)) at (rw (← h.all_events) at (rw (← h.fault_is) at
-    (partial_run h.before h.token (h.behind ++ more) h.cut s h.fits
-    (behind_more h.cut h.behind more (waited h.cut h.behind h.waited)))))
+    h.following) more)) at (rw (← h.all_events) at (rw (← h.fault_is) at
+    (partial_run h.before h.token (h.following ++ more) h.cut s h.fits
+    (after_more h.cut h.following more (waited h.cut h.following h.waited)))))
 
 pub faulty_run : (l : List Token) (given : List Event) (g : Fault) → HasFailed l given g → (f : Fault)
     → IsRun l f given (Fails g)
@@ -169,21 +169,21 @@ pub failed_needs_no_more : (l : List Token) (given other : List Event) (g : Faul
     → NeedsMore l other → ⊥
 failed_needs_no_more l given other g h (for_next_event o)
     = h.fits.bad_token (record {
-      rest = h.behind ++ o.first_rest;
+      rest = h.following ++ o.first_rest;
       valid_list =
           record { tree = o.first; all = valid_list; order = o.first_order };
     })
   where
-    valid_list : (h.before ++ h.token ∷ []) ++ (h.behind ++ o.first_rest) ≡ tokens o.first
-    valid_list = append_assoc h.before (h.token ∷ []) (h.behind ++ o.first_rest)
-        ∙ (sym (append_assoc h.before (h.token ∷ h.behind) o.first_rest)
+    valid_list : (h.before ++ h.token ∷ []) ++ (h.following ++ o.first_rest) ≡ tokens o.first
+    valid_list = append_assoc h.before (h.token ∷ []) (h.following ++ o.first_rest)
+        ∙ (sym (append_assoc h.before (h.token ∷ h.following) o.first_rest)
         ∙ (ap (λ (k : List Token). k ++ o.first_rest) (sym h.all_tokens) ∙ sym o.first_tokens))
-failed_needs_no_more l given other g h (amid_properties before token behind c a i b k) =
+failed_needs_no_more l given other g h (amid_properties before token following c a i b k) =
     two_faults (sym (at no_fault) ∙ at memory_fault)
   where
     at : (f : Fault) → g ≡ f
     at f = fault_same g f (one_run_proof l f given (partial_events c token) (Fails g) (Fails f) (faulty_run l given g h f)
-        (rw (← a) at (amid_run before token behind c f i b))).1
+        (rw (← a) at (amid_run before token following c f i b))).1
 
 -- where a call in which no allocation failed stopped: at the end of tokens after which none is needed, or at the
 -- source's error
@@ -264,7 +264,7 @@ module _ {S : Type 0} (g : Ghosts S) where
       (sym (append_assoc given (e ∷ []) a.0) ∙ (sym a.1 ∙ (b.1 ∙ append_assoc given (f ∷ []) b.0)))) in
       let k = (ran_once v.history h.history [] [] (ap (λ (z : List Token). (asked ++ z) ++ []) m)
       (ap (λ (z : Event). given ++ z ∷ []) same_event)).0 in
-      alike w (record { result = ap Ok same_event; bound = n.bound ∙ sym o.bound; behind_event = k; behind_error = tt })
+      alike w (record { result = ap Ok same_event; bound = n.bound ∙ sym o.bound; after_event = k; after_error = tt })
 
   runs_out : (old new : Parser S) (x : yaml_error_type_t) (asked : List Token) (given : List Event) → Next old (Err x) new
       → (h : FailsBy g.gives old new asked given) (l : List Token) → h.more ≡ answers l []
@@ -316,8 +316,8 @@ module _ {S : Type 0} (g : Ghosts S) where
       = record {
         result = ap Err (n.kept.0 ∙ (ap (λ (z : Fault). z.error) f ∙ sym o.kept.0));
         bound = n.bound ∙ sym o.bound;
-        behind_event = tt;
-        behind_error = record {
+        after_event = tt;
+        after_error = record {
           fault = f;
           failed = (n.failed, o.failed);
           over = (n.kept.1, o.kept.1);

@@ -13,7 +13,7 @@ use Rattle.libyaml_grammar.proofs.exported.Running.{one_run_proof, some_run_proo
 use Rattle.libyaml_events.specs.sources.Determined.{BeginsEachRun, OneBegins}
 use Rattle.libyaml_events.specs.sources.History.{answers}
 use Rattle.libyaml_events.specs.sources.Needs.{EachNeeded, EachWasNeeded, NeedsMore}
-use Rattle.libyaml_events.specs.sources.Parsing.{HasFailed, IsWhole, StopsShort, behind_viable_prefix, amid_properties}
+use Rattle.libyaml_events.specs.sources.Parsing.{HasFailed, IsWhole, StopsShort, after_viable_prefix, amid_properties}
 use Rattle.libyaml_grammar.proofs.exported.Injectivity.{head_same, tail_same, not_cons}
 use Rattle.libyaml_events.proofs.exported.OneOutcome.{answers_then, same_tokens, not_faulted, same_ends, ends_there, ends_here, Compared, same, first_longer, second_longer, compared, faulty_run, failed_needs_no_more}
 
@@ -33,9 +33,9 @@ pub whole_run : (l : List Token) (g : List Event) (more : List Token) (f : Fault
 whole_run l g more f h = rw (← h.all_tokens) at (rw (← h.all_events) at (valid_list_run h.tree more f h.order))
 
 pub short_run : (l : List Token) (given : List Event) (f : Fault) → StopsShort l given → IsRun l f given (Fails f)
-short_run l given f (behind_viable_prefix b h s) = begin_run l given f b h s
-short_run l given f (amid_properties before token behind c a i b g)
-    = rw (← a) at (rw (← g) at (amid_run before token behind c f i b))
+short_run l given f (after_viable_prefix b h s) = begin_run l given f b h s
+short_run l given f (amid_properties before token following c a i b g)
+    = rw (← a) at (rw (← g) at (amid_run before token following c f i b))
 
 pub answers_both : (l : List Token) (m : List Token) (r : List Answer) → answers l (answers m r) ≡ answers (l ++ m) r
 answers_both [] m r = refl
@@ -72,7 +72,7 @@ source_stop asked last given f l e h
 
 -- a further result that was asked for, among the tokens or after them
 data Further (l asked : List Token) (last : List Answer) (x : Answer) (rest : List Answer) : Type 0 where
-  among : (t : Token) (behind : List Token) → asked ≡ l ++ t ∷ behind → Further l asked last x rest
+  among : (t : Token) (following : List Token) → asked ≡ l ++ t ∷ following → Further l asked last x rest
   after : (front : List Token) → l ≡ asked ++ front → last ≡ answers front (x ∷ rest) → Further l asked last x rest
 
 further : (l asked : List Token) (last : List Answer) (x : Answer) (rest : List Answer)
@@ -88,7 +88,7 @@ further (t ∷ l) (u ∷ asked) last x rest e
     token_same h = cc
 
     go : u ≡ t → Further l asked last x rest → Further (t ∷ l) (u ∷ asked) last x rest
-    go h (among v behind i) = among v behind (ap (λ (z : Token). z ∷ asked) h ∙ ap (λ (z : List Token). t ∷ z) i)
+    go h (among v following i) = among v following (ap (λ (z : Token). z ∷ asked) h ∙ ap (λ (z : List Token). t ∷ z) i)
     go h (after front i j) = after front (ap (λ (z : Token). z ∷ l) (sym h) ∙ ap (λ (z : List Token). u ∷ z) i) j
 
 -- it was needed
@@ -99,7 +99,7 @@ further_needed : (l asked : List Token) (last : List Answer) (given : List Event
 further_needed l asked last given x rest each then e = go (further l asked last x rest e)
   where
     go : Further l asked last x rest → (g : List Event) × ((has_end l ≡ false) × NeedsMore l g)
-    go (among t behind i) = let w = each l t behind i in (w.before, (w.running, w.needs))
+    go (among t following i) = let w = each l t following i in (w.before, (w.running, w.needs))
     go (after front i j) =
         let w = then front x rest j in
         (given, (ap has_end i ∙ w.0, subst (λ (z : List Token). NeedsMore z given) (sym i) w.1))

@@ -25,7 +25,7 @@ use Rattle.libyaml_events.specs.declared.step.Step.{Step}
 use Rattle.libyaml_events.specs.declared.step.Step.TheVariants as stepped
 use Rattle.libyaml_events.specs.machine.Outcomes.{result_of, only_if, standing_by}
 use Rattle.libyaml_events.specs.machine.Config.{Config, config_of}
-use Rattle.libyaml_events.specs.machine.Machine.{Progressed, content_behind, mapping_start_with, put, seen, sequence_start_with}
+use Rattle.libyaml_events.specs.machine.Machine.{Progressed, content_after, mapping_start_with, put, seen, sequence_start_with}
 use Rattle.libyaml_events.specs.machine.Steps.{Steps}
 use Rattle.libyaml_events.specs.machine.Want.{Given, Texts}
 use Rattle.libyaml_events.specs.automaton.AutomatonResults.{IsContent, IsOpening, Led, PutsContent, ReadsTag, SaysContent, collection_start}
@@ -78,7 +78,7 @@ opening_put out h a g t _ r r' d start o f e s = absurd o
 pub tag_read : (o : Option unnamed_yaml_token_t_data_tag) (g : Option (List ℕ)) (p : NodePlace)
     (r : automaton.PropertiesRead) (x : automaton_config.Stacks) (h : Texts) (c : Config) (t : yaml_token_t)
     (k : unnamed_yaml_token_t_data) → ReadsTag o c g
-    → content_behind o p r x h c t k ≡ put h h.anchor g c t k (automaton.node_content p r x (seen t k) (token_type k))
+    → content_after o p r x h c t k ≡ put h h.anchor g c t k (automaton.node_content p r x (seen t k) (token_type k))
 tag_read None g p r x h c t k e = rw e refl
 tag_read (Some tag) None p r x h c t k e = absurd e
 tag_read (Some tag) (Some g) p r x h c t k e = rw e refl

@@ -59,7 +59,7 @@ pushed_there : (n : Next) (r : Reading) (h : Texts) (c : Config) (k : unnamed_ya
     → pushes_in_documents n c.behind_document_end (token_type k) ≡ true → grows_for (wanted_by n r) h c k ≡ true
 pushed_there next.AtImplicitDocumentStart r h c k i e = rw i (pushed_at_document c.behind_document_end k e)
 pushed_there next.AtDocumentStart r h c k i e = rw i (pushed_at_directive k e)
-pushed_there next.BehindDirective r h c k i e = pushed_at_directive k e
+pushed_there next.AfterDirective r h c k i e = pushed_at_directive k e
 pushed_there _ r h c k i e = absurd cc
 
 pub document_grows : (q : Pending) (c : Config) (k : unnamed_yaml_token_t_data) (kind : yaml_token_type_t) → Ready q c
@@ -86,7 +86,7 @@ handle_there : (n : Next) (r : Reading) (h : Texts) (c : Config) (t : automaton.
 handle_there next.AtImplicitDocumentStart r h c t k start v x d i e s
     = rw i (handle_at_document c.behind_document_end k e)
 handle_there next.AtDocumentStart r h c t k start v x d i e s = rw i (handle_at_directive k e)
-handle_there next.BehindDirective r h c t k start v x d i e s = handle_at_directive k e
+handle_there next.AfterDirective r h c t k start v x d i e s = handle_at_directive k e
 handle_there next.AtStreamStart r h c t k start v x d i e s = let f = rw (i, e) at s in absurd cc
 handle_there next.AtDocumentEnd r h c t k start v x d i e s = let f = rw (i, e) at s in absurd cc
 handle_there next.AtBlockSequenceFirstEntry r h c t k start v x d i e s = let f = rw i at s in absurd cc

@@ -28,11 +28,11 @@ use Rattle.libyaml_events.specs.declared.step.Step.{Step}
 use Rattle.libyaml_events.specs.declared.step.Step.TheVariants as stepped
 use Rattle.libyaml_events.specs.machine.Outcomes.{result_of, directive_texts, standing_by, texts_for, wanted}
 use Rattle.libyaml_events.specs.machine.Config.{Config, Handles, config_with}
-use Rattle.libyaml_events.specs.machine.Machine.{Progressed, declared_by, fault_with, handles_behind, put, seen, step}
+use Rattle.libyaml_events.specs.machine.Machine.{Progressed, declared_by, fault_with, handles_after_directive, put, seen, step}
 use Rattle.libyaml_events.specs.machine.Growth.{may_grow}
 use Rattle.libyaml_events.specs.machine.Read.{DirectiveTexts, PropertyTexts}
 use Rattle.libyaml_events.specs.machine.Steps.{FailsAs, Steps}
-use Rattle.libyaml_events.specs.machine.Want.{Progress, Given, Want, Wants, Texts, texts_behind, with_directive}
+use Rattle.libyaml_events.specs.machine.Want.{Progress, Given, Want, Wants, Texts, texts_after, with_directive}
 use Rattle.libyaml_events.specs.automaton.View.{Ready}
 
 -- neither parser has a lookahead
@@ -72,20 +72,20 @@ refused _ d t r' out h y a' f n o s = absurd f
 -- or after which a token is wanted
 goes_on : (n : Next) (r : Reading) (h : Texts) (k : unnamed_yaml_token_t_data) (p : PropertyTexts) (ds : DirectiveTexts)
     (a : automaton_config.Stacks) (hs : Handles) (f : Fault) (o : Option yaml_token_t) (new : Config)
-    → n ≡ next.BehindDirective → with_directive h k ≡ directive_texts ds → config_with a (declared_by hs k) f o ≡ new
+    → n ≡ next.AfterDirective → with_directive h k ≡ directive_texts ds → config_with a (declared_by hs k) f o ≡ new
     → ◌≡◌ {A = Progressed} (Ok (
-      Wants (record { next = wanted_by n r; texts = texts_behind h k (wanted_by n r) }),
-      config_with a (handles_behind hs k (wanted_by n r)) f o,
+      Wants (record { next = wanted_by n r; texts = texts_after h k (wanted_by n r) }),
+      config_with a (handles_after_directive hs k (wanted_by n r)) f o,
     )) (Ok (Wants (record { next = wanted_by n r; texts = texts_for (wanted_by n r) p ds }), new))
-goes_on next.BehindDirective r h k p ds a hs f o new n i j = rw (i, j) refl
+goes_on next.AfterDirective r h k p ds a hs f o new n i j = rw (i, j) refl
 goes_on _ r h k p ds a hs f o new n i j = absurd cc
 
-at_directive : (n : Next) (r : Reading) (c : Config) → n ≡ next.BehindDirective → purposes.IsAt n c.state
-at_directive next.BehindDirective r c e = tt
+at_directive : (n : Next) (r : Reading) (c : Config) → n ≡ next.AfterDirective → purposes.IsAt n c.state
+at_directive next.AfterDirective r c e = tt
 at_directive _ r c e = absurd cc
 
 pub directive_wants : (out : Progressed) (d : Config) (t : yaml_token_t) (q : Pending) (h : Texts)
-    (a : automaton_config.Stacks) (new : Config) → next_of q.reading.next ≡ next.BehindDirective
+    (a : automaton_config.Stacks) (new : Config) → next_of q.reading.next ≡ next.AfterDirective
     → with_directive h t.content ≡ directive_texts q.directives
     → config_with a (declared_by d.handles t.content) d.fault d.lookahead ≡ new → d.lookahead ≡ None
     → out ≡ put h None None d t t.content (automaton.Wants (purposes.purpose_of q.reading) a)

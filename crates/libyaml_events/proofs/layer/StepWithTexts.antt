@@ -27,11 +27,11 @@ use Rattle.libyaml_automaton.specs.Purposes as purposes
 use Rattle.libyaml_events.specs.declared.pending.Pending.{Pending}
 use Rattle.libyaml_events.specs.machine.Outcomes.{property_texts, texts_for, wanted}
 use Rattle.libyaml_events.specs.machine.Config.{Config, Handles, config_of, config_with}
-use Rattle.libyaml_events.specs.machine.Growth.{grows_for, joins, joins_before, joins_behind_anchor, may_grow}
-use Rattle.libyaml_events.specs.machine.Machine.{content_behind, content_resolved, put, resolve, step, with_texts}
+use Rattle.libyaml_events.specs.machine.Growth.{grows_for, joins, joins_before, joins_after_anchor, may_grow}
+use Rattle.libyaml_events.specs.machine.Machine.{content_after, content_resolved, put, resolve, step, with_texts}
 use Rattle.libyaml_events.specs.machine.Read.{PropertyTexts, DirectiveTexts}
 use Rattle.libyaml_events.specs.machine.Want.{Texts}
-use Rattle.libyaml_events.specs.automaton.AutomatonResults.{GrowsBehind, IsHeld, IsPlain, Led, SaysIn}
+use Rattle.libyaml_events.specs.automaton.AutomatonResults.{GrowsAfter, IsHeld, IsPlain, Led, SaysIn}
 use Rattle.libyaml_events.specs.automaton.View.{Ready}
 
 -- What a step does with texts hangs on the handles, the error and the lookahead, which the automaton leaves alone.
@@ -49,7 +49,7 @@ module _ (hs : Handles) (f : Fault) (o : Option yaml_token_t) (a b : automaton_c
 
   content_same : (p : NodePlace) (r : automaton.PropertiesRead) (y : automaton_config.Stacks)
       (g : Option unnamed_yaml_token_t_data_tag)
-      → content_behind g p r y h (config_with a hs f o) t k ≡ content_behind g p r y h (config_with b hs f o) t k
+      → content_after g p r y h (config_with a hs f o) t k ≡ content_after g p r y h (config_with b hs f o) t k
   content_same p r y None = put_same _ _ _
   content_same p r y (Some g) = resolved_same p r y (resolve hs g.handle g.suffix)
 
@@ -79,10 +79,10 @@ TagIn p d g h (automaton.Wants v x) = texts_for v (record p { tag = Some g }) d 
 TagIn p d g h _ = Unit {0}
 
 module _ (p : PropertyTexts) (d : DirectiveTexts) (c : automaton_config.Stacks) (t : automaton.KindAndMarks) where
-  anchor_behind : (a : List ℕ) (n : NodePlace) (r : automaton.PropertiesRead) (b : Bool)
-      → AnchorIn p d a (property_texts r p) (automaton.anchor_behind b n r c t)
-  anchor_behind a n r false = refl
-  anchor_behind a n r true = tt
+  anchor_after : (a : List ℕ) (n : NodePlace) (r : automaton.PropertiesRead) (b : Bool)
+      → AnchorIn p d a (property_texts r p) (automaton.anchor_after b n r c t)
+  anchor_after a n r false = refl
+  anchor_after a n r true = tt
 
   anchor_at : (a : List ℕ) (s : yaml_parser_state_t)
       → AnchorIn p d a (texts_for automaton.AtState p d) (automaton.at_state s c t kinds.YAML_ANCHOR_TOKEN)
@@ -98,14 +98,14 @@ module _ (p : PropertyTexts) (d : DirectiveTexts) (c : automaton_config.Stacks) 
   anchor_in : (a : List ℕ) (w : automaton.Purpose)
       → AnchorIn p d a (texts_for w p d) (automaton.step w c t kinds.YAML_ANCHOR_TOKEN)
   anchor_in a automaton.AtState = anchor_at a c.state
-  anchor_in a (automaton.BehindDirective start has_version) = tt
-  anchor_in a (automaton.BehindProperties n r) = anchor_behind a n r r.anchor
+  anchor_in a (automaton.AfterDirective start has_version) = tt
+  anchor_in a (automaton.AfterProperties n r) = anchor_after a n r r.anchor
   anchor_in a _ = refl
 
-  tag_behind : (g : unnamed_yaml_token_t_data_tag) (n : NodePlace) (r : automaton.PropertiesRead) (b : Bool)
-      → TagIn p d g (property_texts r p) (automaton.tag_behind b n r c t)
-  tag_behind g n r false = refl
-  tag_behind g n r true = tt
+  tag_after : (g : unnamed_yaml_token_t_data_tag) (n : NodePlace) (r : automaton.PropertiesRead) (b : Bool)
+      → TagIn p d g (property_texts r p) (automaton.tag_after b n r c t)
+  tag_after g n r false = refl
+  tag_after g n r true = tt
 
   tag_at : (g : unnamed_yaml_token_t_data_tag) (s : yaml_parser_state_t)
       → TagIn p d g (texts_for automaton.AtState p d) (automaton.at_state s c t kinds.YAML_TAG_TOKEN)
@@ -121,17 +121,17 @@ module _ (p : PropertyTexts) (d : DirectiveTexts) (c : automaton_config.Stacks) 
   tag_in : (g : unnamed_yaml_token_t_data_tag) (w : automaton.Purpose)
       → TagIn p d g (texts_for w p d) (automaton.step w c t kinds.YAML_TAG_TOKEN)
   tag_in g automaton.AtState = tag_at g c.state
-  tag_in g (automaton.BehindDirective start has_version) = tt
-  tag_in g (automaton.BehindProperties n r) = tag_behind g n r r.tag
+  tag_in g (automaton.AfterDirective start has_version) = tt
+  tag_in g (automaton.AfterProperties n r) = tag_after g n r r.tag
   tag_in g _ = refl
 
 -- a token is wanted for what has no texts
 plain : (n : Next) (r : Reading) → is_simple n ≡ true → IsPlain (wanted_by n r)
-plain next.BehindDirective r e = absurd cc
-plain next.BehindProperties r e = absurd cc
+plain next.AfterDirective r e = absurd cc
+plain next.AfterProperties r e = absurd cc
 plain _ r e = tt
 
-asked : (n : Next) (r : Reading) (p : PropertyTexts) (d : DirectiveTexts) → n ≡ next.BehindProperties
+asked : (n : Next) (r : Reading) (p : PropertyTexts) (d : DirectiveTexts) → n ≡ next.AfterProperties
     → texts_for (wanted_by n r) p d ≡ property_texts (properties r) p
 asked n r p d e = rw e refl
 
@@ -191,15 +191,15 @@ grows_there : (n : Next) (r : Reading) (h : Texts) (c : Config) (k : unnamed_yam
 grows_there next.AtStreamStart r h c k i e = rw i e
 grows_there next.AtImplicitDocumentStart r h c k i e = absurd cc
 grows_there next.AtDocumentStart r h c k i e = absurd cc
-grows_there next.BehindDirective r h c k i e = absurd cc
-grows_there next.BehindProperties r h c k i e = absurd cc
-grows_there next.BehindBlockEntry r h c k i e = e
-grows_there next.BehindIndentlessEntry r h c k i e = e
-grows_there next.BehindKey r h c k i e = e
-grows_there next.BehindValue r h c k i e = e
-grows_there next.BehindFlowSequenceValue r h c k i e = e
-grows_there next.BehindFlowMappingKey r h c k i e = e
-grows_there next.BehindFlowMappingValue r h c k i e = e
+grows_there next.AfterDirective r h c k i e = absurd cc
+grows_there next.AfterProperties r h c k i e = absurd cc
+grows_there next.AfterBlockEntry r h c k i e = e
+grows_there next.AfterIndentlessEntry r h c k i e = e
+grows_there next.AfterKey r h c k i e = e
+grows_there next.AfterValue r h c k i e = e
+grows_there next.AfterFlowSequenceValue r h c k i e = e
+grows_there next.AfterFlowMappingKey r h c k i e = e
+grows_there next.AfterFlowMappingValue r h c k i e = e
 grows_there _ r h c k i e = rw i e
 
 either : (b d : Bool) → (b ≡ true) ⊎ (d ≡ true) → b || d ≡ true
@@ -216,14 +216,14 @@ grows_full q c k kind y e o = grows_there (next_of q.reading.next) q.reading (wa
 -- at an ANCHOR the content comes after another
 joins_where : (hs : Handles) (g : Option unnamed_yaml_token_t_data_tag) (n m : NodePlace) (r r' : automaton.PropertiesRead)
     (c x : automaton_config.Stacks) (t : automaton.KindAndMarks) (b : Bool)
-    → automaton.anchor_behind b n r c t ≡ automaton.AsksContent m r' x → joins g hs ≡ true
-    → joins_behind_anchor b g hs ≡ true
+    → automaton.anchor_after b n r c t ≡ automaton.AsksContent m r' x → joins g hs ≡ true
+    → joins_after_anchor b g hs ≡ true
 joins_where hs g n m r r' c x t false e j = absurd cc
 joins_where hs g n m r r' c x t true e j = j
 
 joins_asked : (hs : Handles) (h : Texts) (n m : NodePlace) (r r' : automaton.PropertiesRead) (c x : automaton_config.Stacks)
     (t : automaton.KindAndMarks) (k : unnamed_yaml_token_t_data)
-    → automaton.behind_properties n r c t (token_type k) ≡ automaton.AsksContent m r' x → joins h.tag hs ≡ true
+    → automaton.parse_after_properties n r c t (token_type k) ≡ automaton.AsksContent m r' x → joins h.tag hs ≡ true
     → joins_before r h hs k ≡ true
 joins_asked hs h n m r r' c x t (tok.Anchor a) e j = joins_where hs h.tag n m r r' c x t r.anchor e j
 joins_asked hs h n m r r' c x t _ e j = j
@@ -231,7 +231,7 @@ joins_asked hs h n m r r' c x t _ e j = j
 -- content after properties may take memory
 content_grows : (n : Next) (r : Reading) (p : PropertyTexts) (d : DirectiveTexts) (c : Config) (t : automaton.KindAndMarks)
     (m : NodePlace) (r' : automaton.PropertiesRead) (x : automaton_config.Stacks) (k : unnamed_yaml_token_t_data)
-    → n ≡ next.BehindProperties
+    → n ≡ next.AfterProperties
     → automaton.step (wanted_by n r) (config_of c) t (token_type k) ≡ automaton.AsksContent m r' x
     → (joins (property_texts (properties r) p).tag c.handles ≡ true) ⊎ (opens_at (place_of r.place) (token_type k) ≡ true)
     → grows_for (wanted_by n r) (texts_for (wanted_by n r) p d) c k ≡ true
@@ -244,7 +244,7 @@ pub grows_asked : (hs : Handles) (f : Fault) (o : Option yaml_token_t) (a b : au
     → k ≡ token_type t.content → FitsStep x k r' b.state → (x ≡ action.AsksContent → r' ≡ q.reading)
     → IsOutcome (automaton.step (purposes.purpose_of q.reading) a (kind_and_marks k t.start_mark t.end_mark) k)
     (outcome x (automaton.no_properties (kind_and_marks k t.start_mark t.end_mark)) (kind_and_marks k t.start_mark t.end_mark) r' b)
-    → x ≡ action.AsksContent → GrowsBehind (record q { reading = r' }) (config_with b hs f o) t
+    → x ≡ action.AsksContent → GrowsAfter (record q { reading = r' }) (config_with b hs f o) t
     → may_grow (wanted q) c t.content ≡ true
 grows_asked hs f o a b c t q r' x k ec ek fits u s i g =
     let e : r' ≡ q.reading = u i in

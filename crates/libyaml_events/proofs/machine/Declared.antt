@@ -12,9 +12,9 @@ use Rattle.libyaml_grammar.specs.grammar.Events.{Event, declaration, prefix_of, 
 use Rattle.libyaml_grammar.specs.grammar.Order.{declares, is_known, is_accepted, no_version}
 use Rattle.libyaml_grammar.proofs.exported.Reading.{keeps_order}
 use Rattle.libyaml_events.specs.machine.Config.{Config, Handles, config_of}
-use Rattle.libyaml_events.proofs.machine.Link.{End, after, behind_directives, directive_ends, directive_texts, handles_of, waits}
+use Rattle.libyaml_events.proofs.machine.Link.{End, after, after_directives, directive_ends, directive_texts, handles_of, waits}
 use Rattle.libyaml_grammar.proofs.exported.TextMaps.{inserted}
-use Rattle.libyaml_automaton.specs.Automaton.{BehindDirective}
+use Rattle.libyaml_automaton.specs.Automaton.{AfterDirective}
 use Rattle.libyaml_automaton.specs.Automaton as automaton
 use Rattle.libyaml_types.specs.declared.directive.yaml_tag_directive_t.{yaml_tag_directive_t}
 use Rattle.libyaml_types.specs.declared.directive.yaml_version_directive_t.{yaml_version_directive_t}
@@ -133,20 +133,20 @@ version_there (directive ds (tag_directive d m)) e = version_there ds e
 
 pub version_after : (s : Mark) (ds : Directives) (c : Config) (v : VersionAsked) (m : Marks)
     (f : Config → Token → List Event × End) (r : List Event)
-    → after (machine (behind_directives s ds) c (tok (VersionDirective v) m) (VersionDirective v)) f r
+    → after (machine (after_directives s ds) c (tok (VersionDirective v) m) (VersionDirective v)) f r
     ≡ (
       r,
       directive_ends (keeps_order ds no_directives (VersionDirective v)) ds (VersionDirective v) m
-          (waits (behind_directives s (directive ds (version v m))) c),
+          (waits (after_directives s (directive ds (version v m))) c),
     )
 version_after s ds c v m f r = go (no_version ds) refl (is_accepted v.major v.minor) refl
   where
     go : (n : Bool) → no_version ds ≡ n → (u : Bool) → is_accepted v.major v.minor ≡ u
-        → after (machine (behind_directives s ds) c (tok (VersionDirective v) m) (VersionDirective v)) f r
+        → after (machine (after_directives s ds) c (tok (VersionDirective v) m) (VersionDirective v)) f r
         ≡ (
           r,
           directive_ends (keeps_order ds no_directives (VersionDirective v)) ds (VersionDirective v) m
-              (waits (behind_directives s (directive ds (version v m))) c),
+              (waits (after_directives s (directive ds (version v m))) c),
         )
     go true e true g = rw (version_found ds e, e, g) refl
     go true e false g = rw (version_found ds e, e, g) (rw (e, directive_fault) refl)
@@ -163,11 +163,11 @@ directives_then (directive ds (tag_directive d m)) r = directives_then ds (decla
 pub tag_after : (s : Mark) (ds : Directives) (c : Config) (d : HandleDeclared) (m : Marks)
     (f : Config → Token → List Event × End) (r : List Event)
     → c.handles ≡ handles_of ds
-    → after (machine (behind_directives s ds) c (tok (TagDirective d) m) (TagDirective d)) f r
+    → after (machine (after_directives s ds) c (tok (TagDirective d) m) (TagDirective d)) f r
     ≡ (
       r,
       directive_ends (keeps_order ds no_directives (TagDirective d)) ds (TagDirective d) m
-          (waits (behind_directives s (directive ds (tag_directive d m)))
+          (waits (after_directives s (directive ds (tag_directive d m)))
           (record c { handles = insert c.handles d.handle d.prefix })),
     )
 tag_after s ds c d m f r h = go (declares ds d.handle) refl
@@ -177,17 +177,17 @@ tag_after s ds c d m f r h = go (declares ds d.handle) refl
         (automaton.tag_directive u s (is_some (version_of ds)) (config_of c) (seen (tok (TagDirective d) m) (TagDirective d)))) f r
 
     goes_on : End
-    goes_on = waits (behind_directives s (directive ds (tag_directive d m)))
+    goes_on = waits (after_directives s (directive ds (tag_directive d m)))
         (record c { handles = insert c.handles d.handle d.prefix })
 
     new : waits (record {
-      next = BehindDirective s (is_some (version_of ds));
+      next = AfterDirective s (is_some (version_of ds));
       texts = record (directive_texts ds) { tag_directives = tag_directives_of ds ++ declaration d ∷ [] };
     })
         (record c { handles = insert c.handles d.handle d.prefix }) ≡ goes_on
     new = ap (λ (x : List yaml_tag_directive_t). waits
         (record {
-          next = BehindDirective s (is_some (version_of ds));
+          next = AfterDirective s (is_some (version_of ds));
           texts = record (directive_texts ds) { tag_directives = x };
         })
         (record c { handles = insert c.handles d.handle d.prefix })) (sym (directives_then ds (declaration d ∷ [])))

@@ -1,7 +1,7 @@
 -- The machine follows the grammar: all that one token makes it do at a position is what the grammar says of it.
 use Rattle.std.proofs.Common.{◌≡◌, ℕ, suc, List, [], ◌∷◌, Option, Some, None, refl, ap, ◌∙◌, Bool, true, false, Ok}
 use Rattle.std.proofs.lemmas.Bool.{and_parts}
-use Rattle.libyaml_events.specs.machine.Machine.{Progressed, content_behind, content_resolved, put, seen, with_texts}
+use Rattle.libyaml_events.specs.machine.Machine.{Progressed, content_after, content_resolved, put, seen, with_texts}
 use Rattle.libyaml_events.specs.machine.Want.{Given, AtState, no_texts}
 use Rattle.libyaml_events.specs.machine.Config.{config_of as without_texts, Config, staying, no_handles, popped, taken}
 use Rattle.libyaml_automaton.specs.Automaton as automaton
@@ -9,15 +9,15 @@ use Rattle.libyaml_types.specs.Types.{token_type}
 use Rattle.libyaml_grammar.specs.partial.PartialTrees.{declared, open_collection, BlockPlace, Open, PartPlace, Place, block, entry, explicit_root, flow_entry, flow_key, flow_value, implicit_root, indentless_entry, part_place, root, slot}
 use Rattle.libyaml_grammar.specs.grammar.Tokens.{Alias, Anchor, BlockEnd, BlockEntry, BlockMappingStart, BlockSequenceStart, Content, DocumentEnd, DocumentStart, FlowMappingEnd, FlowMappingStart, FlowSequenceEnd, FlowSequenceStart, Key, Marks, Scalar, ScalarText, StreamEnd, StreamStart, Tag}
 use Rattle.libyaml_grammar.specs.grammar.Tokens.{TagDirective, Token, Value, VersionDirective, marks_of, tok}
-use Rattle.libyaml_grammar.specs.grammar.Trees.{Before, BlockItems, BlockNode, BlockSlot, Directive, Directives, Documents, FlowMember, FlowNode, FlowSlot, Free, Parts, Properties, alone, anchor, anchor_tag, behind, block_mapping, block_sequence, collection, directive, ended, explicit, flow}
+use Rattle.libyaml_grammar.specs.grammar.Trees.{Before, BlockItems, BlockNode, BlockSlot, Directive, Directives, Documents, FlowMember, FlowNode, FlowSlot, Free, Parts, Properties, alone, anchor, anchor_tag, following, block_mapping, block_sequence, collection, directive, ended, explicit, flow}
 use Rattle.libyaml_grammar.specs.grammar.Trees.{flow_node, flow_nothing, free, implicit, indentless, item, key, last, mapping, no_directives, no_last, no_parts, no_value, node, nothing, opened, pair, part, scalar, sequence, single, slot_of, tag, tag_anchor, value, whole, with_value}
 use Rattle.libyaml_grammar.specs.grammar.Events.{Event, alone_of, directive_start, document_end_at, document_start_at, empty_at, end_at, end_of, first_directive, scalar_of, tag_of}
 use Rattle.libyaml_grammar.specs.grammar.Order.{is_known, properties_in_order}
 use Rattle.libyaml_grammar.specs.partial.Fits.{ends_empty}
-use Rattle.libyaml_grammar.proofs.exported.Positions.{Position, between, done, due, flow_behind, flow_due, flow_keyed, headed, in_indentless, in_mapping, in_sequence, unopened}
-use Rattle.libyaml_grammar.proofs.exported.Reading.{Step, at_flow, at_free, at_headed, at_unopened, behind_documents, behind_indentless, behind_item, behind_key, behind_member, behind_part, behind_whole, fill, fill_flow, on_block_entry, on_block_mapping, on_block_sequence, on_due, without}
-use Rattle.libyaml_grammar.proofs.exported.Given.{given_at_flow, given_at_free, given_at_headed, given_at_unopened, given_behind_documents, given_behind_indentless, given_behind_item, given_behind_key, given_behind_member, given_behind_part, given_behind_whole, given_on_block_entry}
-use Rattle.libyaml_grammar.proofs.exported.Given.{given_on_block_mapping, given_on_block_sequence, given_on_due, given_without, gives}
+use Rattle.libyaml_grammar.proofs.exported.Positions.{Position, between, done, due, flow_after, flow_due, flow_keyed, headed, in_indentless, in_mapping, in_sequence, unopened}
+use Rattle.libyaml_grammar.proofs.exported.Reading.{Step, at_flow, at_free, at_headed, at_unopened, after_documents, after_indentless, after_item, after_key, after_member, after_part, after_whole, fill, fill_flow, on_block_entry, on_block_mapping, on_block_sequence, on_due, without}
+use Rattle.libyaml_grammar.proofs.exported.Given.{given_at_flow, given_at_free, given_at_headed, given_at_unopened, given_after_documents, given_after_indentless, given_after_item, given_after_key, given_after_member, given_after_part, given_after_whole, given_on_block_entry, given_on_block_mapping}
+use Rattle.libyaml_grammar.proofs.exported.Given.{given_on_block_sequence, given_on_due, given_without, gives}
 use Rattle.libyaml_events.proofs.machine.Declared.{resolve_is, tag_after, version_after}
 use Rattle.libyaml_events.proofs.machine.Link.{End, after, config, config_of, emit, ends, free_config, handles_of, headed_config, kind, node_config, properties_of, spends, step_ends, texts_of, waits, want_of}
 use Rattle.libyaml_grammar.proofs.exported.StepsMeet.{IsDue, IsEntry, IsMet}
@@ -34,9 +34,9 @@ more n r d t = spends n AtState d t.content (marks_of t) r
 
 -- after a whole node
 documents_follow : (n : ℕ) (d : Documents) (k : Content) (m : Marks) (r : List Event)
-    → spends (suc (suc n)) AtState (config_of (between (behind d))) k m r ≡ (
-      given_behind_documents k m r,
-      step_ends (behind_documents d k m) no_directives k m,
+    → spends (suc (suc n)) AtState (config_of (between (following d))) k m r ≡ (
+      given_after_documents k m r,
+      step_ends (after_documents d k m) no_directives k m,
     )
 documents_follow n d (VersionDirective a) m r
     = ap (emit (document_end_at true m.start m.start))
@@ -71,7 +71,7 @@ popped_flow p x k m = let e = flow_waits p x in cc
 item_follows : (n : ℕ) (c : BlockPlace) (o : Option Properties) (s : Marks) (is : BlockItems) (k : Content)
     (m : Marks) (r : List Event)
     → spends (suc n) AtState (config_of (in_sequence c o s is)) k m r
-    ≡ (given_behind_item k m r, step_ends (behind_item c o s is k m) no_directives k m)
+    ≡ (given_after_item k m r, step_ends (after_item c o s is k m) no_directives k m)
 item_follows n c o s is BlockEntry m r = refl
 item_follows n c o s is BlockEnd m r
     = ap (λ (x : End). (end_of sequence m ∷ r, x)) (block_waits c (block_sequence o s is m))
@@ -80,8 +80,8 @@ item_follows n c o s is _ m r = refl
 part_follows : (n : ℕ) (c : BlockPlace) (o : Option Properties) (s : Marks) (ps : Parts) (k : Content) (m : Marks)
     (r : List Event)
     → spends (suc (suc n)) AtState (config_of (in_mapping c o s ps)) k m r ≡ (
-      given_behind_part ps k m r,
-      step_ends (behind_part c o s ps k m) no_directives k m,
+      given_after_part ps k m r,
+      step_ends (after_part c o s ps k m) no_directives k m,
     )
 part_follows n c o s no_parts BlockEnd m r
     = ap (λ (x : End). (end_of mapping m ∷ r, x)) (block_waits c (block_mapping o s no_parts m))
@@ -95,16 +95,16 @@ part_follows n c o s _ _ m r = refl
 indentless_follows : (n : ℕ) (c : PartPlace) (o : Option Properties) (is : BlockItems) (e : Marks) (x : BlockSlot)
     (k : Content) (m : Marks) (r : List Event)
     → spends (suc (suc (suc n))) AtState (config_of (in_indentless c o is e x)) k m r ≡ (
-      given_behind_indentless c o is e x k m r,
-      step_ends (behind_indentless c o is e x k m) no_directives k m,
+      given_after_indentless c o is e x k m r,
+      step_ends (after_indentless c o is e x k m) no_directives k m,
     )
 indentless_follows n (part_place c o s ps t v) y is e x BlockEntry m r = refl
 indentless_follows n (part_place c o s ps t v) y is e x k m r
     = ap (emit (end_at sequence m.start m.start)) (part_follows n c o s (part ps t v (indentless y is e x)) k m r)
 
 member_follows : (n : ℕ) (c : Open) (e : FlowMember) (k : Content) (m : Marks) (r : List Event) → IsEntry e
-    → spends (suc (suc n)) AtState (config_of (flow_behind c e)) k m r
-    ≡ (given_behind_member c e k m r, step_ends (behind_member c e k m) no_directives k m)
+    → spends (suc (suc n)) AtState (config_of (flow_after c e)) k m r
+    ≡ (given_after_member c e k m r, step_ends (after_member c e k m) no_directives k m)
 member_follows n (open_collection p o sequence s is) (single y) FlowSequenceEnd m r w
     = ap (λ (x : End). (end_of sequence m ∷ r, x))
     (flow_waits p (collection o sequence s is (last (single y)) m))
@@ -122,8 +122,8 @@ member_follows n _ _ _ m r w = refl
 
 key_follows : (n : ℕ) (c : Open) (e : Marks) (y : FlowSlot) (k : Content) (m : Marks) (r : List Event)
     → spends (suc (suc (suc n))) AtState (config_of (flow_keyed c e y)) k m r ≡ (
-      given_behind_key c e y k m r,
-      step_ends (behind_key c e y k m) no_directives k m,
+      given_after_key c e y k m r,
+      step_ends (after_key c e y k m) no_directives k m,
     )
 key_follows n (open_collection p o sequence s is) e y FlowSequenceEnd m r
     = ap (λ (x : End). (empty_at m.start ∷ end_at mapping m.start m.start ∷ end_of sequence m ∷ r, x))
@@ -136,8 +136,8 @@ key_follows n _ e y _ m r = refl
 
 whole_follows : (n : ℕ) (p : Place) (x : FlowNode) (k : Content) (m : Marks) (r : List Event)
     → spends (suc (suc (suc n))) AtState (config_of (fill_flow p x)) k m r ≡ (
-      given_behind_whole (fill_flow p x) k m r,
-      step_ends (behind_whole (fill_flow p x) k m) no_directives k m,
+      given_after_whole (fill_flow p x) k m r,
+      step_ends (after_whole (fill_flow p x) k m) no_directives k m,
     )
 whole_follows n (block (root (implicit_root f))) x k m r = documents_follow (suc n) (implicit f (flow x)) k m r
 whole_follows n (block (root (explicit_root b ds s))) x k m r =
@@ -245,7 +245,7 @@ with_none p ps k m = put (texts_of ps) (texts_of ps).anchor (tag_of (declared p)
     (without_texts (node_config p)) (seen (tok k m) k))
 
 abbrev at_content : Place → Properties → Content → Marks → Progressed
-at_content p ps k m = content_behind (texts_of ps).tag (kind p) (properties_of ps) (without_texts (node_config p))
+at_content p ps k m = content_after (texts_of ps).tag (kind p) (properties_of ps) (without_texts (node_config p))
     (texts_of ps) (node_config p) (tok k m) k
 
 abbrev resolved_as : Place → Properties → Content → Marks → Option (List ℕ) → Progressed
@@ -275,43 +275,43 @@ content_is p (tag_anchor h x a y) k m e
     = ap (resolved_as p (tag_anchor h x a y) k m)
     (resolve_is (declared p) h (and_parts (is_known (declared p) h.handle) true e).0)
 
-abbrev Behind : ℕ → Place → Properties → Content → Marks → List Event → Progressed → Step → List Event → Type 0
-Behind n p ps k m r o s g = after o (more (suc (suc (suc n))) r) r ≡ (g, step_ends s no_directives k m)
+abbrev LeadsAfter : ℕ → Place → Properties → Content → Marks → List Event → Progressed → Step → List Event → Type 0
+LeadsAfter n p ps k m r o s g = after o (more (suc (suc (suc n))) r) r ≡ (g, step_ends s no_directives k m)
 
 -- properties with no content: the token goes on after them
 only_follow : (n : ℕ) (p : Place) (ps : Properties) (k : Content) (m : Marks) (r : List Event)
-    → Behind n p ps k m r (alone_given p ps k m) (without p (Some ps) k m) (given_without p (Some ps) k m r)
+    → LeadsAfter n p ps k m r (alone_given p ps k m) (without p (Some ps) k m) (given_without p (Some ps) k m r)
 only_follow n p ps k m r = ap (emit (alone_of (declared p) ps))
     (ap (λ (d : Config). spends (suc (suc (suc n))) AtState d k m r) (popped_flow p (alone ps) k m)
     ∙ whole_follows n p (alone ps) k m r)
 
 none_follow : (n : ℕ) (p : Place) (ps : Properties) (k : Content) (m : Marks) (r : List Event)
-    → Behind n p ps k m r (with_none p ps k m) (without p (Some ps) k m) (given_without p (Some ps) k m r)
+    → LeadsAfter n p ps k m r (with_none p ps k m) (without p (Some ps) k m) (given_without p (Some ps) k m r)
 none_follow n p ps k m r = ap (λ (x : Progressed). after x (more (suc (suc (suc n))) r) r) (only_is p ps k m)
     ∙ only_follow n p ps k m r
 
 sequence_follows : (n : ℕ) (p : Place) (ps : Properties) (m : Marks) (r : List Event)
-    → Behind n p ps BlockSequenceStart m r (with_tag p ps BlockSequenceStart m) (on_block_sequence p (Some ps) m)
+    → LeadsAfter n p ps BlockSequenceStart m r (with_tag p ps BlockSequenceStart m) (on_block_sequence p (Some ps) m)
     (given_on_block_sequence p (Some ps) m r)
 sequence_follows n (block (root t)) ps m r = refl
 sequence_follows n (block _) ps m r = refl
 sequence_follows n p ps m r = none_follow n p ps BlockSequenceStart m r
 
 mapping_follows : (n : ℕ) (p : Place) (ps : Properties) (m : Marks) (r : List Event)
-    → Behind n p ps BlockMappingStart m r (with_tag p ps BlockMappingStart m) (on_block_mapping p (Some ps) m)
+    → LeadsAfter n p ps BlockMappingStart m r (with_tag p ps BlockMappingStart m) (on_block_mapping p (Some ps) m)
     (given_on_block_mapping p (Some ps) m r)
 mapping_follows n (block (root t)) ps m r = refl
 mapping_follows n (block _) ps m r = refl
 mapping_follows n p ps m r = none_follow n p ps BlockMappingStart m r
 
 entry_follows : (n : ℕ) (p : Place) (ps : Properties) (m : Marks) (r : List Event)
-    → Behind n p ps BlockEntry m r (with_tag p ps BlockEntry m) (on_block_entry p (Some ps) m)
+    → LeadsAfter n p ps BlockEntry m r (with_tag p ps BlockEntry m) (on_block_entry p (Some ps) m)
     (given_on_block_entry p (Some ps) m r)
 entry_follows n (block (slot c)) ps m r = refl
 entry_follows n p ps m r = none_follow n p ps BlockEntry m r
 
 content_follows : (n : ℕ) (p : Place) (ps : Properties) (k : Content) (m : Marks) (r : List Event) → (IsProperty k → ⊥)
-    → Behind n p ps k m r (with_tag p ps k m) (on_due p (Some ps) k m) (given_on_due p (Some ps) k m r)
+    → LeadsAfter n p ps k m r (with_tag p ps k m) (on_due p (Some ps) k m) (given_on_due p (Some ps) k m r)
 content_follows n p ps (Anchor a) m r w = absurd (w tt)
 content_follows n p ps (Tag h) m r w = absurd (w tt)
 content_follows n p ps (Scalar v) m r w = scalar_follows p (Some ps) v m r
@@ -399,12 +399,12 @@ headed_follows n b ds d (VersionDirective x) m r
 headed_follows n (free f) ds d (TagDirective x) m r
     = tag_after (first_directive ds (directive_start d)) (directive ds d)
     (free_config f (handles_of (directive ds d))) x m (more n r) r refl
-headed_follows n (behind y) ds d (TagDirective x) m r
+headed_follows n (following y) ds d (TagDirective x) m r
     = tag_after (first_directive ds (directive_start d)) (directive ds d)
     (config st.YAML_PARSE_DOCUMENT_START_STATE [] [] (handles_of (directive ds d))) x m
     (more n r) r refl
 headed_follows n (free f) ds d DocumentStart m r = refl
-headed_follows n (behind x) ds d DocumentStart m r = refl
+headed_follows n (following x) ds d DocumentStart m r = refl
 headed_follows n b ds d _ m r = refl
 
 unopened_follows : (n : ℕ) (k : Content) (m : Marks) (r : List Event)
@@ -418,7 +418,7 @@ pub follows : (n : ℕ) (q : Position) (k : Content) (m : Marks) (r : List Event
     → spends (suc (suc (suc (suc n)))) (want_of q) (config_of q) k m r ≡ (gives q k m r, ends q k m)
 follows n unopened k m r w = unopened_follows (suc (suc (suc n))) k m r
 follows n (between (free f)) k m r w = free_follows (suc n) f k m r
-follows n (between (behind d)) k m r w = documents_follow (suc (suc n)) d k m r
+follows n (between (following d)) k m r w = documents_follow (suc (suc n)) d k m r
 follows n (headed b ds d) k m r w = headed_follows (suc (suc (suc n))) b ds d k m r
 follows n (due p None) k m r w = nothing_follows n p k m r w
 follows n (due p (Some ps)) k m r w = properties_follow n p ps k m r w
@@ -427,5 +427,5 @@ follows n (in_mapping c o s ps) k m r w = part_follows (suc (suc n)) c o s ps k 
 follows n (in_indentless c o is e x) k m r w = indentless_follows (suc n) c o is e x k m r
 follows n (flow_due c) k m r w = flow_follows (suc n) c k m r
 follows n (flow_keyed c e x) k m r w = key_follows (suc n) c e x k m r
-follows n (flow_behind c e) k m r w = member_follows (suc (suc n)) c e k m r w
+follows n (flow_after c e) k m r w = member_follows (suc (suc n)) c e k m r w
 follows n (done (whole b x)) k m r w = refl

@@ -5,16 +5,16 @@ use Rattle.libyaml_grammar.specs.partial.PartialTrees.{declared, open_collection
 use Rattle.libyaml_types.specs.Fault.{no_fault, Fault}
 use Rattle.libyaml_grammar.specs.partial.FaultTexts.{document_start_fault}
 use Rattle.libyaml_grammar.specs.grammar.Tokens.{Content, Mark, Marks, TagDirective, TagName, Token, VersionDirective, marks_of, tok}
-use Rattle.libyaml_grammar.specs.grammar.Trees.{Before, Directives, Documents, FlowMember, Free, Parts, Properties, Role, Stream, anchor, anchor_tag, behind, directive, ended, explicit, free, implicit, key, mapping, no_directives, no_parts, no_value, opened, pair, part, sequence, single, tag}
+use Rattle.libyaml_grammar.specs.grammar.Trees.{Before, Directives, Documents, FlowMember, Free, Parts, Properties, Role, Stream, anchor, anchor_tag, following, directive, ended, explicit, free, implicit, key, mapping, no_directives, no_parts, no_value, opened, pair, part, sequence, single, tag}
 use Rattle.libyaml_grammar.specs.grammar.Trees.{tag_anchor, tag_directive, value, version, whole, with_value}
 use Rattle.libyaml_grammar.specs.grammar.Events.{Event, directive_start, first_directive, tag_directives_of, version_of, anchor_of, first_of_properties, last_of_properties}
 use Rattle.libyaml_grammar.specs.partial.PartialFaults.{directive_fault, fault}
-use Rattle.libyaml_grammar.proofs.exported.Positions.{Position, between, done, due, flow_behind, flow_due, flow_keyed, headed, in_indentless, in_mapping, in_sequence, unopened}
+use Rattle.libyaml_grammar.proofs.exported.Positions.{Position, between, done, due, flow_after, flow_due, flow_keyed, headed, in_indentless, in_mapping, in_sequence, unopened}
 use Rattle.libyaml_grammar.proofs.exported.Reading.{Step, bad, goes, keeps_order, over, pending, step}
 use Rattle.libyaml_events.specs.machine.Config.{Config, Handles, no_handles, taken}
 use Rattle.libyaml_events.specs.machine.Machine.{Progressed, machine}
 use Rattle.libyaml_events.specs.machine.Want.{Want, Texts, no_texts, AtState, Given, Wants}
-use Rattle.libyaml_automaton.specs.Automaton.{BehindDirective, BehindProperties, BehindBlockEntry, BehindIndentlessEntry, BehindKey, BehindValue, BehindFlowSequenceValue, BehindFlowMappingKey, BehindFlowMappingValue}
+use Rattle.libyaml_automaton.specs.Automaton.{AfterDirective, AfterProperties, AfterBlockEntry, AfterIndentlessEntry, AfterKey, AfterValue, AfterFlowSequenceValue, AfterFlowMappingKey, AfterFlowMappingValue}
 use Rattle.libyaml_automaton.specs.Automaton as automaton
 use Rattle.libyaml_types.specs.Events.{zero_mark}
 use Rattle.libyaml_automaton.specs.declared.node_place.NodePlace.{NodePlace}
@@ -29,9 +29,9 @@ handles_of (directive ds (version v m)) = handles_of ds
 handles_of (directive ds (tag_directive d m)) = insert (handles_of ds) d.handle d.prefix
 
 -- the state after a key or value
-abbrev pub behind_state : Role → yaml_parser_state_t
-behind_state key = st.YAML_PARSE_BLOCK_MAPPING_VALUE_STATE
-behind_state value = st.YAML_PARSE_BLOCK_MAPPING_KEY_STATE
+abbrev pub after_state : Role → yaml_parser_state_t
+after_state key = st.YAML_PARSE_BLOCK_MAPPING_VALUE_STATE
+after_state value = st.YAML_PARSE_BLOCK_MAPPING_KEY_STATE
 
 -- the state at a key or value
 abbrev pub role_state : Role → yaml_parser_state_t
@@ -47,7 +47,7 @@ abbrev mutual
   states_block (indentless_entry c o is e) = st.YAML_PARSE_INDENTLESS_SEQUENCE_ENTRY_STATE ∷ states_part c
 
   pub states_part : PartPlace → List yaml_parser_state_t
-  states_part (part_place c o m ps k v) = behind_state k ∷ states_block c
+  states_part (part_place c o m ps k v) = after_state k ∷ states_block c
 
 abbrev mutual
   pub states_place : Place → List yaml_parser_state_t
@@ -127,22 +127,22 @@ unpushed_place (flow_key c k) = around c
 unpushed_place (flow_value c k x v) = around c
 
 abbrev pub want_part : PartPlace → automaton.Purpose
-want_part (part_place c o m ps key v) = BehindKey v.end
-want_part (part_place c o m ps value v) = BehindValue v.end
+want_part (part_place c o m ps key v) = AfterKey v.end
+want_part (part_place c o m ps value v) = AfterValue v.end
 
 abbrev pub want_block : BlockPlace → automaton.Purpose
 want_block (root t) = automaton.AtState
-want_block (entry c o m is e) = BehindBlockEntry e.end
+want_block (entry c o m is e) = AfterBlockEntry e.end
 want_block (slot c) = want_part c
-want_block (indentless_entry c o is e) = BehindIndentlessEntry e.end
+want_block (indentless_entry c o is e) = AfterIndentlessEntry e.end
 
 abbrev pub want_place : Place → automaton.Purpose
 want_place (block c) = want_block c
 want_place (flow_entry c) = automaton.AtState
 want_place (flow_key (open_collection p o sequence s is) k) = automaton.AtState
-want_place (flow_key (open_collection p o mapping s is) k) = BehindFlowMappingKey
-want_place (flow_value (open_collection p o sequence s is) k x v) = BehindFlowSequenceValue
-want_place (flow_value (open_collection p o mapping s is) k x v) = BehindFlowMappingValue
+want_place (flow_key (open_collection p o mapping s is) k) = AfterFlowMappingKey
+want_place (flow_value (open_collection p o sequence s is) k x v) = AfterFlowSequenceValue
+want_place (flow_value (open_collection p o mapping s is) k x v) = AfterFlowMappingValue
 
 -- which nodes may stand at a place
 abbrev pub block_kind : BlockPlace → NodePlace
@@ -218,7 +218,7 @@ free_config f hs = record (config st.YAML_PARSE_IMPLICIT_DOCUMENT_START_STATE []
 -- where a document's start is due, after directives
 abbrev pub headed_config : Before → Handles → Config
 headed_config (free f) hs = free_config f hs
-headed_config (behind d) hs = config st.YAML_PARSE_DOCUMENT_START_STATE [] [] hs
+headed_config (following d) hs = config st.YAML_PARSE_DOCUMENT_START_STATE [] [] hs
 
 -- the directives of the last document
 abbrev pub documents_directives : Documents → Directives
@@ -227,11 +227,11 @@ documents_directives (explicit b ds m x) = ds
 
 abbrev pub between_config : Before → Config
 between_config (free f) = free_config f no_handles
-between_config (behind d) = config st.YAML_PARSE_DOCUMENT_END_STATE [] [] (handles_of (documents_directives d))
+between_config (following d) = config st.YAML_PARSE_DOCUMENT_END_STATE [] [] (handles_of (documents_directives d))
 
 abbrev pub parts_state : Parts → yaml_parser_state_t
 parts_state no_parts = st.YAML_PARSE_BLOCK_MAPPING_KEY_STATE
-parts_state (part ps k v x) = behind_state k
+parts_state (part ps k v x) = after_state k
 
 abbrev pub member_state : Open → FlowMember → yaml_parser_state_t
 member_state (open_collection p o sequence s is) (single n) = st.YAML_PARSE_FLOW_SEQUENCE_ENTRY_STATE
@@ -249,17 +249,17 @@ done_config (whole b m) = record (headed_config b no_handles) { state = st.YAML_
 abbrev pub directive_texts : Directives → Texts
 directive_texts ds = record no_texts { version = version_of ds; tag_directives = tag_directives_of ds }
 
-abbrev pub behind_directives : Mark → Directives → Want
-behind_directives start ds
-    = record { next = BehindDirective start (is_some (version_of ds)); texts = directive_texts ds }
+abbrev pub after_directives : Mark → Directives → Want
+after_directives start ds
+    = record { next = AfterDirective start (is_some (version_of ds)); texts = directive_texts ds }
 
 abbrev pub wants : automaton.Purpose → Want
 wants n = record { next = n; texts = no_texts }
 
 abbrev pub want_of : Position → Want
-want_of (headed b ds d) = behind_directives (first_directive ds (directive_start d)) (directive ds d)
+want_of (headed b ds d) = after_directives (first_directive ds (directive_start d)) (directive ds d)
 want_of (due p None) = wants (want_place p)
-want_of (due p (Some ps)) = record { next = BehindProperties (kind p) (properties_of ps); texts = texts_of ps }
+want_of (due p (Some ps)) = record { next = AfterProperties (kind p) (properties_of ps); texts = texts_of ps }
 want_of _ = AtState
 
 abbrev pub config_of : Position → Config
@@ -277,7 +277,7 @@ config_of (in_indentless c o is e n) = config st.YAML_PARSE_INDENTLESS_SEQUENCE_
 config_of (flow_due c) = place_config (flow_entry c)
 config_of (flow_keyed c k x) = config (member_state c (pair k x no_value)) (around c) (marks_open c)
     (handles_of (declared_open c))
-config_of (flow_behind c e) = config (member_state c e) (around c) (marks_open c) (handles_of (declared_open c))
+config_of (flow_after c e) = config (member_state c e) (around c) (marks_open c) (handles_of (declared_open c))
 config_of (done t) = done_config t
 
 -- what is left when a token is spent

@@ -27,9 +27,9 @@ use Rattle.libyaml_automaton.specs.Slots.{is_nothing_before}
 use Rattle.libyaml_automaton.specs.Config as automaton_config
 use Rattle.libyaml_automaton.specs.Config.{top_mark}
 use Rattle.libyaml_automaton.specs.Automaton as automaton
-use Rattle.libyaml_automaton.specs.Automaton.{BehindBlockEntry, BehindDirective, BehindFlowMappingKey, BehindFlowMappingValue, BehindFlowSequenceValue, BehindIndentlessEntry, BehindKey, BehindProperties, BehindValue}
+use Rattle.libyaml_automaton.specs.Automaton.{AfterBlockEntry, AfterDirective, AfterFlowMappingKey, AfterFlowMappingValue, AfterFlowSequenceValue, AfterIndentlessEntry, AfterKey, AfterProperties, AfterValue}
 use Rattle.libyaml_events.specs.machine.Config.{Config, state_set, config_of, staying, no_handles, popped, popped_mark, pushed_mark, with_handle}
-use Rattle.libyaml_events.specs.machine.Machine.{Progressed, content_behind, content_resolved, empty_scalar, put, is_accepted_in, resolve, seen, with_texts}
+use Rattle.libyaml_events.specs.machine.Machine.{Progressed, content_after, content_resolved, empty_scalar, put, is_accepted_in, resolve, seen, with_texts}
 use Rattle.libyaml_events.specs.machine.Want.{Want, Given, Texts, Wants}
 
 -- The kinds of places that states stand for: before the stream, between documents, where a node is due that the
@@ -57,10 +57,10 @@ kind _ = inner
 -- that of what the next token is wanted for
 abbrev pub kind_for : automaton.Purpose → yaml_parser_state_t → Kind
 kind_for automaton.AtState s = kind s
-kind_for (BehindDirective start has_version) s = between
-kind_for (BehindProperties p r) s = node_due
-kind_for (BehindIndentlessEntry m) s = indentless
-kind_for BehindFlowSequenceValue s = pair
+kind_for (AfterDirective start has_version) s = between
+kind_for (AfterProperties p r) s = node_due
+kind_for (AfterIndentlessEntry m) s = indentless
+kind_for AfterFlowSequenceValue s = pair
 kind_for _ s = inner
 
 abbrev pub kind_of : Want → Config → Kind
@@ -267,26 +267,26 @@ module _ (u : Token) (c : Config) where
     resolves p r None n k l = no_node
     resolves p r (Some g) n k l = content h.anchor (Some g) p r n k l
 
-    behind : (p : NodePlace) (r : automaton.PropertiesRead) (o : Option TagName) (n : ℕ) (k : Content) → 4 < n
-        → NodeStep n k (λ ss ms. content_behind o p r (at ss ms) h c u k)
-    behind p r None n k l = content h.anchor None p r n k l
-    behind p r (Some g) n k l = resolves p r (resolve c.handles g.handle g.suffix) n k l
+    following : (p : NodePlace) (r : automaton.PropertiesRead) (o : Option TagName) (n : ℕ) (k : Content) → 4 < n
+        → NodeStep n k (λ ss ms. content_after o p r (at ss ms) h c u k)
+    following p r None n k l = content h.anchor None p r n k l
+    following p r (Some g) n k l = resolves p r (resolve c.handles g.handle g.suffix) n k l
 
     anchored : (b : Bool) (p : NodePlace) (r : automaton.PropertiesRead) (n : ℕ) (s : AnchorName) → 4 < n
-        → NodeStep n (Anchor s) (texted (Anchor s) (λ x. automaton.anchor_behind b p r x (seen u (Anchor s))))
+        → NodeStep n (Anchor s) (texted (Anchor s) (λ x. automaton.anchor_after b p r x (seen u (Anchor s))))
     anchored false p r n s l = property _ refl (omega arith)
-    anchored true p r n s l = behind p r h.tag n (Anchor s) l
+    anchored true p r n s l = following p r h.tag n (Anchor s) l
 
     with_tag : (b : Bool) (p : NodePlace) (r : automaton.PropertiesRead) (n : ℕ) (s : TagName) → 4 < n
-        → NodeStep n (Tag s) (texted (Tag s) (λ x. automaton.tag_behind b p r x (seen u (Tag s))))
+        → NodeStep n (Tag s) (texted (Tag s) (λ x. automaton.tag_after b p r x (seen u (Tag s))))
     with_tag false p r n s l = property _ refl (omega arith)
-    with_tag true p r n s l = behind p r h.tag n (Tag s) l
+    with_tag true p r n s l = following p r h.tag n (Tag s) l
 
     properties : (p : NodePlace) (r : automaton.PropertiesRead) (n : ℕ) (k : Content) → 4 < n
-        → NodeStep n k (texted k (λ x. automaton.behind_properties p r x (seen u k) (token_type k)))
+        → NodeStep n k (texted k (λ x. automaton.parse_after_properties p r x (seen u k) (token_type k)))
     properties p r n (Anchor a) l = anchored r.anchor p r n a l
     properties p r n (Tag g) l = with_tag r.tag p r n g l
-    properties p r n k l = behind p r h.tag n k l
+    properties p r n k l = following p r h.tag n k l
 
     -- documents
     versioned : (b : Bool) (start : Mark) (n : ℕ) (k : Content) → 0 < n
@@ -407,26 +407,26 @@ module _ (u : Token) (c : Config) where
     at_want : (w : automaton.Purpose) (k : Content) → StepKind (room_for w c.state k) k (kind_for w c.state)
         (texted k (λ x. automaton.step w x (seen u k) (token_type k)))
     at_want automaton.AtState k = at_a_state c.state k refl
-    at_want (BehindDirective start has_version) k = explicit start has_version _ k (omega arith)
-    at_want (BehindProperties p r) k = node (properties p r _ k (omega arith))
-    at_want (BehindBlockEntry m) k = slotted (is_nothing_before slot.BlockEntry (token_type k)) _ Block m 5 k in_inner
+    at_want (AfterDirective start has_version) k = explicit start has_version _ k (omega arith)
+    at_want (AfterProperties p r) k = node (properties p r _ k (omega arith))
+    at_want (AfterBlockEntry m) k = slotted (is_nothing_before slot.BlockEntry (token_type k)) _ Block m 5 k in_inner
         (rank_small st.YAML_PARSE_BLOCK_SEQUENCE_ENTRY_STATE k) (omega arith)
-    at_want (BehindIndentlessEntry m) k
+    at_want (AfterIndentlessEntry m) k
         = slotted (is_nothing_before slot.IndentlessEntry (token_type k)) _ Block m 5 k in_indentless
         (rank_small st.YAML_PARSE_INDENTLESS_SEQUENCE_ENTRY_STATE k) (omega arith)
-    at_want (BehindKey m) k
+    at_want (AfterKey m) k
         = slotted (is_nothing_before slot.BlockKey (token_type k)) _ BlockOrIndentlessSequence m 5 k in_inner
         (rank_small st.YAML_PARSE_BLOCK_MAPPING_VALUE_STATE k) (omega arith)
-    at_want (BehindValue m) k
+    at_want (AfterValue m) k
         = slotted (is_nothing_before slot.BlockValue (token_type k)) _ BlockOrIndentlessSequence m 5 k in_inner
         (rank_small st.YAML_PARSE_BLOCK_MAPPING_KEY_STATE k) (omega arith)
-    at_want BehindFlowSequenceValue k
+    at_want AfterFlowSequenceValue k
         = slotted (is_nothing_before slot.PairValue (token_type k)) _ Flow u.start_mark 5 k in_pair
         (rank_small st.YAML_PARSE_FLOW_SEQUENCE_ENTRY_MAPPING_END_STATE k) (omega arith)
-    at_want BehindFlowMappingKey k
+    at_want AfterFlowMappingKey k
         = slotted (is_nothing_before slot.FlowKey (token_type k)) _ Flow u.start_mark 5 k in_inner
         (rank_small st.YAML_PARSE_FLOW_MAPPING_VALUE_STATE k) (omega arith)
-    at_want BehindFlowMappingValue k
+    at_want AfterFlowMappingValue k
         = slotted (is_nothing_before slot.FlowValue (token_type k)) _ Flow u.start_mark 5 k in_inner
         (rank_small st.YAML_PARSE_FLOW_MAPPING_KEY_STATE k) (omega arith)
 

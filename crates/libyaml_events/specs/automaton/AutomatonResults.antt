@@ -52,8 +52,8 @@ with_tag tag q = record q { properties = record q.properties { tag = Some tag } 
 
 -- a token is wanted for what has no texts
 abbrev pub IsPlain : automaton.Purpose → Type 0
-IsPlain (automaton.BehindDirective start has_version) = ⊥
-IsPlain (automaton.BehindProperties place r) = ⊥
+IsPlain (automaton.AfterDirective start has_version) = ⊥
+IsPlain (automaton.AfterProperties place r) = ⊥
 IsPlain _ = Unit {0}
 
 -- what the texts h that were held have to do with those that are held now
@@ -113,7 +113,7 @@ abbrev pub PutIn : Progressed → Texts → (anchor tag : Option (List ℕ)) →
 PutIn out h a g d t NothingDone = Unit {0}
 PutIn out h a g d t (Does x) = out ≡ put h a g d t t.content x
 
--- what a result of `content_behind` says of it, where the properties are those of the reading r
+-- what a result of `content_after` says of it, where the properties are those of the reading r
 abbrev pub SaysContent : Progressed → Texts → (anchor tag : Option (List ℕ)) → yaml_token_t → Action → (r r' : Reading)
     → Config → Type 0
 SaysContent out h a g t x r r' d = PutIn out h a g d t (outcome x (properties r) (seen t t.content) r' (config_of d))
@@ -134,8 +134,8 @@ IsOpening action.FlowMapping = Unit {0}
 IsOpening _ = ⊥
 
 -- the content after properties may take memory: the tag is joined, or a collection's start is pushed
-abbrev pub GrowsBehind : Pending → Config → yaml_token_t → Type 0
-GrowsBehind q d t = (joins (property_texts (properties q.reading) q.properties).tag d.handles ≡ true)
+abbrev pub GrowsAfter : Pending → Config → yaml_token_t → Type 0
+GrowsAfter q d t = (joins (property_texts (properties q.reading) q.properties).tag d.handles ≡ true)
     ⊎ (opens_at (place_of q.reading.place) (token_type t.content) ≡ true)
 
 -- the tag in full can't be had: out of memory, or its handle isn't defined

@@ -9,7 +9,7 @@ use Rattle.libyaml_types.specs.declared.token.unnamed_yaml_token_t_data.TheVaria
 use Rattle.libyaml_types.specs.declared.token.unnamed_yaml_token_t_data_tag.{unnamed_yaml_token_t_data_tag}
 use Rattle.libyaml_automaton.specs.declared.next.Next.{Next}
 use Rattle.libyaml_automaton.specs.declared.next.Next.TheVariants as next
-use Rattle.libyaml_automaton.specs.Automaton.{BehindDirective, BehindProperties}
+use Rattle.libyaml_automaton.specs.Automaton.{AfterDirective, AfterProperties}
 use Rattle.libyaml_automaton.specs.Automaton as automaton
 use Rattle.libyaml_automaton.specs.Fits.{opens_at}
 use Rattle.libyaml_automaton.specs.Growth.{pushes, opens}
@@ -40,13 +40,13 @@ abbrev pub joins : Option unnamed_yaml_token_t_data_tag → Handles → Bool
 joins None hs = false
 joins (Some g) hs = has_prefix hs g.handle
 
-abbrev pub joins_behind_anchor : (has_anchor : Bool) → Option unnamed_yaml_token_t_data_tag → Handles → Bool
-joins_behind_anchor false g hs = false
-joins_behind_anchor true g hs = joins g hs
+abbrev pub joins_after_anchor : (has_anchor : Bool) → Option unnamed_yaml_token_t_data_tag → Handles → Bool
+joins_after_anchor false g hs = false
+joins_after_anchor true g hs = joins g hs
 
 -- the other property joins nothing yet
 abbrev pub joins_before : automaton.PropertiesRead → Texts → Handles → unnamed_yaml_token_t_data → Bool
-joins_before r h hs (tok.Anchor a) = joins_behind_anchor r.anchor h.tag hs
+joins_before r h hs (tok.Anchor a) = joins_after_anchor r.anchor h.tag hs
 joins_before r h hs _ = joins h.tag hs
 
 -- by the function that takes the token
@@ -56,8 +56,8 @@ grows_at next.AtDocumentStart behind_document_end k = grows_at_directive k
 grows_at n behind_document_end k = pushes n (token_type k) || opens n (token_type k)
 
 abbrev pub grows_for : automaton.Purpose → Texts → Config → unnamed_yaml_token_t_data → Bool
-grows_for (BehindDirective start has_version) h c k = grows_at_directive k
-grows_for (BehindProperties p r) h c k = joins_before r h c.handles k || opens_at p (token_type k)
+grows_for (AfterDirective start has_version) h c k = grows_at_directive k
+grows_for (AfterProperties p r) h c k = joins_before r h c.handles k || opens_at p (token_type k)
 grows_for w h c k = grows_at (next_for w c.state) c.behind_document_end k
 
 abbrev pub may_grow : Want → Config → unnamed_yaml_token_t_data → Bool

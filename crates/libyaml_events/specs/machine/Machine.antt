@@ -28,7 +28,7 @@ use Rattle.libyaml_automaton.specs.Config as automaton_config
 use Rattle.libyaml_automaton.specs.declared.node_place.NodePlace.{NodePlace}
 use Rattle.libyaml_automaton.specs.Automaton as automaton
 use Rattle.libyaml_events.specs.machine.Config.{Config, Handles, no_handles, config_of, config_with}
-use Rattle.libyaml_events.specs.machine.Want.{Texts, Want, Progress, Given, Wants, texts_behind}
+use Rattle.libyaml_events.specs.machine.Want.{Texts, Want, Progress, Given, Wants, texts_after}
 
 -- a step gives an event or wants a token, or ends in an error
 abbrev pub Progressed : Type 0
@@ -40,9 +40,9 @@ abbrev pub declared_by : Handles → unnamed_yaml_token_t_data → Handles
 declared_by hs (tok.TagDirective g) = insert hs g.handle g.prefix
 declared_by hs _ = hs
 
-abbrev pub handles_behind : Handles → unnamed_yaml_token_t_data → automaton.Purpose → Handles
-handles_behind hs k (automaton.BehindDirective start has_version) = declared_by hs k
-handles_behind hs k _ = hs
+abbrev pub handles_after_directive : Handles → unnamed_yaml_token_t_data → automaton.Purpose → Handles
+handles_after_directive hs k (automaton.AfterDirective start has_version) = declared_by hs k
+handles_after_directive hs k _ = hs
 
 abbrev pub handles_after : Handles → automaton.Shape → Handles
 handles_after hs (automaton.DocumentEnd implicit) = no_handles
@@ -178,8 +178,8 @@ put h a g c t k (automaton.Gives e x) = Ok (
   config_with x (handles_after c.handles e.shape) c.fault (lookahead_after e.stays t c.lookahead),
 )
 put h a g c t k (automaton.Wants n x) = Ok (
-  Wants (record { next = n; texts = texts_behind h k n }),
-  config_with x (handles_behind c.handles k n) c.fault c.lookahead,
+  Wants (record { next = n; texts = texts_after h k n }),
+  config_with x (handles_after_directive c.handles k n) c.fault c.lookahead,
 )
 put h a g c t k (automaton.Fails f) = Err (fault_with f)
 put h a g c t k _ = Err no_fault
@@ -191,10 +191,10 @@ content_resolved None p r x h c t k = Err (fault.tag_fault r.start_mark r.tag_ma
 content_resolved (Some tag) p r x h c t k
     = put h h.anchor (Some tag) c t k (automaton.node_content p r x (seen t k) (token_type k))
 
-abbrev pub content_behind : Option unnamed_yaml_token_t_data_tag → NodePlace → automaton.PropertiesRead
+abbrev pub content_after : Option unnamed_yaml_token_t_data_tag → NodePlace → automaton.PropertiesRead
     → automaton_config.Stacks → Texts → Config → yaml_token_t → unnamed_yaml_token_t_data → Progressed
-content_behind None p r x h c t k = put h h.anchor None c t k (automaton.node_content p r x (seen t k) (token_type k))
-content_behind (Some g) p r x h c t k = content_resolved (resolve c.handles g.handle g.suffix) p r x h c t k
+content_after None p r x h c t k = put h h.anchor None c t k (automaton.node_content p r x (seen t k) (token_type k))
+content_after (Some g) p r x h c t k = content_resolved (resolve c.handles g.handle g.suffix) p r x h c t k
 
 abbrev pub is_accepted_in : unnamed_yaml_token_t_data → Bool
 is_accepted_in (tok.VersionDirective v) = is_accepted v.major v.minor
@@ -210,7 +210,7 @@ with_texts h c t k (automaton.AsksVersion start x)
     = put h None None c t k (automaton.first_version (is_accepted_in k) start x (seen t k))
 with_texts h c t k (automaton.AsksHandle start has_version x)
     = put h None None c t k (automaton.tag_directive (was_declared c.handles k) start has_version x (seen t k))
-with_texts h c t k (automaton.AsksContent p r x) = content_behind h.tag p r x h c t k
+with_texts h c t k (automaton.AsksContent p r x) = content_after h.tag p r x h c t k
 with_texts h c t k s = put h None None c t k s
 
 abbrev pub machine : Want → Config → yaml_token_t → unnamed_yaml_token_t_data → Progressed

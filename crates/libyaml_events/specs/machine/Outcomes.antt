@@ -2,7 +2,7 @@
 use Rattle.std.specs.Prelude.{Bool, true, false, Option, None, Result, Ok, Err}
 use Rattle.libyaml_types.specs.declared.event.yaml_event_t.{yaml_event_t}
 use Rattle.libyaml_types.specs.declared.enums.yaml_error_type_t.{yaml_error_type_t}
-use Rattle.libyaml_automaton.specs.Automaton.{BehindDirective, BehindProperties}
+use Rattle.libyaml_automaton.specs.Automaton.{AfterDirective, AfterProperties}
 use Rattle.libyaml_automaton.specs.Automaton as automaton
 use Rattle.libyaml_automaton.specs.Purposes as purposes
 use Rattle.libyaml_events.specs.declared.step.Step.{Step}
@@ -28,8 +28,8 @@ directive_texts d = record no_texts { version = d.version; tag_directives = d.ta
 
 -- the texts that are held
 abbrev pub texts_for : automaton.Purpose → PropertyTexts → DirectiveTexts → Texts
-texts_for (BehindProperties place r) p d = property_texts r p
-texts_for (BehindDirective start has_version) p d = directive_texts d
+texts_for (AfterProperties place r) p d = property_texts r p
+texts_for (AfterDirective start has_version) p d = directive_texts d
 texts_for _ p d = no_texts
 
 -- what the next token is wanted for

@@ -44,7 +44,7 @@ with_directive h (tok.TagDirective g)
     = record h { tag_directives = h.tag_directives ++ record { handle = g.handle; prefix = g.prefix } ∷ [] }
 with_directive h _ = h
 
-abbrev pub texts_behind : Texts → unnamed_yaml_token_t_data → automaton.Purpose → Texts
-texts_behind h k (automaton.BehindProperties p r) = with_property h k
-texts_behind h k (automaton.BehindDirective start has_version) = with_directive h k
-texts_behind h k _ = no_texts
+abbrev pub texts_after : Texts → unnamed_yaml_token_t_data → automaton.Purpose → Texts
+texts_after h k (automaton.AfterProperties p r) = with_property h k
+texts_after h k (automaton.AfterDirective start has_version) = with_directive h k
+texts_after h k _ = no_texts

@@ -210,7 +210,7 @@ impl Machine {
         ensures reading { pending.new.reading ≡ pending.old.reading }
         ensures wanted { wanted pending.new ≡ wanted pending.old }
     {
-        if pending.reading.next == Next::BehindDirective.number() {
+        if pending.reading.next == Next::AfterDirective.number() {
             return;
         }
         if pending.directives.version.is_some() || !pending.directives.tag_directives.is_empty() {

@@ -8,7 +8,7 @@ use Rattle.libyaml_grammar.specs.grammar.Order.{is_known}
 use Rattle.libyaml_grammar.specs.partial.PartialTrees.{Place, block, declared, implicit_root, part_place, root, slot}
 use Rattle.libyaml_grammar.proofs.exported.Positions.{Position, due, headed}
 use Rattle.libyaml_grammar.proofs.exported.Reading.{Step, bad, fill_flow, goes, is_legal, leave, over, pending, step}
-use Rattle.libyaml_grammar.proofs.exported.ReadSteps.{Moves, ReadStep, a_tag, fails, first_handle, first_version, is_alone, is_past, leaves, moves, next_handle, next_version, read_step, tag_behind_anchor}
+use Rattle.libyaml_grammar.proofs.exported.ReadSteps.{Moves, ReadStep, a_tag, fails, first_handle, first_version, is_alone, is_past, leaves, moves, next_handle, next_version, read_step, tag_after_anchor}
 
 -- a tag that grammar takes is held
 abbrev pub IsTagHeld : Position → Bool → Marks → Type 0
@@ -28,7 +28,7 @@ tag_goes (moves x v) h e = tag_goes v h e
 tag_goes (leaves p f v) h e = tag_goes v h e
 tag_goes (fails x) h e = tt
 tag_goes (a_tag p g) h e = (refl, refl)
-tag_goes (tag_behind_anchor p a n g) h e = (refl, refl)
+tag_goes (tag_after_anchor p a n g) h e = (refl, refl)
 tag_goes _ h e = absurd cc
 
 pub step_tag : (q : Position) (h : TagName) (m : Marks) → TagGoes (step q (Tag h) m) (is_legal q (Tag h)) m

@@ -2,12 +2,12 @@
 -- tokens has one stream tree.
 use Rattle.std.proofs.Common.{◌≡◌, List, [], ◌∷◌, ◌++◌, refl, sym, ap, ◌∙◌, subst, ◌⊎◌, inl, inr, Bool, true, append-nil}
 use Rattle.libyaml_grammar.specs.grammar.Tokens.{Marks, Token, empty_plain, zero_marks}
-use Rattle.libyaml_grammar.specs.grammar.Trees.{BlockNode, FlowNode, Stream, behind, block_mapping, block_sequence, collection, directive, explicit, flow, flow_node, free, implicit, indentless, item, last, mapping, no_directives, no_last, no_value, node, nothing, opened, pair, part, scalar}
+use Rattle.libyaml_grammar.specs.grammar.Trees.{BlockNode, FlowNode, Stream, following, block_mapping, block_sequence, collection, directive, explicit, flow, flow_node, free, implicit, indentless, item, last, mapping, no_directives, no_last, no_value, node, nothing, opened, pair, part, scalar}
 use Rattle.libyaml_grammar.specs.grammar.Trees.{sequence, single, slot_of, tokens, whole, with_value}
 use Rattle.libyaml_grammar.specs.grammar.ValidLists.{IsViablePrefix, IsValidList}
 use Rattle.libyaml_grammar.specs.partial.PartialTrees.{BlockPlace, PartialTree, Place, at_directive, block, partial_in_order, partial_tokens, entry, explicit_root, flow_entry, flow_key, flow_value, implicit_root, indentless_entry, open_collection, part_place, root, slot}
 use Rattle.libyaml_grammar.specs.partial.Rest.{any_encoding, rest, rest_block_place, rest_place}
-use Rattle.libyaml_grammar.proofs.exported.Positions.{Position, between, done, due, flow_behind, flow_due, flow_keyed, headed, in_indentless, in_mapping, in_sequence, position_in_order, position_rest, position_tokens, position_of, unopened}
+use Rattle.libyaml_grammar.proofs.exported.Positions.{Position, between, done, due, flow_after, flow_due, flow_keyed, headed, in_indentless, in_mapping, in_sequence, position_in_order, position_rest, position_tokens, position_of, unopened}
 use Rattle.libyaml_grammar.proofs.exported.Reading.{Step, bad, feeds, fill, fill_flow, goes, over, reads, reads_all, then_all}
 use Rattle.libyaml_grammar.proofs.exported.Keeps.{feeds_keep}
 use Rattle.libyaml_grammar.proofs.exported.Orders.{feeds_order, reads_from, reads_to, tests}
@@ -25,8 +25,8 @@ abbrev pub Ends : List Token → Position → Type 0
 Ends l q = (t : Stream) × (feeds l q ≡ goes (done t)) × (tests l q true ≡ true)
 
 block_ends : (m : Marks) (c : BlockPlace) (x : BlockNode) → Ends (rest_block_place m c) (fill c x)
-block_ends m (root (implicit_root f)) x = (whole (behind (implicit f x)) m, refl, refl)
-block_ends m (root (explicit_root b ds s)) x = (whole (behind (explicit b ds s (node x))) m, refl, refl)
+block_ends m (root (implicit_root f)) x = (whole (following (implicit f x)) m, refl, refl)
+block_ends m (root (explicit_root b ds s)) x = (whole (following (explicit b ds s (node x))) m, refl, refl)
 block_ends m (entry c o s is e) x = block_ends m c (block_sequence o s (item is e (node x)) m)
 block_ends m (slot (part_place c o s ps k v)) x = block_ends m c (block_mapping o s (part ps k v (slot_of (node x))) m)
 block_ends m (indentless_entry (part_place c o s ps k v) o' is e) x =
@@ -50,8 +50,8 @@ flow_ends m (flow_value (open_collection p o mapping s is) k n v) x =
 pub position_ends : (m : Marks) (q : Position) → Ends (position_rest m q) q
 position_ends m unopened = (whole (free (opened any_encoding m)) m, refl, refl)
 position_ends m (between (free f)) = (whole (free f) m, refl, refl)
-position_ends m (between (behind d)) = (whole (behind d) m, refl, refl)
-position_ends m (headed b ds d) = (whole (behind (explicit b (directive ds d) m nothing)) m, refl, refl)
+position_ends m (between (following d)) = (whole (following d) m, refl, refl)
+position_ends m (headed b ds d) = (whole (following (explicit b (directive ds d) m nothing)) m, refl, refl)
 position_ends m (due p o) = flow_ends m p (scalar o empty_plain m)
 position_ends m (in_sequence c o s is) = block_ends m c (block_sequence o s is m)
 position_ends m (in_mapping c o s ps) = block_ends m c (block_mapping o s ps m)
@@ -63,8 +63,8 @@ position_ends m (flow_keyed (open_collection p o sequence s is) k n) =
     flow_ends m p (collection o sequence s is (last (pair k n no_value)) m)
 position_ends m (flow_keyed (open_collection p o mapping s is) k n) =
     flow_ends m p (collection o mapping s is (last (pair k n no_value)) m)
-position_ends m (flow_behind (open_collection p o sequence s is) e) = flow_ends m p (collection o sequence s is (last e) m)
-position_ends m (flow_behind (open_collection p o mapping s is) e) = flow_ends m p (collection o mapping s is (last e) m)
+position_ends m (flow_after (open_collection p o sequence s is) e) = flow_ends m p (collection o sequence s is (last e) m)
+position_ends m (flow_after (open_collection p o mapping s is) e) = flow_ends m p (collection o mapping s is (last e) m)
 position_ends m (done t) = (t, refl, refl)
 
 -- a position in order is completed to a valid list

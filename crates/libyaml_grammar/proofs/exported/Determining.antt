@@ -8,7 +8,7 @@ use Rattle.libyaml_grammar.specs.grammar.ValidLists.{IsViablePrefix, has_end}
 use Rattle.libyaml_grammar.specs.grammar.Tokens.{Mark, Marks, Token}
 use Rattle.libyaml_grammar.specs.grammar.Trees.{BlockNode, FlowNode, Stream, alone, explicit, flow, flow_node, flow_nothing, implicit, indentless, item, no_value, node, nothing, pair, part, single, slot_of, tokens, with_value}
 use Rattle.libyaml_grammar.specs.partial.PartialEvents.{shown_block, shown_place}
-use Rattle.libyaml_grammar.specs.partial.PartialTrees.{BlockPlace, PartialTree, Place, at_directive, at_tag, at_tag_behind, before_stream, block, content_due, declared, declared_block, document_due, entry, entry_due, explicit_root, flow_entry, flow_key, flow_value, implicit_root, indentless_entry}
+use Rattle.libyaml_grammar.specs.partial.PartialTrees.{BlockPlace, PartialTree, Place, at_directive, at_tag, at_tag_after, before_stream, block, content_due, declared, declared_block, document_due, entry, entry_due, explicit_root, flow_entry, flow_key, flow_value, implicit_root, indentless_entry}
 use Rattle.libyaml_grammar.specs.partial.PartialTrees.{part_due, part_place, root, separator_due, slot}
 use Rattle.libyaml_grammar.specs.partial.Fits.{last_empty}
 use Rattle.libyaml_grammar.specs.partial.DeterminedEvents.{Begins, BeginsEach, IsPrefixTree, IsPrefixPlace, IsOpen, Determines, next_event, sure, sure_block_node, sure_flow_node}
@@ -55,7 +55,7 @@ sure_shows (document_due (explicit b ds s (node n))) m p e = block_edge_shows (r
 sure_shows (at_directive b ds) m p e = absurd p
 sure_shows (content_due q) m p e = place_shows q m
 sure_shows (at_tag q) m p e = absurd p
-sure_shows (at_tag_behind q a x) m p e = absurd p
+sure_shows (at_tag_after q a x) m p e = absurd p
 sure_shows (entry_due c o s (item is x nothing)) m p e = absurd cc
 sure_shows (entry_due c o s (item is x (node n))) m p e = block_edge_shows (entry c o s is x) n m
 sure_shows (part_due c o s (part ps k v (slot_of nothing))) m p e = absurd cc
@@ -93,9 +93,9 @@ in_common (a ∷ d) r s (b ∷ e) x y f g n =
     let (z, h) = in_common d r s e x y (tail_same b a (e ++ x) (d ++ r) f) (tail_same b a (e ++ y) (d ++ s) g) n in
     (z, ap (λ (c : Event). c ∷ e) (head_same b a (e ++ x) (d ++ r) f) ∙ ap (λ (l : List Event). a ∷ l) h)
 
-none_behind : (a u : List Event) → a ≡ a ++ u → u ≡ []
-none_behind [] u e = sym e
-none_behind (x ∷ a) u e = none_behind a u (tail_same x x a (a ++ u) e)
+none_after : (a u : List Event) → a ≡ a ++ u → u ≡ []
+none_after [] u e = sym e
+none_after (x ∷ a) u e = none_after a u (tail_same x x a (a ++ u) e)
 
 none_before : (r s : List Event) → r ++ s ≡ [] → r ≡ []
 none_before [] s e = refl
@@ -104,7 +104,7 @@ none_before (x ∷ r) s e = absurd cc
 pub begin_each_other : (a b : List Event) → Begins a b → Begins b a → a ≡ b
 begin_each_other a b (r, e) (s, f) =
     let g : a ≡ a ++ (r ++ s) = f ∙ (ap (λ (x : List Event). x ++ s) e ∙ append_assoc a r s) in
-    let h : r ≡ [] = none_before r s (none_behind a (r ++ s) g) in
+    let h : r ≡ [] = none_before r s (none_after a (r ++ s) g) in
     sym (e ∙ (ap (λ (x : List Event). a ++ x) h ∙ append-nil a))
 
 pub one_determined_proof : (l : List Token) (d e : List Event) → Determines l d → Determines l e → d ≡ e

@@ -3,21 +3,21 @@ use Rattle.std.proofs.Common.{◌≡◌, List, [], ◌∷◌, ◌++◌, refl, sy
 use Rattle.libyaml_grammar.specs.grammar.Tokens.{Content, Marks, Token, marks_of, tok}
 use Rattle.libyaml_grammar.specs.grammar.Trees.{Stream}
 use Rattle.libyaml_grammar.specs.grammar.Events.{Event}
-use Rattle.libyaml_grammar.specs.partial.PartialTrees.{PartialTree, at_tag, at_tag_behind, before_stream, partial_in_order, partial_tokens, declared}
+use Rattle.libyaml_grammar.specs.partial.PartialTrees.{PartialTree, at_tag, at_tag_after, before_stream, partial_in_order, partial_tokens, declared}
 use Rattle.libyaml_grammar.specs.partial.Fits.{Fits, FitsTag, IsUnknown, IsUnknownTag}
 use Rattle.libyaml_grammar.proofs.exported.Positions.{Position, done, position_in_order, position_tokens, unopened}
 use Rattle.libyaml_grammar.proofs.exported.Reading.{Step, bad, bad_same, broken, checked, feed, feeds, goes, goes_same, is_legal, over, reads, reads_all, step, then_all}
 use Rattle.libyaml_grammar.proofs.exported.Keeps.{ToldAlike, feeds_keep, leave_keeps, moved_keeps}
 use Rattle.libyaml_grammar.proofs.exported.Completion.{not_done, read_order, reads_append}
 use Rattle.libyaml_grammar.proofs.exported.Orders.{reads_to}
-use Rattle.libyaml_grammar.proofs.exported.ReadSteps.{IsNotDone, ReadStep, a_tag, fails, first_handle, first_version, is_past, leaves, moved_open, moves, next_handle, next_version, no_stream, read_step, tag_behind_anchor}
+use Rattle.libyaml_grammar.proofs.exported.ReadSteps.{IsNotDone, ReadStep, a_tag, fails, first_handle, first_version, is_past, leaves, moved_open, moves, next_handle, next_version, no_stream, read_step, tag_after_anchor}
 use Rattle.libyaml_grammar.proofs.trees.Edge.{partial_reads, reached}
 use Rattle.libyaml_grammar.proofs.trees.Existence.{IsTagPartial, StopsAt, gives_content, gives_directive, gives_empty_end, gives_tag}
 
 -- no token is bad at a tag for grammar alone
 abbrev pub NotTagPartial : PartialTree → Type 0
 NotTagPartial (at_tag p) = ⊥
-NotTagPartial (at_tag_behind p a m) = ⊥
+NotTagPartial (at_tag_after p a m) = ⊥
 NotTagPartial _ = Unit {0}
 
 abbrev pub NotTag : Step → Type 0
@@ -60,7 +60,7 @@ read_over q t e = over_done q t.content (marks_of t) (only_over (feed q t) (is_l
 -- at a tag's place the token is a tag that is unknown there
 abbrev UnknownHere : PartialTree → Content → Type 0
 UnknownHere (at_tag p) k = IsUnknown (declared p) k
-UnknownHere (at_tag_behind p a m) k = IsUnknown (declared p) k
+UnknownHere (at_tag_after p a m) k = IsUnknown (declared p) k
 UnknownHere _ k = Unit {0}
 
 -- all that a place knows of the position
@@ -95,7 +95,7 @@ placed (first_handle b h) = λ f. record { tokens = λ r. refl; order = λ r. re
 placed (next_version b ds d a) = λ f. record { tokens = λ r. refl; order = λ r. refl; unknown = tt }
 placed (next_handle b ds d h) = λ f. record { tokens = λ r. refl; order = λ r. refl; unknown = tt }
 placed (a_tag p h) = λ f. record { tokens = λ r. refl; order = λ r. refl; unknown = f }
-placed (tag_behind_anchor p a n h) = λ f. record { tokens = λ r. refl; order = λ r. refl; unknown = f }
+placed (tag_after_anchor p a n h) = λ f. record { tokens = λ r. refl; order = λ r. refl; unknown = f }
 placed _ = λ f. absurd cc
 
 place_of : (q : Position) (k : Content) (m : Marks) (c : PartialTree) → reads q (tok k m) ≡ bad c → Place_of q k c
@@ -109,7 +109,7 @@ place_of q k m c h = go (step q k m) (is_legal q k) (placed (read_step m q k)) h
 
 fits_tag : (l : List Token) (c : PartialTree) (k : Content) → UnknownHere c k → (IsUnknownTag l k → IsTagPartial c) → FitsTag l c k
 fits_tag l (at_tag p) k h f = h
-fits_tag l (at_tag_behind p a m) k h f = h
+fits_tag l (at_tag_after p a m) k h f = h
 fits_tag l before_stream k h f = f
 fits_tag l _ k h f = f
 

@@ -4,10 +4,10 @@ use Rattle.libyaml_types.specs.Fault.{Fault}
 use Rattle.libyaml_grammar.specs.grammar.Tokens.{Anchor, Content, Marks, StreamEnd, Tag, Token, tok}
 use Rattle.libyaml_grammar.specs.grammar.Trees.{Directives, tokens}
 use Rattle.libyaml_grammar.specs.grammar.Events.{events}
-use Rattle.libyaml_grammar.specs.partial.PartialTrees.{PartialTree, at_tag, at_tag_behind, declared}
+use Rattle.libyaml_grammar.specs.partial.PartialTrees.{PartialTree, at_tag, at_tag_after, declared}
 use Rattle.libyaml_grammar.specs.partial.Fits.{Fits, IsUnknown}
 use Rattle.libyaml_grammar.specs.grammar.ValidLists.{is_end, has_end}
-use Rattle.libyaml_grammar.specs.runs.Runs.{has_token, is_behind, is_behind_properties, RunsWhole, to_its_end, to_its_fault}
+use Rattle.libyaml_grammar.specs.runs.Runs.{has_token, is_after, is_after_properties, RunsWhole, to_its_end, to_its_fault}
 use Rattle.libyaml_grammar.proofs.exported.Running.{valid_list_run, partial_run}
 use Rattle.libyaml_grammar.proofs.trees.TreeOrPartialTree.{valid_list_or_partial_tree}
 
@@ -31,22 +31,22 @@ not_end : (ds : Directives) (k : Content) → IsUnknown ds k → is_end k ≡ tr
 not_end ds (Tag t) h e = cc
 not_end ds _ h e = absurd h
 
-behind_one : (k : Content) (l : List Token) → (has_token l ≡ false → is_end k ≡ true) → is_behind k l ≡ true
-behind_one (Anchor a) [] h = h refl
-behind_one (Anchor a) (t ∷ l) h = refl
-behind_one _ l h = refl
+after_one : (k : Content) (l : List Token) → (has_token l ≡ false → is_end k ≡ true) → is_after k l ≡ true
+after_one (Anchor a) [] h = h refl
+after_one (Anchor a) (t ∷ l) h = refl
+after_one _ l h = refl
 
 last_one : (t : Token) (l : List Token) → last_from t l ≡ true → has_token l ≡ false → is_end t.content ≡ true
 last_one t [] e h = e
 last_one t (u ∷ l) e h = cc
 
-behind_ends : (c : PartialTree) (before : List Token) (b : Token) (after : List Token) → Fits before b c → last_from b after ≡ true
-    → is_behind_properties c after ≡ true
-behind_ends (at_tag p) before b [] h e = absurd (not_end (declared p) b.content h.tag e)
-behind_ends (at_tag p) before b (t ∷ l) h e = behind_one t.content l (last_one t l e)
-behind_ends (at_tag_behind p a m) before b [] h e = absurd (not_end (declared p) b.content h.tag e)
-behind_ends (at_tag_behind p a m) before b (t ∷ l) h e = refl
-behind_ends _ before b after h e = refl
+after_ends : (c : PartialTree) (before : List Token) (b : Token) (after : List Token) → Fits before b c → last_from b after ≡ true
+    → is_after_properties c after ≡ true
+after_ends (at_tag p) before b [] h e = absurd (not_end (declared p) b.content h.tag e)
+after_ends (at_tag p) before b (t ∷ l) h e = after_one t.content l (last_one t l e)
+after_ends (at_tag_after p a m) before b [] h e = absurd (not_end (declared p) b.content h.tag e)
+after_ends (at_tag_after p a m) before b (t ∷ l) h e = refl
+after_ends _ before b after h e = refl
 
 pub runs_whole : (l : List Token) (m : Marks) (f : Fault) → has_end l ≡ false → RunsWhole (l ++ tok StreamEnd m ∷ []) f
 runs_whole l m f h = elim (valid_list_or_partial_tree l m h).0 [
@@ -54,6 +54,6 @@ runs_whole l m f h = elim (valid_list_or_partial_tree l m h).0 [
       (rw (append-nil (tokens s.tree) ∙ sym s.all) at (valid_list_run s.tree [] f s.order))
   | inr k ↦ to_its_fault k.before k.token k.after k.cut k.all k.fits
       (rw (← k.all) at (partial_run k.before k.token k.after k.cut f k.fits
-      (behind_ends k.cut k.before k.token k.after k.fits (sym (last_of k.before k.token k.after)
+      (after_ends k.cut k.before k.token k.after k.fits (sym (last_of k.before k.token k.after)
       ∙ (ap last_is_end (sym k.all) ∙ last_of l (tok StreamEnd m) [])))))
 ]

@@ -6,9 +6,9 @@ use Rattle.libyaml_types.specs.declared.event.unnamed_yaml_event_t_data.TheVaria
 use Rattle.libyaml_types.specs.declared.event.unnamed_yaml_event_t_data_document_start.{unnamed_yaml_event_t_data_document_start}
 use Rattle.libyaml_grammar.specs.grammar.Events.{Event, Layout, before_events, block_layout, block_node_events, block_slot_events, document_end_at, documents_events, empty_at, end_at, ended_events, event, events, first_block, first_directive, flow_items_events, flow_last_events, flow_layout}
 use Rattle.libyaml_grammar.specs.grammar.Events.{flow_member_events, flow_node_events, flow_slot_events, free_events, items_events, member_end, missing_key, missing_value, parts_events, slot_events, start_at, stream_end_at, stream_start_at, tag_directives_of, version_of}
-use Rattle.libyaml_grammar.specs.grammar.Nesting.{AllHavePairs, HasPairs, IsEven, IsNested, DocumentTexts, TextsHavePairs, Value, Values, alias_value, collection_value, first_value, is_even, no_texts, no_values, scalar_value, text_behind, texts_events, value_events, values_events}
+use Rattle.libyaml_grammar.specs.grammar.Nesting.{AllHavePairs, HasPairs, IsEven, IsNested, DocumentTexts, TextsHavePairs, Value, Values, alias_value, collection_value, first_value, is_even, no_texts, no_values, scalar_value, text_after, texts_events, value_events, values_events}
 use Rattle.libyaml_grammar.specs.grammar.Tokens.{Mark, StreamHead}
-use Rattle.libyaml_grammar.specs.grammar.Trees.{Before, BlockItems, BlockNode, BlockSlot, Directives, Documents, Ended, FlowItems, FlowLast, FlowMember, FlowNode, FlowSlot, Free, Parts, Slot, Sort, Stream, again, alias, alone, behind, block_mapping, block_sequence, collection, empty, ended}
+use Rattle.libyaml_grammar.specs.grammar.Trees.{Before, BlockItems, BlockNode, BlockSlot, Directives, Documents, Ended, FlowItems, FlowLast, FlowMember, FlowNode, FlowSlot, Free, Parts, Slot, Sort, Stream, again, alias, alone, following, block_mapping, block_sequence, collection, empty, ended}
 use Rattle.libyaml_grammar.specs.grammar.Trees.{explicit, flow, flow_node, flow_nothing, free, implicit, indentless, item, key, last, mapping, more_items, no_directives, no_items, no_last, no_parts, no_value, node, nothing, once, opened, pair, part, scalar, sequence, single, slot_of, value, whole}
 use Rattle.libyaml_grammar.specs.grammar.Trees.{with_value}
 
@@ -229,7 +229,7 @@ ended_text g i m n x = record {
   head = x.all_before.head;
   start = x.all_before.start;
   start_end = x.all_before.start_end;
-  texts = text_behind x.all_before.texts x.content x.start x.start_end x.val i m n;
+  texts = text_after x.all_before.texts x.content x.start x.start_end x.val i m n;
   same = λ r. x.same (document_end_at i m n ∷ r)
       ∙ x.all_before.same (event (ev.DocumentStart x.content) x.start x.start_end ∷ value_events x.val
       (document_end_at i m n ∷ r));
@@ -274,7 +274,7 @@ mutual
 
   pub before_gives : (b : Before) (m : Mark) → AllTexts (before_events b m)
   before_gives (free f) m = free_gives f
-  before_gives (behind d) m = ended_text (documents_events d m) true m m (documents_give d m)
+  before_gives (following d) m = ended_text (documents_events d m) true m m (documents_give d m)
 
 pub events_nest_proof : (t : Stream) → IsNested (events t)
 events_nest_proof (whole b m) =

@@ -6,11 +6,11 @@ use Rattle.libyaml_grammar.specs.partial.PartialTrees.{PartialTree, at_directive
 use Rattle.libyaml_grammar.specs.grammar.Events.{Event, document_end_at, event, events, stream_end_at, stream_start_at}
 use Rattle.libyaml_types.specs.Fault.{Fault}
 use Rattle.libyaml_grammar.proofs.exported.Given.{gives_all}
-use Rattle.libyaml_grammar.specs.grammar.Nesting.{BeginsValue, IsNested, IsOpenDocument, NestsSoFar, DocumentTexts, TextsHavePairs, has_begun, no_texts, none_open, not_begun, one_open, text_behind, texts_events, value_events, whole}
-use Rattle.libyaml_grammar.proofs.exported.Positions.{Position, between, done, flow_behind, in_mapping, position_rest, shown, position_of}
+use Rattle.libyaml_grammar.specs.grammar.Nesting.{BeginsValue, IsNested, IsOpenDocument, NestsSoFar, DocumentTexts, TextsHavePairs, has_begun, no_texts, none_open, not_begun, one_open, text_after, texts_events, value_events, whole}
+use Rattle.libyaml_grammar.proofs.exported.Positions.{Position, between, done, flow_after, in_mapping, position_rest, shown, position_of}
 use Rattle.libyaml_grammar.specs.runs.Runs.{Ending, Ends, IsRun, amid_properties, of_viable_prefix, of_partial_tree, of_valid_list}
 use Rattle.libyaml_grammar.specs.grammar.Tokens.{Mark, Marks, Token, marks_of}
-use Rattle.libyaml_grammar.specs.grammar.Trees.{Stream, behind, free, no_directives, sequence}
+use Rattle.libyaml_grammar.specs.grammar.Trees.{Stream, following, free, no_directives, sequence}
 use Rattle.libyaml_grammar.proofs.exported.Completion.{position_ends}
 use Rattle.libyaml_grammar.proofs.exported.Nesting.{events_nest_proof}
 use Rattle.libyaml_grammar.proofs.exported.Run.{first_mark, given_shown}
@@ -19,12 +19,12 @@ use Rattle.libyaml_grammar.proofs.exported.Splits.{Splits, both_split, event_spl
 
 -- what a partial tree shows stands before the events after it
 partial_splits : (c : PartialTree) (m : Mark) → Splits (shown_partial c m)
-partial_splits (document_due d) m = both_split (position_splits (between (behind d)) m) (event_splits _)
+partial_splits (document_due d) m = both_split (position_splits (between (following d)) m) (event_splits _)
 partial_splits (at_directive (free f) no_directives) m = position_splits (between (free f)) m
-partial_splits (at_directive (behind d) no_directives) m
-    = both_split (position_splits (between (behind d)) m) (event_splits _)
+partial_splits (at_directive (following d) no_directives) m
+    = both_split (position_splits (between (following d)) m) (event_splits _)
 partial_splits (part_due c o s ps) m = both_split (position_splits (in_mapping c o s ps) m) (missing_value_splits ps m)
-partial_splits (separator_due c e) m = both_split (position_splits (flow_behind c e) m) (member_end_splits (sort_of c) e m)
+partial_splits (separator_due c e) m = both_split (position_splits (flow_after c e) m) (member_end_splits (sort_of c) e m)
 partial_splits c m = position_splits (position_of c) m
 
 -- a tree whose events go on from those of a partial tree
@@ -39,9 +39,9 @@ completed m q = let e = position_ends m q in (e.0, given_shown (position_rest m 
 
 goes_on : (c : PartialTree) (m : Marks) → GoesOn c m.start
 goes_on (at_directive (free f) no_directives) m = let t = completed m (between (free f)) in (t.0, _, t.1)
-goes_on (at_directive (behind d) no_directives) m = let t = completed m (between (behind d)) in (t.0, _, t.1)
+goes_on (at_directive (following d) no_directives) m = let t = completed m (between (following d)) in (t.0, _, t.1)
 goes_on (separator_due (open_collection p o sequence s is) e) m = let t =
-    completed m (flow_behind (open_collection p o sequence s is) e) in (t.0, _, t.1)
+    completed m (flow_after (open_collection p o sequence s is) e) in (t.0, _, t.1)
 goes_on c m = let t = completed m (position_of c) in (t.0, _, t.1)
 
 -- the events begin events that nest
@@ -87,14 +87,14 @@ data EndsIn (l rest : List Event) (ts : DocumentTexts) (r : List Event) : Type 0
 
 ends_in : (ts : DocumentTexts) (l rest r : List Event) → TextsHavePairs ts → l ++ rest ≡ texts_events ts r → EndsIn l rest ts r
 ends_in no_texts l rest r h e = past l refl e
-ends_in (text_behind ts d m n v i p q) l rest r h e =
+ends_in (text_after ts d m n v i p q) l rest r h e =
     go (ends_in ts l rest (event (ev.DocumentStart d) m n ∷ value_events v (document_end_at i p q ∷ r)) h.0 e)
   where
     head : Event
     head = event (ev.DocumentStart d) m n
 
     go : EndsIn l rest ts (event (ev.DocumentStart d) m n ∷ value_events v (document_end_at i p q ∷ r))
-        → EndsIn l rest (text_behind ts d m n v i p q) r
+        → EndsIn l rest (text_after ts d m n v i p q) r
     go (among us o a b c) = among us o a b c
     go (past [] a b) = among ts [] a h.0 (none_open refl)
     go (past (x ∷ k) a b)
@@ -107,13 +107,13 @@ ends_in (text_behind ts d m n v i p q) l rest r h e =
         tails : k ++ rest ≡ value_events v (document_end_at i p q ∷ r)
         tails = cc
 
-        opens : BeginsValue k → EndsIn l rest (text_behind ts d m n v i p q) r
+        opens : BeginsValue k → EndsIn l rest (text_after ts d m n v i p q) r
         opens w = among ts (event (ev.DocumentStart d) m n ∷ k)
             (a ∙ ap (λ (y : Event). texts_events ts (y ∷ k)) heads) h.0 (one_open d m n k refl w)
 
         further : ((y : List Event) × (value_events v [] ≡ k ++ y))
             ⊎ ((y : List Event) × (k ≡ value_events v [] ++ y) × (y ++ rest ≡ document_end_at i p q ∷ r))
-            → EndsIn l rest (text_behind ts d m n v i p q) r
+            → EndsIn l rest (text_after ts d m n v i p q) r
         further (inl (y, c)) = opens (record { val = v; rest = y; all = c; pairs = h.1 })
         further (inr ([], c, f)) =
             opens (record {
@@ -149,8 +149,8 @@ prefix_nests (x ∷ l) rest n = go (ends_in n.texts l rest (stream_end_at n.end 
     tails : l ++ rest ≡ texts_events n.texts (stream_end_at n.end n.end_end ∷ [])
     tails = let e = all in cc
 
-    behind_start : (k : List Event) → l ≡ k → x ∷ l ≡ stream_start_at n.head n.start n.start_end ∷ k
-    behind_start k e = ap (λ (z : List Event). x ∷ z) e ∙ ap (λ (y : Event). y ∷ k) heads
+    after_start : (k : List Event) → l ≡ k → x ∷ l ≡ stream_start_at n.head n.start n.start_end ∷ k
+    after_start k e = ap (λ (z : List Event). x ∷ z) e ∙ ap (λ (y : Event). y ∷ k) heads
 
     begun : (us : DocumentTexts) (o : List Event) → l ≡ texts_events us o → TextsHavePairs us → IsOpenDocument o
         → NestsSoFar (x ∷ l)
@@ -161,7 +161,7 @@ prefix_nests (x ∷ l) rest n = go (ends_in n.texts l rest (stream_end_at n.end 
       texts = us;
       open_document = o;
       all
-          = behind_start (texts_events us o) a;
+          = after_start (texts_events us o) a;
       pairs = b;
       is_open = c;
     })
@@ -178,7 +178,7 @@ prefix_nests (x ∷ l) rest n = go (ends_in n.texts l rest (stream_end_at n.end 
           end = n.end;
           end_end = n.end_end;
           all
-              = behind_start (texts_events n.texts (stream_end_at n.end n.end_end ∷ []))
+              = after_start (texts_events n.texts (stream_end_at n.end n.end_end ∷ []))
               (a ∙ ap (λ (z : Event). texts_events n.texts (z ∷ [])) last);
           pairs
               = n.pairs;

@@ -1,11 +1,11 @@
 -- Where a partial tree fits, reading stops at its bad token with that partial tree; so one partial tree fits.
 use Rattle.std.proofs.Common.{◌≡◌, List, [], ◌∷◌, ◌++◌, Some, None, refl, sym, ap, ◌∙◌, subst, inl, inr, Bool, true, false}
 use Rattle.libyaml_grammar.specs.grammar.Tokens.{AnchorName, Content, HandleDeclared, Marks, Tag, TagDirective, TagName, Token, VersionAsked, VersionDirective, marks_of, tok}
-use Rattle.libyaml_grammar.specs.grammar.Trees.{Before, BlockNode, Directives, Documents, FlowNode, Properties, alone, anchor, anchor_tag, behind, directive, empty, explicit, flow, flow_node, flow_node_tokens, flow_nothing, free, implicit, indentless, item, no_directives, no_parts, no_value, node}
-use Rattle.libyaml_grammar.specs.grammar.Trees.{nothing, pair, part, sequence, single, slot_of, tag, tag_directive, version, with_value}
+use Rattle.libyaml_grammar.specs.grammar.Trees.{Before, BlockNode, Directives, Documents, FlowNode, Properties, alone, anchor, anchor_tag, following, directive, empty, explicit, flow, flow_node, flow_node_tokens, flow_nothing, free, implicit, indentless, item, no_directives, no_parts, no_value}
+use Rattle.libyaml_grammar.specs.grammar.Trees.{node, nothing, pair, part, sequence, single, slot_of, tag, tag_directive, version, with_value}
 use Rattle.libyaml_grammar.specs.grammar.Order.{flow_node_in_order, is_known}
 use Rattle.libyaml_grammar.specs.grammar.Events.{Event}
-use Rattle.libyaml_grammar.specs.partial.PartialTrees.{BlockPlace, PartialTree, Place, at_directive, at_tag, at_tag_behind, before_stream, block, content_due, partial_in_order, partial_tokens, declared, declared_open, document_due, entry, entry_due, explicit_root, flow_entry, flow_key, flow_value}
+use Rattle.libyaml_grammar.specs.partial.PartialTrees.{BlockPlace, PartialTree, Place, at_directive, at_tag, at_tag_after, before_stream, block, content_due, partial_in_order, partial_tokens, declared, declared_open, document_due, entry, entry_due, explicit_root, flow_entry, flow_key, flow_value}
 use Rattle.libyaml_grammar.specs.partial.PartialTrees.{implicit_root, indentless_entry, open_collection, part_due, part_place, place_in_order, place_tokens, root, separator_due, slot, start_due}
 use Rattle.libyaml_grammar.specs.partial.Fits.{EndsEmpty, Fits, FitsDirective, FitsTag, IsUnknown, IsUnknownTag, WantsContent, ends_empty, is_directive, last_empty}
 use Rattle.libyaml_grammar.proofs.exported.Positions.{Position, between, due, flow_due, headed, in_mapping, in_sequence, unopened}
@@ -13,7 +13,7 @@ use Rattle.libyaml_grammar.proofs.exported.Reading.{Step, bad, bad_same, broken,
 use Rattle.libyaml_grammar.proofs.exported.Completion.{reached_begins, reads_append}
 use Rattle.libyaml_grammar.proofs.exported.Orders.{feeds_order, reads_from}
 use Rattle.libyaml_grammar.proofs.exported.ReadSteps.{IsNotDone, Moves, ReadStep, a_tag, begins_entry, begins_root, fails, filled, filled_block, first_handle, first_version, front, is_alone, is_past, leaves, moved_open, moves, next_handle, next_version, no_content, no_stream, not_past, read_step}
-use Rattle.libyaml_grammar.proofs.exported.ReadSteps.{tag_behind_anchor}
+use Rattle.libyaml_grammar.proofs.exported.ReadSteps.{tag_after_anchor}
 use Rattle.libyaml_grammar.proofs.trees.Edge.{partial_reads, edge_documents, reached}
 use Rattle.libyaml_grammar.proofs.trees.Complete.{directive_feed, edge_block, edge_flow, heads, home}
 use Rattle.libyaml_grammar.proofs.trees.Append.{edge_told}
@@ -89,14 +89,14 @@ step_stops (leaves p e h) w d c u n = cc
 step_stops (fails no_stream) w d c u n = refl
 step_stops (fails _) w d c u n = refl
 step_stops (first_version (free f) a) w d c u n = cc
-step_stops (first_version (behind x) a) w d c u n = cc
+step_stops (first_version (following x) a) w d c u n = cc
 step_stops (first_handle (free f) h) w d c u n = cc
-step_stops (first_handle (behind x) h) w d c u n = cc
+step_stops (first_handle (following x) h) w d c u n = cc
 step_stops (next_version b ds x a) w d c u n = cc
 step_stops (next_handle b ds x h) w d c u n = cc
 step_stops {m = m} (a_tag p h) w d c u n = stops_known (due p (Some (tag h m))) (content_due p)
     (is_known (declared p) h.handle) u n
-step_stops {m = m} (tag_behind_anchor p a x h) w d c u n
+step_stops {m = m} (tag_after_anchor p a x h) w d c u n
     = stops_known (due p (Some (anchor_tag a x h m))) (filled p (alone (anchor a x))) (is_known (declared p) h.handle) u n
 step_stops _ w d c u n = absurd (n _ refl)
 
@@ -217,15 +217,15 @@ stops_heads b ds (TagDirective x) m e
     (directive_feed b ds (tag_directive x m))
 stops_heads b ds _ m e = absurd cc
 
-directive_behind : (d : Documents) (k : Content) (m : Marks) → is_directive k ≡ true
-    → reads (edge_documents d) (tok k m) ≡ reads (between (behind d)) (tok k m)
-directive_behind (implicit f (flow (alone ps))) (VersionDirective x) m e = refl
-directive_behind (implicit f (flow (alone ps))) (TagDirective x) m e = refl
-directive_behind (explicit b ds z (node (flow (alone ps)))) (VersionDirective x) m e = refl
-directive_behind (explicit b ds z (node (flow (alone ps)))) (TagDirective x) m e = refl
-directive_behind _ (VersionDirective x) m e = refl
-directive_behind _ (TagDirective x) m e = refl
-directive_behind _ _ m e = absurd cc
+directive_after : (d : Documents) (k : Content) (m : Marks) → is_directive k ≡ true
+    → reads (edge_documents d) (tok k m) ≡ reads (between (following d)) (tok k m)
+directive_after (implicit f (flow (alone ps))) (VersionDirective x) m e = refl
+directive_after (implicit f (flow (alone ps))) (TagDirective x) m e = refl
+directive_after (explicit b ds z (node (flow (alone ps)))) (VersionDirective x) m e = refl
+directive_after (explicit b ds z (node (flow (alone ps)))) (TagDirective x) m e = refl
+directive_after _ (VersionDirective x) m e = refl
+directive_after _ (TagDirective x) m e = refl
+directive_after _ _ m e = absurd cc
 
 pub broken_by : (q : Position) (b : Bool) → b ≡ false → checked (goes q) b ≡ bad (broken q)
 broken_by q true e = cc
@@ -243,10 +243,10 @@ pub stops_at_tag : (p : Place) (k : Content) (m : Marks) → IsUnknown (declared
 stops_at_tag p (Tag h) m u = stops_tag_home p h m u
 stops_at_tag p _ m u = absurd u
 
-pub stops_at_tag_behind : (p : Place) (a : AnchorName) (x : Marks) (k : Content) (m : Marks) → IsUnknown (declared p) k
-    → reads (due p (Some (anchor a x))) (tok k m) ≡ bad (at_tag_behind p a x)
-stops_at_tag_behind p a x (Tag h) m u = broken_by (due p (Some (anchor_tag a x h m))) (is_known (declared p) h.handle) u
-stops_at_tag_behind p a x _ m u = absurd u
+pub stops_at_tag_after : (p : Place) (a : AnchorName) (x : Marks) (k : Content) (m : Marks) → IsUnknown (declared p) k
+    → reads (due p (Some (anchor a x))) (tok k m) ≡ bad (at_tag_after p a x)
+stops_at_tag_after p a x (Tag h) m u = broken_by (due p (Some (anchor_tag a x h m))) (is_known (declared p) h.handle) u
+stops_at_tag_after p a x _ m u = absurd u
 
 abbrev Stopping : List Token → PartialTree → Content → Marks → Type 0
 Stopping l c k m = partial_tokens c [] ≡ l → partial_in_order c true ≡ true → EndsEmpty (last_empty c) k → WantsContent c k
@@ -263,13 +263,13 @@ partial_stops l (document_due (explicit b ds s (node x))) k m t o r w d u n
     = stops_edge_block (root (explicit_root b ds s)) x k m l (record { same = t; good = o; way = d; none = u }) n
 partial_stops l (start_due b ds x) k m t o r w d u n = step_stops (read_step m (headed b ds x) k) tt d tt tt n
 partial_stops l (at_directive (free f) no_directives) k m t o r w d u n = stops_heads (free f) no_directives k m d n
-partial_stops l (at_directive (behind x) no_directives) k m t o r w d u n
-    = rw (← (directive_behind x k m d)) at (stops_heads (behind x) no_directives k m d) n
+partial_stops l (at_directive (following x) no_directives) k m t o r w d u n
+    = rw (← (directive_after x k m d)) at (stops_heads (following x) no_directives k m d) n
 partial_stops l (at_directive b (directive ds x)) k m t o r w d u n = stops_heads b (directive ds x) k m d n
 partial_stops l (content_due p) k m t o r w d u n =
     stops_content p k m (w, d, λ e. u (record { place = p; begins = (o, inl t); unknown = e })) n
 partial_stops l (at_tag p) k m t o r w d u n = stops_at_tag p k m u
-partial_stops l (at_tag_behind p a x) k m t o r w d u n = stops_at_tag_behind p a x k m u
+partial_stops l (at_tag_after p a x) k m t o r w d u n = stops_at_tag_after p a x k m u
 partial_stops l (entry_due c y s empty) k m t o r w d u n = step_stops (read_step m (in_sequence c y s empty) k) tt tt tt tt n
 partial_stops l (entry_due c y s (item is e nothing)) k m t o r w d u n = stops_nothing (block (entry c y s is e)) _ k m r tt n
 partial_stops l (entry_due c y s (item is e (node x))) k m t o r w d u n

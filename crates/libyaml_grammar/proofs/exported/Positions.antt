@@ -2,11 +2,11 @@
 -- in hand there and the whole trees to the left of it. By positions the laws are proved, which speak of none.
 use Rattle.std.specs.Prelude.{List, [], ◌∷◌, Option, Some, None, Bool, ◌&&◌}
 use Rattle.libyaml_grammar.specs.grammar.Tokens.{BlockEnd, BlockEntry, BlockMappingStart, BlockSequenceStart, DocumentStart, Key, Mark, Marks, Scalar, StreamEnd, StreamStart, Token, empty_plain, tok}
-use Rattle.libyaml_grammar.specs.grammar.Trees.{Before, BlockItems, BlockSlot, Directive, Directives, FlowMember, FlowSlot, Parts, Properties, Stream, anchor, before_tokens, behind, block_slot_tokens, directive, directive_token, directives_tokens, flow_member_tokens, flow_slot_tokens, free}
+use Rattle.libyaml_grammar.specs.grammar.Trees.{Before, BlockItems, BlockSlot, Directive, Directives, FlowMember, FlowSlot, Parts, Properties, Stream, anchor, before_tokens, following, block_slot_tokens, directive, directive_token, directives_tokens, flow_member_tokens, flow_slot_tokens, free}
 use Rattle.libyaml_grammar.specs.grammar.Trees.{items_tokens, mapping, no_directives, option_tokens, parts_tokens, sequence, stream_tokens}
 use Rattle.libyaml_grammar.specs.grammar.Events.{Event, before_events, block_layout, block_slot_events, documents_events, first_directive, first_block_entry, first_of, flow_member_events, flow_slot_events, free_events, items_events, opens_pair, parts_events, start_of, stream_events}
 use Rattle.libyaml_grammar.specs.grammar.Order.{admits, before_in_order, block_slot_in_order, directives_in_order, flow_member_in_order, flow_slot_in_order, items_in_order, option_in_order, parts_in_order, stream_in_order}
-use Rattle.libyaml_grammar.specs.partial.PartialTrees.{BlockPlace, PartialTree, Open, PartPlace, Place, at_directive, at_tag, at_tag_behind, before_stream, block_place_in_order, block_place_tokens, content_due, declared, declared_block, declared_open, declared_part, document_due, entry_due}
+use Rattle.libyaml_grammar.specs.partial.PartialTrees.{BlockPlace, PartialTree, Open, PartPlace, Place, at_directive, at_tag, at_tag_after, before_stream, block_place_in_order, block_place_tokens, content_due, declared, declared_block, declared_open, declared_part, document_due, entry_due}
 use Rattle.libyaml_grammar.specs.partial.PartialTrees.{open_in_order, open_tokens, part_due, part_place, part_place_in_order, part_place_tokens, place_in_order, place_tokens, separator_due, start_due}
 use Rattle.libyaml_grammar.specs.partial.PartialEvents.{shown_block, shown_open, shown_part, shown_place, sort_of}
 use Rattle.libyaml_grammar.specs.partial.Rest.{any_encoding, rest_block_place, rest_open, rest_place}
@@ -25,7 +25,7 @@ pub data Position : Type 0 where
   in_indentless : PartPlace → Option Properties → BlockItems → Marks → BlockSlot → Position
   flow_due : Open → Position
   flow_keyed : Open → Marks → FlowSlot → Position
-  flow_behind : Open → FlowMember → Position
+  flow_after : Open → FlowMember → Position
   done : Stream → Position
 
 -- the tokens up to a position, and after them the list r
@@ -42,7 +42,7 @@ position_tokens (in_indentless c o is e n) r =
     part_place_tokens c (option_tokens o (items_tokens is (tok BlockEntry e ∷ block_slot_tokens n r)))
 position_tokens (flow_due c) r = open_tokens c r
 position_tokens (flow_keyed c k n) r = open_tokens c (tok Key k ∷ flow_slot_tokens n r)
-position_tokens (flow_behind c e) r = open_tokens c (flow_member_tokens e r)
+position_tokens (flow_after c e) r = open_tokens c (flow_member_tokens e r)
 position_tokens (done t) r = stream_tokens t r
 
 -- whether what stands up to a position is in order, and b
@@ -60,14 +60,14 @@ position_in_order (in_indentless c o is e n) b
     (items_in_order (declared_part c) is (block_slot_in_order (declared_part c) n b)))
 position_in_order (flow_due c) b = open_in_order c b
 position_in_order (flow_keyed c k n) b = open_in_order c (flow_slot_in_order (declared_open c) n b)
-position_in_order (flow_behind c e) b = open_in_order c (flow_member_in_order (declared_open c) e b)
+position_in_order (flow_after c e) b = open_in_order c (flow_member_in_order (declared_open c) e b)
 position_in_order (done t) b = stream_in_order t b
 
 -- the events up to a position, where m is the start of the next token
 abbrev pub shown : Position → Mark → List Event → List Event
 shown unopened m r = r
 shown (between (free f)) m r = free_events f r
-shown (between (behind d)) m r = documents_events d m r
+shown (between (following d)) m r = documents_events d m r
 shown (headed b ds d) m r = before_events b (first_directive (directive ds d) m) r
 shown (due p o) m r = shown_place p (first_of o m) r
 shown (in_sequence c o s is) m r
@@ -81,7 +81,7 @@ shown (in_indentless c o is e n) m r
     ∷ items_events (declared_part c) is (block_slot_events (declared_part c) n e.end r))
 shown (flow_due c) m r = shown_open c r
 shown (flow_keyed c k x) m r = shown_open c (opens_pair (sort_of c) k (flow_slot_events (declared_open c) x m r))
-shown (flow_behind c e) m r = shown_open c (flow_member_events (declared_open c) (sort_of c) e m r)
+shown (flow_after c e) m r = shown_open c (flow_member_events (declared_open c) (sort_of c) e m r)
 shown (done t) m r = stream_events t r
 
 -- tokens that complete a position to a stream tree
@@ -95,19 +95,19 @@ position_rest m (in_mapping c o s ps) = tok BlockEnd m ∷ rest_block_place m c
 position_rest m (in_indentless (part_place c o s ps k v) x is e n) = tok BlockEnd m ∷ rest_block_place m c
 position_rest m (flow_due c) = rest_open m c
 position_rest m (flow_keyed c e n) = rest_open m c
-position_rest m (flow_behind c e) = rest_open m c
+position_rest m (flow_after c e) = rest_open m c
 position_rest m (done t) = []
 
 -- the position at which a partial tree ends
 abbrev pub position_of : PartialTree → Position
 position_of before_stream = unopened
-position_of (document_due d) = between (behind d)
+position_of (document_due d) = between (following d)
 position_of (start_due b ds d) = headed b ds d
 position_of (at_directive b no_directives) = between b
 position_of (at_directive b (directive ds d)) = headed b ds d
 position_of (content_due p) = due p None
 position_of (at_tag p) = due p None
-position_of (at_tag_behind p a m) = due p (Some (anchor a m))
+position_of (at_tag_after p a m) = due p (Some (anchor a m))
 position_of (entry_due c o m is) = in_sequence c o m is
 position_of (part_due c o m ps) = in_mapping c o m ps
-position_of (separator_due c e) = flow_behind c e
+position_of (separator_due c e) = flow_after c e

@@ -3,7 +3,7 @@
 use Rattle.std.proofs.Common.{◌≡◌, List, [], ◌∷◌, ◌++◌, Option, Some, None, true, false, refl, sym, ap, ◌∙◌}
 use Rattle.libyaml_grammar.specs.grammar.Tokens.{Marks, NoToken, Token, marks_of, tok}
 use Rattle.libyaml_grammar.specs.grammar.Trees.{Properties, Stream, alone, free}
-use Rattle.libyaml_grammar.specs.partial.PartialTrees.{PartialTree, Place, at_directive, at_tag, at_tag_behind, block, content_due, document_due, implicit_root, indentless_entry, part_place, root, slot, start_due}
+use Rattle.libyaml_grammar.specs.partial.PartialTrees.{PartialTree, Place, at_directive, at_tag, at_tag_after, block, content_due, document_due, implicit_root, indentless_entry, part_place, root, slot, start_due}
 use Rattle.libyaml_grammar.specs.partial.Fits.{EndsEmpty, Fits, FitsDirective, FitsTag, WantsContent, ends_empty, last_empty}
 use Rattle.libyaml_grammar.specs.partial.DeterminedEvents.{IsPrefixTree, IsPrefixPlace}
 use Rattle.libyaml_grammar.proofs.exported.Positions.{Position, between, done, due, in_indentless, unopened}
@@ -52,7 +52,7 @@ none_empty (Some p) h = absurd (not_in_row p h)
 prefix_place : (l : List Token) (c : PartialTree) → FitsDirective c NoToken → FitsTag l c NoToken → IsPrefixPlace c
 prefix_place l (at_directive b ds) d t = cc
 prefix_place l (at_tag p) d t = t
-prefix_place l (at_tag_behind p a m) d t = t
+prefix_place l (at_tag_after p a m) d t = t
 prefix_place l _ d t = tt
 
 wants_none : (c : PartialTree) → WantsContent c NoToken
@@ -69,7 +69,7 @@ no_directive _ p = tt
 
 no_tag : (l : List Token) (c : PartialTree) → IsPrefixPlace c → FitsTag l c NoToken
 no_tag l (at_tag q) p = absurd p
-no_tag l (at_tag_behind q a m) p = absurd p
+no_tag l (at_tag_after q a m) p = absurd p
 no_tag l _ p = λ u. u.unknown
 
 in_no_row : (o : Option Place) → o ≡ None → EndsEmpty o NoToken

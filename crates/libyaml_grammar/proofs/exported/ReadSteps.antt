@@ -3,23 +3,23 @@
 use Rattle.std.proofs.Common.{Bool, List, None, Option, Some, false, refl, true, ◌∷◌, ◌≡◌}
 use Rattle.libyaml_grammar.specs.grammar.Tokens.{Alias, AliasName, Anchor, AnchorName, BlockEnd, BlockEntry, BlockMappingStart, BlockSequenceStart, Content, DocumentEnd, DocumentStart, FlowEntry, FlowMappingEnd, FlowMappingStart, FlowSequenceEnd, FlowSequenceStart, HandleDeclared, Key, Mark, Marks}
 use Rattle.libyaml_grammar.specs.grammar.Tokens.{Scalar, ScalarText, StreamEnd, StreamHead, StreamStart, Tag, TagDirective, TagName, Value, VersionAsked, VersionDirective}
-use Rattle.libyaml_grammar.specs.grammar.Trees.{Before, BlockItems, BlockNode, BlockSlot, Directive, Directives, Documents, Ended, FlowItems, FlowMember, FlowNode, FlowSlot, Free, Parts, Properties, Role, Sort, Stream, again, alias, alone, anchor, anchor_tag, behind, block_mapping, block_sequence}
-use Rattle.libyaml_grammar.specs.grammar.Trees.{collection, directive, empty, ended, flow, flow_nothing, free, indentless, item, key, last, mapping, more_items, no_directives, no_items, no_last, no_parts, no_value, nothing, once, opened, pair, part, scalar, sequence, tag, tag_anchor, tag_directive}
-use Rattle.libyaml_grammar.specs.grammar.Trees.{value, version, whole}
+use Rattle.libyaml_grammar.specs.grammar.Trees.{Before, BlockItems, BlockNode, BlockSlot, Directive, Directives, Documents, Ended, FlowItems, FlowMember, FlowNode, FlowSlot, Free, Parts, Properties, Role, Sort, Stream, again, alias, alone, anchor, anchor_tag, following, block_mapping}
+use Rattle.libyaml_grammar.specs.grammar.Trees.{block_sequence, collection, directive, empty, ended, flow, flow_nothing, free, indentless, item, key, last, mapping, more_items, no_directives, no_items, no_last, no_parts, no_value, nothing, once, opened, pair, part, scalar, sequence, tag, tag_anchor}
+use Rattle.libyaml_grammar.specs.grammar.Trees.{tag_directive, value, version, whole}
 use Rattle.libyaml_grammar.specs.grammar.Events.{Event, alias_at, alone_of, block_layout, document_end_at, document_start_at, empty_at, end_at, end_of, first_directive, flow_layout, member_end, missing_key, missing_value, opens_pair, scalar_of, start_of, stream_end_at, stream_start_at}
 use Rattle.libyaml_grammar.specs.grammar.Order.{is_known}
 use Rattle.libyaml_grammar.specs.partial.PartialTrees.{BlockPlace, PartialTree, Open, PartPlace, Place, before_stream, block, content_due, declared, declared_block, declared_part, document_due, entry, entry_due, explicit_root, flow_entry, flow_key, flow_value, implicit_root, indentless_entry}
 use Rattle.libyaml_grammar.specs.partial.PartialTrees.{open_collection, part_due, part_place, root, separator_due, slot, start_due}
 use Rattle.libyaml_grammar.specs.partial.Fits.{ends_empty, is_directive}
 use Rattle.libyaml_grammar.specs.partial.PartialEvents.{sort_of}
-use Rattle.libyaml_grammar.proofs.exported.Positions.{Position, between, done, due, flow_behind, flow_due, flow_keyed, headed, in_indentless, in_mapping, in_sequence, unopened}
-use Rattle.libyaml_grammar.proofs.exported.Reading.{Step, bad, behind_whole, fill, fill_flow, goes, is_legal, keeps_order, leave, on_due, or_bad, over, step, without}
-use Rattle.libyaml_grammar.proofs.exported.Given.{empty_mark, given_behind_whole, given_on_due, given_without, gives, if_goes}
+use Rattle.libyaml_grammar.proofs.exported.Positions.{Position, between, done, due, flow_after, flow_due, flow_keyed, headed, in_indentless, in_mapping, in_sequence, unopened}
+use Rattle.libyaml_grammar.proofs.exported.Reading.{Step, bad, after_whole, fill, fill_flow, goes, is_legal, keeps_order, leave, on_due, or_bad, over, step, without}
+use Rattle.libyaml_grammar.proofs.exported.Given.{empty_mark, given_after_whole, given_on_due, given_without, gives, if_goes}
 
 -- the events that end the document before a token, if one is open
 abbrev closed : Before → Mark → List Event → List Event
 closed (free f) m r = r
-closed (behind d) m r = document_end_at true m m ∷ r
+closed (following d) m r = document_end_at true m m ∷ r
 
 abbrev none : List Event → List Event
 none r = r
@@ -36,7 +36,7 @@ module _ (m : Marks) where
         {is : BlockItems} {x : BlockSlot}
         → Moves (in_indentless (part_place c o s ps t v) y is e x) (in_mapping c o s (part ps t v (indentless y is e x)))
         (one (end_at sequence m.start m.start))
-    lacks_value : {c : Open} {e : Marks} {x : FlowSlot} → Moves (flow_keyed c e x) (flow_behind c (pair e x no_value)) none
+    lacks_value : {c : Open} {e : Marks} {x : FlowSlot} → Moves (flow_keyed c e x) (flow_after c (pair e x no_value)) none
     is_alone : (p : Place) (ps : Properties)
         → Moves (due p (Some ps)) (fill_flow p (alone ps)) (one (alone_of (declared p) ps))
     begins_root : {f : Free}
@@ -48,7 +48,7 @@ module _ (m : Marks) where
   pub data Fails : Position → Content → PartialTree → (List Event → List Event) → Type 0 where
     no_stream : {k : Content} → Fails unopened k before_stream none
     no_document : {d : Documents} {k : Content} → is_directive k ≡ false
-        → Fails (between (behind d)) k (document_due d) (one (document_end_at true m.start m.start))
+        → Fails (between (following d)) k (document_due d) (one (document_end_at true m.start m.start))
     no_document_start : {b : Before} {ds : Directives} {d : Directive} {k : Content} → is_directive k ≡ false
         → Fails (headed b ds d) k (start_due b ds d) none
     no_content : {p : Place} {k : Content} → ends_empty p k ≡ false → Fails (due p None) k (content_due p) none
@@ -57,7 +57,7 @@ module _ (m : Marks) where
     no_part : {c : BlockPlace} {o : Option Properties} {s : Marks} {ps : Parts} {k : Content}
         → Fails (in_mapping c o s ps) k (part_due c o s ps) (missing_value ps m.start)
     no_separator : {c : Open} {e : FlowMember} {k : Content}
-        → Fails (flow_behind c e) k (separator_due c e) (member_end (sort_of c) e m.start)
+        → Fails (flow_after c e) k (separator_due c e) (member_end (sort_of c) e m.start)
 
   -- A token at a position, the step, the events that it gives, and whether the token keeps the order. The token
   -- does what it does at another position; it goes on after a node that is nothing; it is bad; or it goes on.
@@ -92,7 +92,7 @@ module _ (m : Marks) where
         → ReadStep (headed b ds d) DocumentStart (goes (due (block (root (explicit_root b (directive ds d) m))) None))
         (one (document_start_at (directive ds d) false (first_directive (directive ds d) m.start) m.end)) true
     ends_document : {d : Documents}
-        → ReadStep (between (behind d)) DocumentEnd (goes (between (free (ended (once d m)))))
+        → ReadStep (between (following d)) DocumentEnd (goes (between (free (ended (once d m)))))
         (one (document_end_at false m.start m.end)) true
     ends_again : {e : Ended} → ReadStep (between (free (ended e))) DocumentEnd
         (goes (between (free (ended (again e m))))) none true
@@ -102,11 +102,11 @@ module _ (m : Marks) where
     an_alias : (p : Place) (a : AliasName) → ReadStep (due p None) (Alias a) (goes (fill_flow p (alias a m)))
         (one (alias_at a m.start m.end)) true
     an_anchor : {p : Place} {a : AnchorName} → ReadStep (due p None) (Anchor a) (goes (due p (Some (anchor a m)))) none true
-    anchor_behind_tag : (p : Place) (h : TagName) (n : Marks) {a : AnchorName}
+    anchor_after_tag : (p : Place) (h : TagName) (n : Marks) {a : AnchorName}
         → ReadStep (due p (Some (tag h n))) (Anchor a) (goes (due p (Some (tag_anchor h n a m)))) none true
     a_tag : (p : Place) (h : TagName) → ReadStep (due p None) (Tag h) (goes (due p (Some (tag h m)))) none
         (is_known (declared p) h.handle)
-    tag_behind_anchor : (p : Place) (a : AnchorName) (n : Marks) (h : TagName)
+    tag_after_anchor : (p : Place) (a : AnchorName) (n : Marks) (h : TagName)
         → ReadStep (due p (Some (anchor a n))) (Tag h) (goes (due p (Some (anchor_tag a n h m)))) none
         (is_known (declared p) h.handle)
     a_scalar : (p : Place) (o : Option Properties) (v : ScalarText)
@@ -146,15 +146,15 @@ module _ (m : Marks) where
     pair_value : {c : Open} {e : Marks} {x : FlowSlot}
         → ReadStep (flow_keyed c e x) Value (goes (due (flow_value c e x m) None)) none true
     next_member : {p : Place} {o : Option Properties} {t : Sort} {s : Marks} {is : FlowItems} {e : FlowMember}
-        → ReadStep (flow_behind (open_collection p o t s is) e) FlowEntry
+        → ReadStep (flow_after (open_collection p o t s is) e) FlowEntry
         (goes (flow_due (open_collection p o t s (more_items is e m))))
         (member_end t e m.start) true
     closes_sequence : (p : Place) {o : Option Properties} {s : Marks} {is : FlowItems} {e : FlowMember}
-        → ReadStep (flow_behind (open_collection p o sequence s is) e) FlowSequenceEnd
+        → ReadStep (flow_after (open_collection p o sequence s is) e) FlowSequenceEnd
         (goes (fill_flow p (collection o sequence s is (last e) m)))
         (λ (r : List Event). member_end sequence e m.start (end_of sequence m ∷ r)) true
     closes_mapping : (p : Place) {o : Option Properties} {s : Marks} {is : FlowItems} {e : FlowMember}
-        → ReadStep (flow_behind (open_collection p o mapping s is) e) FlowMappingEnd
+        → ReadStep (flow_after (open_collection p o mapping s is) e) FlowMappingEnd
         (goes (fill_flow p (collection o mapping s is (last e) m)))
         (λ (r : List Event). member_end mapping e m.start (end_of mapping m ∷ r)) true
     closes_at_sequence : (p : Place) {o : Option Properties} {s : Marks} {is : FlowItems}
@@ -167,25 +167,25 @@ module _ (m : Marks) where
         (one (end_of mapping m)) true
 
   -- after what is whole
-  abbrev Behind : Position → Content → Directives → Type 0
-  Behind q k es = ReadStep q k (behind_whole q k m) (given_behind_whole q k m) (keeps_order no_directives es k)
+  abbrev After : Position → Content → Directives → Type 0
+  After q k es = ReadStep q k (after_whole q k m) (given_after_whole q k m) (keeps_order no_directives es k)
 
-  documents_step : (d : Documents) (k : Content) (es : Directives) → Behind (between (behind d)) k es
-  documents_step d (VersionDirective a) es = first_version (behind d) a
-  documents_step d (TagDirective h) es = first_handle (behind d) h
-  documents_step d DocumentStart es = begins_explicit (behind d)
+  documents_step : (d : Documents) (k : Content) (es : Directives) → After (between (following d)) k es
+  documents_step d (VersionDirective a) es = first_version (following d) a
+  documents_step d (TagDirective h) es = first_handle (following d) h
+  documents_step d DocumentStart es = begins_explicit (following d)
   documents_step d DocumentEnd es = ends_document
-  documents_step d StreamEnd es = ends_stream (behind d)
+  documents_step d StreamEnd es = ends_stream (following d)
   documents_step d _ es = fails (no_document refl)
 
   item_step : (c : BlockPlace) (o : Option Properties) (s : Marks) (is : BlockItems) (k : Content) (es : Directives)
-      → Behind (in_sequence c o s is) k es
+      → After (in_sequence c o s is) k es
   item_step c o s is BlockEntry es = next_item
   item_step c o s is BlockEnd es = ends_sequence c
   item_step c o s is _ es = fails no_item
 
   part_step : (c : BlockPlace) (o : Option Properties) (s : Marks) (ps : Parts) (k : Content) (es : Directives)
-      → Behind (in_mapping c o s ps) k es
+      → After (in_mapping c o s ps) k es
   part_step c o s ps Key es = next_key
   part_step c o s ps Value es = next_value
   part_step c o s ps BlockEnd es = ends_mapping c
@@ -193,29 +193,29 @@ module _ (m : Marks) where
 
   indentless_step : (c : PartPlace) (o : Option Properties) (is : BlockItems) (e : Marks) (x : BlockSlot)
       (k : Content) (es : Directives)
-      → Behind (in_indentless c o is e x) k es
+      → After (in_indentless c o is e x) k es
   indentless_step (part_place c o s ps t v) y is e x BlockEntry es = next_indentless
   indentless_step (part_place c o s ps t v) y is e x k es =
       moves ends_indentless (part_step c o s (part ps t v (indentless y is e x)) k es)
 
-  member_step : (c : Open) (e : FlowMember) (k : Content) (es : Directives) → Behind (flow_behind c e) k es
+  member_step : (c : Open) (e : FlowMember) (k : Content) (es : Directives) → After (flow_after c e) k es
   member_step (open_collection p o t s is) e FlowEntry es = next_member
   member_step (open_collection p o sequence s is) e FlowSequenceEnd es = closes_sequence p
   member_step (open_collection p o mapping s is) e FlowMappingEnd es = closes_mapping p
   member_step c e _ es = fails no_separator
 
-  key_step : (c : Open) (e : Marks) (x : FlowSlot) (k : Content) (es : Directives) → Behind (flow_keyed c e x) k es
+  key_step : (c : Open) (e : Marks) (x : FlowSlot) (k : Content) (es : Directives) → After (flow_keyed c e x) k es
   key_step c e x Value es = pair_value
   key_step c e x k es = moves lacks_value (member_step c (pair e x no_value) k es)
 
-  block_step : (c : BlockPlace) (x : BlockNode) (k : Content) (es : Directives) → Behind (fill c x) k es
+  block_step : (c : BlockPlace) (x : BlockNode) (k : Content) (es : Directives) → After (fill c x) k es
   block_step (root (implicit_root f)) x k es = documents_step _ k es
   block_step (root (explicit_root b ds s)) x k es = documents_step _ k es
   block_step (entry c o s is e) x k es = item_step c o s _ k es
   block_step (slot (part_place c o s ps t v)) x k es = part_step c o s _ k es
   block_step (indentless_entry c o is e) x k es = indentless_step c o is e _ k es
 
-  node_step : (p : Place) (x : FlowNode) (k : Content) (es : Directives) → Behind (fill_flow p x) k es
+  node_step : (p : Place) (x : FlowNode) (k : Content) (es : Directives) → After (fill_flow p x) k es
   node_step (block c) x k es = block_step c (flow x) k es
   node_step (flow_entry c) x k es = member_step c _ k es
   node_step (flow_key c e) x k es = key_step c e _ k es
@@ -227,7 +227,7 @@ module _ (m : Marks) where
   LeftIf p k _ = ends_empty p k ≡ false
 
   abbrev Left : Place → Content → Type 0
-  Left p k = LeftIf p k (behind_whole (leave p) k m)
+  Left p k = LeftIf p k (after_whole (leave p) k m)
 
   left_if : (p : Place) (k : Content) → Left p k
   left_if (block (root (explicit_root b ds s))) (StreamStart x) = refl
@@ -253,7 +253,7 @@ module _ (m : Marks) where
   AtNothing p k es = ReadStep (due p None) k (without p None k m) (given_without p None k m)
       (keeps_order no_directives es k)
 
-  or_fails : (p : Place) (k : Content) (es : Directives) → Behind (leave p) k es → AtNothing p k es
+  or_fails : (p : Place) (k : Content) (es : Directives) → After (leave p) k es → AtNothing p k es
   or_fails p k es h = or_left p k _ _ _ h (left_if p k)
 
   left_step : (p : Place) (k : Content) (es : Directives) → AtNothing p k es
@@ -284,12 +284,12 @@ module _ (m : Marks) where
 
   anchor_step : (p : Place) (o : Option Properties) (a : AnchorName) → AtDue p o (Anchor a)
   anchor_step p None a = an_anchor
-  anchor_step p (Some (tag h n)) a = anchor_behind_tag p h n
+  anchor_step p (Some (tag h n)) a = anchor_after_tag p h n
   anchor_step p (Some ps) a = without_step p (Some ps) (Anchor a) (declared p)
 
   tag_step : (p : Place) (o : Option Properties) (h : TagName) → AtDue p o (Tag h)
   tag_step p None h = a_tag p h
-  tag_step p (Some (anchor a n)) h = tag_behind_anchor p a n h
+  tag_step p (Some (anchor a n)) h = tag_after_anchor p a n h
   tag_step p (Some ps) h = without_step p (Some ps) (Tag h) (declared p)
 
   sequence_step : (p : Place) (o : Option Properties) → AtDue p o BlockSequenceStart
@@ -350,7 +350,7 @@ module _ (m : Marks) where
   pub read_step : (q : Position) (k : Content) → At q k
   read_step unopened k = unopened_step k
   read_step (between (free f)) k = free_step f k
-  read_step (between (behind d)) k = documents_step d k no_directives
+  read_step (between (following d)) k = documents_step d k no_directives
   read_step (headed b ds d) k = headed_step b ds d k
   read_step (due p o) k = due_step p o k
   read_step (in_sequence c o s is) k = item_step c o s is k no_directives
@@ -358,7 +358,7 @@ module _ (m : Marks) where
   read_step (in_indentless c o is e x) k = indentless_step c o is e x k no_directives
   read_step (flow_due c) k = flow_step c k
   read_step (flow_keyed c e x) k = key_step c e x k no_directives
-  read_step (flow_behind c e) k = member_step c e k no_directives
+  read_step (flow_after c e) k = member_step c e k no_directives
   read_step (done t) k = is_past
 
 -- before the stream's end each token is looked at
@@ -382,20 +382,20 @@ not_past (moves x h) w e = not_past h (moved_open x) e
 not_past _ w e = cc
 
 -- the cut at which a token is bad after what is whole, and where it is bad at a position
-abbrev pub prefix_behind : Position → PartialTree
-prefix_behind (between (behind d)) = document_due d
-prefix_behind (in_sequence c o s is) = entry_due c o s is
-prefix_behind (in_mapping c o s ps) = part_due c o s ps
-prefix_behind (in_indentless (part_place c o s ps t v) y is e x) = part_due c o s (part ps t v (indentless y is e x))
-prefix_behind (flow_keyed c e x) = separator_due c (pair e x no_value)
-prefix_behind (flow_behind c e) = separator_due c e
-prefix_behind _ = before_stream
+abbrev pub prefix_after : Position → PartialTree
+prefix_after (between (following d)) = document_due d
+prefix_after (in_sequence c o s is) = entry_due c o s is
+prefix_after (in_mapping c o s ps) = part_due c o s ps
+prefix_after (in_indentless (part_place c o s ps t v) y is e x) = part_due c o s (part ps t v (indentless y is e x))
+prefix_after (flow_keyed c e x) = separator_due c (pair e x no_value)
+prefix_after (flow_after c e) = separator_due c e
+prefix_after _ = before_stream
 
 abbrev pub filled_block : BlockPlace → BlockNode → PartialTree
-filled_block c x = prefix_behind (fill c x)
+filled_block c x = prefix_after (fill c x)
 
 abbrev pub filled : Place → FlowNode → PartialTree
-filled p x = prefix_behind (fill_flow p x)
+filled p x = prefix_after (fill_flow p x)
 
 abbrev pub front : Position → PartialTree
 front (between (free f)) = content_due (block (root (implicit_root f)))
@@ -403,4 +403,4 @@ front (headed b ds d) = start_due b ds d
 front (due p None) = content_due p
 front (due p (Some ps)) = filled p (alone ps)
 front (flow_due c) = content_due (flow_entry c)
-front q = prefix_behind q
+front q = prefix_after q

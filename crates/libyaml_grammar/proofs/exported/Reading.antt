@@ -5,13 +5,13 @@ use Rattle.std.specs.Prelude.{◌&&◌, not}
 use Rattle.std.proofs.Common.{◌≡◌, List, [], ◌∷◌, Option, Some, None, Bool, true, false, sym, subst, refl}
 use Rattle.libyaml_grammar.specs.grammar.Tokens.{Alias, AliasName, Anchor, AnchorName, BlockEnd, BlockEntry, BlockMappingStart, BlockSequenceStart, Content, DocumentEnd, DocumentStart, FlowEntry, FlowMappingEnd, FlowMappingStart, FlowSequenceEnd, FlowSequenceStart, Key, Marks, Scalar, StreamEnd}
 use Rattle.libyaml_grammar.specs.grammar.Tokens.{StreamStart, Tag, TagDirective, TagName, Token, Value, VersionDirective, marks_of}
-use Rattle.libyaml_grammar.specs.grammar.Trees.{Before, BlockItems, BlockNode, BlockSlot, Directive, Directives, Documents, FlowLast, FlowMember, FlowNode, FlowSlot, Free, Parts, Properties, Slot, Sort, again, alias, alone, anchor, anchor_tag, behind, block_mapping, block_sequence, collection}
+use Rattle.libyaml_grammar.specs.grammar.Trees.{Before, BlockItems, BlockNode, BlockSlot, Directive, Directives, Documents, FlowLast, FlowMember, FlowNode, FlowSlot, Free, Parts, Properties, Slot, Sort, again, alias, alone, anchor, anchor_tag, following, block_mapping, block_sequence, collection}
 use Rattle.libyaml_grammar.specs.grammar.Trees.{directive, empty, ended, explicit, flow, flow_node, flow_nothing, free, implicit, indentless, item, key, last, mapping, more_items, no_directives, no_items, no_last, no_parts, no_value, node, nothing, once, opened, pair, part, scalar, sequence, single}
 use Rattle.libyaml_grammar.specs.grammar.Trees.{slot_of, tag, tag_anchor, tag_directive, value, version, whole, with_value}
 use Rattle.libyaml_grammar.specs.grammar.Order.{declares, is_accepted, is_known, no_version}
-use Rattle.libyaml_grammar.specs.partial.PartialTrees.{BlockPlace, PartialTree, Open, PartPlace, Place, at_directive, at_tag, at_tag_behind, before_stream, block, content_due, declared, declared_open, document_due, entry, entry_due, explicit_root, flow_entry, flow_key, flow_value, implicit_root}
+use Rattle.libyaml_grammar.specs.partial.PartialTrees.{BlockPlace, PartialTree, Open, PartPlace, Place, at_directive, at_tag, at_tag_after, before_stream, block, content_due, declared, declared_open, document_due, entry, entry_due, explicit_root, flow_entry, flow_key, flow_value, implicit_root}
 use Rattle.libyaml_grammar.specs.partial.PartialTrees.{indentless_entry, open_collection, part_due, part_place, root, separator_due, slot, start_due}
-use Rattle.libyaml_grammar.proofs.exported.Positions.{Position, between, done, due, flow_behind, flow_due, flow_keyed, headed, in_indentless, in_mapping, in_sequence, unopened}
+use Rattle.libyaml_grammar.proofs.exported.Positions.{Position, between, done, due, flow_after, flow_due, flow_keyed, headed, in_indentless, in_mapping, in_sequence, unopened}
 
 -- The next position, or the place at which the token is bad; after the stream end no token is looked at.
 pub data Step : Type 0 where
@@ -25,11 +25,11 @@ fill_part (part_place c o m ps k v) x = in_mapping c o m (part ps k v x)
 
 abbrev pub fill_implicit : Free → BlockSlot → Position
 fill_implicit f nothing = due (block (root (implicit_root f))) None
-fill_implicit f (node n) = between (behind (implicit f n))
+fill_implicit f (node n) = between (following (implicit f n))
 
 abbrev pub fill_block_slot : BlockPlace → BlockSlot → Position
 fill_block_slot (root (implicit_root f)) x = fill_implicit f x
-fill_block_slot (root (explicit_root b ds m)) x = between (behind (explicit b ds m x))
+fill_block_slot (root (explicit_root b ds m)) x = between (following (explicit b ds m x))
 fill_block_slot (entry c o m is e) x = in_sequence c o m (item is e x)
 fill_block_slot (slot c) x = fill_part c (slot_of x)
 fill_block_slot (indentless_entry c o is e) x = in_indentless c o is e x
@@ -40,13 +40,13 @@ block_slot (flow_node n) = node (flow n)
 
 abbrev pub fill_entry : Open → FlowSlot → Position
 fill_entry c flow_nothing = due (flow_entry c) None
-fill_entry c (flow_node n) = flow_behind c (single n)
+fill_entry c (flow_node n) = flow_after c (single n)
 
 abbrev pub fill_flow_slot : Place → FlowSlot → Position
 fill_flow_slot (block c) x = fill_block_slot c (block_slot x)
 fill_flow_slot (flow_entry c) x = fill_entry c x
 fill_flow_slot (flow_key c k) x = flow_keyed c k x
-fill_flow_slot (flow_value c k n v) x = flow_behind c (pair k n (with_value v x))
+fill_flow_slot (flow_value c k n v) x = flow_after c (pair k n (with_value v x))
 
 abbrev pub fill : BlockPlace → BlockNode → Position
 fill c n = fill_block_slot c (node n)
@@ -58,31 +58,31 @@ abbrev pub leave : Place → Position
 leave p = fill_flow_slot p flow_nothing
 
 -- after a whole entry of a collection, a whole root, and the like
-abbrev pub behind_documents : Documents → Content → Marks → Step
-behind_documents d (VersionDirective a) m = goes (headed (behind d) no_directives (version a m))
-behind_documents d (TagDirective h) m = goes (headed (behind d) no_directives (tag_directive h m))
-behind_documents d DocumentStart m = goes (due (block (root (explicit_root (behind d) no_directives m))) None)
-behind_documents d DocumentEnd m = goes (between (free (ended (once d m))))
-behind_documents d StreamEnd m = goes (done (whole (behind d) m))
-behind_documents d _ m = bad (document_due d)
+abbrev pub after_documents : Documents → Content → Marks → Step
+after_documents d (VersionDirective a) m = goes (headed (following d) no_directives (version a m))
+after_documents d (TagDirective h) m = goes (headed (following d) no_directives (tag_directive h m))
+after_documents d DocumentStart m = goes (due (block (root (explicit_root (following d) no_directives m))) None)
+after_documents d DocumentEnd m = goes (between (free (ended (once d m))))
+after_documents d StreamEnd m = goes (done (whole (following d) m))
+after_documents d _ m = bad (document_due d)
 
-abbrev pub behind_item : BlockPlace → Option Properties → Marks → BlockItems → Content → Marks → Step
-behind_item c o s is BlockEntry m = goes (due (block (entry c o s is m)) None)
-behind_item c o s is BlockEnd m = goes (fill c (block_sequence o s is m))
-behind_item c o s is _ m = bad (entry_due c o s is)
+abbrev pub after_item : BlockPlace → Option Properties → Marks → BlockItems → Content → Marks → Step
+after_item c o s is BlockEntry m = goes (due (block (entry c o s is m)) None)
+after_item c o s is BlockEnd m = goes (fill c (block_sequence o s is m))
+after_item c o s is _ m = bad (entry_due c o s is)
 
-abbrev pub behind_part : BlockPlace → Option Properties → Marks → Parts → Content → Marks → Step
-behind_part c o s ps Key m = goes (due (block (slot (part_place c o s ps key m))) None)
-behind_part c o s ps Value m = goes (due (block (slot (part_place c o s ps value m))) None)
-behind_part c o s ps BlockEnd m = goes (fill c (block_mapping o s ps m))
-behind_part c o s ps _ m = bad (part_due c o s ps)
+abbrev pub after_part : BlockPlace → Option Properties → Marks → Parts → Content → Marks → Step
+after_part c o s ps Key m = goes (due (block (slot (part_place c o s ps key m))) None)
+after_part c o s ps Value m = goes (due (block (slot (part_place c o s ps value m))) None)
+after_part c o s ps BlockEnd m = goes (fill c (block_mapping o s ps m))
+after_part c o s ps _ m = bad (part_due c o s ps)
 
-abbrev pub behind_slot : PartPlace → Slot → Content → Marks → Step
-behind_slot (part_place c o s ps r v) x k m = behind_part c o s (part ps r v x) k m
+abbrev pub after_slot : PartPlace → Slot → Content → Marks → Step
+after_slot (part_place c o s ps r v) x k m = after_part c o s (part ps r v x) k m
 
-abbrev pub behind_indentless : PartPlace → Option Properties → BlockItems → Marks → BlockSlot → Content → Marks → Step
-behind_indentless c o is e n BlockEntry m = goes (due (block (indentless_entry c o (item is e n) m)) None)
-behind_indentless c o is e n k m = behind_slot c (indentless o is e n) k m
+abbrev pub after_indentless : PartPlace → Option Properties → BlockItems → Marks → BlockSlot → Content → Marks → Step
+after_indentless c o is e n BlockEntry m = goes (due (block (indentless_entry c o (item is e n) m)) None)
+after_indentless c o is e n k m = after_slot c (indentless o is e n) k m
 
 -- the end of a flow collection, if it is of its sort
 abbrev pub close : Open → FlowLast → Sort → Marks → PartialTree → Step
@@ -94,24 +94,24 @@ close (open_collection p o mapping s is) l mapping m q = goes (fill_flow p (coll
 abbrev pub separated : Open → FlowMember → Marks → Open
 separated (open_collection p o k s is) e m = open_collection p o k s (more_items is e m)
 
-abbrev pub behind_member : Open → FlowMember → Content → Marks → Step
-behind_member c e FlowEntry m = goes (flow_due (separated c e m))
-behind_member c e FlowSequenceEnd m = close c (last e) sequence m (separator_due c e)
-behind_member c e FlowMappingEnd m = close c (last e) mapping m (separator_due c e)
-behind_member c e _ m = bad (separator_due c e)
+abbrev pub after_member : Open → FlowMember → Content → Marks → Step
+after_member c e FlowEntry m = goes (flow_due (separated c e m))
+after_member c e FlowSequenceEnd m = close c (last e) sequence m (separator_due c e)
+after_member c e FlowMappingEnd m = close c (last e) mapping m (separator_due c e)
+after_member c e _ m = bad (separator_due c e)
 
-abbrev pub behind_key : Open → Marks → FlowSlot → Content → Marks → Step
-behind_key c k n Value m = goes (due (flow_value c k n m) None)
-behind_key c k n t m = behind_member c (pair k n no_value) t m
+abbrev pub after_key : Open → Marks → FlowSlot → Content → Marks → Step
+after_key c k n Value m = goes (due (flow_value c k n m) None)
+after_key c k n t m = after_member c (pair k n no_value) t m
 
-abbrev pub behind_whole : Position → Content → Marks → Step
-behind_whole (between (behind d)) k m = behind_documents d k m
-behind_whole (in_sequence c o s is) k m = behind_item c o s is k m
-behind_whole (in_mapping c o s ps) k m = behind_part c o s ps k m
-behind_whole (in_indentless c o is e n) k m = behind_indentless c o is e n k m
-behind_whole (flow_keyed c e n) k m = behind_key c e n k m
-behind_whole (flow_behind c e) k m = behind_member c e k m
-behind_whole q k m = bad before_stream
+abbrev pub after_whole : Position → Content → Marks → Step
+after_whole (between (following d)) k m = after_documents d k m
+after_whole (in_sequence c o s is) k m = after_item c o s is k m
+after_whole (in_mapping c o s ps) k m = after_part c o s ps k m
+after_whole (in_indentless c o is e n) k m = after_indentless c o is e n k m
+after_whole (flow_keyed c e n) k m = after_key c e n k m
+after_whole (flow_after c e) k m = after_member c e k m
+after_whole q k m = bad before_stream
 
 abbrev pub or_bad : Step → PartialTree → Step
 or_bad (goes q) c = goes q
@@ -119,8 +119,8 @@ or_bad s c = bad c
 
 -- a token that goes on with no node in hand
 abbrev pub without : Place → Option Properties → Content → Marks → Step
-without p None k m = or_bad (behind_whole (leave p) k m) (content_due p)
-without p (Some ps) k m = behind_whole (fill_flow p (alone ps)) k m
+without p None k m = or_bad (after_whole (leave p) k m) (content_due p)
+without p (Some ps) k m = after_whole (fill_flow p (alone ps)) k m
 
 abbrev pub on_alias : Place → Option Properties → AliasName → Marks → Step
 on_alias p None a m = goes (fill_flow p (alias a m))
@@ -175,7 +175,7 @@ at_free f k m = on_due (block (root (implicit_root f))) None k m
 
 abbrev pub at_before : Before → Content → Marks → Step
 at_before (free f) k m = at_free f k m
-at_before (behind d) k m = behind_documents d k m
+at_before (following d) k m = after_documents d k m
 
 abbrev pub at_headed : Before → Directives → Directive → Content → Marks → Step
 at_headed b ds d (VersionDirective x) m = goes (headed b (directive ds d) (version x m))
@@ -199,12 +199,12 @@ step unopened k m = at_unopened k m
 step (between b) k m = at_before b k m
 step (headed b ds d) k m = at_headed b ds d k m
 step (due p o) k m = on_due p o k m
-step (in_sequence c o s is) k m = behind_item c o s is k m
-step (in_mapping c o s ps) k m = behind_part c o s ps k m
-step (in_indentless c o is e n) k m = behind_indentless c o is e n k m
+step (in_sequence c o s is) k m = after_item c o s is k m
+step (in_mapping c o s ps) k m = after_part c o s ps k m
+step (in_indentless c o is e n) k m = after_indentless c o is e n k m
 step (flow_due c) k m = at_flow c k m
-step (flow_keyed c e n) k m = behind_key c e n k m
-step (flow_behind c e) k m = behind_member c e k m
+step (flow_keyed c e n) k m = after_key c e n k m
+step (flow_after c e) k m = after_member c e k m
 step (done t) k m = over
 
 abbrev pub feed : Position → Token → Step
@@ -244,7 +244,7 @@ is_legal q k = keeps_order (pending q) (in_force q) k
 abbrev pub broken : Position → PartialTree
 broken (headed c ds d) = at_directive c ds
 broken (due p (Some (tag h m))) = at_tag p
-broken (due p (Some (anchor_tag a m h n))) = at_tag_behind p a m
+broken (due p (Some (anchor_tag a m h n))) = at_tag_after p a m
 broken _ = before_stream
 
 abbrev pub checked : Step → Bool → Step

@@ -8,7 +8,7 @@ use Rattle.libyaml_grammar.specs.grammar.Events.{Event, events}
 use Rattle.libyaml_types.specs.Fault.{Fault}
 use Rattle.libyaml_grammar.proofs.exported.Positions.{Position, done, unopened}
 use Rattle.libyaml_grammar.proofs.exported.Reading.{bad, goes, reads, reads_all}
-use Rattle.libyaml_grammar.specs.runs.Runs.{Ends, Fails, IsRun, is_behind_properties}
+use Rattle.libyaml_grammar.specs.runs.Runs.{Ends, Fails, IsRun, is_after_properties}
 use Rattle.libyaml_grammar.specs.grammar.ValidLists.{has_end}
 use Rattle.libyaml_grammar.specs.partial.DeterminedEvents.{Determines, sure}
 use Rattle.libyaml_grammar.specs.grammar.Tokens.{Token}
@@ -36,7 +36,7 @@ valid_list_row n l f e t r s g =
 -- token n is bad
 pub partial_row : (n : ℕ) (l : List Token) (f : Fault) (e : List Event) (g : Fault) (b : Token) (q : Position) (c : PartialTree)
     → take n l ++ b ∷ drop (suc n) l ≡ l
-    → reads_all (take n l) unopened ≡ goes q → reads q b ≡ bad c → is_behind_properties c (drop (suc n) l) ≡ true
+    → reads_all (take n l) unopened ≡ goes q → reads q b ≡ bad c → is_after_properties c (drop (suc n) l) ≡ true
     → partial_events c b ≡ e
     → fault c b.content b.start_mark ≡ g → IsRun l f e (Fails g)
 partial_row n l f e g b q c s r h i j k
@@ -44,7 +44,7 @@ partial_row n l f e g b q c s r h i j k
 
 pub amid_row : (n : ℕ) (l : List Token) (f : Fault) (e : List Event) (b : Token) (q : Position) (c : PartialTree)
     → take n l ++ b ∷ drop (suc n) l ≡ l
-    → reads_all (take n l) unopened ≡ goes q → reads q b ≡ bad c → is_behind_properties c (drop (suc n) l) ≡ false
+    → reads_all (take n l) unopened ≡ goes q → reads q b ≡ bad c → is_after_properties c (drop (suc n) l) ≡ false
     → partial_events c b ≡ e
     → IsRun l f e (Fails f)
 amid_row n l f e b q c s r h i j

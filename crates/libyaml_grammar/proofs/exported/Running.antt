@@ -5,14 +5,14 @@ use Rattle.std.proofs.lemmas.List.{append_cancel_left}
 use Rattle.std.proofs.lemmas.Bool.{false_from_ne_true}
 use Rattle.libyaml_grammar.specs.partial.PartialEvents.{shown_partial}
 use Rattle.libyaml_grammar.specs.partial.PartialFaults.{fault}
-use Rattle.libyaml_grammar.specs.partial.PartialTrees.{PartialTree, at_tag, at_tag_behind, partial_tokens, declared}
+use Rattle.libyaml_grammar.specs.partial.PartialTrees.{PartialTree, at_tag, at_tag_after, partial_tokens, declared}
 use Rattle.libyaml_grammar.specs.grammar.Events.{Event, events}
 use Rattle.libyaml_types.specs.Fault.{Fault}
 use Rattle.libyaml_grammar.specs.partial.Fits.{Fits, FitsTag, IsUnknown}
 use Rattle.libyaml_grammar.specs.grammar.Order.{in_order}
 use Rattle.libyaml_grammar.proofs.exported.Positions.{Position, done, unopened}
 use Rattle.libyaml_grammar.proofs.exported.Reading.{Step, bad, bad_same, goes, goes_same, over, reads, reads_all, then_all}
-use Rattle.libyaml_grammar.specs.runs.Runs.{Ending, Ends, Fails, IsRun, amid_properties, has_token, is_behind, is_behind_properties, of_viable_prefix, of_partial_tree, of_valid_list}
+use Rattle.libyaml_grammar.specs.runs.Runs.{Ending, Ends, Fails, IsRun, amid_properties, has_token, is_after, is_after_properties, of_viable_prefix, of_partial_tree, of_valid_list}
 use Rattle.libyaml_grammar.specs.grammar.ValidLists.{IsViablePrefix, IsValidList, has_end, is_end}
 use Rattle.libyaml_grammar.specs.partial.DeterminedEvents.{Determines, sure}
 use Rattle.libyaml_grammar.specs.runs.StreamEnds.{up_to_end}
@@ -84,30 +84,30 @@ up_to_read (x ∷ l) q p r e h =
 -- how the four kinds of runs are read
 data Shape (l : List Token) (f : Fault) (e : List Event) (x : Ending) : Type 0 where
   is_valid_list : (t : Stream) → reads_all l unopened ≡ goes (done t) → e ≡ events t → x ≡ Ends → Shape l f e x
-  is_cut : (before : List Token) (token : Token) (behind : List Token) (c : PartialTree) → l ≡ before ++ token ∷ behind
+  is_cut : (before : List Token) (token : Token) (following : List Token) (c : PartialTree) → l ≡ before ++ token ∷ following
       → partial_tokens c [] ≡ before
       → reads_all l unopened ≡ bad c → e ≡ shown_partial c token.start_mark []
-      → x ≡ elim (is_behind_properties c behind)
+      → x ≡ elim (is_after_properties c following)
       [ true ↦ Fails (fault c token.content token.start_mark) | false ↦ Fails f ] → Shape l f e x
   is_viable_prefix : (q : Position) → reads_all l unopened ≡ goes q → has_end l ≡ false → Determines l e → x ≡ Fails f
       → Shape l f e x
 
-partial_reading : (l before : List Token) (token : Token) (behind : List Token) (c : PartialTree) → l ≡ before ++ token ∷ behind
+partial_reading : (l before : List Token) (token : Token) (following : List Token) (c : PartialTree) → l ≡ before ++ token ∷ following
     → Fits before token c
     → reads_all l unopened ≡ bad c
-partial_reading l before token behind c e f = ap (λ (x : List Token). reads_all x unopened) e
-    ∙ (reads_append before (token ∷ behind) unopened
-    ∙ (ap (λ (s : Step). then_all s (reads_all (token ∷ behind))) (fits_reach before token c f)
-    ∙ ap (λ (s : Step). then_all s (reads_all behind)) (fits_stop before token c f)))
+partial_reading l before token following c e f = ap (λ (x : List Token). reads_all x unopened) e
+    ∙ (reads_append before (token ∷ following) unopened
+    ∙ (ap (λ (s : Step). then_all s (reads_all (token ∷ following))) (fits_reach before token c f)
+    ∙ ap (λ (s : Step). then_all s (reads_all following)) (fits_stop before token c f)))
 
 shape_of : (l : List Token) (f : Fault) (e : List Event) (x : Ending) → IsRun l f e x → Shape (up_to_end l) f e x
 shape_of l f e x (of_valid_list t a o g h) =
     is_valid_list t (valid_list_reads (up_to_end l) (record { tree = t; all = a; order = o })) g h
-shape_of l f e x (of_partial_tree before token behind c a i o g h)
-    = is_cut before token behind c a i.tokens (partial_reading (up_to_end l) before token behind c a i) g (h
+shape_of l f e x (of_partial_tree before token following c a i o g h)
+    = is_cut before token following c a i.tokens (partial_reading (up_to_end l) before token following c a i) g (h
     ∙ ap (λ (b : Bool). elim b [ true ↦ Fails (fault c token.content token.start_mark) | false ↦ Fails f ]) (sym o))
-shape_of l f e x (amid_properties before token behind c a i o g h)
-    = is_cut before token behind c a i.tokens (partial_reading (up_to_end l) before token behind c a i) g (h
+shape_of l f e x (amid_properties before token following c a i o g h)
+    = is_cut before token following c a i.tokens (partial_reading (up_to_end l) before token following c a i) g (h
     ∙ ap (λ (b : Bool). elim b [ true ↦ Fails (fault c token.content token.start_mark) | false ↦ Fails f ]) (sym o))
 shape_of l f e x (of_viable_prefix b n s h) =
     let (q, g) = begin_reads (up_to_end l) b in
@@ -119,16 +119,16 @@ Same d e x y = (d ≡ e) × (x ≡ y)
 partial_same : (l : List Token) (f : Fault) (d e : List Event) (x y : Ending) (a b : List Token) (t u : Token)
     (r s : List Token) (c : PartialTree) → l ≡ a ++ t ∷ r
     → l ≡ b ++ u ∷ s → a ≡ b → d ≡ shown_partial c t.start_mark []
-    → x ≡ elim (is_behind_properties c r) [ true ↦ Fails (fault c t.content t.start_mark) | false ↦ Fails f ]
+    → x ≡ elim (is_after_properties c r) [ true ↦ Fails (fault c t.content t.start_mark) | false ↦ Fails f ]
     → e ≡ shown_partial c u.start_mark []
-    → y ≡ elim (is_behind_properties c s) [ true ↦ Fails (fault c u.content u.start_mark) | false ↦ Fails f ] → Same d e x y
+    → y ≡ elim (is_after_properties c s) [ true ↦ Fails (fault c u.content u.start_mark) | false ↦ Fails f ] → Same d e x y
 partial_same l f d e x y a b t u r s c g h i j k m n =
     let o : t ∷ r ≡ u ∷ s = append_cancel_left a (t ∷ r) (u ∷ s) (sym g ∙ (h
     ∙ ap (λ (z : List Token). z ++ u ∷ s) (sym i))) in
     let p : t ≡ u = head_same t u r s o in
     let q : r ≡ s = tail_same t u r s o in
     let ending : Token → List Token
-    → Ending = λ z w. elim (is_behind_properties c w)
+    → Ending = λ z w. elim (is_after_properties c w)
     [ true ↦ Fails (fault c z.content z.start_mark) | false ↦ Fails f ] in (
       j ∙ (ap (λ (z : Token). shown_partial c z.start_mark []) p ∙ sym m),
       k
@@ -161,7 +161,7 @@ same_shapes l f d e x y (is_cut a t r c g h i j k) (is_cut b u s c' m n o p q) =
     let z : c' ≡ c = partial_of_same l c' c o i in
     partial_same l f d e x y a b t u r s c g m (sym h ∙ (ap (λ (w : PartialTree). partial_tokens w []) (sym z) ∙ n)) j k (p
     ∙ ap (λ (w : PartialTree). shown_partial w u.start_mark []) z) (q
-    ∙ ap (λ (w : PartialTree). elim (is_behind_properties w s)
+    ∙ ap (λ (w : PartialTree). elim (is_after_properties w s)
     [ true ↦ Fails (fault w u.content u.start_mark) | false ↦ Fails f ]) z)
 same_shapes l f d e x y (is_cut a t r c g h i j k) (is_viable_prefix q m n o p) = absurd (not_both l q c m i)
 same_shapes l f d e x y (is_viable_prefix q j k m n) (is_valid_list t g h i) = absurd (not_ended l q t j k g)
@@ -176,16 +176,16 @@ one_run_proof l f d e x y r s = same_shapes (up_to_end l) f d e x y (shape_of l 
 abbrev HasRun : List Token → Fault → Type 0
 HasRun l f = (e : List Event) × (x : Ending) × IsRun l f e x
 
-partial_has_run : (l : List Token) (f : Fault) (before : List Token) (token : Token) (behind : List Token) (c : PartialTree)
-    → up_to_end l ≡ before ++ token ∷ behind
-    → Fits before token c → (b : Bool) → is_behind_properties c behind ≡ b → HasRun l f
-partial_has_run l f before token behind c e i true h = (
+partial_has_run : (l : List Token) (f : Fault) (before : List Token) (token : Token) (following : List Token) (c : PartialTree)
+    → up_to_end l ≡ before ++ token ∷ following
+    → Fits before token c → (b : Bool) → is_after_properties c following ≡ b → HasRun l f
+partial_has_run l f before token following c e i true h = (
   shown_partial c token.start_mark [],
   Fails (fault c token.content token.start_mark),
-  of_partial_tree before token behind c e i h refl refl,
+  of_partial_tree before token following c e i h refl refl,
 )
-partial_has_run l f before token behind c e i false h =
-    (shown_partial c token.start_mark [], Fails f, amid_properties before token behind c e i h refl refl)
+partial_has_run l f before token following c e i false h =
+    (shown_partial c token.start_mark [], Fails f, amid_properties before token following c e i h refl refl)
 
 begin_has_run : (l : List Token) (f : Fault) (q : Position) → reads_all (up_to_end l) unopened ≡ goes q → (b : Bool)
     → has_end (up_to_end l) ≡ b → HasRun l f
@@ -202,13 +202,13 @@ begin_has_run l f q e false h =
     (sure c, Fails f, of_viable_prefix b h (prefix_determines (up_to_end l) c i) refl)
 
 -- a token after a valid list is none of the prefix's
-not_past : (l before : List Token) (token : Token) (behind : List Token) (q : Position)
-    → up_to_end l ≡ before ++ token ∷ behind
+not_past : (l before : List Token) (token : Token) (following : List Token) (q : Position)
+    → up_to_end l ≡ before ++ token ∷ following
     → reads_all before unopened ≡ goes q → reads q token ≡ over → ⊥
-not_past l before token behind q e g h =
+not_past l before token following q e g h =
     let (t, f) = read_over q token h in
     let s = read_valid_list before t (g ∙ ap goes f) in
-    let f : false ≡ true = sym (end_last l before token behind e) ∙ valid_list_has_end before s in cc
+    let f : false ≡ true = sym (end_last l before token following e) ∙ valid_list_has_end before s in cc
 
 pub some_run_proof : (l : List Token) (f : Fault) → HasRun l f
 some_run_proof l f = go (goes_or_stops (up_to_end l) unopened)
@@ -216,7 +216,7 @@ some_run_proof l f = go (goes_or_stops (up_to_end l) unopened)
     stopped : (h : Stops (up_to_end l) unopened) → (s : Step) → reads h.at h.token ≡ s → HasRun l f
     stopped h (goes q) e = absurd (h.stop q e)
     stopped h (bad c) e = partial_has_run l f h.before h.token h.after c h.all
-        (stops_fits h.before h.token h.at c h.reached e) (is_behind_properties c h.after)
+        (stops_fits h.before h.token h.at c h.reached e) (is_after_properties c h.after)
         refl
     stopped h over e = absurd (not_past l h.before h.token h.after h.at h.all h.reached e)
 
@@ -241,23 +241,23 @@ partial_not_ended l b c f
     no _ g d = d
 
 -- what follows the token of a partial tree
-behind_token : Token → List Token → List Token
-behind_token b r = elim (is_end b.content) [ true ↦ [] | false ↦ up_to_end r ]
+after_token : Token → List Token → List Token
+after_token b r = elim (is_end b.content) [ true ↦ [] | false ↦ up_to_end r ]
 
 partial_prefix : (l : List Token) (b : Token) (r : List Token) (c : PartialTree) → Fits l b c → up_to_end (l ++ b ∷ r) ≡ l
-    ++ b ∷ behind_token b r
-unfolding behind_token
+    ++ b ∷ after_token b r
+unfolding after_token
 partial_prefix l b r c f = up_to_later l (b ∷ r) (partial_not_ended l b c f)
 
 has_front : (r : List Token) → has_token (up_to_end r) ≡ has_token r
 has_front [] = refl
 has_front (t ∷ r) = refl
 
-tag_behind : (t : Token) (r : List Token) (b : Bool) → is_end t.content ≡ b
-    → is_behind t.content (elim b [ true ↦ [] | false ↦ up_to_end r ]) ≡ is_behind t.content r
-tag_behind t r b e = go t.content b e
+tag_after : (t : Token) (r : List Token) (b : Bool) → is_end t.content ≡ b
+    → is_after t.content (elim b [ true ↦ [] | false ↦ up_to_end r ]) ≡ is_after t.content r
+tag_after t r b e = go t.content b e
   where
-    go : (k : Content) (b : Bool) → is_end k ≡ b → is_behind k (elim b [ true ↦ [] | false ↦ up_to_end r ]) ≡ is_behind k r
+    go : (k : Content) (b : Bool) → is_end k ≡ b → is_after k (elim b [ true ↦ [] | false ↦ up_to_end r ]) ≡ is_after k r
     go (Anchor a) true f = absurd cc
     go (Anchor a) false f = has_front r
     go _ b f = refl
@@ -266,32 +266,32 @@ is_no_tag : (k : Content) (ds : Directives) → IsUnknown ds k → is_end k ≡ 
 is_no_tag (Tag h) ds u = refl
 is_no_tag _ ds u = absurd u
 
-same_behind : (l : List Token) (b : Token) (r : List Token) (c : PartialTree) → FitsTag l c b.content
-    → is_behind_properties c (behind_token b r) ≡ is_behind_properties c r
-unfolding behind_token
-same_behind l b [] (at_tag p) u =
-    ap (λ (x : Bool). is_behind_properties (at_tag p) (elim x [ true ↦ [] | false ↦ [] ]))
+same_after : (l : List Token) (b : Token) (r : List Token) (c : PartialTree) → FitsTag l c b.content
+    → is_after_properties c (after_token b r) ≡ is_after_properties c r
+unfolding after_token
+same_after l b [] (at_tag p) u =
+    ap (λ (x : Bool). is_after_properties (at_tag p) (elim x [ true ↦ [] | false ↦ [] ]))
     (is_no_tag b.content (declared p) u)
-same_behind l b (t ∷ r) (at_tag p) u
-    = ap (λ (x : Bool). is_behind_properties (at_tag p) (elim x [ true ↦ [] | false ↦ up_to_end (t ∷ r) ]))
+same_after l b (t ∷ r) (at_tag p) u
+    = ap (λ (x : Bool). is_after_properties (at_tag p) (elim x [ true ↦ [] | false ↦ up_to_end (t ∷ r) ]))
     (is_no_tag b.content (declared p) u)
-    ∙ tag_behind t r (is_end t.content) refl
-same_behind l b r (at_tag_behind p a m) u =
+    ∙ tag_after t r (is_end t.content) refl
+same_after l b r (at_tag_after p a m) u =
     ap (λ (x : Bool). has_token (elim x [ true ↦ [] | false ↦ up_to_end r ])) (is_no_tag b.content (declared p) u)
     ∙ has_front r
-same_behind l b r _ u = refl
+same_after l b r _ u = refl
 
 pub partial_run : (l : List Token) (b : Token) (r : List Token) (c : PartialTree) (f : Fault) → Fits l b c
-    → is_behind_properties c r ≡ true
+    → is_after_properties c r ≡ true
     → IsRun (l ++ b ∷ r) f (shown_partial c b.start_mark []) (Fails (fault c b.content b.start_mark))
-partial_run l b r c f i h = of_partial_tree l b (behind_token b r) c (partial_prefix l b r c i) i (same_behind l b r c i.tag ∙ h)
+partial_run l b r c f i h = of_partial_tree l b (after_token b r) c (partial_prefix l b r c i) i (same_after l b r c i.tag ∙ h)
     refl refl
 
 pub amid_run : (l : List Token) (b : Token) (r : List Token) (c : PartialTree) (f : Fault) → Fits l b c
-    → is_behind_properties c r ≡ false
+    → is_after_properties c r ≡ false
     → IsRun (l ++ b ∷ r) f (shown_partial c b.start_mark []) (Fails f)
-amid_run l b r c f i h = amid_properties l b (behind_token b r) c (partial_prefix l b r c i) i
-    (same_behind l b r c i.tag ∙ h) refl refl
+amid_run l b r c f i h = amid_properties l b (after_token b r) c (partial_prefix l b r c i) i
+    (same_after l b r c i.tag ∙ h) refl refl
 
 pub begin_run : (l : List Token) (e : List Event) (f : Fault) → IsViablePrefix l → has_end l ≡ false → Determines l e
     → IsRun l f e (Fails f)
@@ -304,6 +304,6 @@ pub ended_run : (l : List Token) (f : Fault) (e : List Event) → IsRun l f e En
     → (t : Stream) × (in_order t ≡ true) × (up_to_end l ≡ tokens t)
     × (e ≡ events t)
 ended_run l f e (of_valid_list t a o g h) = (t, o, a, g)
-ended_run l f e (of_partial_tree before token behind c a i o g h) = absurd cc
-ended_run l f e (amid_properties before token behind c a i o g h) = absurd cc
+ended_run l f e (of_partial_tree before token following c a i o g h) = absurd cc
+ended_run l f e (amid_properties before token following c a i o g h) = absurd cc
 ended_run l f e (of_viable_prefix b n s h) = absurd cc

@@ -6,9 +6,9 @@ use Rattle.libyaml_grammar.specs.grammar.Trees.{BlockNode, FlowMember, FlowNode,
 use Rattle.libyaml_grammar.specs.grammar.Order.{is_known, properties_in_order}
 use Rattle.libyaml_grammar.specs.grammar.Events.{Event}
 use Rattle.libyaml_grammar.specs.partial.PartialTrees.{BlockPlace, Place, block, declared, flow_entry, flow_key, flow_value, implicit_root, part_place, root, slot}
-use Rattle.libyaml_grammar.proofs.exported.Positions.{Position, due, flow_behind}
+use Rattle.libyaml_grammar.proofs.exported.Positions.{Position, due, flow_after}
 use Rattle.libyaml_grammar.proofs.exported.Reading.{Step, bad, fill, fill_flow, goes, is_legal, leave, over, step}
-use Rattle.libyaml_grammar.proofs.exported.ReadSteps.{Moves, ReadStep, a_scalar, a_tag, an_alias, an_anchor, anchor_behind_tag, closes_at_mapping, closes_at_sequence, closes_mapping, closes_sequence, ends_mapping, ends_sequence, fails, is_alone, is_past, leaves, moves, read_step, tag_behind_anchor}
+use Rattle.libyaml_grammar.proofs.exported.ReadSteps.{Moves, ReadStep, a_scalar, a_tag, an_alias, an_anchor, anchor_after_tag, closes_at_mapping, closes_at_sequence, closes_mapping, closes_sequence, ends_mapping, ends_sequence, fails, is_alone, is_past, leaves, moves, read_step, tag_after_anchor}
 
 -- where a node that is nothing is left there, an entry lacks no value
 abbrev pub IsDue : Place → Type 0
@@ -26,7 +26,7 @@ IsEntry (pair k x (with_value v y)) = Unit {0}
 abbrev pub IsMet : Position → Type 0
 IsMet (due p None) = IsDue p
 IsMet (due p (Some ps)) = properties_in_order (declared p) ps true ≡ true
-IsMet (flow_behind c e) = IsEntry e
+IsMet (flow_after c e) = IsEntry e
 IsMet _ = Unit {0}
 
 -- a legal step keeps what is met
@@ -71,9 +71,9 @@ meets (leaves p e h) w = meets h (left_held p)
 meets (fails x) w = tt
 meets (an_alias p a) w = λ e. fill_flow_met p _
 meets an_anchor w = λ e. refl
-meets (anchor_behind_tag p h n) w = λ e. w
+meets (anchor_after_tag p h n) w = λ e. w
 meets (a_tag p h) w = λ e. and_from (is_known (declared p) h.handle) true e refl
-meets (tag_behind_anchor p a n h) w = λ e. and_from (is_known (declared p) h.handle) true e refl
+meets (tag_after_anchor p a n h) w = λ e. and_from (is_known (declared p) h.handle) true e refl
 meets (a_scalar p o v) w = λ e. fill_flow_met p _
 meets (ends_sequence c) w = λ e. fill_met c _
 meets (ends_mapping c) w = λ e. fill_met c _

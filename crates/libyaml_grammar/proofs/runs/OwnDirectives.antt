@@ -61,8 +61,8 @@ module _ (ds es : Directives) (same : (h : List ℕ) → prefix_of ds h ≡ pref
       (last_of_properties p)) (tags_alike (Some p))
 
   -- an event and what follows it
-  behind_alike : (x y : Event) (l r : List Event) → x ≡ y → l ≡ r → x ∷ l ≡ y ∷ r
-  behind_alike x y l r e f = ap (λ (z : Event). z ∷ l) e ∙ ap (λ (z : List Event). y ∷ z) f
+  after_alike : (x y : Event) (l r : List Event) → x ≡ y → l ≡ r → x ∷ l ≡ y ∷ r
+  after_alike x y l r e f = ap (λ (z : Event). z ∷ l) e ∙ ap (λ (z : List Event). y ∷ z) f
 
   mutual
     flow_node_alike : (n : FlowNode) (r : List Event) → flow_node_events ds n r ≡ flow_node_events es n r
@@ -70,7 +70,7 @@ module _ (ds es : Directives) (same : (h : List ℕ) → prefix_of ds h ≡ pref
     flow_node_alike (alone p) r = ap (λ (x : Event). x ∷ r) (alone_alike p)
     flow_node_alike (scalar o v m) r = ap (λ (x : Event). x ∷ r) (scalars_alike o v m)
     flow_node_alike (collection o k m is l n) r
-        = behind_alike _ _ _ _ (starts_alike k flow_layout o m) (flow_items_alike k is _
+        = after_alike _ _ _ _ (starts_alike k flow_layout o m) (flow_items_alike k is _
         ∙ ap (flow_items_events es k is) (flow_last_alike k l n.start (end_of k n ∷ r)))
 
     flow_items_alike : (k : Sort) (is : FlowItems) (r : List Event)
@@ -98,9 +98,9 @@ module _ (ds es : Directives) (same : (h : List ℕ) → prefix_of ds h ≡ pref
   mutual
     block_node_alike : (n : BlockNode) (r : List Event) → block_node_events ds n r ≡ block_node_events es n r
     block_node_alike (flow n) r = flow_node_alike n r
-    block_node_alike (block_sequence o m is n) r = behind_alike _ _ _ _ (starts_alike sequence block_layout o m)
+    block_node_alike (block_sequence o m is n) r = after_alike _ _ _ _ (starts_alike sequence block_layout o m)
         (items_alike is _)
-    block_node_alike (block_mapping o m ps n) r = behind_alike _ _ _ _ (starts_alike mapping block_layout o m)
+    block_node_alike (block_mapping o m ps n) r = after_alike _ _ _ _ (starts_alike mapping block_layout o m)
         (parts_alike ps n.start _)
 
     pub block_slot_alike : (x : BlockSlot) (m : Mark) (r : List Event)
@@ -115,7 +115,7 @@ module _ (ds es : Directives) (same : (h : List ℕ) → prefix_of ds h ≡ pref
     slot_alike : (x : Slot) (e m : Mark) (r : List Event) → slot_events ds x e m r ≡ slot_events es x e m r
     slot_alike (slot_of n) e m r = block_slot_alike n e r
     slot_alike (indentless o is s n) e m r
-        = behind_alike _ _ _ _ (starts_alike sequence block_layout o (first_block_entry is s)) (items_alike is _
+        = after_alike _ _ _ _ (starts_alike sequence block_layout o (first_block_entry is s)) (items_alike is _
         ∙ ap (items_events es is) (block_slot_alike n s.end (end_at sequence m m ∷ r)))
 
     parts_alike : (ps : Parts) (m : Mark) (r : List Event) → parts_events ds ps m r ≡ parts_events es ps m r

@@ -4,7 +4,7 @@ use Rattle.libyaml_grammar.specs.grammar.Tokens.{Marks}
 use Rattle.libyaml_grammar.specs.grammar.Trees.{Stream, free, key, mapping, no_parts, no_value, pair, part, sequence, single}
 use Rattle.libyaml_grammar.specs.grammar.Events.{Event}
 use Rattle.libyaml_grammar.specs.partial.PartialTrees.{open_collection, part_place}
-use Rattle.libyaml_grammar.proofs.exported.Positions.{Position, between, done, due, flow_behind, flow_due, flow_keyed, headed, in_indentless, in_mapping, position_rest}
+use Rattle.libyaml_grammar.proofs.exported.Positions.{Position, between, done, due, flow_after, flow_due, flow_keyed, headed, in_indentless, in_mapping, position_rest}
 use Rattle.libyaml_grammar.proofs.exported.Given.{gives_all}
 use Rattle.libyaml_grammar.specs.partial.DeterminedEvents.{next_event}
 
@@ -34,9 +34,9 @@ module _ (m n : Marks) (s : m.start ≡ n.start → ⊥) (e : m.end ≡ n.end �
   differ (in_indentless (part_place c o z ps k v) x is y w) d h = s (same_start _ _ h)
   differ (flow_due (open_collection p o sequence z is)) d h = s (same_start _ _ h)
   differ (flow_keyed (open_collection p o sequence z is) k x) d h = s (same_start _ _ h)
-  differ (flow_behind (open_collection p o sequence z is) (single x)) d h = s (same_start _ _ h)
-  differ (flow_behind (open_collection p o sequence z is) (pair k x no_value)) d h = s (same_start _ _ h)
-  differ (flow_behind (open_collection p o mapping z is) (single x)) d h = s (same_start _ _ h)
-  differ (flow_behind (open_collection p o mapping z is) (pair k x no_value)) d h = s (same_start _ _ h)
+  differ (flow_after (open_collection p o sequence z is) (single x)) d h = s (same_start _ _ h)
+  differ (flow_after (open_collection p o sequence z is) (pair k x no_value)) d h = s (same_start _ _ h)
+  differ (flow_after (open_collection p o mapping z is) (single x)) d h = s (same_start _ _ h)
+  differ (flow_after (open_collection p o mapping z is) (pair k x no_value)) d h = s (same_start _ _ h)
   differ (done t) d h = d t refl
   differ _ d h = s (same_start _ _ h)

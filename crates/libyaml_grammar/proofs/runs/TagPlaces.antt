@@ -3,7 +3,7 @@ use Rattle.std.specs.Prelude.{◌&&◌}
 use Rattle.std.proofs.Common.{◌≡◌, ℕ, List, [], ◌∷◌, ◌++◌, Some, refl, sym, ap, ◌∙◌, subst, Bool, true, false, inl, inr, ◌↔◌, append-nil}
 use Rattle.libyaml_grammar.specs.grammar.Tokens.{Anchor, Marks, Tag, TagName, Token, tok, zero_marks}
 use Rattle.libyaml_grammar.specs.grammar.Trees.{anchor_tag, tag}
-use Rattle.libyaml_grammar.specs.partial.PartialTrees.{Place, at_tag_behind, content_due, place_tokens}
+use Rattle.libyaml_grammar.specs.partial.PartialTrees.{Place, at_tag_after, content_due, place_tokens}
 use Rattle.libyaml_grammar.specs.grammar.ValidLists.{IsViablePrefix, IsValidList}
 use Rattle.libyaml_grammar.specs.partial.Fits.{NodeBegins}
 use Rattle.libyaml_grammar.proofs.exported.Positions.{Position, due, position_in_order, position_rest, position_tokens, unopened}
@@ -61,7 +61,7 @@ module _ (l : List Token) (m : Marks) (s : List ℕ) where
       )
   held (due p (Some (anchor_tag a k h n))) b w e o =
       let f = same_prefix (place_tokens p (tok (Anchor a) k ∷ [])) l (tok (Tag h) n) (tok (Tag whole_tag) m)
-      (sym (partial_append (at_tag_behind p a k) (tok (Tag h) n ∷ [])) ∙ e) in (
+      (sym (partial_append (at_tag_after p a k) (tok (Tag h) n ∷ [])) ∙ e) in (
         p,
         (
           rw (same_tag h n f.1) at o,
@@ -84,9 +84,9 @@ module _ (l : List Token) (m : Marks) (s : List ℕ) where
       (reads_to (l ++ tok (Tag whole_tag) m ∷ []) unopened x e).0 []
       ∙ append-nil (l ++ tok (Tag whole_tag) m ∷ [])) (read_order (l ++ tok (Tag whole_tag) m ∷ []) x e)
 
-  behind_prefix : (a r : List Token) (t : Token) → a ++ t ∷ r ≡ (a ++ t ∷ []) ++ r
-  behind_prefix [] r t = refl
-  behind_prefix (x ∷ a) r t = ap (λ (z : List Token). x ∷ z) (behind_prefix a r t)
+  after_prefix : (a r : List Token) (t : Token) → a ++ t ∷ r ≡ (a ++ t ∷ []) ++ r
+  after_prefix [] r t = refl
+  after_prefix (x ∷ a) r t = ap (λ (z : List Token). x ∷ z) (after_prefix a r t)
 
   tag_goes_on : (p : Place) → NodeBegins l p → IsViablePrefix (l ++ tok (Tag whole_tag) m ∷ [])
   tag_goes_on p (o, inl e) =
@@ -94,15 +94,15 @@ module _ (l : List Token) (m : Marks) (s : List ℕ) where
       record {
         rest = r;
         valid_list = subst IsValidList (partial_append (content_due p) (tok (Tag whole_tag) m ∷ r)
-            ∙ (ap (λ (z : List Token). z ++ tok (Tag whole_tag) m ∷ r) e ∙ behind_prefix l r (tok (Tag whole_tag) m)))
+            ∙ (ap (λ (z : List Token). z ++ tok (Tag whole_tag) m ∷ r) e ∙ after_prefix l r (tok (Tag whole_tag) m)))
             (position_begins zero_marks (due p (Some (tag whole_tag m))) o);
       }
   tag_goes_on p (o, inr (a, n, e)) =
       let r = position_rest zero_marks (due p (Some (anchor_tag a n whole_tag m))) in
       record {
         rest = r;
-        valid_list = subst IsValidList (partial_append (at_tag_behind p a n) (tok (Tag whole_tag) m ∷ r)
-            ∙ (ap (λ (z : List Token). z ++ tok (Tag whole_tag) m ∷ r) e ∙ behind_prefix l r (tok (Tag whole_tag) m)))
+        valid_list = subst IsValidList (partial_append (at_tag_after p a n) (tok (Tag whole_tag) m ∷ r)
+            ∙ (ap (λ (z : List Token). z ++ tok (Tag whole_tag) m ∷ r) e ∙ after_prefix l r (tok (Tag whole_tag) m)))
             (position_begins zero_marks (due p (Some (anchor_tag a n whole_tag m))) o);
       }
 

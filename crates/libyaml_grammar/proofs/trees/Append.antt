@@ -2,7 +2,7 @@
 -- tokens followed by the list.
 use Rattle.std.proofs.Common.{◌≡◌, List, [], ◌++◌, refl, sym, ap, ◌∙◌, Bool}
 use Rattle.std.proofs.lemmas.List.{append_cancel_right}
-use Rattle.libyaml_grammar.specs.grammar.Trees.{BlockNode, BlockSlot, Documents, FlowNode, FlowSlot, alone, behind, block_node_tokens, block_slot_tokens, documents_tokens, explicit, flow, flow_node, flow_node_tokens, flow_nothing, flow_slot_tokens, free, implicit, indentless, item, no_directives}
+use Rattle.libyaml_grammar.specs.grammar.Trees.{BlockNode, BlockSlot, Documents, FlowNode, FlowSlot, alone, following, block_node_tokens, block_slot_tokens, documents_tokens, explicit, flow, flow_node, flow_node_tokens, flow_nothing, flow_slot_tokens, free, implicit, indentless, item, no_directives}
 use Rattle.libyaml_grammar.specs.grammar.Trees.{no_value, node, nothing, pair, part, single, slot_of, with_value}
 use Rattle.libyaml_grammar.specs.partial.PartialTrees.{BlockPlace, PartialTree, Place, at_directive, at_tag, block, block_place_in_order, block_place_tokens, content_due, partial_in_order, partial_tokens, declared, declared_block, document_due, entry, entry_due, explicit_root, flow_entry, flow_key}
 use Rattle.libyaml_grammar.specs.partial.PartialTrees.{flow_value, implicit_root, indentless_entry, part_due, part_place, place_in_order, place_tokens, root, separator_due, slot}
@@ -48,7 +48,7 @@ documents_told (explicit b ds m x) = slot_told (root (explicit_root b ds m)) x
 pub edge_told : (c : PartialTree) → Told (reached c) (partial_tokens c) (partial_in_order c)
 edge_told (document_due d) = documents_told d
 edge_told (at_directive (free f) no_directives) = (λ r. refl, λ r. refl)
-edge_told (at_directive (behind d) no_directives) = documents_told d
+edge_told (at_directive (following d) no_directives) = documents_told d
 edge_told (content_due p) = home_told p
 edge_told (at_tag p) = home_told p
 edge_told (entry_due c o m (item is e x)) = slot_told (entry c o m is e) x

@@ -3,14 +3,14 @@
 use Rattle.std.proofs.Common.{◌≡◌, List, [], ◌∷◌, Option, Some, None, refl, sym, ap, ◌∙◌, subst, Bool}
 use Rattle.libyaml_grammar.specs.grammar.Tokens.{Alias, Anchor, BlockEnd, BlockEntry, BlockMappingStart, BlockSequenceStart, Content, DocumentEnd, DocumentStart, FlowEntry, FlowMappingEnd, FlowMappingStart, FlowSequenceEnd, FlowSequenceStart, Key, Marks, Scalar, StreamEnd, Tag, TagDirective, Token}
 use Rattle.libyaml_grammar.specs.grammar.Tokens.{Value, VersionDirective, marks_of, tok}
-use Rattle.libyaml_grammar.specs.grammar.Trees.{Before, BlockItems, BlockNode, BlockSlot, Directive, Directives, Documents, Ended, FlowItems, FlowLast, FlowMember, FlowNode, FlowSlot, Free, Parts, Properties, Slot, Sort, Stream, again, alias, alone, anchor, before_tokens, behind, block_mapping}
+use Rattle.libyaml_grammar.specs.grammar.Trees.{Before, BlockItems, BlockNode, BlockSlot, Directive, Directives, Documents, Ended, FlowItems, FlowLast, FlowMember, FlowNode, FlowSlot, Free, Parts, Properties, Slot, Sort, Stream, again, alias, alone, anchor, before_tokens, following, block_mapping}
 use Rattle.libyaml_grammar.specs.grammar.Trees.{block_node_tokens, block_sequence, block_slot_tokens, closing, collection, directive, directive_token, directives_tokens, documents_tokens, empty, ended, ended_tokens, explicit, flow, flow_items_tokens, flow_last_tokens, flow_member_tokens, flow_node}
 use Rattle.libyaml_grammar.specs.grammar.Trees.{flow_node_tokens, flow_nothing, flow_slot_tokens, free, free_tokens, implicit, indentless, item, items_tokens, key, last, mapping, more_items, no_directives, no_items, no_last, no_parts, no_value, node, nothing, once, opened, opening, option_tokens}
 use Rattle.libyaml_grammar.specs.grammar.Trees.{pair, part, parts_tokens, properties_tokens, scalar, sequence, single, slot_of, slot_tokens, tokens, value, version, whole, with_value}
 use Rattle.libyaml_grammar.specs.grammar.Events.{Event}
 use Rattle.libyaml_grammar.specs.partial.PartialTrees.{BlockPlace, PartialTree, Open, PartPlace, Place, block, content_due, entry, explicit_root, flow_entry, flow_key, flow_value, implicit_root, indentless_entry, open_collection, part_place, root, slot}
-use Rattle.libyaml_grammar.proofs.exported.Positions.{Position, between, done, due, flow_behind, flow_due, flow_keyed, headed, in_indentless, in_mapping, in_sequence, unopened}
-use Rattle.libyaml_grammar.proofs.exported.Reading.{Step, bad, behind_whole, feed, feeds, fill, fill_block_slot, fill_flow, fill_flow_slot, fill_part, goes, leave, on_due, or_bad, over, step, then_all}
+use Rattle.libyaml_grammar.proofs.exported.Positions.{Position, between, done, due, flow_after, flow_due, flow_keyed, headed, in_indentless, in_mapping, in_sequence, unopened}
+use Rattle.libyaml_grammar.proofs.exported.Reading.{Step, bad, after_whole, feed, feeds, fill, fill_block_slot, fill_flow, fill_flow_slot, fill_part, goes, leave, on_due, or_bad, over, step, then_all}
 use Rattle.libyaml_grammar.proofs.exported.ReadSteps.{ReadStep, begins_explicit, ends_indentless, ends_stream, fails, first_handle, first_version, is_past, lacks_value, moves, no_stream, read_step}
 
 -- the token is taken
@@ -50,21 +50,21 @@ Begins _ = ⊥
 
 -- after a whole node the step is that of what is after it
 pub whole_step : (p : Place) (n : FlowNode) (k : Content) (m : Marks)
-    → step (fill_flow p n) k m ≡ behind_whole (fill_flow p n) k m
+    → step (fill_flow p n) k m ≡ after_whole (fill_flow p n) k m
 whole_step (block (root (implicit_root f))) n k m = refl
 whole_step (block (slot (part_place c o s ps r v))) n k m = refl
 whole_step _ n k m = refl
 
 -- a token that begins a node, after what is whole and in no place where a node is expected
-abbrev BeginsBehind : Position → Content → Type 0
-BeginsBehind (between (free f)) k = ⊥
-BeginsBehind (due p o) k = ⊥
-BeginsBehind (flow_due c) k = ⊥
-BeginsBehind q k = Begins k
+abbrev BeginsAfter : Position → Content → Type 0
+BeginsAfter (between (free f)) k = ⊥
+BeginsAfter (due p o) k = ⊥
+BeginsAfter (flow_due c) k = ⊥
+BeginsAfter q k = Begins k
 
 -- it is never taken there
 never : {m : Marks} {q : Position} {k : Content} {s : Step} {g : List Event → List Event} {l : Bool}
-    → ReadStep m q k s g l → BeginsBehind q k → Takes s → ⊥
+    → ReadStep m q k s g l → BeginsAfter q k → Takes s → ⊥
 never is_past b h = h
 never (moves ends_indentless v) b h = never v b h
 never (moves lacks_value v) b h = never v b h
@@ -77,10 +77,10 @@ never (ends_stream (free f)) b h = b
 never (moves _ v) b h = b
 never _ b h = b
 
-node_begins_behind : (p : Place) (n : FlowNode) (k : Content) → Begins k → BeginsBehind (fill_flow p n) k
-node_begins_behind (block (root (implicit_root f))) n k b = b
-node_begins_behind (block (slot (part_place c o s ps t v))) n k b = b
-node_begins_behind _ n k b = b
+node_begins_after : (p : Place) (n : FlowNode) (k : Content) → Begins k → BeginsAfter (fill_flow p n) k
+node_begins_after (block (root (implicit_root f))) n k b = b
+node_begins_after (block (slot (part_place c o s ps t v))) n k b = b
+node_begins_after _ n k b = b
 
 -- properties alone, or nothing: where the token is taken after it, that is what the place does
 abbrev held : Place → Option Properties → Position
@@ -92,16 +92,16 @@ or_bad_takes (goes x) c h = refl
 or_bad_takes (bad x) c h = absurd h
 or_bad_takes over c h = absurd h
 
-held_entry : (p : Place) (o : Option Properties) (m : Marks) → Takes (behind_whole (held p o) BlockEntry m)
-    → on_due p o BlockEntry m ≡ behind_whole (held p o) BlockEntry m
+held_entry : (p : Place) (o : Option Properties) (m : Marks) → Takes (after_whole (held p o) BlockEntry m)
+    → on_due p o BlockEntry m ≡ after_whole (held p o) BlockEntry m
 held_entry (block (slot (part_place c o s es r v))) None m h = absurd h
 held_entry (block (slot (part_place c o s es r v))) (Some ps) m h = absurd h
-held_entry p None m h = or_bad_takes (behind_whole (leave p) BlockEntry m) (content_due p) h
+held_entry p None m h = or_bad_takes (after_whole (leave p) BlockEntry m) (content_due p) h
 held_entry p (Some ps) m h = refl
 
 held_step : (p : Place) (o : Option Properties) (k : Content) (m : Marks) → (Begins k → ⊥)
-    → Takes (behind_whole (held p o) k m)
-    → on_due p o k m ≡ behind_whole (held p o) k m
+    → Takes (after_whole (held p o) k m)
+    → on_due p o k m ≡ after_whole (held p o) k m
 held_step p o (Alias a) m n h = absurd (n tt)
 held_step p o (Anchor a) m n h = absurd (n tt)
 held_step p o (Tag a) m n h = absurd (n tt)
@@ -111,14 +111,14 @@ held_step p o FlowMappingStart m n h = absurd (n tt)
 held_step p o BlockSequenceStart m n h = absurd (n tt)
 held_step p o BlockMappingStart m n h = absurd (n tt)
 held_step p o BlockEntry m n h = held_entry p o m h
-held_step p None k m n h = or_bad_takes (behind_whole (leave p) k m) (content_due p) h
+held_step p None k m n h = or_bad_takes (after_whole (leave p) k m) (content_due p) h
 held_step p (Some ps) k m n h = refl
 
 alone_follows : (p : Place) (ps : Properties) → Follows (due p (Some ps)) (fill_flow p (alone ps))
 alone_follows p ps k m h =
     let e = whole_step p (alone ps) k m in
     held_step p (Some ps) k m (λ b. never (read_step m (fill_flow p (alone ps)) k)
-    (node_begins_behind p (alone ps) k b) h) (subst Takes e h) ∙ sym e
+    (node_begins_after p (alone ps) k b) h) (subst Takes e h) ∙ sym e
 
 leave_follows : (p : Place) → Follows (due p None) (leave p)
 leave_follows (block (root (implicit_root f))) k m h = refl
@@ -196,7 +196,7 @@ opening_feeds sequence m p o r = refl
 opening_feeds mapping m p o r = refl
 
 -- a pair whose key has come, and no VALUE
-keyed_follows : (c : Open) (e : Marks) (x : FlowSlot) → Follows (flow_keyed c e x) (flow_behind c (pair e x no_value))
+keyed_follows : (c : Open) (e : Marks) (x : FlowSlot) → Follows (flow_keyed c e x) (flow_after c (pair e x no_value))
 keyed_follows c e x Value m h = absurd h
 keyed_follows c e x k m h = refl
 
@@ -246,14 +246,14 @@ mutual
   flow_last_reads (last e) p o mapping m is n r = flow_member_reads e (open_collection p o mapping m is)
       (tok FlowMappingEnd n ∷ r) tt
 
-  flow_member_reads : (e : FlowMember) (c : Open) (r : List Token) → Ready (flow_behind c e) r
-      → feeds (flow_member_tokens e r) (flow_due c) ≡ feeds r (flow_behind c e)
+  flow_member_reads : (e : FlowMember) (c : Open) (r : List Token) → Ready (flow_after c e) r
+      → feeds (flow_member_tokens e r) (flow_due c) ≡ feeds r (flow_after c e)
   flow_member_reads (single n) c r h
       = home_feeds (flow_entry c) (flow_node_tokens n r) (flow_node_begins n r) ∙ (flow_node_edge n (flow_entry c) r
       ∙ flow_edge_whole n (flow_entry c) r h)
   flow_member_reads (pair m k no_value) c r h = flow_slot_reads k (flow_key c m) r
-      (follows_ready (flow_keyed c m k) (flow_behind c (pair m k no_value)) (keyed_follows c m k) r h)
-      ∙ follows_feeds (flow_keyed c m k) (flow_behind c (pair m k no_value)) (keyed_follows c m k) r h
+      (follows_ready (flow_keyed c m k) (flow_after c (pair m k no_value)) (keyed_follows c m k) r h)
+      ∙ follows_feeds (flow_keyed c m k) (flow_after c (pair m k no_value)) (keyed_follows c m k) r h
   flow_member_reads (pair m k (with_value n v)) c r h
       = flow_slot_reads k (flow_key c m) (tok Value n ∷ flow_slot_tokens v r) tt
       ∙ flow_slot_reads v (flow_value c m k n) r h
@@ -321,7 +321,7 @@ heads b (directive ds d) = headed b ds d
 pub directive_feed : (b : Before) (ds : Directives) (d : Directive)
     → feed (heads b ds) (directive_token d) ≡ goes (headed b ds d)
 directive_feed (free f) no_directives (version x m) = refl
-directive_feed (behind f) no_directives (version x m) = refl
+directive_feed (following f) no_directives (version x m) = refl
 directive_feed b (directive ds d) (version x m) = refl
 directive_feed _ _ _ = refl
 
@@ -337,12 +337,12 @@ directives_read (directive ds d) b r = directives_read ds b (directive_token d �
 pub start_feeds : (b : Before) (ds : Directives) (m : Marks) (r : List Token)
     → feeds (tok DocumentStart m ∷ r) (heads b ds) ≡ feeds r (due (block (root (explicit_root b ds m))) None)
 start_feeds (free f) no_directives m r = refl
-start_feeds (behind d) no_directives m r = refl
+start_feeds (following d) no_directives m r = refl
 start_feeds b (directive ds d) m r = refl
 
 pub directive_ready : (b : Before) (d : Directive) → Takes (feed (between b) (directive_token d))
 directive_ready (free f) (version x m) = tt
-directive_ready (behind f) (version x m) = tt
+directive_ready (following f) (version x m) = tt
 directive_ready _ _ = tt
 
 pub directives_ready : (ds : Directives) (b : Before) (r : List Token) → Ready (between b) r
@@ -352,11 +352,11 @@ directives_ready (directive ds d) b r h = directives_ready ds b (directive_token
 
 pub start_ready : (b : Before) (m : Marks) → Takes (feed (between b) (tok DocumentStart m))
 start_ready (free f) m = tt
-start_ready (behind d) m = tt
+start_ready (following d) m = tt
 
 mutual
-  documents_read : (d : Documents) (r : List Token) → Ready (between (behind d)) r
-      → feeds (documents_tokens d r) unopened ≡ feeds r (between (behind d))
+  documents_read : (d : Documents) (r : List Token) → Ready (between (following d)) r
+      → feeds (documents_tokens d r) unopened ≡ feeds r (between (following d))
   documents_read (implicit f n) r h = free_reads f _
       ∙ (home_feeds (block (root (implicit_root f))) (block_node_tokens n r) (block_node_begins n r)
       ∙ block_slot_reads (node n) (root (implicit_root f)) r h)
@@ -374,8 +374,8 @@ mutual
   pub before_reads : (b : Before) (r : List Token) → Ready (between b) r
       → feeds (before_tokens b r) unopened ≡ feeds r (between b)
   before_reads (free f) r h = free_reads f r
-  before_reads (behind d) r h = documents_read d r h
+  before_reads (following d) r h = documents_read d r h
 
 pub stream_reads : (t : Stream) → feeds (tokens t) unopened ≡ goes (done t)
 stream_reads (whole (free f) m) = before_reads (free f) (tok StreamEnd m ∷ []) tt
-stream_reads (whole (behind d) m) = before_reads (behind d) (tok StreamEnd m ∷ []) tt
+stream_reads (whole (following d) m) = before_reads (following d) (tok StreamEnd m ∷ []) tt

@@ -1,9 +1,9 @@
 -- The position that a partial tree's tokens lead to: its right edge, with all that is open around it.
 use Rattle.std.proofs.Common.{◌≡◌, List, ◌∷◌, Option, Some, None, refl, ◌∙◌}
 use Rattle.libyaml_grammar.specs.grammar.Tokens.{Anchor, BlockEntry, BlockMappingStart, BlockSequenceStart, Key, Marks, Token, Value, tok}
-use Rattle.libyaml_grammar.specs.grammar.Trees.{Before, BlockItems, BlockSlot, Directive, Directives, Documents, FlowMember, FlowSlot, Parts, Properties, Sort, anchor, before_tokens, behind, block_node_tokens, block_slot_tokens, directive, directive_token, directives_tokens, documents_tokens, empty}
-use Rattle.libyaml_grammar.specs.grammar.Trees.{explicit, flow_node, flow_node_tokens, flow_nothing, flow_slot_tokens, free, implicit, indentless, item, key, no_directives, no_items, no_parts, no_value, node, nothing, opening, option_tokens, pair, part, single, slot_of, value, with_value}
-use Rattle.libyaml_grammar.specs.partial.PartialTrees.{BlockPlace, PartialTree, Open, PartPlace, Place, at_directive, at_tag, at_tag_behind, before_stream, block, block_place_tokens, content_due, partial_tokens, document_due, entry, entry_due, explicit_root, flow_entry, flow_key, flow_value}
+use Rattle.libyaml_grammar.specs.grammar.Trees.{Before, BlockItems, BlockSlot, Directive, Directives, Documents, FlowMember, FlowSlot, Parts, Properties, Sort, anchor, before_tokens, following, block_node_tokens, block_slot_tokens, directive, directive_token, directives_tokens, documents_tokens}
+use Rattle.libyaml_grammar.specs.grammar.Trees.{empty, explicit, flow_node, flow_node_tokens, flow_nothing, flow_slot_tokens, free, implicit, indentless, item, key, no_directives, no_items, no_parts, no_value, node, nothing, opening, option_tokens, pair, part, single, slot_of, value, with_value}
+use Rattle.libyaml_grammar.specs.partial.PartialTrees.{BlockPlace, PartialTree, Open, PartPlace, Place, at_directive, at_tag, at_tag_after, before_stream, block, block_place_tokens, content_due, partial_tokens, document_due, entry, entry_due, explicit_root, flow_entry, flow_key, flow_value}
 use Rattle.libyaml_grammar.specs.partial.PartialTrees.{implicit_root, indentless_entry, open_collection, open_tokens, part_due, part_place, part_place_tokens, place_tokens, root, separator_due, slot, start_due}
 use Rattle.libyaml_grammar.proofs.exported.Positions.{Position, between, due, flow_due, headed, in_mapping, in_sequence, unopened}
 use Rattle.libyaml_grammar.proofs.exported.Reading.{feeds}
@@ -84,7 +84,7 @@ edge_documents (explicit b ds m x) = edge_slot (root (explicit_root b ds m)) x
 
 abbrev pub edge_before : Before → Position
 edge_before (free f) = between (free f)
-edge_before (behind d) = edge_documents d
+edge_before (following d) = edge_documents d
 
 abbrev pub edge_items : BlockPlace → Option Properties → Marks → BlockItems → Position
 edge_items c o m empty = in_sequence c o m empty
@@ -108,7 +108,7 @@ reached (at_directive b no_directives) = edge_before b
 reached (at_directive b (directive ds d)) = headed b ds d
 reached (content_due p) = home p
 reached (at_tag p) = home p
-reached (at_tag_behind p a m) = due p (Some (anchor a m))
+reached (at_tag_after p a m) = due p (Some (anchor a m))
 reached (entry_due c o m is) = edge_items c o m is
 reached (part_due c o m ps) = edge_parts c o m ps
 reached (separator_due c e) = edge_member c e
@@ -130,11 +130,11 @@ partial_reads before_stream r = refl
 partial_reads (document_due d) r = documents_edge d r
 partial_reads (start_due b ds d) r = headed_reads b ds d r
 partial_reads (at_directive (free f) no_directives) r = free_reads f r
-partial_reads (at_directive (behind d) no_directives) r = documents_edge d r
+partial_reads (at_directive (following d) no_directives) r = documents_edge d r
 partial_reads (at_directive b (directive ds d)) r = headed_reads b ds d r
 partial_reads (content_due p) r = place_reads p r
 partial_reads (at_tag p) r = place_reads p r
-partial_reads (at_tag_behind p a m) r = place_reads p _ ∙ home_feeds p (tok (Anchor a) m ∷ r) tt
+partial_reads (at_tag_after p a m) r = place_reads p _ ∙ home_feeds p (tok (Anchor a) m ∷ r) tt
 partial_reads (entry_due c o m empty) r = block_place_reads c _ ∙ home_sequence o c m r
 partial_reads (entry_due c o m (item is e x)) r = block_place_reads (entry c o m is e) _ ∙ slot_edge x (entry c o m is e) r
 partial_reads (part_due c o m no_parts) r = block_place_reads c _ ∙ home_mapping o c m r

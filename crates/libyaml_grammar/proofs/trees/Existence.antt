@@ -4,18 +4,18 @@ use Rattle.std.specs.Prelude.{◌&&◌, not}
 use Rattle.std.proofs.Common.{◌≡◌, List, [], ◌∷◌, Option, Some, None, refl, sym, ap, ◌∙◌, subst, ◌⊎◌, inl, inr, ⊎_elim, Bool, true, false}
 use Rattle.std.proofs.lemmas.Bool.{true_from_ne_false}
 use Rattle.libyaml_grammar.specs.grammar.Tokens.{Anchor, AnchorName, Content, DocumentEnd, DocumentStart, Marks, StreamEnd, TagDirective, Token, VersionDirective, tok}
-use Rattle.libyaml_grammar.specs.grammar.Trees.{Before, Directive, Directives, Documents, Free, Properties, anchor, anchor_tag, behind, directive, explicit, flow_nothing, free, implicit, indentless, item, no_directives, no_value, node, nothing, pair, part, slot_of, tag, tag_directive, version}
+use Rattle.libyaml_grammar.specs.grammar.Trees.{Before, Directive, Directives, Documents, Free, Properties, anchor, anchor_tag, following, directive, explicit, flow_nothing, free, implicit, indentless, item, no_directives, no_value, node, nothing, pair, part, slot_of, tag, tag_directive, version}
 use Rattle.libyaml_grammar.specs.grammar.Trees.{with_value}
 use Rattle.libyaml_grammar.specs.grammar.Order.{declares, is_accepted, is_known, no_version}
 use Rattle.libyaml_grammar.specs.grammar.Events.{Event}
-use Rattle.libyaml_grammar.specs.partial.PartialTrees.{PartialTree, Place, at_directive, at_tag, at_tag_behind, before_stream, block, content_due, declared, document_due, entry, entry_due, explicit_root, flow_key, flow_value, implicit_root, indentless_entry, part_due, part_place, place_tokens, root}
+use Rattle.libyaml_grammar.specs.partial.PartialTrees.{PartialTree, Place, at_directive, at_tag, at_tag_after, before_stream, block, content_due, declared, document_due, entry, entry_due, explicit_root, flow_key, flow_value, implicit_root, indentless_entry, part_due, part_place, place_tokens, root}
 use Rattle.libyaml_grammar.specs.partial.PartialTrees.{separator_due, slot, start_due}
 use Rattle.libyaml_grammar.specs.partial.Fits.{EndsEmpty, FitsDirective, IsUnknownTag, WantsContent, empty_root, ends_empty, ends_empty_document, is_directive, last_empty}
 use Rattle.libyaml_grammar.proofs.exported.Positions.{Position, between, due, headed, unopened}
 use Rattle.libyaml_grammar.proofs.exported.Reading.{Step, bad, bad_same, broken, checked, feeds, goes, goes_same, is_legal, over, reads, reads_all, step}
-use Rattle.libyaml_grammar.proofs.exported.OnePartialTree.{content_fails, step_partial, stops_at_tag, stops_at_tag_behind}
+use Rattle.libyaml_grammar.proofs.exported.OnePartialTree.{content_fails, step_partial, stops_at_tag, stops_at_tag_after}
 use Rattle.libyaml_grammar.proofs.exported.Orders.{reads_to}
-use Rattle.libyaml_grammar.proofs.exported.ReadSteps.{ReadStep, a_tag, fails, leaves, moves, no_document, no_document_start, no_stream, read_step, tag_behind_anchor}
+use Rattle.libyaml_grammar.proofs.exported.ReadSteps.{ReadStep, a_tag, fails, leaves, moves, no_document, no_document_start, no_stream, read_step, tag_after_anchor}
 use Rattle.libyaml_grammar.proofs.trees.Edge.{partial_reads, edge_documents, place_reads, reached}
 use Rattle.libyaml_grammar.proofs.trees.Complete.{home}
 
@@ -31,7 +31,7 @@ abbrev IsOrderPartial : PartialTree → Type 0
 IsOrderPartial before_stream = Unit {0}
 IsOrderPartial (at_directive b ds) = Unit {0}
 IsOrderPartial (at_tag p) = Unit {0}
-IsOrderPartial (at_tag_behind p a m) = Unit {0}
+IsOrderPartial (at_tag_after p a m) = Unit {0}
 IsOrderPartial _ = ⊥
 
 broken_due : (p : Place) (o : Option Properties) → IsOrderPartial (broken (due p o))
@@ -87,7 +87,7 @@ StopsAt c k m = reads (reached c) (tok k m) ≡ bad c
 
 pub gives_empty_end : (c : PartialTree) (k : Content) (m : Marks) → FitsDirective c k → StopsAt c k m → EndsEmpty (last_empty c) k
 gives_empty_end (document_due x) k m d e = bad_ends_root x k m e
-gives_empty_end (at_directive (behind x) no_directives) k m d e = directive_ends_root x k d
+gives_empty_end (at_directive (following x) no_directives) k m d e = directive_ends_root x k d
 gives_empty_end (entry_due c o s (item is y nothing)) k m d e
     = absurd (not_left (block (entry c o s is y)) k m (entry_due c o s (item is y nothing)) (λ f. cc) (λ f. f) e)
 gives_empty_end (part_due c o s (part ps r v (slot_of nothing))) k m d e
@@ -110,7 +110,7 @@ gives_content _ k m e = tt
 
 abbrev pub IsTagPartial : PartialTree → Type 0
 IsTagPartial (at_tag p) = Unit {0}
-IsTagPartial (at_tag_behind p a m) = Unit {0}
+IsTagPartial (at_tag_after p a m) = Unit {0}
 IsTagPartial _ = ⊥
 
 -- which places a bad tag has: where a node is front, an unknown tag is at the tag
@@ -123,10 +123,10 @@ gives_tag l c k m r e u = at (u.begins.1)
         (sym (subst (λ (x : List Token). feeds x unopened ≡ goes (home p)) f (place_reads p []))
         ∙ (reads_to l unopened (reached c) r).0)
 
-    behind_is : (p : Place) (a : AnchorName) (x : Marks) → place_tokens p (tok (Anchor a) x ∷ []) ≡ l
+    after_is : (p : Place) (a : AnchorName) (x : Marks) → place_tokens p (tok (Anchor a) x ∷ []) ≡ l
         → due p (Some (anchor a x)) ≡ reached c
-    behind_is p a x f = goes_same (due p (Some (anchor a x))) (reached c)
-        (sym (rw f at (partial_reads (at_tag_behind p a x) []))
+    after_is p a x f = goes_same (due p (Some (anchor a x))) (reached c)
+        (sym (rw f at (partial_reads (at_tag_after p a x) []))
         ∙ (reads_to l unopened (reached c) r).0)
 
     at : (place_tokens u.place [] ≡ l)
@@ -137,9 +137,9 @@ gives_tag l c k m r e u = at (u.begins.1)
         let same : at_tag u.place ≡ c = bad_same (at_tag u.place) c (sym h ∙ (g ∙ e)) in
         subst IsTagPartial same tt
     at (inr (a, x, f)) =
-        let g = ap (λ (q : Position). reads q (tok k m)) (behind_is u.place a x f) in
-        let h = stops_at_tag_behind u.place a x k m u.unknown in
-        let same : at_tag_behind u.place a x ≡ c = bad_same (at_tag_behind u.place a x) c (sym h ∙ (g ∙ e)) in
+        let g = ap (λ (q : Position). reads q (tok k m)) (after_is u.place a x f) in
+        let h = stops_at_tag_after u.place a x k m u.unknown in
+        let same : at_tag_after u.place a x ≡ c = bad_same (at_tag_after u.place a x) c (sym h ∙ (g ∙ e)) in
         subst IsTagPartial same tt
 
 -- no cut at a directive without a directive
@@ -151,7 +151,7 @@ no_directive (leaves p a h) b ds f e = no_directive h b ds f e
 no_directive (fails no_stream) b ds f e = cc
 no_directive (a_tag p h) b ds f e = let z = order_or_goes (due p (Some (tag h _))) (is_known (declared p) h.handle)
     (at_directive b ds) e in cc
-no_directive (tag_behind_anchor p a n h) b ds f e =
+no_directive (tag_after_anchor p a n h) b ds f e =
     let z = order_or_goes (due p (Some (anchor_tag a n h _))) (is_known (declared p) h.handle) (at_directive b ds) e in cc
 no_directive _ b ds f e = cc
 
@@ -187,8 +187,8 @@ gives_directive (start_due b ds d) k m e
     = start_fails (read_step m (headed b ds d) k) b ds d (step_fails (headed b ds d) k m (start_due b ds d) (λ f. f) e)
 gives_directive (at_directive (free f) no_directives) k m e =
     true_from_ne_false (is_directive k) (λ g. no_directive (read_step m (between (free f)) k) (free f) no_directives g e)
-gives_directive (at_directive (behind d) no_directives) k m e =
-    true_from_ne_false (is_directive k) (λ g. no_directive (read_step m (edge_documents d) k) (behind d) no_directives g e)
+gives_directive (at_directive (following d) no_directives) k m e =
+    true_from_ne_false (is_directive k) (λ g. no_directive (read_step m (edge_documents d) k) (following d) no_directives g e)
 gives_directive (at_directive b (directive ds d)) k m e =
     true_from_ne_false (is_directive k) (λ g. no_directive (read_step m (headed b ds d) k) b (directive ds d) g e)
 gives_directive (content_due (block (root (implicit_root f)))) k m e = no_root f k m e

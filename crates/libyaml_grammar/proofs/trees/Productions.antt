@@ -1,7 +1,7 @@
 -- The tokens of each production determine it, with the same tokens after it: it is put into a stream.
 use Rattle.std.proofs.Common.{◌≡◌, List, [], ◌∷◌, None, refl, sym, ap, ◌∙◌}
 use Rattle.libyaml_grammar.specs.grammar.Tokens.{BlockEnd, BlockMappingStart, BlockSequenceStart, DocumentStart, FlowSequenceEnd, FlowSequenceStart, Key, StreamEnd, StreamStart, Token, Value, tok, zero_marks}
-use Rattle.libyaml_grammar.specs.grammar.Trees.{Before, BlockItems, BlockNode, BlockSlot, Directives, Documents, FlowItems, FlowLast, FlowMember, FlowNode, FlowSlot, Parts, Properties, Slot, Stream, alone, before_tokens, behind, block_mapping, block_node_tokens, block_sequence, block_slot_tokens}
+use Rattle.libyaml_grammar.specs.grammar.Trees.{Before, BlockItems, BlockNode, BlockSlot, Directives, Documents, FlowItems, FlowLast, FlowMember, FlowNode, FlowSlot, Parts, Properties, Slot, Stream, alone, before_tokens, following, block_mapping, block_node_tokens, block_sequence, block_slot_tokens}
 use Rattle.libyaml_grammar.specs.grammar.Trees.{collection, directives_tokens, documents_tokens, explicit, flow, flow_items_tokens, flow_last_tokens, flow_member_tokens, flow_node_tokens, flow_slot_tokens, free, items_tokens, last, no_directives, no_items, no_last, no_parts, no_value, node, nothing}
 use Rattle.libyaml_grammar.specs.grammar.Trees.{opened, pair, part, parts_tokens, properties_tokens, sequence, slot_tokens, tokens, value, whole}
 use Rattle.libyaml_grammar.specs.partial.PartialTrees.{BlockPlace, PartialTree, Place, at_directive, block, content_due, partial_tokens, document_due, entry_due, explicit_root, flow_entry, implicit_root, open_collection, part_due, place_tokens, root, separator_due}
@@ -15,10 +15,10 @@ use Rattle.libyaml_grammar.proofs.trees.Complete.{home}
 
 -- a stream with one document and this content, and the tokens before it
 stream_of : BlockSlot → Stream
-stream_of x = whole (behind (explicit (free (opened any_encoding zero_marks)) no_directives zero_marks x)) zero_marks
+stream_of x = whole (following (explicit (free (opened any_encoding zero_marks)) no_directives zero_marks x)) zero_marks
 
 abbrev content_of : Stream → BlockSlot
-content_of (whole (behind (explicit b ds m x)) n) = x
+content_of (whole (following (explicit b ds m x)) n) = x
 content_of (whole b n) = nothing
 
 abbrev top : BlockPlace
@@ -113,7 +113,7 @@ before_law s t r e =
     (partial_swap (at_directive s no_directives) (at_directive t no_directives) r (tok StreamEnd zero_marks ∷ []) e) in cc
 
 pub documents_law : (s t : Documents) (r : List Token) → documents_tokens s r ≡ documents_tokens t r → s ≡ t
-documents_law s t r e = let h = before_law (behind s) (behind t) r e in cc
+documents_law s t r e = let h = before_law (following s) (following t) r e in cc
 
 pub directives_law : (s t : Directives) (r : List Token) → directives_tokens s r ≡ directives_tokens t r → s ≡ t
 directives_law s t r e =

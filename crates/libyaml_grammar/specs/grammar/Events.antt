@@ -15,7 +15,7 @@ use Rattle.libyaml_types.specs.declared.enums.yaml_mapping_style_t.TheVariants.{
 use Rattle.libyaml_grammar.specs.grammar.Tokens.{Mark, Marks, StreamHead, HandleDeclared, AliasName, TagName, ScalarText}
 use Rattle.libyaml_grammar.specs.grammar.Trees.{Properties, Sort, Role, FlowNode, FlowItems, FlowLast, FlowMember, FlowSlot, BlockNode, BlockSlot, BlockItems, Slot, Parts, Directive, Directives, Documents, Free, Ended, Before, Stream, anchor, tag, anchor_tag, tag_anchor, sequence, mapping, key}
 use Rattle.libyaml_grammar.specs.grammar.Trees.{value, alias, alone, scalar, collection, no_items, more_items, no_last, last, single, pair, flow_nothing, flow_node, no_value, with_value, flow, block_sequence, block_mapping, nothing, node, empty, item, slot_of, indentless, no_parts, part, version}
-use Rattle.libyaml_grammar.specs.grammar.Trees.{tag_directive, no_directives, directive, implicit, explicit, opened, ended, once, again, free, behind, whole}
+use Rattle.libyaml_grammar.specs.grammar.Trees.{tag_directive, no_directives, directive, implicit, explicit, opened, ended, once, again, free, following, whole}
 
 abbrev pub Event : Type 0
 Event = yaml_event_t
@@ -333,7 +333,7 @@ abbrev mutual
 
   pub before_events : Before → Mark → List Event → List Event
   before_events (free f) m r = free_events f r
-  before_events (behind d) m r = documents_events d m (document_end_at true m m ∷ r)
+  before_events (following d) m r = documents_events d m (document_end_at true m m ∷ r)
 
 abbrev pub stream_events : Stream → List Event → List Event
 stream_events (whole b m) r = before_events b m.start (stream_end_at m.start m.end ∷ r)

@@ -55,17 +55,17 @@ abbrev mutual
 -- whole documents: start, value and end
 pub data DocumentTexts : Type 0 where
   no_texts : DocumentTexts
-  text_behind : DocumentTexts → unnamed_yaml_event_t_data_document_start → Mark → Mark → Value → (is_implicit : Bool) → Mark
+  text_after : DocumentTexts → unnamed_yaml_event_t_data_document_start → Mark → Mark → Value → (is_implicit : Bool) → Mark
       → Mark → DocumentTexts
 
 abbrev pub texts_events : DocumentTexts → List Event → List Event
 texts_events no_texts r = r
-texts_events (text_behind ts d m n v i p q) r =
+texts_events (text_after ts d m n v i p q) r =
     texts_events ts (event (ev.DocumentStart d) m n ∷ value_events v (document_end_at i p q ∷ r))
 
 abbrev pub TextsHavePairs : DocumentTexts → Type 0
 TextsHavePairs no_texts = Unit {0}
-TextsHavePairs (text_behind ts d m n v i p q) = TextsHavePairs ts × HasPairs v
+TextsHavePairs (text_after ts d m n v i p q) = TextsHavePairs ts × HasPairs v
 
 -- The starts and ends of the stream, of its documents and of its collections match, and each mapping has pairs.
 pub record IsNested (l : List Event) : Type 0 where

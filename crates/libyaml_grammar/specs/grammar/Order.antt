@@ -3,7 +3,7 @@
 -- follows it.
 use Rattle.std.specs.Prelude.{ℕ, ℤ, pos, List, [], ◌∷◌, Option, Some, None, Bool, true, false, codes, ◌&&◌, ◌||◌, not, bytes_eq}
 use Rattle.std.specs.Ordering.{int_eq}
-use Rattle.libyaml_grammar.specs.grammar.Trees.{Before, BlockItems, BlockNode, BlockSlot, Directive, Directives, Documents, Ended, FlowItems, FlowLast, FlowMember, FlowNode, FlowSlot, FlowValue, Free, Parts, Properties, Slot, Stream, again, alias, alone, anchor, anchor_tag, behind, block_mapping}
+use Rattle.libyaml_grammar.specs.grammar.Trees.{Before, BlockItems, BlockNode, BlockSlot, Directive, Directives, Documents, Ended, FlowItems, FlowLast, FlowMember, FlowNode, FlowSlot, FlowValue, Free, Parts, Properties, Slot, Stream, again, alias, alone, anchor, anchor_tag, following, block_mapping}
 use Rattle.libyaml_grammar.specs.grammar.Trees.{block_sequence, collection, directive, empty, ended, explicit, flow, flow_node, flow_nothing, free, implicit, indentless, item, last, more_items, no_directives, no_items, no_last, no_parts, no_value, node, nothing, once, opened, pair, part, scalar}
 use Rattle.libyaml_grammar.specs.grammar.Trees.{single, slot_of, tag, tag_anchor, tag_directive, version, whole, with_value}
 
@@ -114,7 +114,7 @@ abbrev mutual
 
   pub before_in_order : Before → Bool → Bool
   before_in_order (free f) b = free_in_order f b
-  before_in_order (behind d) b = documents_in_order d b
+  before_in_order (following d) b = documents_in_order d b
 
 abbrev pub stream_in_order : Stream → Bool → Bool
 stream_in_order (whole c m) b = before_in_order c b

@@ -117,7 +117,7 @@ mutual
   -- what stands before a document that has its DOCUMENT-START, and before the stream's end
   pub data Before : Type 0 where
     free : Free → Before
-    behind : Documents → Before
+    following : Documents → Before
 
 -- a stream (YAML 1.1, 7.4)
 pub data Stream : Type 0 where
@@ -222,7 +222,7 @@ abbrev mutual
 
   pub before_tokens : Before → List Token → List Token
   before_tokens (free f) r = free_tokens f r
-  before_tokens (behind d) r = documents_tokens d r
+  before_tokens (following d) r = documents_tokens d r
 
 abbrev pub stream_tokens : Stream → List Token → List Token
 stream_tokens (whole b m) r = before_tokens b (tok StreamEnd m ∷ r)

@@ -2,7 +2,7 @@
 -- events of every valid list that begins so, as a relation, and as a function of the prefix tree.
 use Rattle.std.specs.Prelude.{◌≡◌, List, [], ◌∷◌, ◌++◌, Option, Some, None, true, false}
 use Rattle.libyaml_grammar.specs.partial.PartialEvents.{shown_block, shown_open, shown_place, sort_of}
-use Rattle.libyaml_grammar.specs.partial.PartialTrees.{PartialTree, Place, at_directive, at_tag, at_tag_behind, block, content_due, partial_in_order, partial_tokens, declared_block, declared_open, document_due, entry_due, implicit_root, part_due, root, separator_due, start_due}
+use Rattle.libyaml_grammar.specs.partial.PartialTrees.{PartialTree, Place, at_directive, at_tag, at_tag_after, block, content_due, partial_in_order, partial_tokens, declared_block, declared_open, document_due, entry_due, implicit_root, part_due, root, separator_due, start_due}
 use Rattle.libyaml_grammar.specs.grammar.Events.{Event, before_events, before_part, block_layout, block_node_events, directive_start, document_start_at, events, first_block, first_directive, first_block_entry, first_of, flow_node_events, flow_slot_events, free_events, items_events, opens_pair}
 use Rattle.libyaml_grammar.specs.grammar.Events.{parts_events, start_of}
 use Rattle.libyaml_types.specs.Events.{zero_mark}
@@ -50,7 +50,7 @@ pub record IsOpen (l : List Token) (e : List Event) : Type 0 where
 abbrev pub IsPrefixPlace : PartialTree → Type 0
 IsPrefixPlace (at_directive b ds) = ⊥
 IsPrefixPlace (at_tag p) = ⊥
-IsPrefixPlace (at_tag_behind p a m) = ⊥
+IsPrefixPlace (at_tag_after p a m) = ⊥
 IsPrefixPlace _ = Unit {0}
 
 pub record IsPrefixTree (l : List Token) (c : PartialTree) : Type 0 where

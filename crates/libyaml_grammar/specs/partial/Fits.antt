@@ -1,9 +1,9 @@
 -- When a partial tree fits a list with the token after it (docs/DEFINITIONS.md, "When a partial tree fits").
 use Rattle.std.specs.Prelude.{◌≡◌, ◌⊎◌, List, [], ◌∷◌, ◌++◌, Option, Some, None, Bool, true, false}
 use Rattle.libyaml_grammar.specs.grammar.Tokens.{Anchor, AnchorName, BlockEnd, BlockEntry, Content, DocumentEnd, DocumentStart, FlowEntry, FlowMappingEnd, FlowSequenceEnd, Key, Marks, StreamEnd, Tag, TagDirective, Token, Value, VersionDirective, tok}
-use Rattle.libyaml_grammar.specs.grammar.Trees.{BlockItems, Directives, Documents, FlowMember, FlowSlot, Properties, Slot, behind, explicit, flow_node, flow_nothing, indentless, item, mapping, no_directives, no_value, nothing, pair, part, sequence, single, slot_of, with_value}
+use Rattle.libyaml_grammar.specs.grammar.Trees.{BlockItems, Directives, Documents, FlowMember, FlowSlot, Properties, Slot, following, explicit, flow_node, flow_nothing, indentless, item, mapping, no_directives, no_value, nothing, pair, part, sequence, single, slot_of, with_value}
 use Rattle.libyaml_grammar.specs.grammar.Order.{is_known}
-use Rattle.libyaml_grammar.specs.partial.PartialTrees.{BlockPlace, PartialTree, Open, PartPlace, Place, at_directive, at_tag, at_tag_behind, block, content_due, partial_in_order, partial_tokens, declared, document_due, entry, entry_due, explicit_root, flow_entry, flow_key, flow_value, implicit_root}
+use Rattle.libyaml_grammar.specs.partial.PartialTrees.{BlockPlace, PartialTree, Open, PartPlace, Place, at_directive, at_tag, at_tag_after, block, content_due, partial_in_order, partial_tokens, declared, document_due, entry, entry_due, explicit_root, flow_entry, flow_key, flow_value, implicit_root}
 use Rattle.libyaml_grammar.specs.partial.PartialTrees.{indentless_entry, open_collection, part_due, part_place, place_in_order, place_tokens, root, separator_due, slot, start_due}
 use Rattle.libyaml_grammar.specs.grammar.ValidLists.{IsViablePrefix}
 
@@ -81,7 +81,7 @@ empty_member c (pair k x (with_value v y)) = empty_slot (flow_value c k x v) y
 
 abbrev pub last_empty : PartialTree → Option Place
 last_empty (document_due d) = empty_root d
-last_empty (at_directive (behind d) no_directives) = empty_root d
+last_empty (at_directive (following d) no_directives) = empty_root d
 last_empty (entry_due c o m is) = empty_item c o m is
 last_empty (part_due c o m (part ps k v x)) = empty_part (part_place c o m ps k v) x
 last_empty (separator_due c e) = empty_member c e
@@ -125,7 +125,7 @@ pub record IsUnknownTag (l : List Token) (k : Content) : Type 0 where
 -- the place is at a TAG exactly where that is so
 abbrev pub FitsTag : List Token → PartialTree → Content → Type 0
 FitsTag l (at_tag p) k = IsUnknown (declared p) k
-FitsTag l (at_tag_behind p a m) k = IsUnknown (declared p) k
+FitsTag l (at_tag_after p a m) k = IsUnknown (declared p) k
 FitsTag l _ k = IsUnknownTag l k → ⊥
 
 -- The partial tree c fits the list l and the token b after it: its tokens are l and its documents in order, no valid

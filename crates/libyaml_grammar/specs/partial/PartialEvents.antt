@@ -5,7 +5,7 @@ use Rattle.libyaml_grammar.specs.grammar.Tokens.{Mark, Token}
 use Rattle.libyaml_grammar.specs.grammar.Trees.{Sort, directive, mapping, no_directives, sequence}
 use Rattle.libyaml_grammar.specs.grammar.Events.{Event, before_events, before_part, block_layout, document_end_at, document_start_at, documents_events, first_directive, first_block_entry, first_of, flow_items_events, flow_layout, flow_member_events, flow_slot_events, free_events, items_events}
 use Rattle.libyaml_grammar.specs.grammar.Events.{member_end, missing_value, opens_pair, parts_events, start_of}
-use Rattle.libyaml_grammar.specs.partial.PartialTrees.{BlockPlace, PartialTree, Open, PartPlace, Place, Root, at_directive, at_tag, at_tag_behind, before_stream, block, content_due, declared, declared_block, declared_open, declared_part, document_due, entry, entry_due, explicit_root, flow_entry}
+use Rattle.libyaml_grammar.specs.partial.PartialTrees.{BlockPlace, PartialTree, Open, PartPlace, Place, Root, at_directive, at_tag, at_tag_after, before_stream, block, content_due, declared, declared_block, declared_open, declared_part, document_due, entry, entry_due, explicit_root, flow_entry}
 use Rattle.libyaml_grammar.specs.partial.PartialTrees.{flow_key, flow_value, implicit_root, indentless_entry, open_collection, part_due, part_place, root, separator_due, slot, start_due}
 
 abbrev pub sort_of : Open → Sort
@@ -53,7 +53,7 @@ shown_partial (start_due b ds d) m r = before_events b (first_directive (directi
 shown_partial (at_directive b ds) m r = before_events b (first_directive ds m) r
 shown_partial (content_due p) m r = shown_place p m r
 shown_partial (at_tag p) m r = shown_place p m r
-shown_partial (at_tag_behind p a x) m r = shown_place p x.start r
+shown_partial (at_tag_after p a x) m r = shown_place p x.start r
 shown_partial (entry_due c o s is) m r
     = shown_block c (first_of o s.start)
     (start_of (declared_block c) sequence block_layout o s ∷ items_events (declared_block c) is r)

@@ -6,7 +6,7 @@ use Rattle.libyaml_grammar.specs.partial.FaultTexts.{stream_start_fault, documen
 use Rattle.libyaml_grammar.specs.grammar.Tokens.{Content, Mark, VersionDirective}
 use Rattle.libyaml_grammar.specs.grammar.Trees.{Directives, mapping, sequence}
 use Rattle.libyaml_grammar.specs.grammar.Order.{no_version}
-use Rattle.libyaml_grammar.specs.partial.PartialTrees.{PartialTree, Open, Place, at_directive, at_tag, at_tag_behind, before_stream, block, content_due, document_due, entry_due, open_collection, part_due, separator_due, start_due}
+use Rattle.libyaml_grammar.specs.partial.PartialTrees.{PartialTree, Open, Place, at_directive, at_tag, at_tag_after, before_stream, block, content_due, document_due, entry_due, open_collection, part_due, separator_due, start_due}
 
 -- of a directive after others: a second version is a duplicate before its number is looked at
 abbrev pub directive_fault : Directives → Content → Mark → Fault
@@ -30,7 +30,7 @@ fault (start_due b ds d) k m = document_start_fault m
 fault (at_directive b ds) k m = directive_fault ds k m
 fault (content_due p) k m = content_fault (is_block p) m
 fault (at_tag p) k m = tag_fault m m
-fault (at_tag_behind p a x) k m = tag_fault x.start m
+fault (at_tag_after p a x) k m = tag_fault x.start m
 fault (entry_due c o s is) k m = item_fault s.start m
 fault (part_due c o s ps) k m = part_fault s.start m
 fault (separator_due c e) k m = separator_fault c m

@@ -48,7 +48,7 @@ pub data PartialTree : Type 0 where
   at_directive : Before → Directives → PartialTree
   content_due : Place → PartialTree
   at_tag : Place → PartialTree
-  at_tag_behind : Place → AnchorName → Marks → PartialTree
+  at_tag_after : Place → AnchorName → Marks → PartialTree
   entry_due : BlockPlace → Option Properties → Marks → BlockItems → PartialTree
   part_due : BlockPlace → Option Properties → Marks → Parts → PartialTree
   separator_due : Open → FlowMember → PartialTree
@@ -89,7 +89,7 @@ partial_tokens (start_due b ds d) r = before_tokens b (directives_tokens ds (dir
 partial_tokens (at_directive b ds) r = before_tokens b (directives_tokens ds r)
 partial_tokens (content_due p) r = place_tokens p r
 partial_tokens (at_tag p) r = place_tokens p r
-partial_tokens (at_tag_behind p a m) r = place_tokens p (tok (Anchor a) m ∷ r)
+partial_tokens (at_tag_after p a m) r = place_tokens p (tok (Anchor a) m ∷ r)
 partial_tokens (entry_due c o m is) r = block_place_tokens c (option_tokens o (tok BlockSequenceStart m ∷ items_tokens is r))
 partial_tokens (part_due c o m ps) r = block_place_tokens c (option_tokens o (tok BlockMappingStart m ∷ parts_tokens ps r))
 partial_tokens (separator_due c e) r = open_tokens c (flow_member_tokens e r)
@@ -156,7 +156,7 @@ partial_in_order (start_due c ds d) b = before_in_order c (directives_in_order d
 partial_in_order (at_directive c ds) b = before_in_order c (directives_in_order ds b)
 partial_in_order (content_due p) b = place_in_order p b
 partial_in_order (at_tag p) b = place_in_order p b
-partial_in_order (at_tag_behind p a m) b = place_in_order p b
+partial_in_order (at_tag_after p a m) b = place_in_order p b
 partial_in_order (entry_due c o m is) b =
     block_place_in_order c (option_in_order (declared_block c) o (items_in_order (declared_block c) is b))
 partial_in_order (part_due c o m ps) b =

@@ -4,7 +4,7 @@ use Rattle.std.specs.Prelude.{List, [], ◌∷◌}
 use Rattle.libyaml_types.specs.declared.enums.yaml_encoding_t.TheVariants.{YAML_ANY_ENCODING}
 use Rattle.libyaml_grammar.specs.grammar.Tokens.{BlockEnd, DocumentStart, Marks, Scalar, StreamEnd, StreamHead, StreamStart, Token, empty_plain, tok}
 use Rattle.libyaml_grammar.specs.grammar.Trees.{Directives, closing, directive, no_directives}
-use Rattle.libyaml_grammar.specs.partial.PartialTrees.{BlockPlace, PartialTree, Open, Place, at_directive, at_tag, at_tag_behind, before_stream, block, content_due, document_due, entry, entry_due, flow_entry, flow_key, flow_value, indentless_entry, open_collection, part_due, part_place, root}
+use Rattle.libyaml_grammar.specs.partial.PartialTrees.{BlockPlace, PartialTree, Open, Place, at_directive, at_tag, at_tag_after, before_stream, block, content_due, document_due, entry, entry_due, flow_entry, flow_key, flow_value, indentless_entry, open_collection, part_due, part_place, root}
 use Rattle.libyaml_grammar.specs.partial.PartialTrees.{separator_due, slot, start_due}
 
 abbrev pub rest_block_place : Marks → BlockPlace → List Token
@@ -37,7 +37,7 @@ rest m (start_due b ds d) = tok DocumentStart m ∷ tok StreamEnd m ∷ []
 rest m (at_directive b ds) = rest_at_directive m ds
 rest m (content_due p) = tok (Scalar empty_plain) m ∷ rest_place m p
 rest m (at_tag p) = tok (Scalar empty_plain) m ∷ rest_place m p
-rest m (at_tag_behind p a n) = tok (Scalar empty_plain) m ∷ rest_place m p
+rest m (at_tag_after p a n) = tok (Scalar empty_plain) m ∷ rest_place m p
 rest m (entry_due c o s is) = tok BlockEnd m ∷ rest_block_place m c
 rest m (part_due c o s ps) = tok BlockEnd m ∷ rest_block_place m c
 rest m (separator_due c e) = rest_open m c

@@ -31,14 +31,14 @@ RowTwoRoots = IsRun (list (
     at 0 0 stream ∷ at 2 2 bare_document ∷ at 2 3 (text (codes "a")) ∷ at 4 4 no_document_end ∷ [])
     (Fails (says (codes "did not find expected <document start>") 4))
 
-abbrev pub RowAliasBehindAnchor : Type 0
-RowAliasBehindAnchor = IsRun (list (
+abbrev pub RowAliasAfterAnchor : Type 0
+RowAliasAfterAnchor = IsRun (list (
     STREAM ∷ ANCHOR (codes "a") ∷ ALIAS (codes "b") ∷ StreamEnd ∷ [])) no_more (
     at 0 0 stream ∷ at 2 2 bare_document ∷ at 2 3 (scalar (Some (codes "a")) None [] true false YAML_PLAIN_SCALAR_STYLE) ∷
     at 4 4 no_document_end ∷ []) (Fails (says (codes "did not find expected <document start>") 4))
 
-abbrev pub RowBlockCollectionBehindTagInFlow : Type 0
-RowBlockCollectionBehindTagInFlow = IsRun (list (
+abbrev pub RowBlockCollectionAfterTagInFlow : Type 0
+RowBlockCollectionAfterTagInFlow = IsRun (list (
     STREAM ∷ FlowSequenceStart ∷ TAG [] (codes "t") ∷ BlockSequenceStart ∷ FlowSequenceEnd ∷ [])) no_more (
     at 0 0 stream ∷ at 2 2 bare_document ∷ at 2 3 flow_sequence ∷
     at 4 5 (scalar None (Some (codes "t")) [] false false YAML_PLAIN_SCALAR_STYLE)
@@ -89,8 +89,8 @@ RowDocumentEndFirst = IsRun (list (
     at 0 0 stream ∷ at 2 2 bare_document ∷ [])
     (Fails (says_while (codes "while parsing a block node") 2 (codes "did not find expected node content") 2))
 
-abbrev pub RowNoContentBehindDocumentEnd : Type 0
-RowNoContentBehindDocumentEnd = IsRun (list (
+abbrev pub RowNoContentAfterDocumentEnd : Type 0
+RowNoContentAfterDocumentEnd = IsRun (list (
     STREAM ∷ SCALAR (codes "a") ∷ DocumentEnd ∷ BlockEnd ∷ [])) no_more (
     at 0 0 stream ∷ at 2 2 bare_document ∷ at 2 3 (text (codes "a")) ∷ at 4 5 explicit_end ∷ at 6 6 bare_document
     ∷ []) (Fails (says_while (codes "while parsing a block node") 6 (codes "did not find expected node content") 6))
@@ -119,8 +119,8 @@ RowNoContentInBlockMapping = IsRun (list (
     at 0 0 stream ∷ at 2 2 bare_document ∷ at 2 3 mapping ∷ at 6 7 (text (codes "a"))
     ∷ []) (Fails (says_while (codes "while parsing a block node") 10 (codes "did not find expected node content") 10))
 
-abbrev pub RowNoContentBehindValue : Type 0
-RowNoContentBehindValue = IsRun (list (
+abbrev pub RowNoContentAfterValue : Type 0
+RowNoContentAfterValue = IsRun (list (
     STREAM ∷ BlockMappingStart ∷ Value ∷ FlowSequenceEnd ∷ [])) no_more (
     at 0 0 stream ∷ at 2 2 bare_document ∷ at 2 3 mapping ∷ at 4 4 nothing
     ∷ []) (Fails (says_while (codes "while parsing a block node") 6 (codes "did not find expected node content") 6))
@@ -131,8 +131,8 @@ RowNoContentInFlowSequence = IsRun (list (
     at 0 0 stream ∷ at 2 2 bare_document ∷ at 2 3 flow_sequence
     ∷ []) (Fails (says_while (codes "while parsing a flow node") 4 (codes "did not find expected node content") 4))
 
-abbrev pub RowNoContentBehindSeparator : Type 0
-RowNoContentBehindSeparator = IsRun (list (
+abbrev pub RowNoContentAfterSeparator : Type 0
+RowNoContentAfterSeparator = IsRun (list (
     STREAM ∷ FlowSequenceStart ∷ SCALAR (codes "a") ∷ FlowEntry ∷ FlowEntry ∷ FlowSequenceEnd ∷ StreamEnd ∷ [])) no_more (
     at 0 0 stream ∷ at 2 2 bare_document ∷ at 2 3 flow_sequence ∷ at 4 5 (text (codes "a"))
     ∷ []) (Fails (says_while (codes "while parsing a flow node") 8 (codes "did not find expected node content") 8))
@@ -206,8 +206,8 @@ RowNoBlockEntry = IsRun (list (
     at 0 0 stream ∷ at 2 2 bare_document ∷ at 2 3 sequence
     ∷ []) (Fails (says_while (codes "while parsing a block collection") 2 (codes "did not find expected '-' indicator") 4))
 
-abbrev pub RowNoBlockEntryBehindEntry : Type 0
-RowNoBlockEntryBehindEntry = IsRun (list (
+abbrev pub RowNoBlockEntryAfterEntry : Type 0
+RowNoBlockEntryAfterEntry = IsRun (list (
     STREAM ∷ BlockSequenceStart ∷ BlockEntry ∷ SCALAR (codes "a") ∷ Key ∷ [])) no_more (
     at 0 0 stream ∷ at 2 2 bare_document ∷ at 2 3 sequence ∷ at 6 7 (text (codes "a"))
     ∷ []) (Fails (says_while (codes "while parsing a block collection") 2 (codes "did not find expected '-' indicator") 8))
@@ -218,15 +218,15 @@ RowNoKey = IsRun (list (
     at 0 0 stream ∷ at 2 2 bare_document ∷ at 2 3 mapping ∷ [])
     (Fails (says_while (codes "while parsing a block mapping") 2 (codes "did not find expected key") 4))
 
-abbrev pub RowNoKeyBehindIndentless : Type 0
-RowNoKeyBehindIndentless = IsRun (list (
+abbrev pub RowNoKeyAfterIndentless : Type 0
+RowNoKeyAfterIndentless = IsRun (list (
     STREAM ∷ BlockMappingStart ∷ Key ∷ BlockEntry ∷ SCALAR (codes "a") ∷ SCALAR (codes "b") ∷ [])) no_more (
     at 0 0 stream ∷ at 2 2 bare_document ∷ at 2 3 mapping ∷ at 6 7 sequence ∷ at 8 9 (text (codes "a")) ∷
     at 10 10 ev.SequenceEnd ∷ at 10 10 nothing ∷ [])
     (Fails (says_while (codes "while parsing a block mapping") 2 (codes "did not find expected key") 10))
 
-abbrev pub RowNoKeyBehindKey : Type 0
-RowNoKeyBehindKey = IsRun (list (
+abbrev pub RowNoKeyAfterKey : Type 0
+RowNoKeyAfterKey = IsRun (list (
     STREAM ∷ BlockMappingStart ∷ Key ∷ SCALAR (codes "a") ∷ Value ∷ SCALAR (codes "b") ∷ FlowSequenceEnd ∷ [])) no_more (
     at 0 0 stream ∷ at 2 2 bare_document ∷ at 2 3 mapping ∷ at 6 7 (text (codes "a")) ∷ at 10 11 (text (codes "b"))
     ∷ []) (Fails (says_while (codes "while parsing a block mapping") 2 (codes "did not find expected key") 12))
@@ -327,8 +327,8 @@ RowDocumentAndAnchorBegun = IsRun (list (
     at 0 0 stream ∷ at 2 2 bare_document ∷ at 2 3 (text (codes "a")) ∷ at 4 4 no_document_end ∷
     at 4 5 (headed_document None []) ∷ []) (Fails no_more)
 
-abbrev pub RowValueBehindIndentlessCome : Type 0
-RowValueBehindIndentlessCome = IsRun (list (
+abbrev pub RowValueAfterIndentlessCome : Type 0
+RowValueAfterIndentlessCome = IsRun (list (
     STREAM ∷ ANCHOR (codes "a") ∷ BlockMappingStart ∷ Key ∷ BlockEntry ∷ Value ∷ SCALAR (codes "a") ∷ [])) no_more (
     at 0 0 stream ∷ at 2 2 bare_document ∷ at 2 5 (mapping_of (Some (codes "a")) None true) ∷ at 8 9 sequence ∷
     at 9 9 nothing ∷ at 10 10 ev.SequenceEnd ∷ at 12 13 (text (codes "a")) ∷ []) (Fails no_more)
@@ -408,8 +408,8 @@ RowKeyCome = IsRun (list (
     STREAM ∷ BlockMappingStart ∷ Key ∷ SCALAR (codes "a") ∷ Key ∷ [])) no_more (
     at 0 0 stream ∷ at 2 2 bare_document ∷ at 2 3 mapping ∷ at 6 7 (text (codes "a")) ∷ at 8 8 nothing ∷ []) (Fails no_more)
 
-abbrev pub RowValueBehindIndentless : Type 0
-RowValueBehindIndentless = IsRun (list (
+abbrev pub RowValueAfterIndentless : Type 0
+RowValueAfterIndentless = IsRun (list (
     STREAM ∷ BlockMappingStart ∷ Key ∷ BlockEntry ∷ Value ∷ [])) no_more (
     at 0 0 stream ∷ at 2 2 bare_document ∷ at 2 3 mapping ∷ at 6 7 sequence ∷ at 7 7 nothing ∷ at 8 8
     ev.SequenceEnd ∷ []) (Fails no_more)

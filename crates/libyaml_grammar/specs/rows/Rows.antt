@@ -41,20 +41,20 @@ RowDocumentEnds = IsRun (list (
     STREAM ∷ DocumentStart ∷ DocumentEnd ∷ DocumentEnd ∷ StreamEnd ∷ [])) no_more (
     at 0 0 stream ∷ at 2 3 (headed_document None []) ∷ at 4 4 nothing ∷ at 4 5 explicit_end ∷ at 8 9 ev.StreamEnd ∷ []) Ends
 
-abbrev pub RowImplicitBehindDocumentEnd : Type 0
-RowImplicitBehindDocumentEnd = IsRun (list (
+abbrev pub RowImplicitAfterDocumentEnd : Type 0
+RowImplicitAfterDocumentEnd = IsRun (list (
     STREAM ∷ DocumentStart ∷ DocumentEnd ∷ DocumentEnd ∷ SCALAR (codes "b") ∷ StreamEnd ∷ [])) no_more (
     at 0 0 stream ∷ at 2 3 (headed_document None []) ∷ at 4 4 nothing ∷ at 4 5 explicit_end ∷ at 8 8 bare_document ∷
     at 8 9 (text (codes "b")) ∷ at 10 10 no_document_end ∷ at 10 11 ev.StreamEnd ∷ []) Ends
 
-abbrev pub RowImplicitBehindImplicit : Type 0
-RowImplicitBehindImplicit = IsRun (list (
+abbrev pub RowImplicitAfterImplicit : Type 0
+RowImplicitAfterImplicit = IsRun (list (
     STREAM ∷ SCALAR (codes "a") ∷ DocumentEnd ∷ SCALAR (codes "b") ∷ DocumentEnd ∷ StreamEnd ∷ [])) no_more (
     at 0 0 stream ∷ at 2 2 bare_document ∷ at 2 3 (text (codes "a")) ∷ at 4 5 explicit_end ∷ at 6 6 bare_document ∷
     at 6 7 (text (codes "b")) ∷ at 8 9 explicit_end ∷ at 10 11 ev.StreamEnd ∷ []) Ends
 
-abbrev pub RowExplicitBehindDocumentEnd : Type 0
-RowExplicitBehindDocumentEnd = IsRun (list (
+abbrev pub RowExplicitAfterDocumentEnd : Type 0
+RowExplicitAfterDocumentEnd = IsRun (list (
     STREAM ∷ SCALAR (codes "a") ∷ DocumentEnd ∷ HANDLE (codes "!e!") (codes "p:") ∷ DocumentStart ∷
     ANCHOR (codes "a") ∷ TAG (codes "!e!") (codes "x") ∷ StreamEnd ∷ [])) no_more (
     at 0 0 stream ∷ at 2 2 bare_document ∷ at 2 3 (text (codes "a")) ∷ at 4 5 explicit_end ∷
@@ -70,8 +70,8 @@ RowDirectives = IsRun (list (
     at 8 11 (scalar None (Some (codes "p:x")) (codes "a") false false YAML_PLAIN_SCALAR_STYLE) ∷
     at 12 12 no_document_end ∷ at 12 13 ev.StreamEnd ∷ []) Ends
 
-abbrev pub RowBehindStreamEnd : Type 0
-RowBehindStreamEnd = IsRun (list (
+abbrev pub RowAfterStreamEnd : Type 0
+RowAfterStreamEnd = IsRun (list (
     STREAM ∷ SCALAR (codes "a") ∷ StreamEnd ∷ BlockEnd ∷ STREAM ∷ StreamEnd ∷ [])) no_more (
     at 0 0 stream ∷ at 2 2 bare_document ∷ at 2 3 (text (codes "a")) ∷ at 4 4 no_document_end ∷ at 4 5 ev.StreamEnd ∷ []) Ends
 
@@ -152,8 +152,8 @@ RowEntryThatBeginsWithValue = IsRun (list (
     at 0 0 stream ∷ at 2 2 bare_document ∷ at 2 3 mapping ∷ at 4 4 nothing ∷ at 6 7 (text (codes "x")) ∷
     at 8 9 ev.MappingEnd ∷ at 10 10 no_document_end ∷ at 10 11 ev.StreamEnd ∷ []) Ends
 
-abbrev pub RowValueBehindValue : Type 0
-RowValueBehindValue = IsRun (list (
+abbrev pub RowValueAfterValue : Type 0
+RowValueAfterValue = IsRun (list (
     STREAM ∷ BlockMappingStart ∷ Key ∷ SCALAR (codes "k") ∷ Value ∷ Value ∷ SCALAR (codes "x") ∷ Value ∷
     SCALAR (codes "y") ∷ BlockEnd ∷ StreamEnd ∷ [])) no_more (
     at 0 0 stream ∷ at 2 2 bare_document ∷ at 2 3 mapping ∷ at 6 7 (text (codes "k")) ∷ at 9 9 nothing ∷

@@ -6,12 +6,12 @@ ghost use Rattle.libyaml_grammar.specs.rows.EmptyRows.{RowEmptyDocument, RowEmpt
 ghost use Rattle.libyaml_grammar.specs.rows.EmptyRows.{RowEmptyFlowKey, RowEmptyFlowValue};
 ghost use Rattle.libyaml_grammar.specs.rows.EmptyRows.{RowEmptyIndentlessEntry, RowEmptyPairKey};
 ghost use Rattle.libyaml_grammar.specs.rows.EmptyRows.{RowEmptyPairValue, RowEmptyPart};
-ghost use Rattle.libyaml_grammar.specs.rows.PartialRows.{RowAliasBehindAnchor, RowAliasCome};
+ghost use Rattle.libyaml_grammar.specs.rows.PartialRows.{RowAliasAfterAnchor, RowAliasCome};
 ghost use Rattle.libyaml_grammar.specs.rows.PartialRows.{RowAmidProperties, RowAmidTag};
 ghost use Rattle.libyaml_grammar.specs.rows.PartialRows.{RowAmidTagAndAnchor, RowAnchorBegun};
 ghost use Rattle.libyaml_grammar.specs.rows.PartialRows.{RowAnchoredIndentlessBegun};
 ghost use Rattle.libyaml_grammar.specs.rows.PartialRows.{RowAnchoredKeyBegun, RowAnchoredPairBegun};
-ghost use Rattle.libyaml_grammar.specs.rows.PartialRows.{RowBlockCollectionBehindTagInFlow};
+ghost use Rattle.libyaml_grammar.specs.rows.PartialRows.{RowBlockCollectionAfterTagInFlow};
 ghost use Rattle.libyaml_grammar.specs.rows.PartialRows.{RowBlockContentInFlow, RowBlockEntryCome};
 ghost use Rattle.libyaml_grammar.specs.rows.PartialRows.{RowCollectionBegun, RowCollectionsEnded};
 ghost use Rattle.libyaml_grammar.specs.rows.PartialRows.{RowDefaultDeclaredTwice, RowDirectiveBegun};
@@ -22,11 +22,11 @@ ghost use Rattle.libyaml_grammar.specs.rows.PartialRows.{RowEmptyDocumentEnded, 
 ghost use Rattle.libyaml_grammar.specs.rows.PartialRows.{RowFlowKeyCome, RowHandleDeclaredTwice};
 ghost use Rattle.libyaml_grammar.specs.rows.PartialRows.{RowHandleOfDocumentBefore, RowIndentlessBegun};
 ghost use Rattle.libyaml_grammar.specs.rows.PartialRows.{RowKeyCome, RowNoBlockEntry};
-ghost use Rattle.libyaml_grammar.specs.rows.PartialRows.{RowNoBlockEntryBehindEntry};
+ghost use Rattle.libyaml_grammar.specs.rows.PartialRows.{RowNoBlockEntryAfterEntry};
 ghost use Rattle.libyaml_grammar.specs.rows.PartialRows.{RowNoBlockEntryInAnchoredSequence};
-ghost use Rattle.libyaml_grammar.specs.rows.PartialRows.{RowNoContentBehindDocumentEnd};
-ghost use Rattle.libyaml_grammar.specs.rows.PartialRows.{RowNoContentBehindSeparator};
-ghost use Rattle.libyaml_grammar.specs.rows.PartialRows.{RowNoContentBehindValue};
+ghost use Rattle.libyaml_grammar.specs.rows.PartialRows.{RowNoContentAfterDocumentEnd};
+ghost use Rattle.libyaml_grammar.specs.rows.PartialRows.{RowNoContentAfterSeparator};
+ghost use Rattle.libyaml_grammar.specs.rows.PartialRows.{RowNoContentAfterValue};
 ghost use Rattle.libyaml_grammar.specs.rows.PartialRows.{RowNoContentInAnchoredSequence};
 ghost use Rattle.libyaml_grammar.specs.rows.PartialRows.{RowNoContentInBlockMapping};
 ghost use Rattle.libyaml_grammar.specs.rows.PartialRows.{RowNoContentInBlockSequence};
@@ -36,7 +36,7 @@ ghost use Rattle.libyaml_grammar.specs.rows.PartialRows.{RowNoContentInFlowSeque
 ghost use Rattle.libyaml_grammar.specs.rows.PartialRows.{RowNoContentInIndentlessSequence};
 ghost use Rattle.libyaml_grammar.specs.rows.PartialRows.{RowNoContentInPair, RowNoContentInPairValue};
 ghost use Rattle.libyaml_grammar.specs.rows.PartialRows.{RowNoContentInTaggedMapping, RowNoKey};
-ghost use Rattle.libyaml_grammar.specs.rows.PartialRows.{RowNoKeyBehindIndentless, RowNoKeyBehindKey};
+ghost use Rattle.libyaml_grammar.specs.rows.PartialRows.{RowNoKeyAfterIndentless, RowNoKeyAfterKey};
 ghost use Rattle.libyaml_grammar.specs.rows.PartialRows.{RowNoKeyInAnchoredMapping};
 ghost use Rattle.libyaml_grammar.specs.rows.PartialRows.{RowNoSeparatorInAnchoredSequence};
 ghost use Rattle.libyaml_grammar.specs.rows.PartialRows.{RowNoSeparatorInFlowMapping};
@@ -51,14 +51,14 @@ ghost use Rattle.libyaml_grammar.specs.rows.PartialRows.{RowTagWhereNoneMayStand
 ghost use Rattle.libyaml_grammar.specs.rows.PartialRows.{RowUnknownHandle, RowUnknownHandleAtStreamEnd};
 ghost use Rattle.libyaml_grammar.specs.rows.PartialRows.{RowUnknownHandleBeforeAnchor};
 ghost use Rattle.libyaml_grammar.specs.rows.PartialRows.{RowUnknownHandleFirst};
-ghost use Rattle.libyaml_grammar.specs.rows.PartialRows.{RowValueBehindIndentless};
-ghost use Rattle.libyaml_grammar.specs.rows.PartialRows.{RowValueBehindIndentlessCome};
+ghost use Rattle.libyaml_grammar.specs.rows.PartialRows.{RowValueAfterIndentless};
+ghost use Rattle.libyaml_grammar.specs.rows.PartialRows.{RowValueAfterIndentlessCome};
 ghost use Rattle.libyaml_grammar.specs.rows.PartialRows.{RowValueComeFirst, RowVersionOfEarlierMinor};
 ghost use Rattle.libyaml_grammar.specs.rows.PartialRows.{RowVersionOfLaterMajor};
 ghost use Rattle.libyaml_grammar.specs.rows.PartialRows.{RowVersionOfLaterMinor};
 ghost use Rattle.libyaml_grammar.specs.rows.PartialRows.{RowWrongEndOfFlowMapping};
 ghost use Rattle.libyaml_grammar.specs.rows.PartialRows.{RowWrongEndOfFlowSequence};
-ghost use Rattle.libyaml_grammar.specs.rows.Rows.{RowAnchoredIndentless, RowBehindStreamEnd};
+ghost use Rattle.libyaml_grammar.specs.rows.Rows.{RowAnchoredIndentless, RowAfterStreamEnd};
 ghost use Rattle.libyaml_grammar.specs.rows.Rows.{RowBlockSequence, RowCollectionFlags};
 ghost use Rattle.libyaml_grammar.specs.rows.Rows.{RowCollectionsInMapping, RowDefaultHandles};
 ghost use Rattle.libyaml_grammar.specs.rows.Rows.{RowDirectives, RowDocumentEnds};
@@ -69,12 +69,12 @@ ghost use Rattle.libyaml_grammar.specs.rows.Rows.{RowEmptyPairKeys, RowEmptyPair
 ghost use Rattle.libyaml_grammar.specs.rows.Rows.{RowEmptySequenceEntries, RowEmptyStream};
 ghost use Rattle.libyaml_grammar.specs.rows.Rows.{RowEmptyTag, RowEmptyValues};
 ghost use Rattle.libyaml_grammar.specs.rows.Rows.{RowEntryThatBeginsWithValue};
-ghost use Rattle.libyaml_grammar.specs.rows.Rows.{RowExplicitBehindDocumentEnd};
+ghost use Rattle.libyaml_grammar.specs.rows.Rows.{RowExplicitAfterDocumentEnd};
 ghost use Rattle.libyaml_grammar.specs.rows.Rows.{RowExplicitDocuments, RowFlowKeyWithoutValue};
 ghost use Rattle.libyaml_grammar.specs.rows.Rows.{RowFlowMapping, RowFlowSequence};
 ghost use Rattle.libyaml_grammar.specs.rows.Rows.{RowHandlesWithZeroBytes};
-ghost use Rattle.libyaml_grammar.specs.rows.Rows.{RowImplicitBehindDocumentEnd};
-ghost use Rattle.libyaml_grammar.specs.rows.Rows.{RowImplicitBehindImplicit, RowImplicitDocument};
+ghost use Rattle.libyaml_grammar.specs.rows.Rows.{RowImplicitAfterDocumentEnd};
+ghost use Rattle.libyaml_grammar.specs.rows.Rows.{RowImplicitAfterImplicit, RowImplicitDocument};
 ghost use Rattle.libyaml_grammar.specs.rows.Rows.{RowIndentlessSequence, RowKeysWithoutValues};
 ghost use Rattle.libyaml_grammar.specs.rows.Rows.{RowNestedPairs, RowNodesAloneInMapping};
 ghost use Rattle.libyaml_grammar.specs.rows.Rows.{RowOtherTag, RowPair, RowPairWithEmptyKey};
@@ -82,7 +82,7 @@ ghost use Rattle.libyaml_grammar.specs.rows.Rows.{RowPairWithoutValue, RowProper
 ghost use Rattle.libyaml_grammar.specs.rows.Rows.{RowPropertiesBeforeContent, RowRedeclaredHandles};
 ghost use Rattle.libyaml_grammar.specs.rows.Rows.{RowRootsWithoutDocumentStart, RowScalarStyles};
 ghost use Rattle.libyaml_grammar.specs.rows.Rows.{RowTagThatIsAnExclamationMark};
-ghost use Rattle.libyaml_grammar.specs.rows.Rows.{RowValueBehindValue};
+ghost use Rattle.libyaml_grammar.specs.rows.Rows.{RowValueAfterValue};
 
 /// A stream and its documents, and what ends them.
 pub fn streams()
@@ -91,11 +91,11 @@ pub fn streams()
     ensures explicit_documents { RowExplicitDocuments }
     ensures empty_documents { RowEmptyDocuments }
     ensures document_ends { RowDocumentEnds }
-    ensures implicit_behind_document_end { RowImplicitBehindDocumentEnd }
-    ensures implicit_behind_implicit { RowImplicitBehindImplicit }
-    ensures explicit_behind_document_end { RowExplicitBehindDocumentEnd }
+    ensures implicit_after_document_end { RowImplicitAfterDocumentEnd }
+    ensures implicit_after_implicit { RowImplicitAfterImplicit }
+    ensures explicit_after_document_end { RowExplicitAfterDocumentEnd }
     ensures directives { RowDirectives }
-    ensures behind_stream_end { RowBehindStreamEnd }
+    ensures after_stream_end { RowAfterStreamEnd }
 {}
 
 /// Block sequences and mappings, and sequences without tokens of their own.
@@ -110,7 +110,7 @@ pub fn block_collections()
     ensures empty_values { RowEmptyValues }
     ensures keys_without_values { RowKeysWithoutValues }
     ensures entry_that_begins_with_value { RowEntryThatBeginsWithValue }
-    ensures value_behind_value { RowValueBehindValue }
+    ensures value_after_value { RowValueAfterValue }
     ensures collections_in_mapping { RowCollectionsInMapping }
 {}
 
@@ -151,8 +151,8 @@ pub fn faults()
     ensures no_token { RowNoToken }
     ensures second_stream_start { RowSecondStreamStart }
     ensures two_roots { RowTwoRoots }
-    ensures alias_behind_anchor { RowAliasBehindAnchor }
-    ensures block_collection_behind_tag_in_flow { RowBlockCollectionBehindTagInFlow }
+    ensures alias_after_anchor { RowAliasAfterAnchor }
+    ensures block_collection_after_tag_in_flow { RowBlockCollectionAfterTagInFlow }
     ensures directive_without_document { RowDirectiveWithoutDocument }
     ensures second_version { RowSecondVersion }
     ensures version_of_later_minor { RowVersionOfLaterMinor }
@@ -161,14 +161,14 @@ pub fn faults()
     ensures handle_declared_twice { RowHandleDeclaredTwice }
     ensures default_declared_twice { RowDefaultDeclaredTwice }
     ensures document_end_first { RowDocumentEndFirst }
-    ensures no_content_behind_document_end { RowNoContentBehindDocumentEnd }
+    ensures no_content_after_document_end { RowNoContentAfterDocumentEnd }
     ensures no_content_in_document { RowNoContentInDocument }
     ensures no_content_in_block_sequence { RowNoContentInBlockSequence }
     ensures no_content_in_indentless_sequence { RowNoContentInIndentlessSequence }
     ensures no_content_in_block_mapping { RowNoContentInBlockMapping }
-    ensures no_content_behind_value { RowNoContentBehindValue }
+    ensures no_content_after_value { RowNoContentAfterValue }
     ensures no_content_in_flow_sequence { RowNoContentInFlowSequence }
-    ensures no_content_behind_separator { RowNoContentBehindSeparator }
+    ensures no_content_after_separator { RowNoContentAfterSeparator }
     ensures no_content_in_flow_mapping { RowNoContentInFlowMapping }
     ensures no_content_in_pair { RowNoContentInPair }
     ensures no_content_in_pair_value { RowNoContentInPairValue }
@@ -180,10 +180,10 @@ pub fn faults()
     ensures handle_of_document_before { RowHandleOfDocumentBefore }
     ensures tag_where_none_may_stand { RowTagWhereNoneMayStand }
     ensures no_block_entry { RowNoBlockEntry }
-    ensures no_block_entry_behind_entry { RowNoBlockEntryBehindEntry }
+    ensures no_block_entry_after_entry { RowNoBlockEntryAfterEntry }
     ensures no_key { RowNoKey }
-    ensures no_key_behind_indentless { RowNoKeyBehindIndentless }
-    ensures no_key_behind_key { RowNoKeyBehindKey }
+    ensures no_key_after_indentless { RowNoKeyAfterIndentless }
+    ensures no_key_after_key { RowNoKeyAfterKey }
     ensures no_separator_in_flow_sequence { RowNoSeparatorInFlowSequence }
     ensures no_separator_in_flow_mapping { RowNoSeparatorInFlowMapping }
     ensures no_separator_in_anchored_sequence { RowNoSeparatorInAnchoredSequence }
@@ -204,7 +204,7 @@ pub fn beginnings()
     ensures empty_document_ended { RowEmptyDocumentEnded }
     ensures document_begun { RowDocumentBegun }
     ensures document_and_anchor_begun { RowDocumentAndAnchorBegun }
-    ensures value_behind_indentless_come { RowValueBehindIndentlessCome }
+    ensures value_after_indentless_come { RowValueAfterIndentlessCome }
     ensures entry_come { RowEntryCome }
     ensures pair_value_scalar_come { RowPairValueScalarCome }
     ensures anchor_begun { RowAnchorBegun }
@@ -218,7 +218,7 @@ pub fn beginnings()
     ensures block_entry_come { RowBlockEntryCome }
     ensures indentless_begun { RowIndentlessBegun }
     ensures key_come { RowKeyCome }
-    ensures value_behind_indentless { RowValueBehindIndentless }
+    ensures value_after_indentless { RowValueAfterIndentless }
     ensures value_come_first { RowValueComeFirst }
     ensures flow_key_come { RowFlowKeyCome }
     ensures pair_begun { RowPairBegun }

@@ -8,8 +8,8 @@ use Rattle.libyaml_graphs.specs.loads.Bounds.{first_stop, if_above, if_wrong, li
 use Rattle.libyaml_graphs.specs.graphs.ComposerFaults.{composer_part_fault}
 use Rattle.libyaml_graphs.specs.graphs.Graphs.{Start}
 use Rattle.libyaml_graphs.specs.machine.Loader.{Anchors, Loader, Loading, between, bounded_option, bounded_part, failed, fresh, going, if_child_fits, if_going, list_full, load_from, load_part, no_anchors, nodes_full, unless_full, within}
-use Rattle.libyaml_graphs.specs.loads.Loads.{Load, load_answer, begun, begun_behind, document, end_of_document, last_load, next_by}
-use Rattle.libyaml_graphs.specs.graphs.GraphParts.{Closing, Opening, Part, alias_part, behind, closing_of, end_part, graph, leaf_part, opening_of, part_of, parts, start_part, with_part}
+use Rattle.libyaml_graphs.specs.loads.Loads.{Load, load_answer, begun, begun_after, document, end_of_document, last_load, next_by}
+use Rattle.libyaml_graphs.specs.graphs.GraphParts.{Closing, Opening, Part, alias_part, following, closing_of, end_part, graph, leaf_part, opening_of, part_of, parts, start_part, with_part}
 use Rattle.libyaml_graphs.proofs.machine.Built.{BeginsEmpty, Built, Held, build, build_finished, finished, finished_none, graph_nodes, held_graph, nodes_in, unbuilt}
 use Rattle.libyaml_graphs.proofs.machine.Following.{Agrees, Follows, BuiltRight, build_stands, loader_of, nodes_length, none_known, part_follows, stands_unbuilt}
 use Rattle.libyaml_graphs.proofs.machine.LoaderLoads.{Answering, IfBeginsEmpty, begins_empty, determined_events}
@@ -32,7 +32,7 @@ all_begin_more (q ∷ F) p h e = (h.0, all_begin_more F p h.1 e)
 
 pub reaches : (p : Part) (es : List Start) (F : List Part) (b : Built) → BeginsEmpty p → BuiltRight es b
     → ((P : List Part) → finished [] (F ++ P) unbuilt ≡ finished es P b) → (P : List Part)
-    → finished [] ((F ++ p ∷ []) ++ P) unbuilt ≡ finished (behind p es) P (build es p b)
+    → finished [] ((F ++ p ∷ []) ++ P) unbuilt ≡ finished (following p es) P (build es p b)
 reaches p es F b e s r P = ap (λ (Q : List Part). finished [] Q unbuilt) (append_assoc F (p ∷ []) P)
     ∙ (r (p ∷ P) ∙ sym (build_finished p es P b e s.there))
 
@@ -46,7 +46,7 @@ nodes_so_far n es F b s = ap nodes_in (held_so_far es F b s.reached) ∙ graph_n
 
 nodes_grow : (p : Part) (n : ℕ) (es : List Start) (b : Built) (xs : Anchors) → length b.held ≡ length es
     → nat_lt n (length es) ≡ false
-    → nodes_full n (loader_of b xs) p ≡ nat_lt n (length (behind p es))
+    → nodes_full n (loader_of b xs) p ≡ nat_lt n (length (following p es))
 nodes_grow (alias_part a m) n es b xs s h = sym h
 nodes_grow (leaf_part a x) n es b xs s h = ap (λ (i : ℕ). nat_lt n (suc i)) (nodes_length b.held ∙ s)
 nodes_grow (start_part a x) n es b xs s h = ap (λ (i : ℕ). nat_lt n (suc i)) (nodes_length b.held ∙ s)
@@ -56,16 +56,16 @@ nodes_grow (end_part m) n es b xs s h = sym h
 step : {A : Type 0} (n : ℕ) (p : Part) (es : List Start) (F : List Part) (b : Built) (xs : Anchors)
     (w : Answering A) (N : List yaml_node_t) (K : Loader
     → A) (X : Option Fault) → BeginsEmpty p → Within n es F b → Agrees es xs
-    → ((ys : Anchors) → Within n (behind p es) (F ++ p ∷ []) (build es p b) → Agrees (behind p es) ys
+    → ((ys : Anchors) → Within n (following p es) (F ++ p ∷ []) (build es p b) → Agrees (following p es) ys
     → K (loader_of (build es p b) ys) ≡ determined_events w X N)
     → if_going w.of_fault (bounded_part n (loader_of b xs) p) K ≡ determined_events w (stop_at n es F p X) N
 step n p es F b xs w N K X e s h ih =
     ap (λ (c : Bool). if_going w.of_fault
     (unless_full c (if_child_fits (list_full n (loader_of b xs) p) (load_part (loader_of b xs) p))) K)
     (nodes_grow p n es b xs s.stands.size s.few)
-    ∙ if_room (nat_lt n (length (behind p es))) refl
+    ∙ if_room (nat_lt n (length (following p es))) refl
   where
-    third : (ys : Anchors) → Agrees (behind p es) ys → nat_lt n (length (behind p es)) ≡ false → (c : Bool)
+    third : (ys : Anchors) → Agrees (following p es) ys → nat_lt n (length (following p es)) ≡ false → (c : Bool)
         → one_above n (sizes (build es p b).held) ≡ c
         → if_going w.of_fault (unless_full c (going (loader_of (build es p b) ys))) K ≡ determined_events w (if_above c X) N
     third ys a m true q = refl
@@ -80,11 +80,11 @@ step n p es F b xs w N K X e s h ih =
 
     sized : one_above n (sizes (build es p b).held) ≡ one_above n (list_sizes [] (F ++ p ∷ []))
     sized = ap (λ (hs : List Held). one_above n (sizes hs))
-        (held_so_far (behind p es) (F ++ p ∷ []) (build es p b) (reaches p es F b e s.stands s.reached))
+        (held_so_far (following p es) (F ++ p ∷ []) (build es p b) (reaches p es F b e s.stands s.reached))
         ∙ graph_sizes (F ++ p ∷ []) [] n (all_begin_more F p s.all_begin e)
 
-    second : (u : Loading) → nat_lt n (length (behind p es)) ≡ false
-        → Follows u (composer_part_fault es p) (behind p es) (build es p b)
+    second : (u : Loading) → nat_lt n (length (following p es)) ≡ false
+        → Follows u (composer_part_fault es p) (following p es) (build es p b)
         → if_going w.of_fault (if_child_fits (list_full n (loader_of b xs) p) u) K
         ≡ determined_events w (if_wrong (composer_part_fault es p) (if_above (one_above n (list_sizes [] (F ++ p ∷ []))) X)) N
     second (failed f) m y = ap (λ (x : Option Fault). determined_events w
@@ -98,7 +98,7 @@ step n p es F b xs w N K X e s h ih =
         ∙ ap (λ (x : Option Fault). determined_events w (if_wrong x (if_above (one_above n (list_sizes [] (F ++ p ∷ []))) X))
         N) (sym y.0))))
 
-    if_room : (c : Bool) → nat_lt n (length (behind p es)) ≡ c
+    if_room : (c : Bool) → nat_lt n (length (following p es)) ≡ c
         → if_going w.of_fault (unless_full c
         (if_child_fits (list_full n (loader_of b xs) p) (load_part (loader_of b xs) p))) K
         ≡ determined_events w (if_above c (if_wrong (composer_part_fault es p) (if_above (one_above n (list_sizes [] (F ++ p ∷ []))) X))) N
@@ -131,10 +131,10 @@ one_event n e r es F o b xs x s h ih = go (closing_of e) (part_of e) (begins_emp
     part_or None u = ih es F b xs s h
     part_or (Some p) u = step n p es F b xs (one_answer (end_of_document r) o x) (graph [] (F ++ p ∷ parts r))
         (λ (k : Loader). load_from n (within o k) r x)
-        (first_stop n (behind p es) (F ++ p ∷ []) (parts r)) u s h
-        (λ ys t a. ih (behind p es) (F ++ p ∷ []) (build es p b) ys t a
+        (first_stop n (following p es) (F ++ p ∷ []) (parts r)) u s h
+        (λ ys t a. ih (following p es) (F ++ p ∷ []) (build es p b) ys t a
         ∙ ap (λ (Q : List Part). determined_events (one_answer (end_of_document r) o x)
-        (first_stop n (behind p es) (F ++ p ∷ []) (parts r)) (graph [] Q))
+        (first_stop n (following p es) (F ++ p ∷ []) (parts r)) (graph [] Q))
         (append_assoc F (p ∷ []) (parts r)))
 
     go : (c : Option Closing) (q : Option Part) → IfBeginsEmpty q
@@ -170,7 +170,7 @@ one_load (e ∷ r) x n = go (opening_of e) (one_load r x n)
     go : (c : Option Opening) → load_from n between r x ≡ next_bounded n r x
         → ◌≡◌ {A = Load} (elim c [ None ↦ load_from n between r x | Some o ↦ load_from n (within o fresh) r x ])
         (next_by (first_stop n [] []) x
-        (elim c [ None ↦ begun r | Some o ↦ record { opening = o; rest = r } ∷ begun_behind r ]))
+        (elim c [ None ↦ begun r | Some o ↦ record { opening = o; rest = r } ∷ begun_after r ]))
     go None h = h
     go (Some o) h = one_within r n [] [] o unbuilt no_anchors x (within_unbuilt n) none_known
         ∙ then_one (first_stop n [] [] (parts r)) (end_of_document r) o (graph [] (parts r)) x

@@ -8,7 +8,7 @@ use Rattle.libyaml_graphs.specs.loads.Bounds.{NoneLacksMemory, bounded_loads, fi
 use Rattle.libyaml_graphs.specs.graphs.ComposerFaults.{composer_fault, or_else, composer_part_fault}
 use Rattle.libyaml_graphs.specs.graphs.Graphs.{Start}
 use Rattle.libyaml_graphs.specs.loads.Loads.{Begun, Load, begun, document, end_of_document, last_load, load_then, loads, loads_by}
-use Rattle.libyaml_graphs.specs.graphs.GraphParts.{Closing, Part, behind, graph, parts}
+use Rattle.libyaml_graphs.specs.graphs.GraphParts.{Closing, Part, following, graph, parts}
 use Rattle.libyaml_graphs.proofs.loads.Room.{bound_exact}
 
 -- The loads within the bound are the loads; or they are the first of them, which are these documents, and out of memory.
@@ -35,9 +35,9 @@ stops : (P : List Part) (es : List Start) (F : List Part) (n : ℕ) (f : Fault) 
     ⊎ (composer_fault es P ≡ Some f)
 stops [] es F n f e = absurd cc
 stops (p ∷ P) es F n f e =
-    stop_or (nat_lt n (length (behind p es))) (one_above n (list_sizes [] (F ++ p ∷ []))) (composer_part_fault es p)
-    (first_stop n (behind p es) (F ++ p ∷ []) P)
-    (composer_fault (behind p es) P) f (stops P (behind p es) (F ++ p ∷ []) n f) e
+    stop_or (nat_lt n (length (following p es))) (one_above n (list_sizes [] (F ++ p ∷ []))) (composer_part_fault es p)
+    (first_stop n (following p es) (F ++ p ∷ []) P)
+    (composer_fault (following p es) P) f (stops P (following p es) (F ++ p ∷ []) n f) e
 
 one_more : (d : Document) (b l : List Load) → IsPrefixTree b l → IsPrefixTree (Ok d ∷ b) (Ok d ∷ l)
 one_more d b l (same e) = same (ap (λ (m : List Load). Ok d ∷ m) e)

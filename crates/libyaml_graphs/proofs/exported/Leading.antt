@@ -7,12 +7,12 @@ use Rattle.libyaml_grammar.specs.runs.Runs.{Ending}
 use Rattle.libyaml_types.specs.Fault.{Fault}
 use Rattle.libyaml_graphs.specs.graphs.GraphParts.{Closing, Opening, closing_of, graph, opening_of, part_of, parts}
 use Rattle.libyaml_graphs.specs.loads.Bounds.{bounded_loads, first_stop}
-use Rattle.libyaml_graphs.specs.loads.Loads.{Begun, Load, load_answer, begun, begun_behind, behind_document, document, end_of_document, last_load, load_then, loads_by, next_by}
+use Rattle.libyaml_graphs.specs.loads.Loads.{Begun, Load, load_answer, begun, begun_after, after_document, document, end_of_document, last_load, load_then, loads_by, next_by}
 use Rattle.libyaml_graphs.specs.machine.Loader.{Loader, Loading, State, between, bounded_option, failed, fresh, going, if_going, load_from, within}
 use Rattle.libyaml_graphs.proofs.exported.BoundedLoader.{one_load}
 use Rattle.libyaml_graphs.proofs.exported.LoaderSteps.{nothing_left, opens, within_event}
-use Rattle.libyaml_graphs.proofs.exported.Roots.{left_behind}
-use Rattle.libyaml_graphs.specs.loads.Leads.{Leads, as_loads, behind_event, behind_events, loads_from, whole_then}
+use Rattle.libyaml_graphs.proofs.exported.Roots.{left_after}
+use Rattle.libyaml_graphs.specs.loads.Leads.{Leads, as_loads, after_event, after_events, loads_from, whole_then}
 
 -- at the end of the events
 pub from_none : (n : ℕ) (s : State) (x : Ending) → loads_from n s [] x ≡ last_load x ∷ []
@@ -32,9 +32,9 @@ as_loads_both : (a b : List Document) (l : List Load) → as_loads a ++ (as_load
 as_loads_both [] b l = refl
 as_loads_both (d ∷ a) b l = ap (λ (m : List Load). Ok d ∷ m) (as_loads_both a b l)
 
-behind_both : (n : ℕ) (s : State) (a b : List Event) → behind_events n s (a ++ b) ≡ behind_events n (behind_events n s a) b
-behind_both n s [] b = refl
-behind_both n s (e ∷ a) b = behind_both n (behind_event n s e) a b
+after_both : (n : ℕ) (s : State) (a b : List Event) → after_events n s (a ++ b) ≡ after_events n (after_events n s a) b
+after_both n s [] b = refl
+after_both n s (e ∷ a) b = after_both n (after_event n s e) a b
 
 pub leads_both : (n : ℕ) (s t u : State) (a b : List Event) (ds es : List Document) → Leads n s a ds t
     → Leads n t b es u → Leads n s (a ++ b) (ds ++ es) u
@@ -43,14 +43,14 @@ leads_both n s t u a b ds es h k = record {
       ap (λ (l : List Event). loads_from n s l x) (append_assoc a b rest)
       ∙ (h.loads (b ++ rest) x ∙ (ap (λ (l : List Load). as_loads ds ++ l) (k.loads rest x)
       ∙ as_loads_both ds es (loads_from n u rest x)));
-  state = k.state ∙ (ap (λ (v : State). behind_events n v b) h.state ∙ sym (behind_both n s a b));
+  state = k.state ∙ (ap (λ (v : State). after_events n v b) h.state ∙ sym (after_both n s a b));
 }
 
 -- between documents
 pub passes_by : (n : ℕ) (e : Event) → opening_of e ≡ None → Leads n between (e ∷ []) [] between
 passes_by n e h = record {
   loads = λ rest x. ap (λ (c : Option Opening). loads_by (first_stop n [] []) x
-      (elim c [ None ↦ begun rest | Some o ↦ record { opening = o; rest = rest } ∷ begun_behind rest ])) h;
+      (elim c [ None ↦ begun rest | Some o ↦ record { opening = o; rest = rest } ∷ begun_after rest ])) h;
   state = sym (ap (λ (c : Option Opening). elim c [ None ↦ between | Some o ↦ within o fresh ]) h);
 }
 
@@ -69,13 +69,13 @@ opens_loads : (n : ℕ) (e : Event) (o : Opening) → opening_of e ≡ Some o �
 opens_loads n e o h rest x
     = ap (λ (c : Option Opening). loads_by (first_stop n [] []) x (at c)) h
     ∙ (first_whole (first_stop n [] [] (parts rest)) (end_of_document rest) o (graph [] (parts rest)) x
-    (loads_by (first_stop n [] []) x (begun_behind rest))
-    ∙ (ap (λ (a : Load). whole_then (end_of_document rest) a (loads_by (first_stop n [] []) x (begun_behind rest))) first
+    (loads_by (first_stop n [] []) x (begun_after rest))
+    ∙ (ap (λ (a : Load). whole_then (end_of_document rest) a (loads_by (first_stop n [] []) x (begun_after rest))) first
     ∙ ap (λ (l : List Begun). whole_then (end_of_document rest) (load_from n (within o fresh) rest x)
-    (loads_by (first_stop n [] []) x l)) (left_behind rest)))
+    (loads_by (first_stop n [] []) x l)) (left_after rest)))
   where
     at : Option Opening → List Begun
-    at c = elim c [ None ↦ begun rest | Some p ↦ record { opening = p; rest = rest } ∷ begun_behind rest ]
+    at c = elim c [ None ↦ begun rest | Some p ↦ record { opening = p; rest = rest } ∷ begun_after rest ]
 
     first : load_answer (first_stop n [] [] (parts rest)) (end_of_document rest) o (graph [] (parts rest)) (last_load x)
         ≡ load_from n (within o fresh) rest x
@@ -92,7 +92,7 @@ opens_there n e o h = record {
 abbrev by_end : ℕ → Opening → Loader → Event → List Event → Ending → Option Closing → List Load
 by_end n o l e rest x c = whole_then (elim c [ Some y ↦ Some y | None ↦ end_of_document rest ])
     (within_event n o l rest x c (part_of e))
-    (bounded_loads n (elim c [ Some y ↦ rest | None ↦ behind_document rest ]) x)
+    (bounded_loads n (elim c [ Some y ↦ rest | None ↦ after_document rest ]) x)
 
 abbrev state_by : ℕ → Opening → Loader → Event → Option Closing → State
 state_by n o l e c = elim c [
@@ -112,11 +112,11 @@ goes : (n : ℕ) (o : Opening) (l : Loader) (e : Event) (r : Loading) → closin
     → bounded_option n l (part_of e) ≡ r
     → (rest : List Event) (x : Ending) → loads_from n (within o l) (e ∷ rest) x
     ≡ whole_then (end_of_document rest) (if_going (λ (f : Fault). Err f) r (λ (k : Loader). load_from n (within o k) rest x))
-    (bounded_loads n (behind_document rest) x)
+    (bounded_loads n (after_document rest) x)
 goes n o l e r h g rest x = ap (by_end n o l e rest x) h
     ∙ ap (λ (u : Loading). whole_then (end_of_document rest)
     (if_going (λ (f : Fault). Err f) u (λ (k : Loader). load_from n (within o k) rest x))
-    (bounded_loads n (behind_document rest) x)) g
+    (bounded_loads n (after_document rest) x)) g
 
 pub goes_there : (n : ℕ) (o : Opening) (l k : Loader) (e : Event) → closing_of e ≡ None
     → bounded_option n l (part_of e) ≡ going k

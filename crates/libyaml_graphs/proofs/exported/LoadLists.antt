@@ -28,9 +28,9 @@ roots_last [] d h k = All-cons HasRoot d [] k (All-nil HasRoot)
 roots_last (c ∷ ds) d h k = All-cons HasRoot c (ds ++ d ∷ []) (All-head HasRoot c ds h)
     (roots_last ds d (All-tail HasRoot c ds h) k)
 
-pub roots_behind : (l r : List Event) → RootsFollow (l ++ r) → RootsFollow r
-roots_behind [] r h = h
-roots_behind (e ∷ l) r h = roots_behind l r h.1
+pub roots_after : (l r : List Event) → RootsFollow (l ++ r) → RootsFollow r
+roots_after [] r h = h
+roots_after (e ∷ l) r h = roots_after l r h.1
 
 -- a document more
 pub oks_last : (ds : List Document) (d : Document) (l : List Load)

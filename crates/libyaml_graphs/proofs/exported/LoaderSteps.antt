@@ -7,12 +7,12 @@ use Rattle.libyaml_grammar.specs.grammar.Events.{Event}
 use Rattle.libyaml_types.specs.Fault.{Fault}
 use Rattle.libyaml_grammar.specs.runs.Runs.{Ending}
 use Rattle.libyaml_documents.specs.LoadedNodes.{children_at, children_of, children_of_node}
-use Rattle.libyaml_documents.specs.Nodes.{changed_at, item_behind, node_at, node_type, pair_behind, type_at, type_of, with_changed, with_item, with_pair}
+use Rattle.libyaml_documents.specs.Nodes.{changed_at, item_after, node_at, node_type, pair_after, type_at, type_of, with_changed, with_item, with_pair}
 use Rattle.libyaml_documents.specs.declared.node.unnamed_yaml_node_t_data.{unnamed_yaml_node_t_data}
 use Rattle.libyaml_documents.specs.declared.node.unnamed_yaml_node_t_data.TheVariants.{Sequence, Mapping}
 use Rattle.libyaml_documents.specs.declared.node.yaml_node_t.{yaml_node_t}
-use Rattle.libyaml_graphs.specs.machine.Loader.{Loader, OpenNode, State, between, bounded_option, content_full, content_and_child, fresh, hand, handed, if_going, key_after, key_behind, left_from, load_from, node_full, parent_full, with_child, within}
-use Rattle.libyaml_graphs.specs.loads.Loads.{Begun, Load, begun, begun_behind, document, last_load, left_by}
+use Rattle.libyaml_graphs.specs.machine.Loader.{Loader, OpenNode, State, between, bounded_option, content_full, content_and_child, fresh, hand, handed, if_going, key_after, key_after_child, left_from, load_from, node_full, parent_full, with_child, within}
+use Rattle.libyaml_graphs.specs.loads.Loads.{Begun, Load, begun, begun_after, document, last_load, left_by}
 use Rattle.libyaml_graphs.specs.graphs.GraphParts.{Closing, Opening, Part, closing_of, opening_of, part_of}
 
 -- One load, and what it leaves, by the kind of the next event.
@@ -21,7 +21,7 @@ nothing_left n between x = refl
 nothing_left n (within o l) x = refl
 
 abbrev documents_at : List Event → Option Opening → List Begun
-documents_at r c = elim c [ None ↦ begun r | Some o ↦ record { opening = o; rest = r } ∷ begun_behind r ]
+documents_at r c = elim c [ None ↦ begun r | Some o ↦ record { opening = o; rest = r } ∷ begun_after r ]
 
 pub passes_left : (e : Event) (r : List Event) → opening_of e ≡ None → left_from between (e ∷ r) ≡ left_from between r
 passes_left e r h = ap (λ (c : Option Opening). left_by (documents_at r c)) h
@@ -70,7 +70,7 @@ of_content x c = record x { content = c }
 abbrev Takes : (n : ℕ) → (old new : Option ℤ) → ℤ → (f : unnamed_yaml_node_t_data → unnamed_yaml_node_t_data)
     → (full : ℕ → Bool)
     → unnamed_yaml_node_t_data → Type 0
-Takes n old new i f full c = (f c ≡ content_and_child old i c) × (new ≡ key_behind old i c)
+Takes n old new i f full c = (f c ≡ content_and_child old i c) × (new ≡ key_after_child old i c)
     × (content_full n old c ≡ full (children_of c))
 
 alike : (p : ℕ) (f g : yaml_node_t → yaml_node_t) (nodes : List yaml_node_t)
@@ -129,11 +129,11 @@ same_nodes n i z s t nodes full h = subst (λ (l : List yaml_node_t). Hands n i 
 pub hands_item : (n : ℕ) (i : ℤ) (o : OpenNode) (s : List OpenNode) (nodes : List yaml_node_t)
     → type_at nodes o.node ≡ YAML_SEQUENCE_NODE
     → Hands n i (o ∷ s) nodes (with_changed o.node (with_item i) nodes) (o ∷ s) (nat_lt n (suc (children_at nodes o.node)))
-hands_item n i o s nodes is = by_type n i o.node o.key o.key s nodes (item_behind i) (λ (m : ℕ). nat_lt n (suc m))
+hands_item n i o s nodes is = by_type n i o.node o.key o.key s nodes (item_after i) (λ (m : ℕ). nat_lt n (suc m))
     YAML_SEQUENCE_NODE (λ h. cc) takes is
   where
     takes : (c : unnamed_yaml_node_t_data) → node_type c ≡ YAML_SEQUENCE_NODE
-        → Takes n o.key o.key i (item_behind i) (λ (m : ℕ). nat_lt n (suc m)) c
+        → Takes n o.key o.key i (item_after i) (λ (m : ℕ). nat_lt n (suc m)) c
     takes (Sequence s) h = (refl, refl, refl)
     takes _ h = absurd cc
 
@@ -155,10 +155,10 @@ pub hands_value : (n : ℕ) (i : ℤ) (o : OpenNode) (k : ℤ) (s : List OpenNod
     → Hands n i (o ∷ s) nodes (with_changed o.node (with_pair k i) nodes) (record { node = o.node; key = None } ∷ s) false
 hands_value n i o k s nodes waits is =
     rw (← waits) at
-    (by_type n i o.node (Some k) None s nodes (pair_behind (record { key = k; value = i })) (λ (m : ℕ). false)
+    (by_type n i o.node (Some k) None s nodes (pair_after (record { key = k; value = i })) (λ (m : ℕ). false)
     YAML_MAPPING_NODE (λ h. cc) takes is)
   where
     takes : (c : unnamed_yaml_node_t_data) → node_type c ≡ YAML_MAPPING_NODE
-        → Takes n (Some k) None i (pair_behind (record { key = k; value = i })) (λ (m : ℕ). false) c
+        → Takes n (Some k) None i (pair_after (record { key = k; value = i })) (λ (m : ℕ). false) c
     takes (Mapping s) h = (refl, refl, refl)
     takes _ h = absurd cc

@@ -4,7 +4,7 @@ use Rattle.libyaml_types.specs.declared.event.unnamed_yaml_event_t_data.{unnamed
 use Rattle.libyaml_types.specs.declared.event.unnamed_yaml_event_t_data.TheVariants as ev
 use Rattle.libyaml_grammar.specs.grammar.Events.{Event, document_end_at, end_at, event, stream_end_at}
 use Rattle.libyaml_types.specs.Fault.{Fault}
-use Rattle.libyaml_grammar.specs.grammar.Nesting.{IsOpenDocument, NestsSoFar, DocumentTexts, Value, Values, alias_value, collection_value, first_value, has_begun, no_texts, no_values, none_open, not_begun, one_open, scalar_value, text_behind, texts_events, value_events, values_events, whole}
+use Rattle.libyaml_grammar.specs.grammar.Nesting.{IsOpenDocument, NestsSoFar, DocumentTexts, Value, Values, alias_value, collection_value, first_value, has_begun, no_texts, no_values, none_open, not_begun, one_open, scalar_value, text_after, texts_events, value_events, values_events, whole}
 use Rattle.libyaml_grammar.specs.runs.Runs.{Ending, Ends, Fails}
 use Rattle.libyaml_grammar.specs.grammar.Tokens.{Mark}
 use Rattle.libyaml_grammar.specs.grammar.Trees.{mapping, sequence}
@@ -12,10 +12,10 @@ use Rattle.libyaml_grammar.proofs.exported.Injectivity.{ok_same}
 use Rattle.libyaml_documents.specs.Documents.{Document}
 use Rattle.libyaml_graphs.specs.loads.Bounds.{bounded_loads, first_stop, if_above, next_bounded}
 use Rattle.libyaml_graphs.specs.loads.GraphLaws.{BeginsNode, RootFollows, RootsFollow}
-use Rattle.libyaml_graphs.specs.loads.Loads.{Begun, Load, load_answer, begun, begun_behind, behind_document, document, end_of_document, last_load, left_by, left_over, load_then, loads_by, next_by}
+use Rattle.libyaml_graphs.specs.loads.Loads.{Begun, Load, load_answer, begun, begun_after, after_document, document, end_of_document, last_load, left_by, left_over, load_then, loads_by, next_by}
 use Rattle.libyaml_graphs.specs.graphs.GraphParts.{Closing, Opening, Part, alias_part, closing_in, closing_of, end_part, graph, leaf_part, opening_of, part_in, part_of, parts, start_part, with_part}
 use Rattle.libyaml_graphs.proofs.loads.OneLoad.{Follow, follow}
-pub use Rattle.libyaml_graphs.proofs.loads.OneLoad.{left_behind}
+pub use Rattle.libyaml_graphs.proofs.loads.OneLoad.{left_after}
 
 -- an event within a document, and what such events keep of those after them
 abbrev pub IsInner : Event → Type 0
@@ -51,7 +51,7 @@ root_first (collection_value mapping a t i s m n vs p q) r o = tt
 
 texts_roots : (ts : DocumentTexts) (r : List Event) → RootsFollow r → RootsFollow (texts_events ts r)
 texts_roots no_texts r h = h
-texts_roots (text_behind ts d m n v i p q) r h
+texts_roots (text_after ts d m n v i p q) r h
     = texts_roots ts (event (ev.DocumentStart d) m n ∷ value_events v (document_end_at i p q ∷ r)) (
       root_first v (document_end_at i p q ∷ r) (record { start = d; mark = m }),
       value_roots v (document_end_at i p q ∷ r) (tt, h),
@@ -85,12 +85,12 @@ roots_follow l (whole n) =
     subst RootsFollow (sym n.all) (tt, texts_roots n.texts (stream_end_at n.end n.end_end ∷ []) (tt, tt))
 
 -- and so it is in those that a load leaves
-behind_roots : (r : List Event) → RootsFollow r → RootsFollow (behind_document r)
-behind_roots [] h = tt
-behind_roots (e ∷ r) h = go (closing_of e) (behind_roots r h.1)
+after_roots : (r : List Event) → RootsFollow r → RootsFollow (after_document r)
+after_roots [] h = tt
+after_roots (e ∷ r) h = go (closing_of e) (after_roots r h.1)
   where
-    go : (c : Option Closing) → RootsFollow (behind_document r)
-        → RootsFollow (elim c [ Some y ↦ r | None ↦ behind_document r ])
+    go : (c : Option Closing) → RootsFollow (after_document r)
+        → RootsFollow (elim c [ Some y ↦ r | None ↦ after_document r ])
     go (Some y) k = h.1
     go None k = k
 
@@ -99,9 +99,9 @@ left_roots [] h = tt
 left_roots (e ∷ r) h = go (opening_of e) (left_roots r h.1)
   where
     go : (o : Option Opening) → RootsFollow (left_over r)
-        → RootsFollow (left_by (elim o [ None ↦ begun r | Some y ↦ record { opening = y; rest = r } ∷ begun_behind r ]))
+        → RootsFollow (left_by (elim o [ None ↦ begun r | Some y ↦ record { opening = y; rest = r } ∷ begun_after r ]))
     go None k = k
-    go (Some y) k = behind_roots r h.1
+    go (Some y) k = after_roots r h.1
 
 -- a document that begins with a node and that nothing stops has nodes
 node_first : (k : unnamed_yaml_event_t_data) (m n : Mark) → BeginsNode (part_in k m n) → closing_in k n ≡ None
@@ -147,7 +147,7 @@ first_root [] h = tt
 first_root (e ∷ r) h = go (opening_of e) h.0 (first_root r h.1)
   where
     go : (o : Option Opening) → RootFollows o r → FirstRoot (begun r)
-        → FirstRoot (elim o [ None ↦ begun r | Some y ↦ record { opening = y; rest = r } ∷ begun_behind r ])
+        → FirstRoot (elim o [ None ↦ begun r | Some y ↦ record { opening = y; rest = r } ∷ begun_after r ])
     go None k f = f
     go (Some y) k f = k
 
@@ -187,7 +187,7 @@ earlier_of r x n d a e = go (begun r) (follow r) a
 
         at : (f : Option Fault) (c : Option Closing) → load_answer f c t.opening (graph [] (parts t.rest)) (last_load x) ≡ Ok d
             → load_then f c t.opening (graph [] (parts t.rest)) (last_load x) (later ts) ≡ Ok d ∷ later
-            (begun (behind_document t.rest))
+            (begun (after_document t.rest))
         at (Some f) c b = absurd cc
         at None (Some c) b = ap (λ (l : Load). l ∷ later ts) b ∙ ap (λ (l : List Begun). Ok d ∷ later l) f
         at None None b = absurd (e (last_bare x d b))

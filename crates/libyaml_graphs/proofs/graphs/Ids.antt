@@ -7,14 +7,14 @@ use Rattle.std.proofs.lemmas.List.Elements.{All-nil, All-cons}
 use Rattle.std.proofs.Math.Bool.{not-not}
 use Rattle.libyaml_grammar.specs.grammar.Events.{Event, Layout, end_at}
 use Rattle.libyaml_types.specs.Fault.{Fault}
-use Rattle.libyaml_grammar.specs.grammar.Nesting.{AllHavePairs, HasPairs, DocumentTexts, TextsHavePairs, Value, Values, alias_value, collection_value, first_value, is_even, no_texts, no_values, scalar_value, text_behind, value_events, values_events}
+use Rattle.libyaml_grammar.specs.grammar.Nesting.{AllHavePairs, HasPairs, DocumentTexts, TextsHavePairs, Value, Values, alias_value, collection_value, first_value, is_even, no_texts, no_values, scalar_value, text_after, value_events, values_events}
 use Rattle.libyaml_grammar.specs.grammar.Tokens.{Mark}
 use Rattle.libyaml_grammar.specs.grammar.Trees.{Sort, mapping, sequence}
 use Rattle.libyaml_documents.specs.Nodes.{EveryIdNamesANode, IsIdUpTo, ids_of, ids_of_pairs}
 use Rattle.libyaml_documents.specs.declared.node.yaml_node_t.{yaml_node_t}
 use Rattle.libyaml_graphs.specs.graphs.ComposerFaults.{alias_fault, anchor_fault, composer_fault, heads, or_else, composer_part_fault}
 use Rattle.libyaml_graphs.specs.loads.GraphLaws.{AllHoldTheirChildren, AllLater, ChildrenAreLater, EachHoldsItsChildren, EachIsLater, HoldsItsChildren, IsLater}
-use Rattle.libyaml_graphs.specs.graphs.Graphs.{Carrier, Start, carrier, carries, collection_loaded, id_of, id_or, ids_of_all, items, nodes_of, nodes_of_all, pairs, starts_behind, starts_behind_all}
+use Rattle.libyaml_graphs.specs.graphs.Graphs.{Carrier, Start, carrier, carries, collection_loaded, id_of, id_or, ids_of_all, items, nodes_of, nodes_of_all, pairs, starts_after, starts_after_all}
 use Rattle.libyaml_graphs.specs.graphs.GraphParts.{Part, alias_part, end_part, leaf_part, parts, carrier_start, start_part}
 
 one_more : (n : ℕ) → n ≤ suc n
@@ -46,17 +46,17 @@ carrier_id a [] m e = cc
 carrier_id a (s ∷ es) m e = named (carries s.anchor a) (length es) s.mark m (carrier a es) (carrier_id a es m) e
 
 mutual
-  starts_grow : (v : Value) (es : List Start) → length es ≤ length (starts_behind v es)
+  starts_grow : (v : Value) (es : List Start) → length es ≤ length (starts_after v es)
   starts_grow (alias_value a m n) es = le_refl _
   starts_grow (scalar_value s m n) es = one_more (length es)
   starts_grow (collection_value k a t i s m n vs p q) es =
       le_trans (one_more (length es)) (all_starts_grow vs (record { anchor = a; mark = m } ∷ es))
 
-  all_starts_grow : (vs : Values) (es : List Start) → length es ≤ length (starts_behind_all vs es)
+  all_starts_grow : (vs : Values) (es : List Start) → length es ≤ length (starts_after_all vs es)
   all_starts_grow no_values es = le_refl _
-  all_starts_grow (first_value v vs) es = le_trans (starts_grow v es) (all_starts_grow vs (starts_behind v es))
+  all_starts_grow (first_value v vs) es = le_trans (starts_grow v es) (all_starts_grow vs (starts_after v es))
 
-id_up_to : (v : Value) (es : List Start) → id_of v es ≤ length (starts_behind v es)
+id_up_to : (v : Value) (es : List Start) → id_of v es ≤ length (starts_after v es)
 id_up_to (alias_value a m n) es = carrier_before a.anchor es
 id_up_to (scalar_value s m n) es = le_refl _
 id_up_to (collection_value k a t i s m n vs p q) es = all_starts_grow vs (record { anchor = a; mark = m } ∷ es)
@@ -74,7 +74,7 @@ AllUpTo n (i ∷ is) = IsUpTo n i × AllUpTo n is
 mutual
   value_sound : (v : Value) (es : List Start) (r : List Event) → composer_fault es (parts (value_events v r)) ≡ None
       → (1 ≤ id_of v es)
-      × (composer_fault (starts_behind v es) (parts r) ≡ None)
+      × (composer_fault (starts_after v es) (parts r) ≡ None)
   value_sound (alias_value a m n) es r e =
       let h : (alias_fault (carrier a.anchor es) m ≡ None) × (composer_fault es (parts r) ≡ None) = or_none _ _ e in
       (carrier_id a.anchor es m h.0, h.1)
@@ -93,21 +93,21 @@ mutual
       )
 
   values_sound : (vs : Values) (es : List Start) (r : List Event) → composer_fault es (parts (values_events vs r)) ≡ None
-      → ((n : ℕ) → length (starts_behind_all vs es) ≤ n → AllUpTo n (ids_of_all vs es))
-      × (composer_fault (starts_behind_all vs es) (parts r) ≡ None)
+      → ((n : ℕ) → length (starts_after_all vs es) ≤ n → AllUpTo n (ids_of_all vs es))
+      × (composer_fault (starts_after_all vs es) (parts r) ≡ None)
   values_sound no_values es r e = (λ n h. tt, e)
   values_sound (first_value v vs) es r e =
-      let a : (1 ≤ id_of v es) × (composer_fault (starts_behind v es) (parts (values_events vs r)) ≡ None) =
+      let a : (1 ≤ id_of v es) × (composer_fault (starts_after v es) (parts (values_events vs r)) ≡ None) =
       value_sound v es (values_events vs r) e in
-      let b : ((n : ℕ) → length (starts_behind_all vs (starts_behind v es)) ≤ n
-      → AllUpTo n (ids_of_all vs (starts_behind v es)))
-      × (composer_fault (starts_behind_all vs (starts_behind v es)) (parts r) ≡ None) =
-      values_sound vs (starts_behind v es) r a.1 in (
+      let b : ((n : ℕ) → length (starts_after_all vs (starts_after v es)) ≤ n
+      → AllUpTo n (ids_of_all vs (starts_after v es)))
+      × (composer_fault (starts_after_all vs (starts_after v es)) (parts r) ≡ None) =
+      values_sound vs (starts_after v es) r a.1 in (
         λ n h. (
           record {
             first = a.0;
             last =
-                le_trans (id_up_to v es) (le_trans (all_starts_grow vs (starts_behind v es)) h);
+                le_trans (id_up_to v es) (le_trans (all_starts_grow vs (starts_after v es)) h);
           },
           b.0 n h,
         ),
@@ -145,7 +145,7 @@ opened_sound mapping a t i s m n vs p q es r e = (or_none (anchor_fault es a m) 
 mutual
   value_ids : (v : Value) (n : ℕ) (es : List Start) (r : List Event) (l : List yaml_node_t)
       → composer_fault es (parts (value_events v r)) ≡ None
-      → length (starts_behind v es) ≤ n → All (Ids n) l → All (Ids n) (nodes_of v es l)
+      → length (starts_after v es) ≤ n → All (Ids n) l → All (Ids n) (nodes_of v es l)
   value_ids (alias_value a m j) n es r l e h k = k
   value_ids (scalar_value s m j) n es r l e h k = All-cons (Ids n) _ l (All-nil (IsIdUpTo n)) k
   value_ids (collection_value c a t i s m j vs x q) n es r l e h k =
@@ -158,19 +158,19 @@ mutual
 
   values_ids : (vs : Values) (n : ℕ) (es : List Start) (r : List Event) (l : List yaml_node_t)
       → composer_fault es (parts (values_events vs r)) ≡ None
-      → length (starts_behind_all vs es) ≤ n → All (Ids n) l → All (Ids n) (nodes_of_all vs es l)
+      → length (starts_after_all vs es) ≤ n → All (Ids n) l → All (Ids n) (nodes_of_all vs es l)
   values_ids no_values n es r l e h k = k
   values_ids (first_value v vs) n es r l e h k
-      = value_ids v n es (values_events vs r) (nodes_of_all vs (starts_behind v es) l) e
-      (le_trans (all_starts_grow vs (starts_behind v es)) h)
-      (values_ids vs n (starts_behind v es) r l (value_sound v es (values_events vs r) e).1 h k)
+      = value_ids v n es (values_events vs r) (nodes_of_all vs (starts_after v es) l) e
+      (le_trans (all_starts_grow vs (starts_after v es)) h)
+      (values_ids vs n (starts_after v es) r l (value_sound v es (values_events vs r) e).1 h k)
 
 pub moved : (a b : ℕ) → suc a + b ≡ a + suc b
 moved a b = omega arith
 
 mutual
   nodes_count : (v : Value) (es : List Start) (l : List yaml_node_t)
-      → length (starts_behind v es) + length l ≡ length es + length (nodes_of v es l)
+      → length (starts_after v es) + length l ≡ length es + length (nodes_of v es l)
   nodes_count (alias_value a m j) es l = refl
   nodes_count (scalar_value s m j) es l = moved (length es) (length l)
   nodes_count (collection_value c a t i s m j vs p q) es l =
@@ -178,18 +178,18 @@ mutual
       ∙ moved (length es) (length (nodes_of_all vs (record { anchor = a; mark = m } ∷ es) l))
 
   all_nodes_count : (vs : Values) (es : List Start) (l : List yaml_node_t)
-      → length (starts_behind_all vs es) + length l ≡ length es + length (nodes_of_all vs es l)
+      → length (starts_after_all vs es) + length l ≡ length es + length (nodes_of_all vs es l)
   all_nodes_count no_values es l = refl
-  all_nodes_count (first_value v vs) es l = all_nodes_count vs (starts_behind v es) l
-      ∙ nodes_count v es (nodes_of_all vs (starts_behind v es) l)
+  all_nodes_count (first_value v vs) es l = all_nodes_count vs (starts_after v es) l
+      ∙ nodes_count v es (nodes_of_all vs (starts_after v es) l)
 
-node_count : (v : Value) → length (starts_behind v []) ≡ length (nodes_of v [] [])
+node_count : (v : Value) → length (starts_after v []) ≡ length (nodes_of v [] [])
 node_count v = sym (add-zero _) ∙ (nodes_count v [] [] ∙ zero-add _)
 
 -- in a document without composer error every id names a node
 pub every_id : (v : Value) → composer_fault [] (parts (value_events v [])) ≡ None → EveryIdNamesANode (nodes_of v [] [])
 every_id v e = value_ids v (length (nodes_of v [] [])) [] [] [] e
-    (subst (λ (n : ℕ). length (starts_behind v []) ≤ n) (node_count v) (le_refl _))
+    (subst (λ (n : ℕ). length (starts_after v []) ≤ n) (node_count v) (le_refl _))
     (All-nil (Ids (length (nodes_of v [] []))))
 
 -- each node holds the ids of all its children
@@ -199,7 +199,7 @@ even_list (i ∷ is) = not (even_list is)
 
 pub ids_even : (vs : Values) (es : List Start) → even_list (ids_of_all vs es) ≡ is_even vs
 ids_even no_values es = refl
-ids_even (first_value v vs) es = ap not (ids_even vs (starts_behind v es))
+ids_even (first_value v vs) es = ap not (ids_even vs (starts_after v es))
 
 pairs_hold : (is : List ℕ) → even_list is ≡ true → ids_of_pairs (pairs is) ≡ items is
 pairs_hold [] e = refl
@@ -221,11 +221,11 @@ mutual
 
   all_hold_children : (vs : Values) (es : List Start) → AllHavePairs vs → AllHoldTheirChildren vs es
   all_hold_children no_values es h = tt
-  all_hold_children (first_value v vs) es h = (holds_children v es h.0, all_hold_children vs (starts_behind v es) h.1)
+  all_hold_children (first_value v vs) es h = (holds_children v es h.0, all_hold_children vs (starts_after v es) h.1)
 
 pub texts_hold : (ts : DocumentTexts) → TextsHavePairs ts → EachHoldsItsChildren ts
 texts_hold no_texts h = tt
-texts_hold (text_behind ts d m n v i p q) h = (texts_hold ts h.0, holds_children v [] h.1)
+texts_hold (text_after ts d m n v i p q) h = (texts_hold ts h.0, holds_children v [] h.1)
 
 -- children come later than their parents
 is_later : (n : ℕ) (v : Value) (es : List Start) → n ≤ length es → IsLater n v es
@@ -243,11 +243,11 @@ mutual
   all_later : (vs : Values) (n : ℕ) (es : List Start) → n ≤ length es → AllLater n vs es
   all_later no_values n es h = tt
   all_later (first_value v vs) n es h =
-      (is_later n v es h, children_later v es, all_later vs n (starts_behind v es) (le_trans h (starts_grow v es)))
+      (is_later n v es h, children_later v es, all_later vs n (starts_after v es) (le_trans h (starts_grow v es)))
 
 pub texts_later : (ts : DocumentTexts) → EachIsLater ts
 texts_later no_texts = tt
-texts_later (text_behind ts d m n v i p q) = (texts_later ts, children_later v [])
+texts_later (text_after ts d m n v i p q) = (texts_later ts, children_later v [])
 
 -- the ends of collections have no composer error
 pub fault_of_heads : (P : List Part) (es : List Start) → composer_fault es P ≡ composer_fault es (heads P)

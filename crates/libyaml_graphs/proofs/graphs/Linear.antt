@@ -13,7 +13,7 @@ use Rattle.libyaml_documents.specs.declared.node.unnamed_yaml_node_t_data.TheVar
 use Rattle.libyaml_graphs.specs.graphs.Graphs.{Start, carrier, id_or, items, pairs}
 use Rattle.libyaml_graphs.specs.graphs.GraphParts.{Closing, Opening, Part, alias_part, children, closing_of, end_part, graph, if_outer, leaf_part, opening_of, part_in, part_of, parts, carrier_start, start_part, with_children, with_part}
 use Rattle.libyaml_graphs.specs.loads.Linear.{documents_size, size, total_size}
-use Rattle.libyaml_graphs.specs.loads.Loads.{Begun, Load, Stop, load_answer, behind_document, document, next_by, begun, begun_behind, end_of_document, last_load, load_then, loads_by}
+use Rattle.libyaml_graphs.specs.loads.Loads.{Begun, Load, Stop, load_answer, after_document, document, next_by, begun, begun_after, end_of_document, last_load, load_then, loads_by}
 
 -- a leaf has no children
 abbrev pub Bare : List Part → Type 0
@@ -114,13 +114,13 @@ counted None l = omega arith
 counted (Some p) l = omega arith
 
 -- a document's parts, and the events after its end, are no more than the events
-in_document : (e : List Event) → length (parts e) + length (behind_document e) ≤ length e
+in_document : (e : List Event) → length (parts e) + length (after_document e) ≤ length e
 in_document [] = omega arith
 in_document (e ∷ r) = go (closing_of e) (in_document r)
   where
-    go : (o : Option Closing) → length (parts r) + length (behind_document r) ≤ length r
+    go : (o : Option Closing) → length (parts r) + length (after_document r) ≤ length r
         → length {A = Part} (elim o [ Some c ↦ [] | None ↦ with_part (part_of e) (parts r) ])
-        + length {A = Event} (elim o [ Some c ↦ r | None ↦ behind_document r ])
+        + length {A = Event} (elim o [ Some c ↦ r | None ↦ after_document r ])
         ≤ suc (length r)
     go None h = let c = counted (part_of e) (parts r) in omega arith
     go (Some c) h = omega arith
@@ -134,26 +134,26 @@ extent [] = 0
 extent (b ∷ bs) = size (graph [] (parts b.rest)) + extent bs
 
 go_begun : (r : List Event) (o : Option Opening) → extent (begun r) ≤ 2 * length r
-    → extent (begun_behind r) ≤ 2 * length (behind_document r)
-    → extent (elim o [ None ↦ begun r | Some p ↦ record { opening = p; rest = r } ∷ begun_behind r ]) ≤ 2 * suc (length r)
+    → extent (begun_after r) ≤ 2 * length (after_document r)
+    → extent (elim o [ None ↦ begun r | Some p ↦ record { opening = p; rest = r } ∷ begun_after r ]) ≤ 2 * suc (length r)
 go_begun r None h i = omega arith
 go_begun r (Some p) h i = let j = linear 0 [] (parts r) (bare r) in let k = in_document r in omega arith
 
-go_behind : (r : List Event) (o : Option Closing) → extent (begun r) ≤ 2 * length r
-    → extent (begun_behind r) ≤ 2 * length (behind_document r)
-    → extent (elim o [ Some c ↦ begun r | None ↦ begun_behind r ]) ≤ 2 * length {A = Event}
-    (elim o [ Some c ↦ r | None ↦ behind_document r ])
-go_behind r None h i = i
-go_behind r (Some c) h i = h
+go_after : (r : List Event) (o : Option Closing) → extent (begun r) ≤ 2 * length r
+    → extent (begun_after r) ≤ 2 * length (after_document r)
+    → extent (elim o [ Some c ↦ begun r | None ↦ begun_after r ]) ≤ 2 * length {A = Event}
+    (elim o [ Some c ↦ r | None ↦ after_document r ])
+go_after r None h i = i
+go_after r (Some c) h i = h
 
 mutual
   begun_extent : (e : List Event) → extent (begun e) ≤ 2 * length e
   begun_extent [] = omega arith
-  begun_extent (e ∷ r) = go_begun r (opening_of e) (begun_extent r) (behind_extent r)
+  begun_extent (e ∷ r) = go_begun r (opening_of e) (begun_extent r) (after_extent r)
 
-  behind_extent : (e : List Event) → extent (begun_behind e) ≤ 2 * length (behind_document e)
-  behind_extent [] = omega arith
-  behind_extent (e ∷ r) = go_behind r (closing_of e) (begun_extent r) (behind_extent r)
+  after_extent : (e : List Event) → extent (begun_after e) ≤ 2 * length (after_document e)
+  after_extent [] = omega arith
+  after_extent (e ∷ r) = go_after r (closing_of e) (begun_extent r) (after_extent r)
 
 -- the loads of these documents
 loads_extent : (stop : Stop) (x : Ending) (bs : List Begun) → total_size (loads_by stop x bs) ≤ extent bs

@@ -9,7 +9,7 @@ use Rattle.libyaml_types.specs.declared.event.unnamed_yaml_event_t_data_mapping_
 use Rattle.libyaml_types.specs.declared.event.unnamed_yaml_event_t_data_scalar.{unnamed_yaml_event_t_data_scalar}
 use Rattle.libyaml_types.specs.declared.event.unnamed_yaml_event_t_data_sequence_start.{unnamed_yaml_event_t_data_sequence_start}
 use Rattle.libyaml_grammar.specs.grammar.Events.{Event, Layout, block_layout, document_end_at, end_at, event, flow_layout, mapping_style, sequence_style, stream_end_at}
-use Rattle.libyaml_grammar.specs.grammar.Nesting.{IsNested, DocumentTexts, Value, Values, alias_value, collection_value, first_value, no_texts, no_values, scalar_value, text_behind, texts_events, value_events, values_events}
+use Rattle.libyaml_grammar.specs.grammar.Nesting.{IsNested, DocumentTexts, Value, Values, alias_value, collection_value, first_value, no_texts, no_values, scalar_value, text_after, texts_events, value_events, values_events}
 use Rattle.libyaml_grammar.specs.grammar.Tokens.{Mark}
 use Rattle.libyaml_grammar.specs.grammar.Trees.{Sort, mapping, sequence}
 use Rattle.libyaml_grammar.proofs.exported.Injectivity.{head_same, tail_same}
@@ -209,20 +209,20 @@ docs_events (one d m n v i p q ds) r = event (ev.DocumentStart d) m n ∷ value_
 
 abbrev before : DocumentTexts → Docs → Docs
 before no_texts ds = ds
-before (text_behind ts d m n v i p q) ds = before ts (one d m n v i p q ds)
+before (text_after ts d m n v i p q) ds = before ts (one d m n v i p q ds)
 
-abbrev behind : DocumentTexts → Docs → DocumentTexts
-behind ts none = ts
-behind ts (one d m n v i p q ds) = behind (text_behind ts d m n v i p q) ds
+abbrev following : DocumentTexts → Docs → DocumentTexts
+following ts none = ts
+following ts (one d m n v i p q ds) = following (text_after ts d m n v i p q) ds
 
 before_events : (ts : DocumentTexts) (ds : Docs) (r : List Event)
     → texts_events ts (docs_events ds r) ≡ docs_events (before ts ds) r
 before_events no_texts ds r = refl
-before_events (text_behind ts d m n v i p q) ds r = before_events ts (one d m n v i p q ds) r
+before_events (text_after ts d m n v i p q) ds r = before_events ts (one d m n v i p q ds) r
 
-both_ways : (ts : DocumentTexts) (ds : Docs) → behind no_texts (before ts ds) ≡ behind ts ds
+both_ways : (ts : DocumentTexts) (ds : Docs) → following no_texts (before ts ds) ≡ following ts ds
 both_ways no_texts ds = refl
-both_ways (text_behind ts d m n v i p q) ds = both_ways ts (one d m n v i p q ds)
+both_ways (text_after ts d m n v i p q) ds = both_ways ts (one d m n v i p q ds)
 
 one_same : {d c : unnamed_yaml_event_t_data_document_start} {m n p q m' n' p' q' : Mark} {v w : Value} {i j : Bool}
     {ds es : Docs} → d ≡ c → m ≡ m' → n ≡ n'
@@ -257,7 +257,7 @@ one_docs (one d m n v i p q ds) (one c m' n' w j p' q' es) a b r s x y e =
 
 one_texts : (ts us : DocumentTexts) (m n p q : Mark) → texts_events ts (stream_end_at m n ∷ []) ≡ texts_events us
     (stream_end_at p q ∷ []) → ts ≡ us
-one_texts ts us m n p q e = sym (both_ways ts none) ∙ (ap (λ (x : Docs). behind no_texts x) same ∙ both_ways us none)
+one_texts ts us m n p q e = sym (both_ways ts none) ∙ (ap (λ (x : Docs). following no_texts x) same ∙ both_ways us none)
   where
     same : before ts none ≡ before us none
     same = one_docs (before ts none) (before us none) (stream_end_at m n) (stream_end_at p q) [] [] refl refl

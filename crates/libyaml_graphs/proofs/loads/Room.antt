@@ -11,7 +11,7 @@ use Rattle.libyaml_graphs.specs.loads.Bounds.{HasRoom, HaveRoom, StaysWithin, bo
 use Rattle.libyaml_graphs.specs.graphs.ComposerFaults.{composer_fault, or_else, composer_part_fault}
 use Rattle.libyaml_graphs.specs.graphs.Graphs.{Start, carrier, id_or}
 use Rattle.libyaml_graphs.specs.loads.Loads.{Begun, Load, load_answer, begun, end_of_document, last_load, load_then, loads, loads_by, next_by, next_load}
-use Rattle.libyaml_graphs.specs.graphs.GraphParts.{Closing, Part, alias_part, behind, children, end_part, graph, if_outer, leaf_part, parts, carrier_start, start_part}
+use Rattle.libyaml_graphs.specs.graphs.GraphParts.{Closing, Part, alias_part, following, children, end_part, graph, if_outer, leaf_part, parts, carrier_start, start_part}
 use Rattle.libyaml_graphs.proofs.machine.Sizes.{either_none}
 use Rattle.libyaml_graphs.proofs.graphs.Ids.{moved}
 
@@ -72,21 +72,21 @@ prefix_shorter (start_part a x ∷ f) g es n h =
     ∙ prefix_shorter f g fs n k.1
 prefix_shorter (end_part m ∷ f) g es n h = prefix_shorter f g es n h
 
-abbrev all_behind : List Start → List Part → List Start
-all_behind es [] = es
-all_behind es (p ∷ r) = all_behind (behind p es) r
+abbrev all_after : List Start → List Part → List Start
+all_after es [] = es
+all_after es (p ∷ r) = all_after (following p es) r
 
-one_more : (p : Part) (es : List Start) → length es ≤ length (behind p es)
+one_more : (p : Part) (es : List Start) → length es ≤ length (following p es)
 one_more (alias_part a m) es = le_refl _
 one_more (leaf_part a x) es = le_of_lt (lt-suc_self (length es))
 one_more (start_part a x) es = le_of_lt (lt-suc_self (length es))
 one_more (end_part n) es = le_refl _
 
-starts_grow : (r : List Part) (es : List Start) → length es ≤ length (all_behind es r)
+starts_grow : (r : List Part) (es : List Start) → length es ≤ length (all_after es r)
 starts_grow [] es = le_refl _
-starts_grow (p ∷ r) es = le_trans (one_more p es) (starts_grow r (behind p es))
+starts_grow (p ∷ r) es = le_trans (one_more p es) (starts_grow r (following p es))
 
-room : (r : List Part) (es : List Start) (F : List Part) (n : ℕ) → nat_lt n (length (all_behind es r)) ≡ false
+room : (r : List Part) (es : List Start) (F : List Part) (n : ℕ) → nat_lt n (length (all_after es r)) ≡ false
     → one_above n (list_sizes [] (F ++ r)) ≡ false
     → first_stop n es F r ≡ composer_fault es r
 room [] es F n a b = refl
@@ -95,16 +95,16 @@ room (p ∷ r) es F n a b =
     ap (λ (l : List Part). one_above n (list_sizes [] l)) (append_assoc F (p ∷ []) r) ∙ b in
     let d : one_above n (list_sizes [] (F ++ p ∷ [])) ≡ false = prefix_shorter (F ++ p ∷ []) r [] n c in
     ap (λ (x : Bool). if_above x (if_wrong (composer_part_fault es p)
-    (if_above (one_above n (list_sizes [] (F ++ p ∷ []))) (first_stop n (behind p es) (F ++ p ∷ []) r))))
-    (lt_down n _ _ (starts_grow r (behind p es)) a)
-    ∙ (ap (λ (x : Bool). if_wrong (composer_part_fault es p) (if_above x (first_stop n (behind p es) (F ++ p ∷ []) r))) d
-    ∙ (ap (if_wrong (composer_part_fault es p)) (room r (behind p es) (F ++ p ∷ []) n a c) ∙ go (composer_part_fault es p)))
+    (if_above (one_above n (list_sizes [] (F ++ p ∷ []))) (first_stop n (following p es) (F ++ p ∷ []) r))))
+    (lt_down n _ _ (starts_grow r (following p es)) a)
+    ∙ (ap (λ (x : Bool). if_wrong (composer_part_fault es p) (if_above x (first_stop n (following p es) (F ++ p ∷ []) r))) d
+    ∙ (ap (if_wrong (composer_part_fault es p)) (room r (following p es) (F ++ p ∷ []) n a c) ∙ go (composer_part_fault es p)))
   where
-    go : (w : Option Fault) → if_wrong w (composer_fault (behind p es) r) ≡ or_else w (composer_fault (behind p es) r)
+    go : (w : Option Fault) → if_wrong w (composer_fault (following p es) r) ≡ or_else w (composer_fault (following p es) r)
     go None = refl
     go (Some f) = refl
 
-graph_count : (r : List Part) (es : List Start) → length (all_behind es r) ≡ length es + length (graph es r)
+graph_count : (r : List Part) (es : List Start) → length (all_after es r) ≡ length es + length (graph es r)
 graph_count [] es = omega arith
 graph_count (alias_part a m ∷ r) es = graph_count r es
 graph_count (leaf_part a x ∷ r) es = graph_count r (carrier_start a x ∷ es) ∙ moved (length es) _
@@ -154,7 +154,7 @@ room_next r x n h = go (begun r) h
 
 -- a document that nothing stops has no composer error, and its lists have room
 abbrev Unstopped : ℕ → List Start → List Part → List Part → Type 0
-Unstopped n es F P = (composer_fault es P ≡ None) × (nat_lt n (length (all_behind es P)) ≡ false)
+Unstopped n es F P = (composer_fault es P ≡ None) × (nat_lt n (length (all_after es P)) ≡ false)
     × (one_above n (list_sizes [] (F ++ P)) ≡ false)
 
 passed : (n : ℕ) (a b : Bool) (w o : Option Fault) → if_above a (if_wrong w (if_above b o)) ≡ None
@@ -169,10 +169,10 @@ unstopped : (P : List Part) (es : List Start) (F : List Part) (n : ℕ) → nat_
     → first_stop n es F P ≡ None → Unstopped n es F P
 unstopped [] es F n a b e = (refl, a, ap (λ (l : List Part). one_above n (list_sizes [] l)) (append-nil F) ∙ b)
 unstopped (p ∷ P) es F n a b e =
-    let h = passed n (nat_lt n (length (behind p es))) (one_above n (list_sizes [] (F ++ p ∷ []))) (composer_part_fault es p)
-    (first_stop n (behind p es) (F ++ p ∷ []) P) e in
-    let k : Unstopped n (behind p es) (F ++ p ∷ []) P = unstopped P (behind p es) (F ++ p ∷ []) n h.0 h.2 h.3 in (
-      ap (λ (w : Option Fault). or_else w (composer_fault (behind p es) P)) h.1 ∙ k.0,
+    let h = passed n (nat_lt n (length (following p es))) (one_above n (list_sizes [] (F ++ p ∷ []))) (composer_part_fault es p)
+    (first_stop n (following p es) (F ++ p ∷ []) P) e in
+    let k : Unstopped n (following p es) (F ++ p ∷ []) P = unstopped P (following p es) (F ++ p ∷ []) n h.0 h.2 h.3 in (
+      ap (λ (w : Option Fault). or_else w (composer_fault (following p es) P)) h.1 ∙ k.0,
       k.1,
       ap (λ (l : List Part). one_above n (list_sizes [] l)) (sym (append_assoc F (p ∷ []) P)) ∙ k.2,
     )

@@ -7,9 +7,9 @@ use Rattle.libyaml_grammar.specs.partial.PartialTrees.{PartialTree}
 use Rattle.libyaml_grammar.specs.grammar.Events.{Event, events}
 use Rattle.libyaml_types.specs.Fault.{Fault}
 use Rattle.libyaml_grammar.specs.partial.Fits.{Fits}
-use Rattle.libyaml_grammar.specs.grammar.Nesting.{IsNested, DocumentTexts, Value, no_texts, text_behind, value_events}
+use Rattle.libyaml_grammar.specs.grammar.Nesting.{IsNested, DocumentTexts, Value, no_texts, text_after, value_events}
 use Rattle.libyaml_grammar.specs.grammar.Order.{in_order}
-use Rattle.libyaml_grammar.specs.runs.Runs.{Ending, Ends, Fails, IsRun, RunsWhole, is_behind_properties, to_its_end, to_its_fault}
+use Rattle.libyaml_grammar.specs.runs.Runs.{Ending, Ends, Fails, IsRun, RunsWhole, is_after_properties, to_its_end, to_its_fault}
 use Rattle.libyaml_grammar.specs.grammar.ValidLists.{IsViablePrefix, has_end}
 use Rattle.libyaml_grammar.specs.partial.DeterminedEvents.{Determines}
 use Rattle.libyaml_grammar.specs.grammar.Tokens.{Marks, StreamEnd, Token, tok}
@@ -59,13 +59,13 @@ valid_list_loads t r f o =
     (n, record { events = events t; ending = Ends; run = valid_list_run t r f o; all = sym (whole_loads (events t) n Ends) })
 
 pub partial_tree_loads : (l : List Token) (b : Token) (r : List Token) (c : PartialTree) (f : Fault) → Fits l b c
-    → is_behind_properties c r ≡ true → (a : List Load)
+    → is_after_properties c r ≡ true → (a : List Load)
     × IsLoads (l ++ b ∷ r) f a × NestedLoads (partial_events c b) (Fails (fault c b.content b.start_mark)) a
 partial_tree_loads l b r c f i h = of_run (l ++ b ∷ r) f (partial_events c b) (Fails (fault c b.content b.start_mark))
     (partial_run l b r c f i h)
 
 pub amid_loads : (l : List Token) (b : Token) (r : List Token) (c : PartialTree) (f : Fault) → Fits l b c
-    → is_behind_properties c r ≡ false → (a : List Load)
+    → is_after_properties c r ≡ false → (a : List Load)
     × IsLoads (l ++ b ∷ r) f a × NestedLoads (partial_events c b) (Fails f) a
 amid_loads l b r c f i h = of_run (l ++ b ∷ r) f (partial_events c b) (Fails f) (amid_run l b r c f i h)
 
@@ -80,10 +80,10 @@ loads_whole l f (to_its_end t o e r) =
     let n : IsNested (events t) = events_nest_proof t in
     law.to_its_end t o e (loads (events t) Ends) (record { events = events t; ending = Ends; run = r; all = refl })
     n (whole_loads (events t) n Ends)
-loads_whole l f (to_its_fault before token behind c e i r) =
+loads_whole l f (to_its_fault before token following c e i r) =
     let x : Ending = Fails (fault c token.content token.start_mark) in
     let y = of_run l f (partial_events c token) x r in
-    law.to_its_fault before token behind c e i y.0 y.1 y.2
+    law.to_its_fault before token following c e i y.0 y.1 y.2
 
 pub headline : (l : List Token) (m : Marks) (f : Fault) → has_end l ≡ false → LoadsWhole (l ++ tok StreamEnd m ∷ []) f
 headline l m f h = loads_whole (l ++ tok StreamEnd m ∷ []) f (runs_whole l m f h)
@@ -97,7 +97,7 @@ text_ids v None c o z l h k = (h refl, k)
 
 texts_ids : (ts : DocumentTexts) (l : List Load) → EachIdNames l → EachIdNames (loads_of ts l)
 texts_ids no_texts l k = k
-texts_ids (text_behind ts d m n v i p q) l k
+texts_ids (text_after ts d m n v i p q) l k
     = texts_ids ts _ (text_ids v (composer_fault [] (parts (value_events v [])))
     (record { is_implicit = i; mark = q }) (record { start = d; mark = m })
     (last_load Ends) l (λ e. every_id v e) k)

@@ -7,7 +7,7 @@ use Rattle.libyaml_grammar.specs.runs.Runs.{Ending, Ends}
 use Rattle.libyaml_grammar.specs.grammar.Events.{Event}
 use Rattle.libyaml_grammar.specs.grammar.Tokens.{Mark}
 use Rattle.libyaml_graphs.specs.graphs.ComposerFaults.{alias_fault, anchor_fault, known_fault, composer_part_fault}
-use Rattle.libyaml_graphs.specs.graphs.GraphParts.{Closing, Opening, Part, alias_part, behind, end_part, graph, leaf_part, parts, start_part}
+use Rattle.libyaml_graphs.specs.graphs.GraphParts.{Closing, Opening, Part, alias_part, following, end_part, graph, leaf_part, parts, start_part}
 use Rattle.libyaml_graphs.specs.graphs.Graphs.{Carrier, Start, carrier}
 use Rattle.libyaml_graphs.specs.loads.Bounds.{first_stop, if_above, if_wrong, next_bounded}
 use Rattle.libyaml_graphs.specs.loads.Loads.{Begun, Load, load_answer, begun, last_load, next_by}
@@ -48,7 +48,7 @@ wrong None o h k = k
 of_stop : (n : ℕ) (es : List Start) (before l : List Part) → IfStops (first_stop n es before l)
 of_stop n es before [] = tt
 of_stop n es before (p ∷ r) =
-    above _ _ (wrong _ _ (of_part es p) (above _ _ (of_stop n (behind p es) (before ++ p ∷ []) r)))
+    above _ _ (wrong _ _ (of_part es p) (above _ _ (of_stop n (following p es) (before ++ p ∷ []) r)))
 
 module _ (f : Fault) where
   same : (g : Fault) → ◌≡◌ {A = Load} (Err g) (Err f) → g ≡ f

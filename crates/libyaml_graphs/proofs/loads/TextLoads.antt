@@ -6,14 +6,14 @@ use Rattle.libyaml_graphs.specs.loads.GraphLaws.{NestedLoads, fault_or, open_loa
 use Rattle.libyaml_types.specs.declared.event.unnamed_yaml_event_t_data_document_start.{unnamed_yaml_event_t_data_document_start}
 use Rattle.libyaml_grammar.specs.grammar.Events.{Event, document_end_at, event, stream_end_at}
 use Rattle.libyaml_types.specs.Fault.{Fault}
-use Rattle.libyaml_grammar.specs.grammar.Nesting.{BeginsValue, HasBegun, IsNested, IsOpenDocument, NestsSoFar, DocumentTexts, Value, has_begun, no_texts, none_open, not_begun, one_open, text_behind, texts_events, value_events, whole}
+use Rattle.libyaml_grammar.specs.grammar.Nesting.{BeginsValue, HasBegun, IsNested, IsOpenDocument, NestsSoFar, DocumentTexts, Value, has_begun, no_texts, none_open, not_begun, one_open, text_after, texts_events, value_events, whole}
 use Rattle.libyaml_grammar.specs.runs.Runs.{Ending, Ends}
 use Rattle.libyaml_grammar.specs.grammar.Tokens.{Mark}
 use Rattle.libyaml_documents.specs.declared.node.yaml_node_t.{yaml_node_t}
 use Rattle.libyaml_graphs.specs.graphs.ComposerFaults.{composer_fault}
 use Rattle.libyaml_graphs.specs.graphs.Graphs.{nodes_of}
 use Rattle.libyaml_graphs.specs.graphs.GraphParts.{Closing, Opening, Part, closing_of, graph, part_of, parts, with_part}
-use Rattle.libyaml_graphs.specs.loads.Loads.{Begun, Load, begun, begun_behind, end_of_document, last_load, load_then, loads, loads_by, loads_of}
+use Rattle.libyaml_graphs.specs.loads.Loads.{Begun, Load, begun, begun_after, end_of_document, last_load, load_then, loads, loads_by, loads_of}
 use Rattle.libyaml_grammar.proofs.exported.Splits.{value_splits}
 use Rattle.libyaml_graphs.proofs.graphs.TreeGraphs.{value_graph}
 use Rattle.libyaml_graphs.proofs.exported.Roots.{value_keeps}
@@ -23,9 +23,9 @@ pub value_closing : (v : Value) (r : List Event) → end_of_document (value_even
 value_closing v r = value_keeps (λ (l : List Event). end_of_document l ≡ end_of_document r)
     (λ e s i k. ap (λ (c : Option Closing). elim c [ Some y ↦ Some y | None ↦ end_of_document s ]) i.1 ∙ k) v r refl
 
-pub value_behind : (v : Value) (r : List Event) → begun_behind (value_events v r) ≡ begun_behind r
-value_behind v r = value_keeps (λ (l : List Event). begun_behind l ≡ begun_behind r)
-    (λ e s i k. ap (λ (c : Option Closing). elim c [ Some y ↦ begun s | None ↦ begun_behind s ]) i.1 ∙ k) v r refl
+pub value_after : (v : Value) (r : List Event) → begun_after (value_events v r) ≡ begun_after r
+value_after v r = value_keeps (λ (l : List Event). begun_after l ≡ begun_after r)
+    (λ e s i k. ap (λ (c : Option Closing). elim c [ Some y ↦ begun s | None ↦ begun_after s ]) i.1 ∙ k) v r refl
 
 -- the parts of a value hang on those after it alone
 prefix_parts : (l r s : List Event) → parts r ≡ parts s → parts (l ++ r) ≡ parts (l ++ s)
@@ -54,14 +54,14 @@ text_loads d m n v i p q r x =
     let w : List Event = document_end_at i p q ∷ r in
     let c : Closing = record { is_implicit = i; mark = q } in
     ap (λ (l : List Part). load_then (composer_fault [] l) (end_of_document (value_events v w)) o (graph [] l)
-    (last_load x) (loads_by (composer_fault []) x (begun_behind (value_events v w))))
+    (last_load x) (loads_by (composer_fault []) x (begun_after (value_events v w))))
     (value_parts v w [] refl)
     ∙ (ap (λ (y : Option Closing). load_then (composer_fault [] (parts (value_events v []))) y o
     (graph [] (parts (value_events v []))) (last_load x)
-    (loads_by (composer_fault []) x (begun_behind (value_events v w)))) (value_closing v w)
+    (loads_by (composer_fault []) x (begun_after (value_events v w)))) (value_closing v w)
     ∙ (ap (λ (l : List Begun). load_then (composer_fault [] (parts (value_events v []))) (Some c) o
     (graph [] (parts (value_events v []))) (last_load x)
-    (loads_by (composer_fault []) x l)) (value_behind v w)
+    (loads_by (composer_fault []) x l)) (value_after v w)
     ∙ (ap (λ (ns : List yaml_node_t). load_then (composer_fault [] (parts (value_events v []))) (Some c) o ns
     (last_load x) (loads r x)) (value_graph v [] [])
     ∙ ends_itself (composer_fault [] (parts (value_events v []))) c o (nodes_of v [] []) (last_load x)
@@ -70,7 +70,7 @@ text_loads d m n v i p q r x =
 -- the loads of whole documents are their graphs by their values, up to the first composer error
 texts_load : (ts : DocumentTexts) (r : List Event) (x : Ending) → loads (texts_events ts r) x ≡ loads_of ts (loads r x)
 texts_load no_texts r x = refl
-texts_load (text_behind ts d m n v i p q) r x =
+texts_load (text_after ts d m n v i p q) r x =
     texts_load ts (event (ev.DocumentStart d) m n ∷ value_events v (document_end_at i p q ∷ r)) x
     ∙ ap (loads_of ts) (text_loads d m n v i p q r x)
 
@@ -98,11 +98,11 @@ open_loads : (d : unnamed_yaml_event_t_data_document_start) (m n : Mark) (f : Li
 open_loads d m n f x e =
     ap (λ (c : Option Closing). load_then (composer_fault [] (parts f)) c (record { start = d; mark = m })
     (graph [] (parts f)) (last_load x)
-    (loads_by (composer_fault []) x (begun_behind f))) e
+    (loads_by (composer_fault []) x (begun_after f))) e
     ∙ go (composer_fault [] (parts f))
   where
     go : (g : Option Fault) → load_then g None (record { start = d; mark = m }) (graph [] (parts f)) (last_load x)
-        (loads_by (composer_fault []) x (begun_behind f)) ≡ fault_or g (last_load x)
+        (loads_by (composer_fault []) x (begun_after f)) ≡ fault_or g (last_load x)
         ∷ []
     go (Some g) = refl
     go None = refl

@@ -11,8 +11,8 @@ use Rattle.libyaml_documents.specs.declared.node.unnamed_yaml_node_t_data_scalar
 use Rattle.libyaml_documents.specs.declared.node.yaml_node_t.{yaml_node_t}
 use Rattle.libyaml_documents.specs.declared.pairs.yaml_node_pair_t.{yaml_node_pair_t}
 use Rattle.libyaml_graphs.specs.graphs.Graphs.{Start, carrier, id_or, items, pairs}
-use Rattle.libyaml_graphs.specs.machine.Loader.{content_and_child, key_behind, with_child}
-use Rattle.libyaml_graphs.specs.graphs.GraphParts.{Part, alias_part, behind, children, end_in, end_part, ended, graph, leaf_part, carrier_start, start_part, with_children}
+use Rattle.libyaml_graphs.specs.machine.Loader.{content_and_child, key_after_child, with_child}
+use Rattle.libyaml_graphs.specs.graphs.GraphParts.{Part, alias_part, following, children, end_in, end_part, ended, graph, leaf_part, carrier_start, start_part, with_children}
 
 pub record Held : Type 0 where
   pub node : yaml_node_t
@@ -32,7 +32,7 @@ change (suc p) f (h ∷ hs) = h ∷ change p f hs
 
 -- a child, and an end
 abbrev pub hold : ℕ → Held → Held
-hold i h = record { node = with_child h.key (pos i) h.node; key = key_behind h.key (pos i) h.node.content }
+hold i h = record { node = with_child h.key (pos i) h.node; key = key_after_child h.key (pos i) h.node.content }
 
 abbrev pub end_at : Mark → Held → Held
 end_at m h = record { node = with_end m h.node; key = h.key }
@@ -195,11 +195,11 @@ applied_hold i (p ∷ s) f g hs e h =
 -- children, one after the other: what a node holds after them, and the key that waits then
 abbrev pub grown : Option ℤ → unnamed_yaml_node_t_data → List ℕ → unnamed_yaml_node_t_data
 grown k c [] = c
-grown k c (i ∷ is) = grown (key_behind k (pos i) c) (content_and_child k (pos i) c) is
+grown k c (i ∷ is) = grown (key_after_child k (pos i) c) (content_and_child k (pos i) c) is
 
 abbrev pub grown_key : Option ℤ → unnamed_yaml_node_t_data → List ℕ → Option ℤ
 grown_key k c [] = k
-grown_key k c (i ∷ is) = grown_key (key_behind k (pos i) c) (content_and_child k (pos i) c) is
+grown_key k c (i ∷ is) = grown_key (key_after_child k (pos i) c) (content_and_child k (pos i) c) is
 
 abbrev listed : yaml_sequence_style_t → List ℤ → unnamed_yaml_node_t_data
 listed s l = Sequence (record { items = l; style = s })
@@ -332,7 +332,7 @@ end_finished n es P b = ap (λ (l : List Held). l ++ held_graph es P) (go b.plac
 
 -- a part built, or left to the rest, makes the same graph
 pub build_finished : (p : Part) (es : List Start) (P : List Part) (b : Built) → BeginsEmpty p → AllHas b.places b.held
-    → finished (behind p es) P (build es p b) ≡ finished es (p ∷ P) b
+    → finished (following p es) P (build es p b) ≡ finished es (p ∷ P) b
 build_finished (alias_part a m) es P b e h
     = ap (λ (l : List Held). l ++ held_graph es P)
     (applied_hold (id_or (carrier a es)) b.places (rested es P) (rested es (alias_part a m ∷ P)) b.held (λ x. refl)

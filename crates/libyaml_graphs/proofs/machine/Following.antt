@@ -13,7 +13,7 @@ use Rattle.libyaml_documents.specs.declared.node.yaml_node_t.{yaml_node_t}
 use Rattle.libyaml_graphs.specs.graphs.ComposerFaults.{alias_fault, anchor_fault, known_fault, composer_part_fault, repeated_anchor}
 use Rattle.libyaml_graphs.specs.graphs.Graphs.{Carrier, Start, carrier, carries, id_or}
 use Rattle.libyaml_graphs.specs.machine.Loader.{Anchors, Loader, Loading, OpenNode, Registered, closed_by, failed, going, hand, handed, key_after, known, load_part, no_anchors, on_alias, on_node, outer, register, registered, with_child}
-use Rattle.libyaml_graphs.specs.graphs.GraphParts.{Part, alias_part, behind, end_part, leaf_part, carrier_start, start_part}
+use Rattle.libyaml_graphs.specs.graphs.GraphParts.{Part, alias_part, following, end_part, leaf_part, carrier_start, start_part}
 use Rattle.libyaml_graphs.proofs.machine.Built.{AllHas, AllOf, Built, Has, Held, all_append, all_end, all_hold, all_of, bare, below, build, change, end_at, end_top, has_last, hold, hold_top, length_end, length_hold, length_more, nodes_in, unbuilt}
 
 -- the key that waits at a place, and a stack of places with their keys
@@ -161,7 +161,7 @@ below_falls : (s : List ℕ) → Falls s → Falls (below s)
 below_falls [] h = tt
 below_falls (p ∷ s) h = h.1
 
-pub build_stands : (p : Part) (es : List Start) (b : Built) → BuiltRight es b → BuiltRight (behind p es) (build es p b)
+pub build_stands : (p : Part) (es : List Start) (b : Built) → BuiltRight es b → BuiltRight (following p es) (build es p b)
 build_stands (alias_part a m) es b s
     = record {
       size = length_hold (id_or (carrier a es)) b.places b.held ∙ s.size;
@@ -323,7 +323,7 @@ node_follows b x opens es c d xs s h nodes stack = go (register b (suc (length (
     )
 
 pub part_follows : (p : Part) (es : List Start) (b : Built) (xs : Anchors) → BuiltRight es b → Agrees es xs
-    → Follows (load_part (loader_of b xs) p) (composer_part_fault es p) (behind p es) (build es p b)
+    → Follows (load_part (loader_of b xs) p) (composer_part_fault es p) (following p es) (build es p b)
 part_follows (alias_part a m) es b xs s h = alias_follows a m es b xs s h
 part_follows (leaf_part a x) es b xs s h = node_follows a x [] es b (build es (leaf_part a x) b) xs s h
     (put_nodes x es b s) (put_stack x es b s)

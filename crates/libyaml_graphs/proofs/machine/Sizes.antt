@@ -11,7 +11,7 @@ use Rattle.libyaml_documents.specs.declared.node.yaml_node_t.{yaml_node_t}
 use Rattle.libyaml_documents.specs.declared.pairs.yaml_node_pair_t.{yaml_node_pair_t}
 use Rattle.libyaml_graphs.specs.loads.Bounds.{entries, list_sizes, one_above, pairs_begun}
 use Rattle.libyaml_graphs.specs.graphs.Graphs.{Start, carrier, id_or, items, pairs}
-use Rattle.libyaml_graphs.specs.machine.Loader.{Anchors, content_full, content_and_child, key_behind, list_full, node_full, parent_full}
+use Rattle.libyaml_graphs.specs.machine.Loader.{Anchors, content_full, content_and_child, key_after_child, list_full, node_full, parent_full}
 use Rattle.libyaml_graphs.specs.graphs.GraphParts.{Part, alias_part, children, end_part, leaf_part, carrier_start, start_part, with_children}
 use Rattle.libyaml_graphs.proofs.machine.Built.{AllHas, BeginsEmpty, Built, Has, Held, bare, build, change, end_at, end_top, grown_key, held_graph, hold, hold_top, nodes_in, paired}
 use Rattle.libyaml_graphs.proofs.machine.Following.{key_append, key_in, loader_of, stack_of}
@@ -43,7 +43,7 @@ one_pair [] p = refl
 one_pair (q ∷ ps) p = ap (λ (n : ℕ). suc n) (one_pair ps p)
 
 content_grows : (n i : ℕ) (k : Option ℤ) (c : unnamed_yaml_node_t_data) → nat_lt n (begun k c) ≡ false
-    → nat_lt n (begun (key_behind k (pos i) c) (content_and_child k (pos i) c)) ≡ content_full n k c
+    → nat_lt n (begun (key_after_child k (pos i) c) (content_and_child k (pos i) c)) ≡ content_full n k c
 content_grows n i k (Scalar s) h = h
 content_grows n i k (Sequence s) h = ap (nat_lt n) (one_item s.items (pos i))
 content_grows n i None (Mapping s) h = refl
@@ -54,8 +54,8 @@ change_grows : (p n i : ℕ) (hs : List Held) → one_above n (sizes hs) ≡ fal
 change_grows p n i [] e = refl
 change_grows zero n i (h ∷ hs) e =
     let k : (nat_lt n (begun h.key h.node.content) ≡ false) × (one_above n (sizes hs) ≡ false) = or_parts _ _ e in
-    ap (λ (b : Bool). (nat_lt n (begun (key_behind h.key (pos i) h.node.content) (content_and_child h.key (pos i) h.node.content)) || b)) k.1
-    ∙ (or-false (nat_lt n (begun (key_behind h.key (pos i) h.node.content) (content_and_child h.key (pos i) h.node.content)))
+    ap (λ (b : Bool). (nat_lt n (begun (key_after_child h.key (pos i) h.node.content) (content_and_child h.key (pos i) h.node.content)) || b)) k.1
+    ∙ (or-false (nat_lt n (begun (key_after_child h.key (pos i) h.node.content) (content_and_child h.key (pos i) h.node.content)))
     ∙ content_grows n i h.key h.node.content k.0)
 change_grows (suc p) n i (h ∷ hs) e =
     let k : (nat_lt n (begun h.key h.node.content) ≡ false) × (one_above n (sizes hs) ≡ false) = or_parts _ _ e in

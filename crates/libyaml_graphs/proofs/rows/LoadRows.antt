@@ -8,7 +8,7 @@ use Rattle.libyaml_grammar.specs.grammar.Events.{events}
 use Rattle.libyaml_types.specs.Fault.{Fault}
 use Rattle.libyaml_grammar.proofs.exported.Positions.{Position, done, unopened}
 use Rattle.libyaml_grammar.proofs.exported.Reading.{bad, goes, reads, reads_all}
-use Rattle.libyaml_grammar.specs.runs.Runs.{Ends, Fails, is_behind_properties}
+use Rattle.libyaml_grammar.specs.runs.Runs.{Ends, Fails, is_after_properties}
 use Rattle.libyaml_grammar.specs.grammar.ValidLists.{has_end}
 use Rattle.libyaml_grammar.specs.partial.DeterminedEvents.{sure}
 use Rattle.libyaml_grammar.specs.grammar.Tokens.{Token}
@@ -26,7 +26,7 @@ valid_list_loads n l f a t r s h =
 
 pub partial_loads : (n : ℕ) (l : List Token) (f : Fault) (a : List Load) (b : Token) (q : Position) (c : PartialTree)
     → take n l ++ b ∷ drop (suc n) l ≡ l
-    → reads_all (take n l) unopened ≡ goes q → reads q b ≡ bad c → is_behind_properties c (drop (suc n) l) ≡ true
+    → reads_all (take n l) unopened ≡ goes q → reads q b ≡ bad c → is_after_properties c (drop (suc n) l) ≡ true
     → a ≡ loads (partial_events c b) (Fails (fault c b.content b.start_mark)) → IsLoads l f a
 partial_loads n l f a b q c s r h i k
     = record {

@@ -5,7 +5,7 @@ use Rattle.libyaml_types.specs.declared.enums.yaml_error_type_t.TheVariants.{YAM
 use Rattle.libyaml_types.specs.Fault.{Fault, no_fault}
 use Rattle.libyaml_grammar.specs.grammar.Tokens.{Mark}
 use Rattle.libyaml_graphs.specs.graphs.Graphs.{Carrier, Start, carrier}
-use Rattle.libyaml_graphs.specs.graphs.GraphParts.{Part, alias_part, behind, end_part, leaf_part, start_part}
+use Rattle.libyaml_graphs.specs.graphs.GraphParts.{Part, alias_part, following, end_part, leaf_part, start_part}
 
 abbrev pub undefined_alias : Mark → Fault
 undefined_alias m = record no_fault {
@@ -58,4 +58,4 @@ or_else (Some f) g = Some f
 
 abbrev pub composer_fault : List Start → List Part → Option Fault
 composer_fault es [] = None
-composer_fault es (p ∷ r) = or_else (composer_part_fault es p) (composer_fault (behind p es) r)
+composer_fault es (p ∷ r) = or_else (composer_part_fault es p) (composer_fault (following p es) r)

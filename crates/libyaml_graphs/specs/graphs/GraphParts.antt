@@ -68,11 +68,11 @@ abbrev pub carrier_start : Option (List ℕ) → yaml_node_t → Start
 carrier_start a x = record { anchor = a; mark = x.start_mark }
 
 -- the starts after a part
-abbrev pub behind : Part → List Start → List Start
-behind (alias_part a m) es = es
-behind (leaf_part a x) es = carrier_start a x ∷ es
-behind (start_part a x) es = carrier_start a x ∷ es
-behind (end_part n) es = es
+abbrev pub following : Part → List Start → List Start
+following (alias_part a m) es = es
+following (leaf_part a x) es = carrier_start a x ∷ es
+following (start_part a x) es = carrier_start a x ∷ es
+following (end_part n) es = es
 
 -- The ids directly in a collection, up to its end, among the parts after its start; d collections are open in it.
 abbrev pub if_outer : ℕ → List ℕ → List ℕ → List ℕ

@@ -51,14 +51,14 @@ collection_loaded mapping t s is m n = mapping_loaded t (mapping_style s) (pairs
 
 -- the starts after a value, and after values one after the other
 abbrev mutual
-  pub starts_behind : Value → List Start → List Start
-  starts_behind (alias_value a m n) es = es
-  starts_behind (scalar_value s m n) es = record { anchor = s.anchor; mark = m } ∷ es
-  starts_behind (collection_value k a t i s m n vs p q) es = starts_behind_all vs (record { anchor = a; mark = m } ∷ es)
+  pub starts_after : Value → List Start → List Start
+  starts_after (alias_value a m n) es = es
+  starts_after (scalar_value s m n) es = record { anchor = s.anchor; mark = m } ∷ es
+  starts_after (collection_value k a t i s m n vs p q) es = starts_after_all vs (record { anchor = a; mark = m } ∷ es)
 
-  pub starts_behind_all : Values → List Start → List Start
-  starts_behind_all no_values es = es
-  starts_behind_all (first_value v vs) es = starts_behind_all vs (starts_behind v es)
+  pub starts_after_all : Values → List Start → List Start
+  starts_after_all no_values es = es
+  starts_after_all (first_value v vs) es = starts_after_all vs (starts_after v es)
 
 -- the id of a value: that of its own node, or of the node which carries its anchor
 abbrev pub id_of : Value → List Start → ℕ
@@ -68,7 +68,7 @@ id_of (collection_value k a t i s m n vs p q) es = suc (length es)
 
 abbrev pub ids_of_all : Values → List Start → List ℕ
 ids_of_all no_values es = []
-ids_of_all (first_value v vs) es = id_of v es ∷ ids_of_all vs (starts_behind v es)
+ids_of_all (first_value v vs) es = id_of v es ∷ ids_of_all vs (starts_after v es)
 
 -- The graph: the nodes of a value, each before its children, and after them l. An anchor is known from its node's start
 -- on, so a node may hold itself.
@@ -82,4 +82,4 @@ abbrev mutual
 
   pub nodes_of_all : Values → List Start → List yaml_node_t → List yaml_node_t
   nodes_of_all no_values es l = l
-  nodes_of_all (first_value v vs) es l = nodes_of v es (nodes_of_all vs (starts_behind v es) l)
+  nodes_of_all (first_value v vs) es l = nodes_of v es (nodes_of_all vs (starts_after v es) l)

@@ -11,7 +11,7 @@ use Rattle.libyaml_documents.specs.declared.node.unnamed_yaml_node_t_data.TheVar
 use Rattle.libyaml_graphs.specs.graphs.ComposerFaults.{composer_fault, composer_part_fault}
 use Rattle.libyaml_graphs.specs.graphs.Graphs.{Start}
 use Rattle.libyaml_graphs.specs.loads.Loads.{AreLoads, Begun, Load, begun, loads_by, next_by}
-use Rattle.libyaml_graphs.specs.graphs.GraphParts.{Part, alias_part, behind, children, end_part, graph, leaf_part, parts, carrier_start, start_part}
+use Rattle.libyaml_graphs.specs.graphs.GraphParts.{Part, alias_part, following, children, end_part, graph, leaf_part, parts, carrier_start, start_part}
 
 -- the pairs that children begin: one at each key, also where its value is still to come
 abbrev pub pairs_begun : List ℕ → ℕ
@@ -50,12 +50,12 @@ if_wrong (Some f) o = Some f
 if_wrong None o = o
 
 abbrev pub stop_at : ℕ → List Start → (before : List Part) → Part → Option Fault → Option Fault
-stop_at n es before p o = if_above (nat_lt n (length (behind p es)))
+stop_at n es before p o = if_above (nat_lt n (length (following p es)))
     (if_wrong (composer_part_fault es p) (if_above (one_above n (list_sizes [] (before ++ p ∷ []))) o))
 
 abbrev pub first_stop : ℕ → List Start → (before : List Part) → List Part → Option Fault
 first_stop n es before [] = None
-first_stop n es before (p ∷ r) = stop_at n es before p (first_stop n (behind p es) (before ++ p ∷ []) r)
+first_stop n es before (p ∷ r) = stop_at n es before p (first_stop n (following p es) (before ++ p ∷ []) r)
 
 -- The loads of a run within the bound n, and one of them. The events that it leaves are those that it leaves
 -- without a bound.

@@ -6,14 +6,14 @@ use Rattle.libyaml_grammar.specs.partial.PartialTrees.{PartialTree}
 use Rattle.libyaml_grammar.specs.grammar.Events.{Event, events}
 use Rattle.libyaml_types.specs.Fault.{Fault}
 use Rattle.libyaml_grammar.specs.partial.Fits.{Fits}
-use Rattle.libyaml_grammar.specs.grammar.Nesting.{HasBegun, IsNested, DocumentTexts, Value, Values, alias_value, collection_value, first_value, no_texts, no_values, scalar_value, text_behind}
+use Rattle.libyaml_grammar.specs.grammar.Nesting.{HasBegun, IsNested, DocumentTexts, Value, Values, alias_value, collection_value, first_value, no_texts, no_values, scalar_value, text_after}
 use Rattle.libyaml_grammar.specs.grammar.Order.{in_order}
 use Rattle.libyaml_grammar.specs.runs.Runs.{Ending, Ends, Fails}
 use Rattle.libyaml_grammar.specs.grammar.Tokens.{Token}
 use Rattle.libyaml_grammar.specs.grammar.Trees.{Stream, tokens}
 use Rattle.libyaml_documents.specs.Nodes.{EveryIdNamesANode, ids_of}
 use Rattle.libyaml_graphs.specs.graphs.ComposerFaults.{composer_fault}
-use Rattle.libyaml_graphs.specs.graphs.Graphs.{Start, collection_loaded, id_of, ids_of_all, items, starts_behind}
+use Rattle.libyaml_graphs.specs.graphs.Graphs.{Start, collection_loaded, id_of, ids_of_all, items, starts_after}
 use Rattle.libyaml_graphs.specs.loads.Loads.{IsLoads, Load, last_load, loads_of}
 use Rattle.libyaml_graphs.specs.graphs.GraphParts.{Opening, Part, alias_part, end_part, leaf_part, opening_of, part_of, parts, start_part}
 
@@ -33,12 +33,12 @@ abbrev mutual
 
   pub AllLater : ℕ → Values → List Start → Type 0
   AllLater n no_values es = Unit {0}
-  AllLater n (first_value v vs) es = IsLater n v es × ChildrenAreLater v es × AllLater n vs (starts_behind v es)
+  AllLater n (first_value v vs) es = IsLater n v es × ChildrenAreLater v es × AllLater n vs (starts_after v es)
 
 -- and so it is in the value of each document
 abbrev pub EachIsLater : DocumentTexts → Type 0
 EachIsLater no_texts = Unit {0}
-EachIsLater (text_behind ts d m n v i p q) = EachIsLater ts × ChildrenAreLater v []
+EachIsLater (text_after ts d m n v i p q) = EachIsLater ts × ChildrenAreLater v []
 
 -- each node in a value holds the ids of all its children, in their order; so no pair lacks its value
 abbrev mutual
@@ -52,12 +52,12 @@ abbrev mutual
 
   pub AllHoldTheirChildren : Values → List Start → Type 0
   AllHoldTheirChildren no_values es = Unit {0}
-  AllHoldTheirChildren (first_value v vs) es = HoldsItsChildren v es × AllHoldTheirChildren vs (starts_behind v es)
+  AllHoldTheirChildren (first_value v vs) es = HoldsItsChildren v es × AllHoldTheirChildren vs (starts_after v es)
 
 -- and so it is in the value of each document
 abbrev pub EachHoldsItsChildren : DocumentTexts → Type 0
 EachHoldsItsChildren no_texts = Unit {0}
-EachHoldsItsChildren (text_behind ts d m n v i p q) = EachHoldsItsChildren ts × HoldsItsChildren v []
+EachHoldsItsChildren (text_after ts d m n v i p q) = EachHoldsItsChildren ts × HoldsItsChildren v []
 
 -- every id in each loaded document names one of its nodes
 abbrev pub EachIdNames : List Load → Type 0
@@ -117,6 +117,6 @@ pub data NestedLoads (e : List Event) (x : Ending) (a : List Load) : Type 0 wher
 pub data LoadsWhole (l : List Token) (f : Fault) : Type 0 where
   to_its_end : (t : Stream) → in_order t ≡ true → l ≡ tokens t → (a : List Load) → IsLoads l f a → (n : IsNested (events t))
       → a ≡ loads_of n.texts (last_load Ends ∷ []) → LoadsWhole l f
-  to_its_fault : (before : List Token) (token : Token) (behind : List Token) (c : PartialTree)
-      → l ≡ before ++ token ∷ behind → Fits before token c → (a : List Load)
+  to_its_fault : (before : List Token) (token : Token) (following : List Token) (c : PartialTree)
+      → l ≡ before ++ token ∷ following → Fits before token c → (a : List Load)
       → IsLoads l f a → NestedLoads (partial_events c token) (Fails (fault c token.content token.start_mark)) a → LoadsWhole l f

@@ -2,7 +2,7 @@
 use Rattle.std.specs.Prelude.{◌≡◌, List, [], ◌∷◌, Option, Some, None, false, Result, Ok, Err}
 use Rattle.libyaml_grammar.specs.grammar.Events.{Event}
 use Rattle.libyaml_types.specs.Fault.{Fault}
-use Rattle.libyaml_grammar.specs.grammar.Nesting.{DocumentTexts, no_texts, text_behind, value_events}
+use Rattle.libyaml_grammar.specs.grammar.Nesting.{DocumentTexts, no_texts, text_after, value_events}
 use Rattle.libyaml_grammar.specs.runs.Runs.{Ending, Ends, Fails, IsRun}
 use Rattle.libyaml_grammar.specs.grammar.Tokens.{Token}
 use Rattle.libyaml_documents.specs.Documents.{Document, empty_document}
@@ -36,9 +36,9 @@ abbrev pub end_of_document : List Event → Option Closing
 end_of_document [] = None
 end_of_document (e ∷ r) = elim (closing_of e) [ Some c ↦ Some c | None ↦ end_of_document r ]
 
-abbrev pub behind_document : List Event → List Event
-behind_document [] = []
-behind_document (e ∷ r) = elim (closing_of e) [ Some c ↦ r | None ↦ behind_document r ]
+abbrev pub after_document : List Event → List Event
+after_document [] = []
+after_document (e ∷ r) = elim (closing_of e) [ Some c ↦ r | None ↦ after_document r ]
 
 -- What a document gives: its error f, if it has one, and else its nodes where its end c is there, and else `last`.
 abbrev pub load_answer : Option Fault → Option Closing → Opening → List yaml_node_t → (last : Load) → Load
@@ -61,12 +61,12 @@ abbrev mutual
   -- the documents that begin in events
   pub begun : List Event → List Begun
   begun [] = []
-  begun (e ∷ r) = elim (opening_of e) [ None ↦ begun r | Some o ↦ record { opening = o; rest = r } ∷ begun_behind r ]
+  begun (e ∷ r) = elim (opening_of e) [ None ↦ begun r | Some o ↦ record { opening = o; rest = r } ∷ begun_after r ]
 
   -- those that begin after the end of the document that the events are in
-  pub begun_behind : List Event → List Begun
-  begun_behind [] = []
-  begun_behind (e ∷ r) = elim (closing_of e) [ Some c ↦ begun r | None ↦ begun_behind r ]
+  pub begun_after : List Event → List Begun
+  begun_after [] = []
+  begun_after (e ∷ r) = elim (closing_of e) [ Some c ↦ begun r | None ↦ begun_after r ]
 
 -- What stops a document, by its parts: its composer error, or also a bound (docs/DEFINITIONS.md, "Loads within a bound").
 abbrev pub Stop : Type 0
@@ -86,7 +86,7 @@ next_by stop x (b ∷ bs) = load_answer (stop (parts b.rest)) (end_of_document b
 
 abbrev pub left_by : List Begun → List Event
 left_by [] = []
-left_by (b ∷ bs) = behind_document b.rest
+left_by (b ∷ bs) = after_document b.rest
 
 abbrev pub left_over : List Event → List Event
 left_over e = left_by (begun e)
@@ -101,7 +101,7 @@ next_load e x = next_by (composer_fault []) x (begun e)
 -- The loads of whole documents by the trees of their values, up to the first composer error, and after them l.
 abbrev pub loads_of : DocumentTexts → List Load → List Load
 loads_of no_texts l = l
-loads_of (text_behind ts d m n v i p q) l
+loads_of (text_after ts d m n v i p q) l
     = loads_of ts (load_then (composer_fault [] (parts (value_events v [])))
     (Some (record { is_implicit = i; mark = q })) (record { start = d; mark = m })
     (nodes_of v [] []) (last_load Ends) l)

@@ -10,13 +10,13 @@ use Rattle.libyaml_types.specs.Fault.{Fault, memory_fault}
 use Rattle.libyaml_grammar.specs.runs.Runs.{Ending}
 use Rattle.libyaml_grammar.specs.grammar.Tokens.{Mark}
 use Rattle.libyaml_documents.specs.LoadedNodes.{with_end}
-use Rattle.libyaml_documents.specs.Nodes.{item_behind, node_at, pair_behind, with_changed}
+use Rattle.libyaml_documents.specs.Nodes.{item_after, node_at, pair_after, with_changed}
 use Rattle.libyaml_documents.specs.declared.node.unnamed_yaml_node_t_data.{unnamed_yaml_node_t_data}
 use Rattle.libyaml_documents.specs.declared.node.unnamed_yaml_node_t_data.TheVariants.{Scalar, Sequence, Mapping}
 use Rattle.libyaml_documents.specs.declared.node.yaml_node_t.{yaml_node_t}
 use Rattle.libyaml_graphs.specs.graphs.ComposerFaults.{repeated_anchor, undefined_alias}
 use Rattle.libyaml_graphs.specs.graphs.Graphs.{Carrier}
-use Rattle.libyaml_graphs.specs.loads.Loads.{Load, behind_document, document, last_load, left_over}
+use Rattle.libyaml_graphs.specs.loads.Loads.{Load, after_document, document, last_load, left_over}
 use Rattle.libyaml_graphs.specs.graphs.GraphParts.{Opening, Part, alias_part, closing_of, end_part, leaf_part, opening_of, part_of, start_part}
 
 -- the node that each anchor names
@@ -48,22 +48,22 @@ pub data Loading : Type 0 where
 -- or a key that waits.
 abbrev pub content_and_child : Option ℤ → ℤ → unnamed_yaml_node_t_data → unnamed_yaml_node_t_data
 content_and_child k i (Scalar s) = Scalar s
-content_and_child k i (Sequence s) = item_behind i (Sequence s)
+content_and_child k i (Sequence s) = item_after i (Sequence s)
 content_and_child None i (Mapping s) = Mapping s
-content_and_child (Some k) i (Mapping s) = pair_behind (record { key = k; value = i }) (Mapping s)
+content_and_child (Some k) i (Mapping s) = pair_after (record { key = k; value = i }) (Mapping s)
 
-abbrev pub key_behind : Option ℤ → ℤ → unnamed_yaml_node_t_data → Option ℤ
-key_behind k i (Scalar s) = k
-key_behind k i (Sequence s) = k
-key_behind None i (Mapping s) = Some i
-key_behind (Some k) i (Mapping s) = None
+abbrev pub key_after_child : Option ℤ → ℤ → unnamed_yaml_node_t_data → Option ℤ
+key_after_child k i (Scalar s) = k
+key_after_child k i (Sequence s) = k
+key_after_child None i (Mapping s) = Some i
+key_after_child (Some k) i (Mapping s) = None
 
 abbrev pub with_child : Option ℤ → ℤ → yaml_node_t → yaml_node_t
 with_child k i x = record x { content = content_and_child k i x.content }
 
 abbrev pub key_after : Option ℤ → ℤ → Option yaml_node_t → Option ℤ
 key_after k i None = k
-key_after k i (Some x) = key_behind k i x.content
+key_after k i (Some x) = key_after_child k i x.content
 
 -- a child handed to the innermost open collection: the nodes and the stack after it
 abbrev pub hand : ℤ → List OpenNode → List yaml_node_t → List yaml_node_t
@@ -192,4 +192,4 @@ load_from n (within o l) (e ∷ r) x
 
 abbrev pub left_from : State → List Event → List Event
 left_from between r = left_over r
-left_from (within o l) r = behind_document r
+left_from (within o l) r = after_document r

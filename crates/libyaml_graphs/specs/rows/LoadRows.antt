@@ -302,7 +302,7 @@ RowKeyBeyondBound = IsBoundedLoads 1 (list (
     STREAM ∷ ANCHOR (codes "a") ∷ FlowMappingStart ∷ Key ∷ ALIAS (codes "a") ∷ Value ∷ ALIAS (codes "a") ∷ FlowEntry ∷
     Key ∷ ALIAS (codes "a") ∷ Value ∷ ALIAS (codes "b") ∷ FlowMappingEnd ∷ StreamEnd ∷ [])) no_more (no_memory ∷ [])
 
-abbrev pub RowUndefinedAliasBehindKey : Type 0
-RowUndefinedAliasBehindKey = IsBoundedLoads 2 (list (
+abbrev pub RowUndefinedAliasAfterKey : Type 0
+RowUndefinedAliasAfterKey = IsBoundedLoads 2 (list (
     STREAM ∷ ANCHOR (codes "a") ∷ FlowMappingStart ∷ Key ∷ ALIAS (codes "a") ∷ Value ∷ ALIAS (codes "a") ∷ FlowEntry ∷
     Key ∷ ALIAS (codes "a") ∷ Value ∷ ALIAS (codes "b") ∷ FlowMappingEnd ∷ StreamEnd ∷ [])) no_more (no_carrier 22 ∷ [])

@@ -15,7 +15,7 @@ ghost use Rattle.libyaml_graphs.specs.rows.LoadRows.{RowSecondAliasUndefined, Ro
 ghost use Rattle.libyaml_graphs.specs.rows.LoadRows.{RowSourceEnds, RowStartWithoutRoot};
 ghost use Rattle.libyaml_graphs.specs.rows.LoadRows.{RowTagThatIsAnExclamationMarkLoaded, RowUndefinedAlias};
 ghost use Rattle.libyaml_graphs.specs.rows.LoadRows.{RowUndefinedAliasBeforeSourceEnds};
-ghost use Rattle.libyaml_graphs.specs.rows.LoadRows.{RowUndefinedAliasBehindKey};
+ghost use Rattle.libyaml_graphs.specs.rows.LoadRows.{RowUndefinedAliasAfterKey};
 
 /// Shows a stream without documents, directives, an explicit end, documents without content, and a start that
 /// no root follows.
@@ -72,5 +72,5 @@ pub fn bounds()
     ensures alias_before_bound { RowAliasBeforeBound }
     ensures pair_in_bound { RowPairInBound }
     ensures key_beyond_bound { RowKeyBeyondBound }
-    ensures undefined_alias_behind_key { RowUndefinedAliasBehindKey }
+    ensures undefined_alias_after_key { RowUndefinedAliasAfterKey }
 {}

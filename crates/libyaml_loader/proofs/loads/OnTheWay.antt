@@ -59,9 +59,9 @@ module _ {S : Type 0} (g : Ghosts S) (n : ℕ) where
     load_here : (rest : List Event) (x : Ending) → next_bounded n (w.taken ++ rest) x ≡ load_from n here rest x
     load_here rest x = sym (one_load (w.taken ++ rest) x n) ∙ load_by n between here w.taken w.leads rest x
 
-    load_behind : (e : Event) (rest : List Event) (x : Ending)
+    load_after : (e : Event) (rest : List Event) (x : Ending)
         → next_bounded n ((w.taken ++ e ∷ []) ++ rest) x ≡ load_from n here (e ∷ rest) x
-    load_behind e rest x = ap (λ (l : List Event). next_bounded n l x) (append_assoc w.taken (e ∷ []) rest)
+    load_after e rest x = ap (λ (l : List Event). next_bounded n l x) (append_assoc w.taken (e ∷ []) rest)
         ∙ load_here (e ∷ rest) x
 
     waits : (x : Ending) → next_bounded n w.taken x ≡ last_load x
@@ -74,7 +74,7 @@ module _ {S : Type 0} (g : Ghosts S) (n : ℕ) where
         → between_documents new ≡ true → LoadsFrom g (next_bounded n) left_over first (Ok d) new
     way_ends new e o l c d took at ends is stands = whole (w.taken ++ e ∷ [])
         (took_both g first now new w.taken (e ∷ []) w.took took)
-        (λ (rest : List Event) (x : Ending). load_behind e rest x
+        (λ (rest : List Event) (x : Ending). load_after e rest x
         ∙ (ap (λ (s : State). load_from n s (e ∷ rest) x) at
         ∙ (closes n o l e rest x c ends ∙ ap (λ (y : Document). Ok y) (sym is))))
         (λ (rest : List Event). ap left_over (append_assoc w.taken (e ∷ []) rest)
@@ -111,7 +111,7 @@ module _ {S : Type 0} (g : Ghosts S) (n : ℕ) where
         go : RefusesEvent ⊥ n here e f → LoadFails g (next_bounded n) left_over first new
         go (composing.by_loads loads) = by_loader w.taken e mid took_all f
             (λ (asked : List Token) (given : List Event) (h : History mid asked given). keeps) waits
-            (λ (rest : List Event) (x : Ending). load_behind e rest x
+            (λ (rest : List Event) (x : Ending). load_after e rest x
             ∙ load_of_first n here (e ∷ rest) x (Err f) [] (loads rest x))
         go (composing.by_memory is (for_node o l at grows)) = by_memory w.taken e mid took_all
             (λ (asked : List Token) (given : List Event) (h : History mid asked given). keeps

@@ -24,17 +24,17 @@ use Rattle.libyaml_loader.specs.loads.Loading.{DocumentOrError, LoadsFrom, at_en
 use Rattle.libyaml_loader.specs.loads.OneLoad.{LoadRunsOut, in_parser, in_loader, LoadsAlike, OneLoad, alike, first_runs_out, second_runs_out, OneLoadByAnswers, LoadOutcome, results_in, load_results_of}
 
 -- both after the same tokens
-more_behind : (l : List Token) (x y : List Answer) → answers l (x ++ y) ≡ answers l x ++ y
-more_behind [] x y = refl
-more_behind (t ∷ l) x y = ap (λ (z : List Answer). Ok t ∷ z) (more_behind l x y)
+more_after : (l : List Token) (x y : List Answer) → answers l (x ++ y) ≡ answers l x ++ y
+more_after [] x y = refl
+more_after (t ∷ l) x y = ap (λ (z : List Answer). Ok t ∷ z) (more_after l x y)
 
-both_behind : (l : List Token) (x y : List Answer) → OneBegins x y → OneBegins (answers l x) (answers l y)
-both_behind l x y (inl h) = inl (h.0, ap (answers l) h.1 ∙ more_behind l x h.0)
-both_behind l x y (inr h) = inr (h.0, ap (answers l) h.1 ∙ more_behind l y h.0)
+both_after : (l : List Token) (x y : List Answer) → OneBegins x y → OneBegins (answers l x) (answers l y)
+both_after l x y (inl h) = inl (h.0, ap (answers l) h.1 ∙ more_after l x h.0)
+both_after l x y (inr h) = inr (h.0, ap (answers l) h.1 ∙ more_after l y h.0)
 
-same_behind : (l : List Token) (x y : List Answer) → answers l x ≡ answers l y → x ≡ y
-same_behind [] x y e = e
-same_behind (t ∷ l) x y e = same_behind l x y (tail_same (Ok t) (Ok t) (answers l x) (answers l y) e)
+same_after : (l : List Token) (x y : List Answer) → answers l x ≡ answers l y → x ≡ y
+same_after [] x y e = e
+same_after (t ∷ l) x y e = same_after l x y (tail_same (Ok t) (Ok t) (answers l x) (answers l y) e)
 
 -- a list is empty or has a last event
 last_of : (t : List Event) → (t ≡ []) ⊎ ((u : List Event) × (e : Event) × (t ≡ u ++ e ∷ []))
@@ -50,10 +50,10 @@ absolute : (asked m n : List Token) (x y : List Answer) → OneBegins (answers m
     → OneBegins (answers (asked ++ m) x) (answers (asked ++ n) y)
 absolute asked m n x y o
     = rw (answers_both asked m x) at (subst (OneBegins (answers asked (answers m x))) (answers_both asked n y)
-    (both_behind asked (answers m x) (answers n y) o))
+    (both_after asked (answers m x) (answers n y) o))
 
-behind_given : (given a b : List Event) → Begins (given ++ a) (given ++ b) → Begins a b
-behind_given given a b h = (h.0, prefix_same given b (a ++ h.0) (h.1 ∙ append_assoc given a h.0))
+after_given : (given a b : List Event) → Begins (given ++ a) (given ++ b) → Begins a b
+after_given given a b h = (h.0, prefix_same given b (a ++ h.0) (h.1 ∙ append_assoc given a h.0))
 
 -- no load is the last one of every ending
 not_last : (z : Load) → ((x : Ending) → z ≡ last_load x) → ⊥
@@ -97,8 +97,8 @@ module _ {S : Type 0} (g : Ghosts S) (load : List Event → Ending → Load) (le
     came : Came a r new
 
   nothing_needed : (l : List Token) (w : List Event) → EachNeeded l [] w
-  nothing_needed l w [] x behind e = absurd cc
-  nothing_needed l w (t ∷ front) x behind e = absurd cc
+  nothing_needed l w [] x following e = absurd cc
+  nothing_needed l w (t ∷ front) x following e = absurd cc
 
   outcome : (r : DocumentOrError) (new : Parser S) → IfErr r (λ x. x ≡ (kept_fault new).error)
       → (l : LoadsFrom g load left old r new) → CameBy (results_in g load left old new asked given history r l) r new
@@ -215,9 +215,9 @@ module _ {S : Type 0} (g : Ghosts S) (load : List Event → Ending → Load) (le
       record {
         result = w.0 ∙ (ap Ok (ok_same c d e) ∙ sym h.0);
         bound = m;
-        behind_document = subst (λ (v : DocumentOrError). IfOk v (λ _. p.config ≡ q.config)) (sym w.0)
+        after_document = subst (λ (v : DocumentOrError). IfOk v (λ _. p.config ≡ q.config)) (sym w.0)
             (sym w.1 ∙ (k ∙ h.1));
-        behind_error = subst (λ (v : DocumentOrError). IfErr v (λ _. kept_fault p ≡ kept_fault q)) (sym w.0) tt;
+        after_error = subst (λ (v : DocumentOrError). IfErr v (λ _. kept_fault p ≡ kept_fault q)) (sym w.0) tt;
       }
   both_decided r s p q mid other a b (Ok c) (Err f) e k m w h = absurd (ok_not_err c f e)
   both_decided r s p q mid other a b (Err f) (Ok d) e k m w h = absurd (ok_not_err d f (sym e))
@@ -226,8 +226,8 @@ module _ {S : Type 0} (g : Ghosts S) (load : List Event → Ending → Load) (le
       record {
         result = w.0 ∙ (ap (λ (v : Fault). Err v.error) n ∙ sym h.0);
         bound = m;
-        behind_document = subst (λ (v : DocumentOrError). IfOk v (λ _. p.config ≡ q.config)) (sym w.0) tt;
-        behind_error = subst (λ (v : DocumentOrError). IfErr v (λ _. kept_fault p ≡ kept_fault q)) (sym w.0)
+        after_document = subst (λ (v : DocumentOrError). IfOk v (λ _. p.config ≡ q.config)) (sym w.0) tt;
+        after_error = subst (λ (v : DocumentOrError). IfErr v (λ _. kept_fault p ≡ kept_fault q)) (sym w.0)
             (w.1 ∙ (n ∙ sym h.1));
       }
 
@@ -238,9 +238,9 @@ module _ {S : Type 0} (g : Ghosts S) (load : List Event → Ending → Load) (le
       record {
         result = w.0 ∙ sym h.0;
         bound = m;
-        behind_document = subst (λ (v : DocumentOrError). IfOk v (λ _. p.config ≡ q.config)) (sym w.0)
+        after_document = subst (λ (v : DocumentOrError). IfOk v (λ _. p.config ≡ q.config)) (sym w.0)
             (sym w.1 ∙ (k ∙ h.1));
-        behind_error = subst (λ (v : DocumentOrError). IfErr v (λ _. kept_fault p ≡ kept_fault q)) (sym w.0) tt;
+        after_error = subst (λ (v : DocumentOrError). IfErr v (λ _. kept_fault p ≡ kept_fault q)) (sym w.0) tt;
       }
   both_stopped r s p q mid other Ends (Fails f) e k w h m = absurd cc
   both_stopped r s p q mid other (Fails f) Ends e k w h m = absurd cc
@@ -249,8 +249,8 @@ module _ {S : Type 0} (g : Ghosts S) (load : List Event → Ending → Load) (le
       record {
         result = w.0 ∙ (ap (λ (v : Fault). Err v.error) n ∙ sym h.0);
         bound = m;
-        behind_document = subst (λ (v : DocumentOrError). IfOk v (λ _. p.config ≡ q.config)) (sym w.0) tt;
-        behind_error = subst (λ (v : DocumentOrError). IfErr v (λ _. kept_fault p ≡ kept_fault q)) (sym w.0)
+        after_document = subst (λ (v : DocumentOrError). IfOk v (λ _. p.config ≡ q.config)) (sym w.0) tt;
+        after_error = subst (λ (v : DocumentOrError). IfErr v (λ _. kept_fault p ≡ kept_fault q)) (sym w.0)
             (w.1 ∙ (n ∙ sym h.1));
       }
 
@@ -261,7 +261,7 @@ module _ {S : Type 0} (g : Ghosts S) (load : List Event → Ending → Load) (le
       → RunStop (answers (asked ++ n) s) (given ++ b) x → ((y : Ending) → load b y ≡ last_load y)
       → OneBegins (answers (asked ++ m) r) (answers (asked ++ n) s) → ⊥
   not_both m n a b mid r s z x i l stop last o =
-      let w = behind_given given a b (begins_stopped (asked ++ m) r (answers (asked ++ n) s) (given ++ a) (given ++ b) x
+      let w = after_given given a b (begins_stopped (asked ++ m) r (answers (asked ++ n) s) (given ++ a) (given ++ b) x
       (histories.needed mid (asked ++ m) (given ++ a) i) (histories.begins_each_run mid (asked ++ m) (given ++ a) i) stop o) in
       not_last z (λ y. sym (l w.0 y) ∙ (ap (λ (v : List Event). load v y) (sym w.1) ∙ last y))
 
@@ -269,10 +269,10 @@ module _ {S : Type 0} (g : Ghosts S) (load : List Event → Ending → Load) (le
   turned a b (inl h) = inr h
   turned a b (inr h) = inl h
 
-  behind_asked : (a b : List Answer) (m n : List Token) (u v : List Answer) → a ≡ answers m u → b ≡ answers n v
+  after_asked : (a b : List Answer) (m n : List Token) (u v : List Answer) → a ≡ answers m u → b ≡ answers n v
       → OneBegins a b
       → OneBegins (answers (asked ++ m) u) (answers (asked ++ n) v)
-  behind_asked a b m n u v e f o
+  after_asked a b m n u v e f o
       = absolute asked m n u v (subst (λ (z : List Answer). OneBegins z (answers n v)) e (subst (OneBegins a) f o))
 
   one_of : (a b : List Answer) (r s : DocumentOrError) (p q : Parser S) → p.max_entries ≡ q.max_entries
@@ -280,7 +280,7 @@ module _ {S : Type 0} (g : Ghosts S) (load : List Event → Ending → Load) (le
   one_of a b r s p q same o (out h) k = first_runs_out h
   one_of a b r s p q same o h (out k) = second_runs_out k
   one_of a b r s p q same o (decided m t mid z e i l gs) (decided n u other y f j k h) =
-      let w = behind_asked a b m n [] [] e f o in
+      let w = after_asked a b m n [] [] e f o in
       let c = taken_comparable (asked ++ m) (asked ++ n) [] [] (given ++ t) (given ++ u)
       (histories.begins_each_run mid (asked ++ m) (given ++ t) i)
       (histories.begins_each_run other (asked ++ n) (given ++ u) j) w in
@@ -291,8 +291,8 @@ module _ {S : Type 0} (g : Ghosts S) (load : List Event → Ending → Load) (le
       (both_decided r s p q mid other t u z y (same_load d) kept.0 same gs h)
     where
       within : Begins (given ++ t) (given ++ u) ⊎ Begins (given ++ u) (given ++ t) → Begins t u ⊎ Begins u t
-      within (inl x) = inl (behind_given given t u x)
-      within (inr x) = inr (behind_given given u t x)
+      within (inl x) = inl (after_given given t u x)
+      within (inr x) = inr (after_given given u t x)
 
       same_load : Begins t u ⊎ Begins u t → z ≡ y
       same_load (inl (x, v))
@@ -302,12 +302,12 @@ module _ {S : Type 0} (g : Ghosts S) (load : List Event → Ending → Load) (le
           = sym (l [] Ends) ∙ (ap (λ (w : List Event). load w Ends)
           (ap (λ (w : List Event). w ++ []) v ∙ append_assoc u x []) ∙ k (x ++ []) Ends)
   one_of a b r s p q same o (decided m t mid z e i l w) (stopped n v u other y f j needed stop last h)
-      = absurd (not_both m n t u mid [] v z y i l stop last (behind_asked a b m n [] v e f o))
+      = absurd (not_both m n t u mid [] v z y i l stop last (after_asked a b m n [] v e f o))
   one_of a b r s p q same o (stopped n v u other y f j needed stop last h) (decided m t mid z e i l w)
       = absurd (not_both m n t u mid [] v z y i l stop last
-      (turned (answers (asked ++ n) v) (answers (asked ++ m) []) (behind_asked a b n m v [] f e o)))
+      (turned (answers (asked ++ n) v) (answers (asked ++ m) []) (after_asked a b n m v [] f e o)))
   one_of a b r s p q same o (stopped m u t mid x e i needed stop last gs) (stopped n v w other y f j wanted halt end h) =
-      let c = behind_asked a b m n u v e f o in
+      let c = after_asked a b m n u v e f o in
       let d = one_run_by_answers (given ++ t) (given ++ w) x y
       (record {
         asked = asked ++ m;
@@ -327,7 +327,7 @@ module _ {S : Type 0} (g : Ghosts S) (load : List Event → Ending → Load) (le
       }) c in
       let k = same_kept mid other m n (given ++ t) (given ++ w) i j d.1 u v c in
       let l : answers (asked ++ m) u ≡ answers (asked ++ m) v = d.0 ∙ ap (λ (z : List Token). answers z v) (sym k.1) in
-      alike (e ∙ (ap (answers m) (same_behind (asked ++ m) u v l)
+      alike (e ∙ (ap (answers m) (same_after (asked ++ m) u v l)
       ∙ (ap (λ (z : List Token). answers z v) (prefix_same asked m n k.1) ∙ sym f)))
       (both_stopped r s p q mid other x y d.2 k.0 gs h same)
 

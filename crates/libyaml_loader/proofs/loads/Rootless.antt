@@ -11,7 +11,7 @@ use Rattle.libyaml_events.proofs.exported.Histories as histories
 use Rattle.libyaml_types.specs.declared.source.yaml_token_source_t.{Ghosts}
 use Rattle.libyaml_graphs.specs.loads.Bounds.{next_bounded}
 use Rattle.libyaml_graphs.specs.loads.Loads.{Load, left_over}
-use Rattle.libyaml_graphs.proofs.exported.LoadLists.{roots_behind}
+use Rattle.libyaml_graphs.proofs.exported.LoadLists.{roots_after}
 use Rattle.libyaml_graphs.proofs.exported.Roots.{last_of, roots_follow}
 use Rattle.libyaml_loader.specs.loads.Loading.{DocumentOrError, HasEnded, Loads, LoadsFrom, at_end, whole}
 
@@ -23,7 +23,7 @@ module _ {S : Type 0} (g : Ghosts S) (n : ℕ) (old new : Parser S) where
       → ForHistory old (λ _ _. HasEnded new)
   ended_of d (whole taken took loads left between) none asked given history =
       let on = took.history asked given history in
-      let roots = roots_behind given taken
+      let roots = roots_after given taken
       (roots_follow (given ++ taken) (histories.nests new (asked ++ on.more) (given ++ taken) on.history)) in
       let x = Fails memory_fault in
       absurd (no_fault (last_of taken x n d roots

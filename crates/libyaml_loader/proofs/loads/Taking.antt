@@ -68,8 +68,8 @@ module _ {S : Type 0} (g : Ghosts S) where
       took_event an_event = took_one g follows old new e (carried an_event)
 
       -- after a document's end the parser stands between documents
-      pub behind_close : (d : Closing) → closing_of e ≡ Some d → between_documents new ≡ true
-      behind_close d closes = (rw is at c.outside) (outside_end e.content e.end_mark d closes)
+      pub after_close : (d : Closing) → closing_of e ≡ Some d → between_documents new ≡ true
+      after_close d closes = (rw is at c.outside) (outside_end e.content e.end_mark d closes)
 
       over : is_event e.content ≡ false → (asked : List Token) (given : List Event) → History old asked given
           → is_over old ≡ true
@@ -90,7 +90,7 @@ module _ {S : Type 0} (g : Ghosts S) where
         ends = λ (events : List Event) (ending : Ending) (run : RunToCome g.known old events ending).
             let h = over empty run.asked run.given run.history in
             let s = (c.ended h).1 in
-            c.nothing_behind_end (ap is_over s ∙ h) events ending
+            c.nothing_after_end (ap is_over s ∙ h) events ending
             (subst (λ (p : Parser S). RunToCome g.known p events ending) (sym s) run);
         stands = λ (asked : List Token) (given : List Event) (history : History old asked given).
             let h = over empty asked given history in

@@ -134,7 +134,7 @@ module _ (old : PushLoader) (t : Token)
       → p.max_entries ≡ q.max_entries
       → p ≡ q → PushLoadsAlike r p after s q later
   alike_ok (Ok u) s p q after later i j e b f =
-      record { result = i ∙ sym j; appended = e; bound = b; behind_push = f; behind_error = tt }
+      record { result = i ∙ sym j; appended = e; bound = b; after_push = f; after_error = tt }
   alike_ok (Err x) s p q after later i j e b f = absurd (no x i)
     where
       no : (x : yaml_error_type_t) → ◌≡◌ {A = Done} (Err x) (Ok tt) → ⊥
@@ -148,9 +148,9 @@ module _ (old : PushLoader) (t : Token)
         result = i ∙ (ap (λ (y : Fault). Err y.error) f ∙ sym j);
         appended = e;
         bound = b;
-        behind_push =
+        after_push =
             tt;
-        behind_error = f;
+        after_error = f;
       }
   alike_err (Ok u) s p q after later i j e b f = absurd (no u (loader_fault p).error i)
     where

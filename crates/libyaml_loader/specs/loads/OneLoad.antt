@@ -62,8 +62,8 @@ pub data LoadRunsOut {S : Type 0} (gives : S → Answer → S → Type 0) (load 
 pub record LoadsAlike {S : Type 0} (r : DocumentOrError) (p : Parser S) (s : DocumentOrError) (q : Parser S) : Type 0 where
   pub result : r ≡ s
   pub bound : p.max_entries ≡ q.max_entries
-  pub behind_document : IfOk r (λ _. p.config ≡ q.config)
-  pub behind_error : IfErr r (λ _. kept_fault p ≡ kept_fault q)
+  pub after_document : IfOk r (λ _. p.config ≡ q.config)
+  pub after_error : IfErr r (λ _. kept_fault p ≡ kept_fault q)
 
 -- after the same results; or memory ran out in one of them
 pub data OneLoad {S : Type 0} (gives : S → Answer → S → Type 0) (load : List Event → Ending → Load) (old : Parser S)

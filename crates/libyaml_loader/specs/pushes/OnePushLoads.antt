@@ -34,8 +34,8 @@ pub record PushLoadsAlike (r : Done) (p : PushLoader) (after : List Document) (s
   pub result : r ≡ s
   pub appended : after ≡ later
   pub bound : p.max_entries ≡ q.max_entries
-  pub behind_push : IfOk r (λ _. p ≡ q)
-  pub behind_error : IfErr r (λ _. loader_fault p ≡ loader_fault q)
+  pub after_push : IfOk r (λ _. p ≡ q)
+  pub after_error : IfErr r (λ _. loader_fault p ≡ loader_fault q)
 
 pub data OnePushLoads (Full More : Type 0) (tokens : List Token) (given : List Event) (documents before : List Document)
     (r : Done) (p : PushLoader) (after : List Document)

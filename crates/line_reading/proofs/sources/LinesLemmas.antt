@@ -6,7 +6,7 @@ use Rattle.std.proofs.lemmas.List.Elements.{All-head, All-tail}
 use Rattle.std.proofs.lemmas.List.Splits.{slice_split_at, slice_split_none}
 use Rattle.std.specs.List.{slice_split}
 use Rattle.std.specs.Io.KnownBytes.{Consumes, IsAtEnd}
-use Rattle.line_reading.specs.sources.ReadLines.{longest_line, last_line, lines_of_pieces, lines, behind_line}
+use Rattle.line_reading.specs.sources.ReadLines.{longest_line, last_line, lines_of_pieces, lines, after_line}
 use Rattle.line_reading.specs.sources.NextLine.{TakesLine, TakesNoLine, BeginsTooLong, IsWithinLine}
 use Rattle.line_reading.specs.tokens.Prefixes.{before_byte}
 use Rattle.line_reading.specs.declared.line_problem.LineProblem.TheVariants.{LineTooLong}
@@ -19,7 +19,7 @@ lines-line l rest clean =
     ap lines_of_pieces (slice_split_at (λ b. b == 10) l 10 rest (no_separator 10 l clean) refl)
     ∙ lines_of_more l (slice_split (λ b. b == 10) rest) (has_pieces rest)
 
-behind-line : (l rest : List ℕ) → All (λ x. x ≢ 10) l → behind_line (l ++ 10 ∷ rest) ≡ rest
+behind-line : (l rest : List ℕ) → All (λ x. x ≢ 10) l → after_line (l ++ 10 ∷ rest) ≡ rest
 behind-line [] rest clean = refl
 behind-line (b ∷ l) rest clean = rw (ne_eqb b 10 (All-head (λ x. x ≢ 10) b l clean))
     (behind-line l rest (All-tail (λ x. x ≢ 10) b l clean))
@@ -28,7 +28,7 @@ behind-line (b ∷ l) rest clean = rw (ne_eqb b 10 (All-head (λ x. x ≢ 10) b 
 lines-last : (l : List ℕ) → All (λ x. x ≢ 10) l → lines l ≡ last_line l
 lines-last l clean = ap lines_of_pieces (slice_split_none (λ b. b == 10) l (no_separator 10 l clean))
 
-behind-last : (l : List ℕ) → All (λ x. x ≢ 10) l → behind_line l ≡ []
+behind-last : (l : List ℕ) → All (λ x. x ≢ 10) l → after_line l ≡ []
 behind-last [] clean = refl
 behind-last (b ∷ l) clean = rw (ne_eqb b 10 (All-head (λ x. x ≢ 10) b l clean))
     (behind-last l (All-tail (λ x. x ≢ 10) b l clean))

@@ -10,14 +10,14 @@ use Rattle.line_reading.specs.declared.line_problem.LineProblem.{LineProblem}
 use Rattle.line_reading.specs.declared.line_problem.LineProblem.TheVariants.{Memory, ReadFailed, LineTooLong, BadTokenLine, TooManyTokens, NoMoreTokens}
 use Rattle.line_reading.specs.sources.Line.{line_feed}
 use Rattle.line_reading.specs.sources.LineFault.{line_fault}
-use Rattle.line_reading.specs.sources.NextLine.{IsBehindLine, IsWithinLine, TakesAtMost, TakesLine, TakesNoLine, LineAnswer, ReadsNext, first_answer, line_answer_in}
+use Rattle.line_reading.specs.sources.NextLine.{IsAfterLine, IsWithinLine, TakesAtMost, TakesLine, TakesNoLine, LineAnswer, ReadsNext, first_answer, line_answer_in}
 use Rattle.line_reading.specs.sources.ReadLines.{longest_line, line_answer, lines, token_or_fault}
 use Rattle.line_reading.specs.tokens.Reading.{IsReadInto}
 use Rattle.line_reading.specs.tokens.TokenLine.{token_of_line}
 use Rattle.line_reading.proofs.sources.LinesLemmas.{takes_line, takes_last, takes_too_long, takes_within}
 use Rattle.line_reading.proofs.sources.Problems.{line_answer_of}
 
-behind : (before after : Option (List ℕ)) (l : List ℕ) → TakesLine before l after → IsBehindLine before after
+behind : (before after : Option (List ℕ)) (l : List ℕ) → TakesLine before l after → IsAfterLine before after
 behind None after l h = tt
 behind (Some bytes) after l h = h.1
 
@@ -51,14 +51,14 @@ of_line : (before after : Option (List ℕ)) (l : List ℕ) (result : Result (Un
     → IsReadInto result token (token_of_line l) → ReadsNext before result token after
 of_line before after l result token fits h takes r = record {
   answers = λ n. line_answers before after l n result token fits h r;
-  leaves = if_ok result (IsBehindLine before after) (behind before after l h);
+  leaves = if_ok result (IsAfterLine before after) (behind before after l h);
   bad_line = λ e. behind before after l h;
   too_long = λ e. absurd (subst (λ (x : Result (Unit {0}) LineProblem). IsReadInto x token (token_of_line l)) e r);
   takes = takes;
 }
 
 none_bad : (before after : Option (List ℕ)) (problem : LineProblem) → problem ≡ BadTokenLine
-    → TakesNoLine before problem → IsBehindLine before after
+    → TakesNoLine before problem → IsAfterLine before after
 none_bad None after problem e h = tt
 none_bad (Some bytes) after problem e h = absurd (subst (TakesNoLine (Some bytes)) e h)
 

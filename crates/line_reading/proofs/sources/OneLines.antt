@@ -9,9 +9,9 @@ use Rattle.line_reading.specs.declared.line_problem.LineProblem.TheVariants.{Bad
 use Rattle.line_reading.specs.sources.LineFault.{line_fault}
 use Rattle.line_reading.specs.sources.LineLaws.{HasPieces, has_pieces, lines_of_more}
 use Rattle.line_reading.specs.sources.LineSource.{Gives, GivesBy, GivesNext, LineSource, answer_fault, answer_tokens}
-use Rattle.line_reading.specs.sources.NextLine.{IsBehindLine, IsWithinLine, KnownAnswer, LineAnswer, first_answer}
+use Rattle.line_reading.specs.sources.NextLine.{IsAfterLine, IsWithinLine, KnownAnswer, LineAnswer, first_answer}
 use Rattle.line_reading.specs.sources.OneLine.{LineBreaksOff, LineOutcome, OneLine, SourcesAlike, alike, first_breaks, second_breaks}
-use Rattle.line_reading.specs.sources.ReadLines.{behind_line, line_answer, lines, lines_of_pieces, longest_line, token_or_fault}
+use Rattle.line_reading.specs.sources.ReadLines.{after_line, line_answer, lines, lines_of_pieces, longest_line, token_or_fault}
 use Rattle.line_reading.specs.tokens.TokenLine.{token_of_line}
 
 -- an input without a line has no byte
@@ -41,8 +41,8 @@ ok_no_err t f e = cc
 module _ {R : Type 0} (remaining : R → Option (List ℕ)) where
   -- what a result leaves of known bytes, where n tokens were given
   record Leaves (bytes : List ℕ) (n : ℕ) (answer : Answer) (after : Option (List ℕ)) : Type 0 where
-    token : (t : yaml_token_t) → answer ≡ Ok t → after ≡ Some (behind_line bytes)
-    bad_line : answer ≡ Err (line_fault BadTokenLine n) → after ≡ Some (behind_line bytes)
+    token : (t : yaml_token_t) → answer ≡ Ok t → after ≡ Some (after_line bytes)
+    bad_line : answer ≡ Err (line_fault BadTokenLine n) → after ≡ Some (after_line bytes)
     too_long : answer ≡ Err (line_fault LineTooLong n) → after ≡ Some (drop (longest_line + 1) bytes)
     none : bytes ≡ [] → after ≡ Some []
 
@@ -83,16 +83,16 @@ module _ {R : Type 0} (remaining : R → Option (List ℕ)) where
   came s bytes (Err f) after (inl h) = of_line h
   came s bytes (Err f) after (inr h) = broke (record { fault = f; result = refl; breaks_off = h })
 
-  behind_token : (s : LineSource R) (bytes : List ℕ) (answer : Answer) (after : Option (List ℕ))
+  after_token : (s : LineSource R) (bytes : List ℕ) (answer : Answer) (after : Option (List ℕ))
       → KnownAnswer bytes s.given answer after
-      → (t : yaml_token_t) → answer ≡ Ok t → after ≡ Some (behind_line bytes)
-  behind_token s bytes (Ok u) after h t e = h.1
-  behind_token s bytes (Err f) after h t e = absurd (ok_no_err t f (sym e))
+      → (t : yaml_token_t) → answer ≡ Ok t → after ≡ Some (after_line bytes)
+  after_token s bytes (Ok u) after h t e = h.1
+  after_token s bytes (Err f) after h t e = absurd (ok_no_err t f (sym e))
 
-  known_behind : (before after : Option (List ℕ)) (bytes : List ℕ) → before ≡ Some bytes → IsBehindLine before after
-      → after ≡ Some (behind_line bytes)
-  known_behind None after bytes e h = cc
-  known_behind (Some x) after bytes e h = let same : x ≡ bytes = cc in h ∙ ap (λ (y : List ℕ). Some (behind_line y)) same
+  known_after : (before after : Option (List ℕ)) (bytes : List ℕ) → before ≡ Some bytes → IsAfterLine before after
+      → after ≡ Some (after_line bytes)
+  known_after None after bytes e h = cc
+  known_after (Some x) after bytes e h = let same : x ≡ bytes = cc in h ∙ ap (λ (y : List ℕ). Some (after_line y)) same
 
   known_within : (n : ℕ) (before after : Option (List ℕ)) (bytes : List ℕ) → before ≡ Some bytes
       → IsWithinLine n before after → after ≡ Some (drop n bytes)
@@ -103,8 +103,8 @@ module _ {R : Type 0} (remaining : R → Option (List ℕ)) where
       → s.fault ≡ None → LineOutcome remaining s answer t
       → KnownAnswer bytes s.given answer (remaining t.reader) → Leaves bytes s.given answer (remaining t.reader)
   leaves s t bytes answer known running o k = record {
-    token = behind_token s bytes answer (remaining t.reader) k;
-    bad_line = λ e. known_behind (remaining s.reader) (remaining t.reader) bytes known (o.bad_line running e);
+    token = after_token s bytes answer (remaining t.reader) k;
+    bad_line = λ e. known_after (remaining s.reader) (remaining t.reader) bytes known (o.bad_line running e);
     too_long = λ e. known_within (longest_line + 1) (remaining s.reader) (remaining t.reader) bytes known
         (o.too_long running e);
     none = λ e. consumed_none (remaining t.reader) o.takes.0

@@ -6,14 +6,14 @@ use Rattle.std.proofs.Math.Nat.{pow-suc, pow-le-pow_right}
 use Rattle.std.proofs.Math.Numerals.{add-one}
 use Rattle.std.specs.Char.{is_ascii_digit}
 use Rattle.line_reading.specs.tokens.Number.{value_after, value_of, number_of}
-use Rattle.line_reading.specs.tokens.Prefixes.{digits_of, behind_digits, number_at, HasDigits, IsNumberRead}
+use Rattle.line_reading.specs.tokens.Prefixes.{digits_of, after_digits, number_at, HasDigits, IsNumberRead}
 use Rattle.line_reading.specs.declared.marks.NumberRead.{NumberRead}
 use Rattle.line_reading.proofs.tokens.Numerals.{value_after-end, value_after-digit, value_after-large}
 
 -- the first i bytes are digits of this value
 pub record HasRead (bytes : List ℕ) (i n : ℕ) : Type 0 where
   pub digits : digits_of bytes ≡ take i bytes ++ digits_of (drop i bytes)
-  pub behind : behind_digits bytes ≡ behind_digits (drop i bytes)
+  pub behind : after_digits bytes ≡ after_digits (drop i bytes)
   pub value : value_of (digits_of bytes) ≡ value_after n (digits_of (drop i bytes))
   pub fits : n < 2 ^ 64
 
@@ -23,13 +23,13 @@ none_read bytes = record { digits = refl; behind = refl; value = refl; fits = om
 digits-yes : (b : ℕ) (bs : List ℕ) → is_ascii_digit b ≡ true → digits_of (b ∷ bs) ≡ b ∷ digits_of bs
 digits-yes b bs d = rw d refl
 
-behind-yes : (b : ℕ) (bs : List ℕ) → is_ascii_digit b ≡ true → behind_digits (b ∷ bs) ≡ behind_digits bs
+behind-yes : (b : ℕ) (bs : List ℕ) → is_ascii_digit b ≡ true → after_digits (b ∷ bs) ≡ after_digits bs
 behind-yes b bs d = rw d refl
 
 digits-no : (b : ℕ) (bs : List ℕ) → is_ascii_digit b ≡ false → digits_of (b ∷ bs) ≡ []
 digits-no b bs d = rw d refl
 
-behind-no : (b : ℕ) (bs : List ℕ) → is_ascii_digit b ≡ false → behind_digits (b ∷ bs) ≡ b ∷ bs
+behind-no : (b : ℕ) (bs : List ℕ) → is_ascii_digit b ≡ false → after_digits (b ∷ bs) ≡ b ∷ bs
 behind-no b bs d = rw d refl
 
 pub no_value : (ds : List ℕ) → value_of ds ≡ None → number_of ds ≡ None
@@ -39,7 +39,7 @@ no_value (d ∷ e ∷ ds) h = cond_both (d == 48) None (value_of (d ∷ e ∷ ds
 
 -- the digits end at i
 ends : (bytes : List ℕ) (i n : ℕ) → HasRead bytes i n → digits_of (drop i bytes) ≡ []
-    → behind_digits (drop i bytes) ≡ drop i bytes → HasDigits bytes i n
+    → after_digits (drop i bytes) ≡ drop i bytes → HasDigits bytes i n
 ends bytes i n h none rest =
     let all : digits_of bytes ≡ take i bytes = h.digits ∙ ap (λ x. take i bytes ++ x) none ∙ append-nil (take i bytes) in
     record {
@@ -51,7 +51,7 @@ ends bytes i n h none rest =
 pub ends_at_end : (bytes : List ℕ) (i n : ℕ) → HasRead bytes i n → length bytes ≤ i → HasDigits bytes i n
 ends_at_end bytes i n h large =
     let none : drop i bytes ≡ [] = at_drop_all (λ x. x) bytes i large in
-    ends bytes i n h (ap digits_of none) (ap behind_digits none ∙ sym none)
+    ends bytes i n h (ap digits_of none) (ap after_digits none ∙ sym none)
 
 -- the next byte, where the bytes that are looked at are a prefix of those
 
@@ -79,7 +79,7 @@ module _ (bytes : List ℕ) (k i n : ℕ) (h : HasRead bytes i n) (small : i < l
             ∙ sym (append_assoc (take i bytes) (byte ∷ []) (digits_of rest))
             ∙ ap (λ x. x ++ digits_of rest)
             (ap (λ b. take i bytes ++ b ∷ []) within.1 ∙ sym (take_more bytes i 0 within.0));
-        behind = h.behind ∙ ap behind_digits whole ∙ behind-yes byte rest d;
+        behind = h.behind ∙ ap after_digits whole ∙ behind-yes byte rest d;
         value = h.value ∙ ap (value_after n) digits ∙ value_after-digit n byte (digits_of rest) d;
         fits = fits;
       }
@@ -94,7 +94,7 @@ module _ (bytes : List ℕ) (k i n : ℕ) (h : HasRead bytes i n) (small : i < l
   pub ends_within : is_ascii_digit byte ≡ false → HasDigits bytes i n
   ends_within d
       = ends bytes i n h (ap digits_of whole ∙ digits-no byte rest d)
-      (ap behind_digits whole ∙ behind-no byte rest d ∙ sym whole)
+      (ap after_digits whole ∙ behind-no byte rest d ∙ sym whole)
 
 pub ends_with_line : (line : List ℕ) (at end i n : ℕ) → end ≡ length line → HasRead (drop at line) i n
     → i ≤ length (take (end - at) (drop at line))

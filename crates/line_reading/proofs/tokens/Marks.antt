@@ -12,7 +12,7 @@ use Rattle.line_reading.specs.tokens.Pieces.{pieces_of}
 use Rattle.line_reading.specs.tokens.TokenName.{token_type_of}
 use Rattle.line_reading.specs.tokens.TokenLine.{content_of}
 use Rattle.line_reading.specs.declared.token_name.NameRead.{NameRead}
-use Rattle.line_reading.specs.tokens.Prefixes.{behind_byte, before_byte, further, mark_at, line_token_at, IsNameRead}
+use Rattle.line_reading.specs.tokens.Prefixes.{after_byte, before_byte, further, mark_at, line_token_at, IsNameRead}
 use Rattle.line_reading.proofs.tokens.Split.{cut_here, cut_nowhere}
 
 -- the fields after one that ends at an index
@@ -22,7 +22,7 @@ some_further line at h = ap further (at_drop_more (λ x. x) line at 0 h)
 -- a name of n bytes, which a space follows
 pub named : (line : List ℕ) (n : ℕ) → n < length line → All (λ x. x ≢ 32) (take n line)
     → (n < length line → get_or line n 0 ≡ 32)
-    → (before_byte 32 line ≡ take n line) × (behind_byte 32 line ≡ Some (drop (n + 1) line))
+    → (before_byte 32 line ≡ take n line) × (after_byte 32 line ≡ Some (drop (n + 1) line))
 named line n small clean found =
     let both = cut_here 32 line n small clean (found small) in
     (sym both.0, sym both.1)
@@ -30,7 +30,7 @@ named line n small clean found =
 pub no_marks : (line : List ℕ) (n : ℕ) → length line ≤ n → All (λ x. x ≢ 32) (take n line) → line_token_at line ≡ None
 no_marks line n all clean = rw (sym (cut_nowhere 32 line n all clean).1) refl
 
-pub no_type : (line behind : List ℕ) → behind_byte 32 line ≡ Some behind → token_type_of (before_byte 32 line) ≡ None
+pub no_type : (line behind : List ℕ) → after_byte 32 line ≡ Some behind → token_type_of (before_byte 32 line) ≡ None
     → line_token_at line ≡ None
 no_type line behind h t = rw (h, t) refl
 

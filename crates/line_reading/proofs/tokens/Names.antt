@@ -2,7 +2,7 @@
 use Rattle.std.proofs.Common.{◌≡◌, ◌+◌, ◌∙◌, ℕ, List, ◌++◌, length, length-append, take, drop, Some, ap, sym, arith}
 use Rattle.std.proofs.lemmas.List.{take-append-drop}
 use Rattle.line_reading.specs.declared.token_name.NameRead.{NameRead}
-use Rattle.line_reading.specs.tokens.Prefixes.{before_byte, behind_byte, IsNameRead}
+use Rattle.line_reading.specs.tokens.Prefixes.{before_byte, after_byte, IsNameRead}
 use Rattle.line_reading.specs.tokens.TokenName.{token_type_of}
 
 begun : (line start : List ℕ) → take (length start) line ≡ start → line ≡ start ++ drop (length start) line
@@ -10,11 +10,11 @@ begun line start e = sym (take-append-drop (length start) line) ∙ ap (λ x. x 
 
 pub is_named : (line start : List ℕ) (name : NameRead) → take (length start) line ≡ start → length start ≡ name.end + 1
     → ((rest : List ℕ) → token_type_of (before_byte 32 (start ++ rest)) ≡ Some name.type_)
-    → ((rest : List ℕ) → behind_byte 32 (start ++ rest) ≡ Some rest) → IsNameRead line name
+    → ((rest : List ℕ) → after_byte 32 (start ++ rest) ≡ Some rest) → IsNameRead line name
 is_named line start name e n type behind =
     let is = begun line start e in
     record {
       within = omega (arith, ap length is, length-append start (drop (length start) line), n);
       type = ap (λ l. token_type_of (before_byte 32 l)) is ∙ type _;
-      behind = ap (behind_byte 32) is ∙ behind _ ∙ ap (λ k. Some (drop k line)) n;
+      behind = ap (after_byte 32) is ∙ behind _ ∙ ap (λ k. Some (drop k line)) n;
     }

@@ -15,19 +15,19 @@ use Rattle.line_reading.specs.tokens.Field.{◌>>=◌, mark_of, mark_of_numbers}
 use Rattle.line_reading.specs.tokens.Pieces.{pieces_of}
 use Rattle.line_reading.specs.tokens.TokenName.{token_type_of}
 use Rattle.line_reading.specs.tokens.TokenLine.{content_of, token_of_fields, token_of_line}
-use Rattle.line_reading.specs.tokens.Prefixes.{digits_of, behind_digits, before_byte, behind_byte, behind_first, behind_field, number_at, mark_at, line_token_at}
+use Rattle.line_reading.specs.tokens.Prefixes.{digits_of, after_digits, before_byte, after_byte, after_first, after_field, number_at, mark_at, line_token_at}
 use Rattle.line_reading.proofs.tokens.Digits.{no_value}
 use Rattle.line_reading.proofs.tokens.Split.{no_separator, split_first, before-append, behind-append}
 
 -- bytes are digits and what follows them
-digits_cond : (t : Bool) (b : ℕ) (bs : List ℕ) → bs ≡ digits_of bs ++ behind_digits bs
-    → b ∷ bs ≡ cond t (b ∷ digits_of bs) [] ++ cond t (behind_digits bs) (b ∷ bs)
+digits_cond : (t : Bool) (b : ℕ) (bs : List ℕ) → bs ≡ digits_of bs ++ after_digits bs
+    → b ∷ bs ≡ cond t (b ∷ digits_of bs) [] ++ cond t (after_digits bs) (b ∷ bs)
 digits_cond true b bs h = ap (λ x. b ∷ x) h
 digits_cond false b bs h = refl
 
-pub digits_behind : (bs : List ℕ) → bs ≡ digits_of bs ++ behind_digits bs
-digits_behind [] = refl
-digits_behind (b ∷ bs) = digits_cond (is_ascii_digit b) b bs (digits_behind bs)
+pub digits_after : (bs : List ℕ) → bs ≡ digits_of bs ++ after_digits bs
+digits_after [] = refl
+digits_after (b ∷ bs) = digits_cond (is_ascii_digit b) b bs (digits_after bs)
 
 -- a digit is no separator
 ne_digit : (c b : ℕ) → is_ascii_digit c ≡ false → is_ascii_digit b ≡ true → b ≢ c
@@ -47,12 +47,12 @@ abbrev pub BeginsOther : List ℕ → Type 0
 BeginsOther [] = Unit {0}
 BeginsOther (b ∷ bs) = is_ascii_digit b ≡ false
 
-other_cond : (t : Bool) (b : ℕ) (bs : List ℕ) → is_ascii_digit b ≡ t → BeginsOther (behind_digits bs)
-    → BeginsOther (cond t (behind_digits bs) (b ∷ bs))
+other_cond : (t : Bool) (b : ℕ) (bs : List ℕ) → is_ascii_digit b ≡ t → BeginsOther (after_digits bs)
+    → BeginsOther (cond t (after_digits bs) (b ∷ bs))
 other_cond true b bs e h = h
 other_cond false b bs e h = e
 
-pub begins_other : (bs : List ℕ) → BeginsOther (behind_digits bs)
+pub begins_other : (bs : List ℕ) → BeginsOther (after_digits bs)
 begins_other [] = tt
 begins_other (b ∷ bs) = other_cond (is_ascii_digit b) b bs refl (begins_other bs)
 
@@ -64,22 +64,22 @@ S bytes = slice_split (λ b. b == 58) bytes
 -- the bytes begin with digits d, the last of their field
 pub record IsLast (bytes d t : List ℕ) : Type 0 where
   pub pieces : S (before_byte 32 bytes) ≡ d ∷ []
-  pub colon : behind_first 58 t ≡ None
-  pub field : behind_field t ≡ Some (behind_byte 32 bytes)
+  pub colon : after_first 58 t ≡ None
+  pub field : after_field t ≡ Some (after_byte 32 bytes)
 
 -- they go on after a colon
 pub record GoesOn (bytes d t r : List ℕ) : Type 0 where
   pub pieces : S (before_byte 32 bytes) ≡ d ∷ S (before_byte 32 r)
-  pub colon : behind_first 58 t ≡ Some r
-  pub field : behind_field t ≡ None
-  pub further : behind_byte 32 bytes ≡ behind_byte 32 r
+  pub colon : after_first 58 t ≡ Some r
+  pub field : after_field t ≡ None
+  pub further : after_byte 32 bytes ≡ after_byte 32 r
 
 -- their field's first piece is no number
 pub record IsOther (bytes t p : List ℕ) (more : List (List ℕ)) : Type 0 where
   pub pieces : S (before_byte 32 bytes) ≡ p ∷ more
   pub number : number_of p ≡ None
-  pub colon : behind_first 58 t ≡ None
-  pub field : behind_field t ≡ None
+  pub colon : after_first 58 t ≡ None
+  pub field : after_field t ≡ None
 
 data Shape (bytes d t : List ℕ) : Type 0 where
   last : IsLast bytes d t → Shape bytes d t
@@ -91,7 +91,7 @@ abbrev PastDigits : List ℕ → ℕ → List (List ℕ) → Type 0
 PastDigits d x pieces = (g : List ℕ) × ((more : List (List ℕ)) × (pieces ≡ (d ++ x ∷ g) ∷ more))
 
 past_here : (x : ℕ) (y : List ℕ) → (x == 58) ≡ false → PastDigits [] x (S (x ∷ y))
-past_here x y e = rw (e, split_first 58 y) (before_byte 58 y, (pieces_of 58 (behind_byte 58 y), refl))
+past_here x y e = rw (e, split_first 58 y) (before_byte 58 y, (pieces_of 58 (after_byte 58 y), refl))
 
 past_digits : (d : List ℕ) (x : ℕ) (y : List ℕ) → All (λ b. (b == 58) ≡ false) d → (x == 58) ≡ false
     → PastDigits d x (S (d ++ x ∷ y))
@@ -109,8 +109,8 @@ no_number p e = no_value p (rw e refl)
 
 -- what follows the digits
 
-shape_last : (d t : List ℕ) → before_byte 32 t ≡ [] → behind_first 58 t ≡ None
-    → behind_field t ≡ Some (behind_byte 32 t) → All (λ x. x ≢ 32) d
+shape_last : (d t : List ℕ) → before_byte 32 t ≡ [] → after_first 58 t ≡ None
+    → after_field t ≡ Some (after_byte 32 t) → All (λ x. x ≢ 32) d
     → All (λ x. x ≢ 58) d → Shape (d ++ t) d t
 shape_last d t none colon field c32 c58 = last (record {
   pieces = ap S (before-append 32 d t c32 ∙ ap (λ x. d ++ x) none ∙ append-nil d)
@@ -155,11 +155,11 @@ shape_at d (x ∷ r) c32 c58 h =
       ]
     ]
 
-shape : (bytes : List ℕ) → Shape bytes (digits_of bytes) (behind_digits bytes)
+shape : (bytes : List ℕ) → Shape bytes (digits_of bytes) (after_digits bytes)
 shape bytes =
     let d = digits_of bytes in
-    let t = behind_digits bytes in
-    subst (λ w. Shape w d t) (sym (digits_behind bytes))
+    let t = after_digits bytes in
+    subst (λ w. Shape w d t) (sym (digits_after bytes))
     (shape_at d t (digits_clean 32 refl bytes) (digits_clean 58 refl bytes) (begins_other bytes))
 
 -- a list of numbers, one by one
@@ -167,8 +167,8 @@ shape bytes =
 abbrev never : {A B : Type 0} → A → Option B
 never x = None
 
-none_behind : {A B : Type 0} (o : Option A) → (o >>= never {B = B}) ≡ None
-none_behind o = grind arith
+none_after : {A B : Type 0} (o : Option A) → (o >>= never {B = B}) ≡ None
+none_after o = grind arith
 
 abbrev with_number : {A : Type 0} → (ℕ → List (List ℕ) → Option A) → List (List ℕ) → Option A
 with_number K [] = None
@@ -184,13 +184,13 @@ abbrev pub with_rest : Option ℕ → List ℕ → Option (ℕ × List ℕ)
 with_rest o t = option_map (λ n. (n, t)) o
 
 -- no further number
-nothing_last : {A : Type 0} (o : Option ℕ) (t : List ℕ) (k : ℕ → Option (List ℕ) → Option A) → behind_field t ≡ None
-    → (with_rest o t >>= (λ r. behind_field r.1 >>= (λ f. k r.0 f))) ≡ None
+nothing_last : {A : Type 0} (o : Option ℕ) (t : List ℕ) (k : ℕ → Option (List ℕ) → Option A) → after_field t ≡ None
+    → (with_rest o t >>= (λ r. after_field r.1 >>= (λ f. k r.0 f))) ≡ None
 nothing_last o t k e = grind arith
 
 the_last : {A : Type 0} (o : Option ℕ) (t : List ℕ) (f : Option (List ℕ)) (k : ℕ → Option (List ℕ) → Option A)
-    → behind_field t ≡ Some f
-    → (with_rest o t >>= (λ r. behind_field r.1 >>= (λ f. k r.0 f))) ≡ (o >>= (λ n. k n f))
+    → after_field t ≡ Some f
+    → (with_rest o t >>= (λ r. after_field r.1 >>= (λ f. k r.0 f))) ≡ (o >>= (λ n. k n f))
 the_last o t f k e = grind arith
 
 not_last : {A : Type 0} (K : ℕ → Option A) (p q : List ℕ) → None ≡ with_last K (p ∷ S q)
@@ -201,28 +201,28 @@ no_last : {A : Type 0} (K : ℕ → Option A) (p : List ℕ) (more : List (List 
 no_last K p more e = grind arith
 
 last_step : {A : Type 0} (k : ℕ → Option (List ℕ) → Option A) (bytes : List ℕ)
-    → Shape bytes (digits_of bytes) (behind_digits bytes)
-    → (number_at bytes >>= (λ r. behind_field r.1 >>= (λ f. k r.0 f))) ≡ with_last (λ n. k n (behind_byte 32 bytes))
+    → Shape bytes (digits_of bytes) (after_digits bytes)
+    → (number_at bytes >>= (λ r. after_field r.1 >>= (λ f. k r.0 f))) ≡ with_last (λ n. k n (after_byte 32 bytes))
     (S (before_byte 32 bytes))
 last_step k bytes (last h) =
-    rw (h.pieces) (the_last (number_of (digits_of bytes)) (behind_digits bytes) (behind_byte 32 bytes) k h.field)
+    rw (h.pieces) (the_last (number_of (digits_of bytes)) (after_digits bytes) (after_byte 32 bytes) k h.field)
 last_step k bytes (goes_on r h)
-    = rw (h.pieces) (nothing_last (number_of (digits_of bytes)) (behind_digits bytes) k h.field
-    ∙ not_last (λ n. k n (behind_byte 32 bytes)) (digits_of bytes) (before_byte 32 r))
+    = rw (h.pieces) (nothing_last (number_of (digits_of bytes)) (after_digits bytes) k h.field
+    ∙ not_last (λ n. k n (after_byte 32 bytes)) (digits_of bytes) (before_byte 32 r))
 last_step k bytes (other p more h)
-    = rw (h.pieces) (nothing_last (number_of (digits_of bytes)) (behind_digits bytes) k h.field
-    ∙ no_last (λ n. k n (behind_byte 32 bytes)) p more h.number)
+    = rw (h.pieces) (nothing_last (number_of (digits_of bytes)) (after_digits bytes) k h.field
+    ∙ no_last (λ n. k n (after_byte 32 bytes)) p more h.number)
 
-nothing_next : {A : Type 0} (o : Option ℕ) (t : List ℕ) (k : ℕ → List ℕ → Option A) → behind_first 58 t ≡ None
-    → (with_rest o t >>= (λ x. behind_first 58 x.1 >>= (λ r. k x.0 r))) ≡ None
+nothing_next : {A : Type 0} (o : Option ℕ) (t : List ℕ) (k : ℕ → List ℕ → Option A) → after_first 58 t ≡ None
+    → (with_rest o t >>= (λ x. after_first 58 x.1 >>= (λ r. k x.0 r))) ≡ None
 nothing_next o t k e = grind arith
 
-the_next : {A : Type 0} (o : Option ℕ) (t r : List ℕ) (k : ℕ → List ℕ → Option A) → behind_first 58 t ≡ Some r
-    → (with_rest o t >>= (λ x. behind_first 58 x.1 >>= (λ r. k x.0 r))) ≡ (o >>= (λ n. k n r))
+the_next : {A : Type 0} (o : Option ℕ) (t r : List ℕ) (k : ℕ → List ℕ → Option A) → after_first 58 t ≡ Some r
+    → (with_rest o t >>= (λ x. after_first 58 x.1 >>= (λ r. k x.0 r))) ≡ (o >>= (λ n. k n r))
 the_next o t r k e = grind arith
 
-same_behind : {A B : Type 0} (o : Option A) (f g : A → Option B) → ((x : A) → f x ≡ g x) → (o >>= f) ≡ (o >>= g)
-same_behind o f g h = grind arith
+same_after : {A B : Type 0} (o : Option A) (f g : A → Option B) → ((x : A) → f x ≡ g x) → (o >>= f) ≡ (o >>= g)
+same_after o f g h = grind arith
 
 no_next : {A : Type 0} (K : ℕ → List (List ℕ) → Option A) (p : List ℕ) (more : List (List ℕ)) → number_of p ≡ None
     → None ≡ with_number K (p ∷ more)
@@ -230,22 +230,22 @@ no_next K p more e = rw e refl
 
 number_step : {A : Type 0} (k : ℕ → List ℕ → Option A) (K : Option (List ℕ) → ℕ → List (List ℕ) → Option A)
     → ((f : Option (List ℕ)) (n : ℕ) → K f n [] ≡ None)
-    → ((n : ℕ) (r : List ℕ) → k n r ≡ K (behind_byte 32 r) n (S (before_byte 32 r))) → (bytes : List ℕ)
-    → Shape bytes (digits_of bytes) (behind_digits bytes)
-    → (number_at bytes >>= (λ x. behind_first 58 x.1 >>= (λ r. k x.0 r))) ≡ with_number (K (behind_byte 32 bytes))
+    → ((n : ℕ) (r : List ℕ) → k n r ≡ K (after_byte 32 r) n (S (before_byte 32 r))) → (bytes : List ℕ)
+    → Shape bytes (digits_of bytes) (after_digits bytes)
+    → (number_at bytes >>= (λ x. after_first 58 x.1 >>= (λ r. k x.0 r))) ≡ with_number (K (after_byte 32 bytes))
     (S (before_byte 32 bytes))
 number_step k K none same bytes (last h) =
     let o = number_of (digits_of bytes) in
-    rw (h.pieces) (nothing_next o (behind_digits bytes) k h.colon ∙ sym (none_behind o)
-    ∙ same_behind o never (λ n. K (behind_byte 32 bytes) n []) (λ n. sym (none (behind_byte 32 bytes) n)))
+    rw (h.pieces) (nothing_next o (after_digits bytes) k h.colon ∙ sym (none_after o)
+    ∙ same_after o never (λ n. K (after_byte 32 bytes) n []) (λ n. sym (none (after_byte 32 bytes) n)))
 number_step k K none same bytes (goes_on r h) =
     let o = number_of (digits_of bytes) in
-    rw (h.pieces) (the_next o (behind_digits bytes) r k h.colon
-    ∙ same_behind o (λ n. k n r) (λ n. K (behind_byte 32 bytes) n (S (before_byte 32 r))) (λ n. same n r
+    rw (h.pieces) (the_next o (after_digits bytes) r k h.colon
+    ∙ same_after o (λ n. k n r) (λ n. K (after_byte 32 bytes) n (S (before_byte 32 r))) (λ n. same n r
     ∙ ap (λ f. K f n (S (before_byte 32 r))) (sym h.further)))
 number_step k K none same bytes (other p more h) =
     let o = number_of (digits_of bytes) in
-    rw (h.pieces) (nothing_next o (behind_digits bytes) k h.colon ∙ no_next (K (behind_byte 32 bytes)) p more h.number)
+    rw (h.pieces) (nothing_next o (after_digits bytes) k h.colon ∙ no_next (K (after_byte 32 bytes)) p more h.number)
 
 -- a mark
 
@@ -268,23 +268,23 @@ abbrev line_with : Option (List ℕ) → ℕ → List (List ℕ) → Option Take
 line_with f i ps = with_number (column_with f i) ps
 
 column_at : (i l : ℕ) (bytes : List ℕ)
-    → (number_at bytes >>= (λ c. behind_field c.1 >>= (λ f. Some (taken (mark i l c.0) f))))
-    ≡ column_with (behind_byte 32 bytes) i l (S (before_byte 32 bytes))
+    → (number_at bytes >>= (λ c. after_field c.1 >>= (λ f. Some (taken (mark i l c.0) f))))
+    ≡ column_with (after_byte 32 bytes) i l (S (before_byte 32 bytes))
 column_at i l bytes = last_step (λ c f. Some (taken (mark i l c) f)) bytes (shape bytes)
 
 line_at : (i : ℕ) (bytes : List ℕ)
-    → (number_at bytes >>= (λ l. behind_first 58 l.1 >>=
-    (λ r. number_at r >>= (λ c. behind_field c.1 >>= (λ f. Some (mark i l.0 c.0, f))))))
-    ≡ line_with (behind_byte 32 bytes) i (S (before_byte 32 bytes))
+    → (number_at bytes >>= (λ l. after_first 58 l.1 >>=
+    (λ r. number_at r >>= (λ c. after_field c.1 >>= (λ f. Some (mark i l.0 c.0, f))))))
+    ≡ line_with (after_byte 32 bytes) i (S (before_byte 32 bytes))
 line_at i bytes = number_step
-    (λ l r. number_at r >>= (λ c. behind_field c.1 >>= (λ f. Some (taken (mark i l c.0) f))))
+    (λ l r. number_at r >>= (λ c. after_field c.1 >>= (λ f. Some (taken (mark i l c.0) f))))
     (λ f l. column_with f i l) (λ f l. refl)
     (column_at i) bytes (shape bytes)
 
-index_at : (bytes : List ℕ) → mark_at bytes ≡ with_number (line_with (behind_byte 32 bytes)) (S (before_byte 32 bytes))
+index_at : (bytes : List ℕ) → mark_at bytes ≡ with_number (line_with (after_byte 32 bytes)) (S (before_byte 32 bytes))
 index_at bytes = number_step (λ i r. number_at r
-    >>= (λ l. behind_first 58 l.1 >>=
-    (λ r. number_at r >>= (λ c. behind_field c.1 >>= (λ f. Some (mark i l.0 c.0, f)))))) (λ f i. line_with f i)
+    >>= (λ l. after_first 58 l.1 >>=
+    (λ r. number_at r >>= (λ c. after_field c.1 >>= (λ f. Some (mark i l.0 c.0, f)))))) (λ f i. line_with f i)
     (λ f i. refl) line_at bytes (shape bytes)
 
 one_too_few : (f : Option (List ℕ)) (o : Option ℕ) → (o >>= (λ i. line_with f i [])) ≡ None
@@ -307,8 +307,8 @@ numbers_with f (i ∷ l ∷ c ∷ []) = three f (number_of i) (number_of l) (num
 numbers_with f (i ∷ l ∷ c ∷ d ∷ more) = two_too_few f (number_of i) (number_of l)
 
 -- the mark that begins the bytes is that of the first field
-mark_at-is : (bytes : List ℕ) → mark_at bytes ≡ with_further (mark_of (before_byte 32 bytes)) (behind_byte 32 bytes)
-mark_at-is bytes = index_at bytes ∙ numbers_with (behind_byte 32 bytes) (S (before_byte 32 bytes))
+mark_at-is : (bytes : List ℕ) → mark_at bytes ≡ with_further (mark_of (before_byte 32 bytes)) (after_byte 32 bytes)
+mark_at-is bytes = index_at bytes ∙ numbers_with (after_byte 32 bytes) (S (before_byte 32 bytes))
 
 -- a line
 
@@ -328,14 +328,14 @@ both_ends : (o : Option yaml_token_type_t) (m n : Option yaml_mark_t) (rest : Li
     (λ start. start.1 >>= (λ rest. mark_at rest >>= (token_with type start.0)))))
 both_ends o m n rest f e = grind arith
 
-marks_is : (name marks : List ℕ) (f : Option (List ℕ)) → behind_byte 32 marks ≡ f
+marks_is : (name marks : List ℕ) (f : Option (List ℕ)) → after_byte 32 marks ≡ f
     → token_of_fields (name ∷ before_byte 32 marks ∷ pieces_of 32 f)
     ≡ (token_type_of name >>= (λ type. with_further (mark_of (before_byte 32 marks)) f
     >>= (λ start. start.1 >>= (λ rest. mark_at rest >>= (token_with type start.0)))))
 marks_is name marks None e = no_end (token_type_of name) (mark_of (before_byte 32 marks))
 marks_is name marks (Some rest) e =
     rw (split_first 32 rest) (both_ends (token_type_of name) (mark_of (before_byte 32 marks))
-    (mark_of (before_byte 32 rest)) rest (behind_byte 32 rest)
+    (mark_of (before_byte 32 rest)) rest (after_byte 32 rest)
     (mark_at-is rest))
 
 fields_is : (name : List ℕ) (f : Option (List ℕ))
@@ -343,7 +343,7 @@ fields_is : (name : List ℕ) (f : Option (List ℕ))
     ≡ (f >>= (λ marks. token_type_of name >>=
     (λ type. mark_at marks >>= (λ start. start.1 >>= (λ rest. mark_at rest >>= (token_with type start.0))))))
 fields_is name None = refl
-fields_is name (Some marks) = rw (split_first 32 marks, mark_at-is marks) (marks_is name marks (behind_byte 32 marks) refl)
+fields_is name (Some marks) = rw (split_first 32 marks, mark_at-is marks) (marks_is name marks (after_byte 32 marks) refl)
 
 pub token_at-is : (line : List ℕ) → token_of_line line ≡ line_token_at line
-token_at-is line = ap token_of_fields (split_first 32 line) ∙ fields_is (before_byte 32 line) (behind_byte 32 line)
+token_at-is line = ap token_of_fields (split_first 32 line) ∙ fields_is (before_byte 32 line) (after_byte 32 line)

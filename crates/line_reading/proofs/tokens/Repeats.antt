@@ -3,7 +3,7 @@ use Rattle.std.proofs.Common.{◌≡◌, ℕ, zero, suc, ◌+◌, ◌-◌, ◌<�
 use Rattle.std.proofs.lemmas.List.{drop-drop, drop-take, length-take}
 use Rattle.std.specs.Char.{is_ascii_digit}
 use Rattle.line_reading.specs.tokens.Number.{number_of}
-use Rattle.line_reading.specs.tokens.Prefixes.{digits_of, behind_digits, number_at, IsNumberRead, IsRowRead}
+use Rattle.line_reading.specs.tokens.Prefixes.{digits_of, after_digits, number_at, IsNumberRead, IsRowRead}
 use Rattle.line_reading.specs.declared.marks.NumberRead.{NumberRead}
 use Rattle.line_reading.specs.declared.marks.RowRead.{RowRead}
 
@@ -20,17 +20,17 @@ number_read line at read value same some within is = record {
 
 -- digits that stand again, with the byte after them
 
-lengths : (bs : List ℕ) → length (digits_of bs) + length (behind_digits bs) ≡ length bs
+lengths : (bs : List ℕ) → length (digits_of bs) + length (after_digits bs) ≡ length bs
 lengths [] = refl
 lengths (b ∷ bs) = go (is_ascii_digit b) refl (lengths bs)
   where
-    go : (t : Bool) → is_ascii_digit b ≡ t → length (digits_of bs) + length (behind_digits bs) ≡ length bs
-        → length (digits_of (b ∷ bs)) + length (behind_digits (b ∷ bs)) ≡ length (b ∷ bs)
+    go : (t : Bool) → is_ascii_digit b ≡ t → length (digits_of bs) + length (after_digits bs) ≡ length bs
+        → length (digits_of (b ∷ bs)) + length (after_digits (b ∷ bs)) ≡ length (b ∷ bs)
     go true d h = rw d (omega (arith, h))
     go false d h = rw d (omega arith)
 
 abbrev Again : ℕ → List ℕ → List ℕ → Type 0
-Again n xs ys = (digits_of ys ≡ digits_of xs) × (behind_digits ys ≡ drop n ys)
+Again n xs ys = (digits_of ys ≡ digits_of xs) × (after_digits ys ≡ drop n ys)
 
 again : (n : ℕ) (xs ys : List ℕ) → length (digits_of xs) ≡ n → n < length xs → take (suc n) xs ≡ take (suc n) ys
     → Again n xs ys
@@ -54,15 +54,15 @@ pair_in : (x y : ℕ × List ℕ) → Some x ≡ Some y → x ≡ y
 pair_in x y h = cc
 
 digits_there : (bytes rest : List ℕ) (value : ℕ) → number_at bytes ≡ Some (value, rest)
-    → (number_of (digits_of bytes) ≡ Some value) × (behind_digits bytes ≡ rest)
+    → (number_of (digits_of bytes) ≡ Some value) × (after_digits bytes ≡ rest)
 digits_there bytes rest value h = go (number_of (digits_of bytes)) refl h
   where
     go : (o : Option ℕ) → number_of (digits_of bytes) ≡ o
-        → option_map {U = ℕ × List ℕ} (λ n. (n, behind_digits bytes)) o ≡ Some (value, rest)
-        → (number_of (digits_of bytes) ≡ Some value) × (behind_digits bytes ≡ rest)
+        → option_map {U = ℕ × List ℕ} (λ n. (n, after_digits bytes)) o ≡ Some (value, rest)
+        → (number_of (digits_of bytes) ≡ Some value) × (after_digits bytes ≡ rest)
     go None is h = cc
     go (Some n) is h =
-        let pair = pair_in (n, behind_digits bytes) (value, rest) h in
+        let pair = pair_in (n, after_digits bytes) (value, rest) h in
         (is ∙ ap (λ (p : ℕ × List ℕ). Some (p.0)) pair, ap (λ (p : ℕ × List ℕ). p.1) pair)
 
 some_digit : (ds : List ℕ) (value : ℕ) → number_of ds ≡ Some value → 0 < length ds
@@ -76,7 +76,7 @@ digits_before line at end value h k is =
     let there = digits_there (drop at line) (drop end line) value is in
     let some = some_digit (digits_of (drop at line)) value there.0 in
     let sum = lengths (drop at line) in
-    let rest : length (behind_digits (drop at line)) ≡ length line - end = ap length there.1 ∙ length-drop end line in
+    let rest : length (after_digits (drop at line)) ≡ length line - end = ap length there.1 ∙ length-drop end line in
     (omega (arith, some, sum, rest, length-drop at line, h, k), omega (arith, some, sum, rest, length-drop at line, h, k))
 
 pub number_again : (line : List ℕ) (row : RowRead) (at : ℕ) → IsRowRead line row → 0 < row.end
@@ -93,7 +93,7 @@ number_again line row at h some within same =
     let next : n + 1 ≡ suc n = omega arith in
     let both = again n xs ys order.1 (omega (arith, length-drop row.at line, h.within some, order.0))
     (ap (λ k. take k xs) (sym next) ∙ same ∙ ap (λ k. take k ys) next) in
-    let behind : behind_digits ys ≡ drop (at + n) line = both.1 ∙ drop-drop n at line in
+    let behind : after_digits ys ≡ drop (at + n) line = both.1 ∙ drop-drop n at line in
     rw (both.0, there.0, behind) refl
 
 pub ends_of : (line : List ℕ) (at end n : ℕ) → at + n ≡ end → end < length line

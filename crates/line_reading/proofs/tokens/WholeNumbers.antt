@@ -2,8 +2,8 @@
 use Rattle.std.proofs.Common.{◌≡◌, ℕ, ◌<◌, ◌≤◌, List, [], ◌∷◌, ◌++◌, length, length-drop, drop, Option, Some, None, refl, ap, sym, ◌∙◌, arith}
 use Rattle.std.proofs.lemmas.List.{at_drop_all, append-nil}
 use Rattle.line_reading.specs.tokens.Number.{number_of}
-use Rattle.line_reading.specs.tokens.Prefixes.{digits_of, behind_digits, number_at}
-use Rattle.line_reading.proofs.tokens.PrefixTokens.{BeginsOther, begins_other, digits_behind, not_all_digits, no_number, with_rest}
+use Rattle.line_reading.specs.tokens.Prefixes.{digits_of, after_digits, number_at}
+use Rattle.line_reading.proofs.tokens.PrefixTokens.{BeginsOther, begins_other, digits_after, not_all_digits, no_number, with_rest}
 
 none_there : (o : Option ℕ) (t : List ℕ) → with_rest o t ≡ None → o ≡ None
 none_there None t e = refl
@@ -29,18 +29,18 @@ none_at_all d (x ∷ r) b e = no_number (d ++ x ∷ r) (not_all_digits d x r b)
 
 pub whole_none : (bs : List ℕ) → number_at bs ≡ None → None ≡ number_of bs
 whole_none bs e =
-    sym (ap number_of (digits_behind bs) ∙ none_at_all (digits_of bs) (behind_digits bs) (begins_other bs)
-    (none_there _ (behind_digits bs) e))
+    sym (ap number_of (digits_after bs) ∙ none_at_all (digits_of bs) (after_digits bs) (begins_other bs)
+    (none_there _ (after_digits bs) e))
 
 pub whole_some : (bs : List ℕ) (v end : ℕ) → number_at bs ≡ Some (v, drop end bs) → length bs ≤ end → Some v ≡ number_of bs
 whole_some bs v end e all =
-    let there = some_there _ (behind_digits bs) (drop end bs) v e in
-    sym (ap number_of (digits_behind bs) ∙ only_digits (digits_of bs) (behind_digits bs)
+    let there = some_there _ (after_digits bs) (drop end bs) v e in
+    sym (ap number_of (digits_after bs) ∙ only_digits (digits_of bs) (after_digits bs)
     (there.1 ∙ at_drop_all (λ x. x) bs end all) ∙ there.0)
 
 pub whole_more : (bs : List ℕ) (v end : ℕ) → number_at bs ≡ Some (v, drop end bs) → end < length bs → None ≡ number_of bs
 whole_more bs v end e more =
-    let there = some_there _ (behind_digits bs) (drop end bs) v e in
-    sym (ap number_of (digits_behind bs)
-    ∙ more_than_digits (digits_of bs) (behind_digits bs) (begins_other bs)
+    let there = some_there _ (after_digits bs) (drop end bs) v e in
+    sym (ap number_of (digits_after bs)
+    ∙ more_than_digits (digits_of bs) (after_digits bs) (begins_other bs)
     (λ h. omega (arith, length-drop end bs, ap length (sym there.1 ∙ h), more)))

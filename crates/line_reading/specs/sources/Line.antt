@@ -19,5 +19,5 @@ abbrev pub GoesOn : (old new : Option (List ℕ)) → (first all : List ℕ) →
 GoesOn old new first all = (before : Option (List ℕ)) → Consumes before old first → Consumes before new all
 
 -- a reader that has lost the first bytes of a line is then at its end, where its bytes are known
-abbrev pub EndsBehind : (old new : Option (List ℕ)) → (first : List ℕ) → Type 0
-EndsBehind old new first = (before : Option (List ℕ)) → Consumes before old first → OnSome before (IsAtEnd new)
+abbrev pub EndsAfter : (old new : Option (List ℕ)) → (first : List ℕ) → Type 0
+EndsAfter old new first = (before : Option (List ℕ)) → Consumes before old first → OnSome before (IsAtEnd new)

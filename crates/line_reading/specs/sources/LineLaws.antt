@@ -1,7 +1,7 @@
 -- the first line of an input, and what follows it
 use Rattle.std.proofs.Common.{◌≡◌, ℕ, ◌==◌, Bool, true, false, cond, List, [], ◌∷◌, refl, ap, sym, ◌⊎◌, inl, inr}
 use Rattle.std.specs.List.{slice_split, onto_first}
-use Rattle.line_reading.specs.sources.ReadLines.{last_line, lines_of_pieces, lines, behind_line}
+use Rattle.line_reading.specs.sources.ReadLines.{last_line, lines_of_pieces, lines, after_line}
 
 -- the pieces of an input are one at least
 abbrev pub HasPieces : List (List ℕ) → Type 0
@@ -36,13 +36,13 @@ shape_onto : (b : ℕ) (pieces : List (List ℕ)) (behind : List ℕ) → LineSh
 shape_onto b pieces behind (inl h) = inl (b ∷ h.0, (ap (onto_first b) h.1.0, h.1.1))
 shape_onto b pieces behind (inr h) = inr (b ∷ h.0, ap (onto_first b) h.1)
 
-shape_cond : (t : Bool) (b : ℕ) (bs : List ℕ) → LineShape (slice_split (λ b. b == 10) bs) (behind_line bs)
+shape_cond : (t : Bool) (b : ℕ) (bs : List ℕ) → LineShape (slice_split (λ b. b == 10) bs) (after_line bs)
     → LineShape (cond t ([] ∷ slice_split (λ b. b == 10) bs) (onto_first b (slice_split (λ b. b == 10) bs)))
-    (cond t bs (behind_line bs))
+    (cond t bs (after_line bs))
 shape_cond true b bs h = inr ([], refl)
 shape_cond false b bs h = shape_onto b _ _ h
 
-shape : (bs : List ℕ) → LineShape (slice_split (λ b. b == 10) bs) (behind_line bs)
+shape : (bs : List ℕ) → LineShape (slice_split (λ b. b == 10) bs) (after_line bs)
 shape [] = inl ([], (refl, refl))
 shape (b ∷ bs) = shape_cond (b == 10) b bs (shape bs)
 
@@ -62,5 +62,5 @@ rest_is : (ls : List (List ℕ)) (behind l : List ℕ) (more : List (List ℕ)) 
 rest_is ls behind l more (inl h) e = cc
 rest_is ls behind l more (inr h) e = cc (h.1)
 
-pub lines_behind : (bytes l : List ℕ) (more : List (List ℕ)) → lines bytes ≡ l ∷ more → more ≡ lines (behind_line bytes)
-lines_behind bytes l more e = rest_is (lines bytes) (behind_line bytes) l more (begins _ _ (shape bytes)) e
+pub lines_after : (bytes l : List ℕ) (more : List (List ℕ)) → lines bytes ≡ l ∷ more → more ≡ lines (after_line bytes)
+lines_after bytes l more e = rest_is (lines bytes) (after_line bytes) l more (begins _ _ (shape bytes)) e

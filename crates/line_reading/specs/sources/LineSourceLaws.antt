@@ -6,8 +6,8 @@ use Rattle.libyaml_types.specs.Fault.{Fault, Answer}
 use Rattle.libyaml_types.specs.Source.{Coming, coming, Follows, FollowsList}
 use Rattle.line_reading.specs.declared.line_problem.LineProblem.TheVariants.{TooManyTokens, NoMoreTokens}
 use Rattle.line_reading.specs.sources.LineFault.{line_fault}
-use Rattle.line_reading.specs.sources.LineLaws.{lines_behind}
-use Rattle.line_reading.specs.sources.ReadLines.{lines, behind_line, line_answer, coming_behind, coming_from}
+use Rattle.line_reading.specs.sources.LineLaws.{lines_after}
+use Rattle.line_reading.specs.sources.ReadLines.{lines, after_line, line_answer, coming_after, coming_from}
 use Rattle.line_reading.specs.sources.NextLine.{first_answer, LineAnswer, BreaksOffAt}
 use Rattle.line_reading.specs.sources.LineSource.{LineSource, GivesBy, Gives, coming_of, known_by, known_of, BreaksOff, answer_tokens, answer_fault}
 
@@ -62,7 +62,7 @@ at_bound n max [] h = rw (le-ltb n max h) refl
 at_bound n max (l ∷ ls) h = rw (le-ltb n max h) refl
 
 below_most : (n max : ℕ) (l : List ℕ) (ls : List (List ℕ)) → n < max
-    → coming_from n max (l ∷ ls) ≡ coming_behind (line_answer n l) (coming_from (n + 1) max ls)
+    → coming_from n max (l ∷ ls) ≡ coming_after (line_answer n l) (coming_from (n + 1) max ls)
 below_most n max l ls h = rw (lt-ltb n max h) refl
 
 follows_fault : (MayBreak : Fault → Type 0) (n max : ℕ) (ls : List (List ℕ)) (fault : Fault) (after : Option Coming)
@@ -72,15 +72,15 @@ follows_fault MayBreak n max [] fault after h a e =
     let same : line_fault NoMoreTokens n ≡ fault = cc in
     end_fault MayBreak (coming_from n max []) fault after (rw (lt-ltb n max h) (ap (coming []) same)) e
 follows_fault MayBreak n max (l ∷ ls) fault after h a e
-    = end_fault MayBreak _ fault after (below_most n max l ls h ∙ ap (λ x. coming_behind x (coming_from (n + 1) max ls)) a) e
+    = end_fault MayBreak _ fault after (below_most n max l ls h ∙ ap (λ x. coming_after x (coming_from (n + 1) max ls)) a) e
 
 follows_token : (MayBreak : Fault → Type 0) (n max : ℕ) (ls : List (List ℕ)) (token : yaml_token_t) (bytes : List ℕ)
     (after : Option Coming) → n < max
-    → lines bytes ≡ ls → first_answer n ls ≡ Ok token → after ≡ Some (coming_from (n + 1) max (lines (behind_line bytes)))
+    → lines bytes ≡ ls → first_answer n ls ≡ Ok token → after ≡ Some (coming_from (n + 1) max (lines (after_line bytes)))
     → Follows MayBreak (Some (coming_from n max ls)) (Ok token) after
 follows_token MayBreak n max [] token bytes after h is a e = cc
 follows_token MayBreak n max (l ∷ ls) token bytes after h is a e =
-    rw (below_most n max l ls h, a) (refl, e ∙ ap (λ x. Some (coming_from (n + 1) max x)) (sym (lines_behind bytes l ls is)))
+    rw (below_most n max l ls h, a) (refl, e ∙ ap (λ x. Some (coming_from (n + 1) max x)) (sym (lines_after bytes l ls is)))
 
 known_kept : {R : Type 0} (remaining : R → Option (List ℕ)) (t : LineSource R) (fault : Fault) → t.fault ≡ Some fault
     → known_of remaining t ≡ Some (coming [] fault)
@@ -113,7 +113,7 @@ follows_below : {R : Type 0} (remaining : R → Option (List ℕ)) (t : LineSour
 follows_below remaining t n max None answer h a g m f = tt
 follows_below remaining t n max (Some bytes) (Ok token) h a g m f =
     follows_token (BreaksOff t) n max (lines bytes) token bytes _ h refl a.0
-    (known_read remaining t (n + 1) max (behind_line bytes) f a.1 g m)
+    (known_read remaining t (n + 1) max (after_line bytes) f a.1 g m)
 follows_below remaining t n max (Some bytes) (Err fault) h (inl a) g m f =
     follows_fault (BreaksOff t) n max (lines bytes) fault _ h a (known_kept remaining t fault f)
 follows_below remaining t n max (Some bytes) (Err fault) h (inr a) g m f =

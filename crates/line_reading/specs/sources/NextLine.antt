@@ -7,16 +7,16 @@ use Rattle.line_reading.specs.declared.line_problem.LineProblem.{LineProblem}
 use Rattle.line_reading.specs.declared.line_problem.LineProblem.TheVariants.{Memory, ReadFailed, LineTooLong, BadTokenLine, TooManyTokens, NoMoreTokens}
 use Rattle.line_reading.specs.tokens.Prefixes.{before_byte}
 use Rattle.line_reading.specs.sources.LineFault.{line_fault}
-use Rattle.line_reading.specs.sources.ReadLines.{longest_line, lines, behind_line, line_answer}
+use Rattle.line_reading.specs.sources.ReadLines.{longest_line, lines, after_line, line_answer}
 
 -- the reader has lost some bytes, n at most
 abbrev pub TakesAtMost : ℕ → Option (List ℕ) → Option (List ℕ) → Type 0
 TakesAtMost n before after = (taken : List ℕ) × (length taken ≤ n) × Consumes before after taken
 
 -- the reader is left after its first line and the LF of it
-abbrev pub IsBehindLine : Option (List ℕ) → Option (List ℕ) → Type 0
-IsBehindLine None after = Unit {0}
-IsBehindLine (Some bytes) after = after ≡ Some (behind_line bytes)
+abbrev pub IsAfterLine : Option (List ℕ) → Option (List ℕ) → Type 0
+IsAfterLine None after = Unit {0}
+IsAfterLine (Some bytes) after = after ≡ Some (after_line bytes)
 
 -- n bytes of the reader's first line are taken, and no other byte
 abbrev pub IsWithinLine : ℕ → Option (List ℕ) → Option (List ℕ) → Type 0
@@ -26,7 +26,7 @@ IsWithinLine n (Some bytes) after = (n ≤ length (before_byte 10 bytes)) × (af
 -- the line is the reader's first, and the reader is left after it and its LF
 abbrev pub TakesLine : Option (List ℕ) → List ℕ → Option (List ℕ) → Type 0
 TakesLine None line after = Unit {0}
-TakesLine (Some bytes) line after = (lines bytes ≡ line ∷ lines (behind_line bytes)) × (after ≡ Some (behind_line bytes))
+TakesLine (Some bytes) line after = (lines bytes ≡ line ∷ lines (after_line bytes)) × (after ≡ Some (after_line bytes))
 
 -- the first line is too long
 abbrev pub BeginsTooLong : List (List ℕ) → Type 0
@@ -61,7 +61,7 @@ IsFaultAt n fault = (problem : LineProblem) × (fault ≡ line_fault problem n)
 
 -- a result over a reader whose bytes are known: of its first line, or an error by which a source fails early
 abbrev pub KnownAnswer : List ℕ → ℕ → Answer → Option (List ℕ) → Type 0
-KnownAnswer bytes n (Ok token) after = (first_answer n (lines bytes) ≡ Ok token) × (after ≡ Some (behind_line bytes))
+KnownAnswer bytes n (Ok token) after = (first_answer n (lines bytes) ≡ Ok token) × (after ≡ Some (after_line bytes))
 KnownAnswer bytes n (Err fault) after = (first_answer n (lines bytes) ≡ Err fault) ⊎ BreaksOffAt n fault
 
 -- a result over a reader whose bytes are not known
@@ -86,7 +86,7 @@ line_answer_in n (Err problem) token = Err (line_fault problem n)
 pub record ReadsNext (before : Option (List ℕ)) (result : Result (Unit {0}) LineProblem) (token : yaml_token_t)
     (after : Option (List ℕ)) : Type 0 where
   pub answers : (n : ℕ) → LineAnswer before n (line_answer_in n result token) after
-  pub leaves : IfOk result (λ done. IsBehindLine before after)
-  pub bad_line : result ≡ Err BadTokenLine → IsBehindLine before after
+  pub leaves : IfOk result (λ done. IsAfterLine before after)
+  pub bad_line : result ≡ Err BadTokenLine → IsAfterLine before after
   pub too_long : result ≡ Err LineTooLong → IsWithinLine (longest_line + 1) before after
   pub takes : TakesAtMost (longest_line + 1) before after

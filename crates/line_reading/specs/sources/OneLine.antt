@@ -4,7 +4,7 @@ use Rattle.libyaml_types.specs.Fault.{Answer, Fault}
 use Rattle.line_reading.specs.declared.line_problem.LineProblem.TheVariants.{BadTokenLine, LineTooLong}
 use Rattle.line_reading.specs.sources.LineFault.{line_fault}
 use Rattle.line_reading.specs.sources.LineSource.{Gives, LineSource}
-use Rattle.line_reading.specs.sources.NextLine.{BreaksOffAt, IsBehindLine, IsWithinLine, TakesAtMost}
+use Rattle.line_reading.specs.sources.NextLine.{BreaksOffAt, IsAfterLine, IsWithinLine, TakesAtMost}
 use Rattle.line_reading.specs.sources.ReadLines.{longest_line}
 
 -- what the contract of `next_token` says of a result, and of the source after it
@@ -12,7 +12,7 @@ pub record LineOutcome {R : Type 0} (remaining : R → Option (List ℕ)) (s : L
     (t : LineSource R) : Type 0 where
   pub gives : Gives remaining s answer t
   pub bad_line : s.fault ≡ None → answer ≡ Err (line_fault BadTokenLine s.given)
-      → IsBehindLine (remaining s.reader) (remaining t.reader)
+      → IsAfterLine (remaining s.reader) (remaining t.reader)
   pub too_long : s.fault ≡ None → answer ≡ Err (line_fault LineTooLong s.given)
       → IsWithinLine (longest_line + 1) (remaining s.reader) (remaining t.reader)
   pub takes : TakesAtMost (longest_line + 1) (remaining s.reader) (remaining t.reader)

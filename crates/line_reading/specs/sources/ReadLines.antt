@@ -27,9 +27,9 @@ abbrev pub lines : List ℕ → List (List ℕ)
 lines bytes = lines_of_pieces (slice_split (λ b. b == 10) bytes)
 
 -- what follows the first line and its LF
-abbrev pub behind_line : List ℕ → List ℕ
-behind_line [] = []
-behind_line (b ∷ bs) = if b == 10 then bs else behind_line bs
+abbrev pub after_line : List ℕ → List ℕ
+after_line [] = []
+after_line (b ∷ bs) = if b == 10 then bs else after_line bs
 
 -- a line's token, or its error where n tokens were given before it
 abbrev pub token_or_fault : Option yaml_token_t → ℕ → Answer
@@ -41,16 +41,16 @@ line_answer n line = if nat_lt longest_line (length line) then Err (line_fault L
     (token_of_line line) n
 
 -- a result, and what comes after it: nothing after an error
-abbrev pub coming_behind : Answer → Coming → Coming
-coming_behind (Ok token) behind = coming (token ∷ behind.tokens) behind.fault
-coming_behind (Err fault) behind = coming [] fault
+abbrev pub coming_after : Answer → Coming → Coming
+coming_after (Ok token) behind = coming (token ∷ behind.tokens) behind.fault
+coming_after (Err fault) behind = coming [] fault
 
 -- the tokens of lines, up to the first that gives an error, where n tokens were given and max may be given
 abbrev pub coming_from : ℕ → ℕ → List (List ℕ) → Coming
 coming_from n max [] = coming [] (line_fault (if nat_lt n max then NoMoreTokens else TooManyTokens) n)
 coming_from n max (line ∷ more) =
     if nat_lt n max
-    then coming_behind (line_answer n line) (coming_from (n + 1) max more)
+    then coming_after (line_answer n line) (coming_from (n + 1) max more)
     else coming [] (line_fault TooManyTokens n)
 
 -- the tokens and the error of an input of which at most max tokens are read

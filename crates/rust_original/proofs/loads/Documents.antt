@@ -8,10 +8,10 @@ use Rattle.libyaml_grammar.specs.grammar.Events.{Event, event}
 use Rattle.libyaml_grammar.specs.grammar.Tokens.{Mark}
 use Rattle.libyaml_graphs.specs.graphs.ComposerFaults.{composer_part_fault}
 use Rattle.libyaml_documents.specs.LoadedNodes.{mapping_loaded, scalar_loaded, sequence_loaded}
-use Rattle.libyaml_graphs.specs.graphs.GraphParts.{Opening, Part, alias_part, behind, end_part, leaf_part, part_in, parts, start_part}
+use Rattle.libyaml_graphs.specs.graphs.GraphParts.{Opening, Part, alias_part, following, end_part, leaf_part, part_in, parts, start_part}
 use Rattle.libyaml_graphs.specs.graphs.Graphs.{Start}
 use Rattle.libyaml_graphs.specs.machine.Loader.{no_anchors}
-use Rattle.libyaml_graphs.specs.loads.Loads.{Load, behind_document, document, end_of_document, last_load, load_then}
+use Rattle.libyaml_graphs.specs.loads.Loads.{Load, after_document, document, end_of_document, last_load, load_then}
 use Rattle.libyaml_graphs.specs.loads.Bounds.{first_stop, if_above, if_wrong, list_sizes, one_above}
 use Rattle.libyaml_graphs.proofs.exported.BoundedLoader.{Within, all_begin_more, held_so_far, reaches}
 use Rattle.libyaml_graphs.proofs.exported.Building.{graph_sizes, list_grows, sizes, build_stands, BeginsEmpty, Built, Held, build}
@@ -31,18 +31,18 @@ module _ (n : ℕ) (o : Opening) (x : Ending) where
   Same r = (es : List Start) (F : List Part) (b : Built) (xs : List yaml_alias_data_t) → Within n es F b → Agrees es xs
       → AllSound b.held → loaded_there r (there xs b) ≡ load_then (first_stop n es F (parts r)) (end_of_document r) o
       (halves (built.finished es (parts r) b)) (last_load x)
-      (orig_loader.original_loads_from n orig_loader.between (behind_document r) x)
+      (orig_loader.original_loads_from n orig_loader.between (after_document r) x)
 
   module _ (r : List Event) (ih : Same r) (p : Part) (e : BeginsEmpty p) (es : List Start) (F : List Part) (b : Built)
       (s : Within n es F b) (h : AllSound b.held) where
     abbrev ends_as : Bool → Option Fault → Bool → List Load
     ends_as c w d
-        = load_then (if_above c (if_wrong w (if_above d (first_stop n (behind p es) (F ++ p ∷ []) (parts r)))))
+        = load_then (if_above c (if_wrong w (if_above d (first_stop n (following p es) (F ++ p ∷ []) (parts r)))))
         (end_of_document r) o
         (halves (built.finished es (p ∷ parts r) b)) (last_load x)
-        (orig_loader.original_loads_from n orig_loader.between (behind_document r) x)
+        (orig_loader.original_loads_from n orig_loader.between (after_document r) x)
 
-    over_is : (q : Part) → over_there n q b ≡ nat_lt n (length (behind q es))
+    over_is : (q : Part) → over_there n q b ≡ nat_lt n (length (following q es))
     over_is (alias_part a m) = sym s.few
     over_is (leaf_part a y)
         = not_less (length (halves b.held)) n ∙ ap (λ (i : ℕ). nat_lt n (suc i)) (halves_length b.held ∙ s.stands.size)
@@ -55,11 +55,11 @@ module _ (n : ℕ) (o : Opening) (x : Ending) where
 
     full_is : full_there n p b ≡ one_above n (list_sizes [] (F ++ p ∷ []))
     full_is = grown ∙ (ap (λ (hs : List Held). one_above n (sizes hs))
-        (held_so_far (behind p es) (F ++ p ∷ []) (build es p b) (reaches p es F b e s.stands s.reached))
+        (held_so_far (following p es) (F ++ p ∷ []) (build es p b) (reaches p es F b e s.stands s.reached))
         ∙ graph_sizes (F ++ p ∷ []) [] n (all_begin_more F p s.all_begin e))
 
-    part_same : (c : Bool) → c ≡ nat_lt n (length (behind p es)) → (d : Bool) → full_there n p b ≡ d → (y : LoaderResult)
-        → Follows y (composer_part_fault es p) (behind p es) (build es p b)
+    part_same : (c : Bool) → c ≡ nat_lt n (length (following p es)) → (d : Bool) → full_there n p b ≡ d → (y : LoaderResult)
+        → Follows y (composer_part_fault es p) (following p es) (build es p b)
         → ◌≡◌ {A = List Load} (elim (guarded c d y) [ FAIL f ↦ Err f ∷ [] | OK m ↦ loaded_there r m ])
         (ends_as c (composer_part_fault es p) d)
     part_same true i d j y w = refl
@@ -67,36 +67,36 @@ module _ (n : ℕ) (o : Opening) (x : Ending) where
     part_same false i true j (OK m) w = ap (λ (v : Option Fault). ends_as false v true) (sym w.0)
     part_same false i false j (OK m) (w, (xs, k, g, t)) =
         ap (loaded_there r) k
-        ∙ (ih (behind p es) (F ++ p ∷ []) (build es p b) xs (record {
+        ∙ (ih (following p es) (F ++ p ∷ []) (build es p b) xs (record {
           stands = build_stands p es b s.stands;
           few = sym i;
           short = sym grown ∙ j;
           reached = reaches p es F b e s.stands s.reached;
           all_begin = all_begin_more F p s.all_begin e;
         }) g t
-        ∙ (ap (λ (hs : List Held). load_then (first_stop n (behind p es) (F ++ p ∷ []) (parts r)) (end_of_document r) o
+        ∙ (ap (λ (hs : List Held). load_then (first_stop n (following p es) (F ++ p ∷ []) (parts r)) (end_of_document r) o
         (halves hs) (last_load x)
-        (orig_loader.original_loads_from n orig_loader.between (behind_document r) x)) (built.build_finished p es (parts r) b e s.stands.there)
+        (orig_loader.original_loads_from n orig_loader.between (after_document r) x)) (built.build_finished p es (parts r) b e s.stands.there)
         ∙ ap (λ (v : Option Fault). ends_as false v false) (sym w)))
 
-    event_ends : (y : LoaderResult) → Follows y (composer_part_fault es p) (behind p es) (build es p b)
+    event_ends : (y : LoaderResult) → Follows y (composer_part_fault es p) (following p es) (build es p b)
         → ◌≡◌ {A = List Load}
         (elim (guarded (over_there n p b) (full_there n p b) y) [ FAIL f ↦ Err f ∷ [] | OK m ↦ loaded_there r m ])
-        (ends_as (nat_lt n (length (behind p es))) (composer_part_fault es p) (one_above n (list_sizes [] (F ++ p ∷ []))))
+        (ends_as (nat_lt n (length (following p es))) (composer_part_fault es p) (one_above n (list_sizes [] (F ++ p ∷ []))))
     event_ends y w = part_same (over_there n p b) (over_is p) (full_there n p b) refl y w
         ∙ (ap (λ (c : Bool). ends_as c (composer_part_fault es p) (full_there n p b)) (over_is p)
-        ∙ ap (ends_as (nat_lt n (length (behind p es))) (composer_part_fault es p)) full_is)
+        ∙ ap (ends_as (nat_lt n (length (following p es))) (composer_part_fault es p)) full_is)
 
   limited_same : (k : unnamed_yaml_event_t_data) (m m' : Mark) (r : List Event) → Same r → (p : Part)
       → part_in k m m' ≡ Some p → BeginsEmpty p
       → (es : List Start) (F : List Part) (b : Built) (xs : List yaml_alias_data_t) → (s : Within n es F b)
       → AllSound b.held
-      → Follows (load_event (there xs b) (event k m m')) (composer_part_fault es p) (behind p es) (build es p b)
+      → Follows (load_event (there xs b) (event k m m')) (composer_part_fault es p) (following p es) (build es p b)
       → ◌≡◌ {A = List Load}
       (elim (orig_loader.load_event n (there xs b) (event k m m')) [ FAIL f ↦ Err f ∷ [] | OK l ↦ loaded_there r l ])
       (load_then (first_stop n es F (p ∷ parts r)) (end_of_document r) o (halves (built.finished es (p ∷ parts r) b))
       (last_load x)
-      (orig_loader.original_loads_from n orig_loader.between (behind_document r) x))
+      (orig_loader.original_loads_from n orig_loader.between (after_document r) x))
   limited_same k m m' r ih p i e es F b xs s h w =
       ap (λ (y : LoaderResult). elim y [ FAIL f ↦ Err f ∷ [] | OK l ↦ loaded_there r l ])
       (event_limited n k m m' b xs s.stands.there s.stands.falls

@@ -6,7 +6,7 @@ use Rattle.libyaml_documents.specs.declared.node.unnamed_yaml_node_t_data.TheVar
 use Rattle.libyaml_documents.specs.declared.node.yaml_node_t.{yaml_node_t}
 use Rattle.libyaml_documents.specs.declared.pairs.yaml_node_pair_t.{yaml_node_pair_t}
 use Rattle.libyaml_grammar.specs.grammar.Tokens.{Mark}
-use Rattle.libyaml_graphs.specs.machine.Loader.{content_and_child, key_behind}
+use Rattle.libyaml_graphs.specs.machine.Loader.{content_and_child, key_after_child}
 use Rattle.libyaml_graphs.proofs.exported.Building.{Held, change, end_at, hold}
 use Rattle.rust_original.specs.loader.Loader as orig_loader
 use Rattle.rust_original.specs.loader.Loader.{with_value}
@@ -85,7 +85,7 @@ full_append (q ∷ ps) p h i = (h.0, full_append ps p h.1 i)
 
 -- a child handed to a node
 added : (i : ℕ) (k : Option ℤ) (c : unnamed_yaml_node_t_data) → Sound k c
-    → orig_loader.content_with_child (suc i) (with_half k c) ≡ with_half (key_behind k (pos (suc i)) c)
+    → orig_loader.content_with_child (suc i) (with_half k c) ≡ with_half (key_after_child k (pos (suc i)) c)
     (content_and_child k (pos (suc i)) c)
 added i None (Scalar s) h = refl
 added i None (Sequence s) h = refl
@@ -105,7 +105,7 @@ added i (Some k) (Mapping m) h = ap (λ (u : Bool). Mapping (record m {
     ∙ ap (λ (l : List yaml_node_pair_t). Mapping (record m { pairs = l })) (last_value (suc i) m.pairs k)
 
 stays_sound : (i : ℕ) (k : Option ℤ) (c : unnamed_yaml_node_t_data) → Sound k c
-    → Sound (key_behind k (pos (suc i)) c) (content_and_child k (pos (suc i)) c)
+    → Sound (key_after_child k (pos (suc i)) c) (content_and_child k (pos (suc i)) c)
 stays_sound i None (Scalar s) h = tt
 stays_sound i None (Sequence s) h = tt
 stays_sound i None (Mapping m) h = (tt, h)

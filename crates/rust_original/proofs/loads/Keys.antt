@@ -7,7 +7,7 @@ use Rattle.libyaml_grammar.specs.grammar.Events.{Event, end_at as end_event}
 use Rattle.libyaml_grammar.specs.grammar.Nesting.{AllHavePairs, HasPairs, Value, Values, alias_value, collection_value, first_value, no_values, scalar_value, value_events, values_events}
 use Rattle.libyaml_grammar.specs.grammar.Trees.{mapping, sequence}
 use Rattle.libyaml_graphs.specs.graphs.GraphParts.{children, parts}
-use Rattle.libyaml_graphs.specs.graphs.Graphs.{Start, ids_of_all, starts_behind, starts_behind_all}
+use Rattle.libyaml_graphs.specs.graphs.Graphs.{Start, ids_of_all, starts_after, starts_after_all}
 use Rattle.libyaml_graphs.proofs.exported.Building.{even_list, ids_even, values_children, Held, nodes_in}
 use Rattle.libyaml_documents.specs.declared.node.unnamed_yaml_node_t_data_mapping.{unnamed_yaml_node_t_data_mapping}
 use Rattle.libyaml_documents.specs.declared.node.unnamed_yaml_node_t_data_sequence.{unnamed_yaml_node_t_data_sequence}
@@ -46,7 +46,7 @@ mapping_key m (k ∷ v ∷ is) e
 
 mutual
   pub value_keys : (v : Value) (es : List Start) (r : List Event) → HasPairs v
-      → NoneWaits (built.held_graph (starts_behind v es) (parts r))
+      → NoneWaits (built.held_graph (starts_after v es) (parts r))
       → NoneWaits (built.held_graph es (parts (value_events v r)))
   value_keys (alias_value a m n) es r h w = w
   value_keys (scalar_value s m n) es r h w = (refl, w)
@@ -64,8 +64,8 @@ mutual
       (mapping_key _ is (ap even_list e ∙ (ids_even vs fs ∙ h.0)), values_keys vs fs (end_event mapping p q ∷ r) h.1 w)
 
   values_keys : (vs : Values) (es : List Start) (r : List Event) → AllHavePairs vs
-      → NoneWaits (built.held_graph (starts_behind_all vs es) (parts r))
+      → NoneWaits (built.held_graph (starts_after_all vs es) (parts r))
       → NoneWaits (built.held_graph es (parts (values_events vs r)))
   values_keys no_values es r h w = w
   values_keys (first_value v vs) es r h w
-      = value_keys v es (values_events vs r) h.0 (values_keys vs (starts_behind v es) r h.1 w)
+      = value_keys v es (values_events vs r) h.0 (values_keys vs (starts_after v es) r h.1 w)

@@ -10,7 +10,7 @@ use Rattle.libyaml_grammar.specs.grammar.Events.{Event, event}
 use Rattle.libyaml_grammar.specs.grammar.Tokens.{Mark}
 use Rattle.libyaml_graphs.specs.graphs.ComposerFaults.{alias_fault, anchor_fault, known_fault, composer_part_fault}
 use Rattle.libyaml_documents.specs.LoadedNodes.{mapping_loaded, scalar_loaded, sequence_loaded}
-use Rattle.libyaml_graphs.specs.graphs.GraphParts.{Part, alias_part, behind, end_part, part_in, carrier_start}
+use Rattle.libyaml_graphs.specs.graphs.GraphParts.{Part, alias_part, following, end_part, part_in, carrier_start}
 use Rattle.libyaml_graphs.specs.graphs.Graphs.{Carrier, Start, carrier, carries, id_or}
 use Rattle.libyaml_graphs.proofs.exported.Building.{Built, Held, bare, build, hold_top}
 use Rattle.rust_original.specs.loader.Loader as orig_loader
@@ -245,7 +245,7 @@ load_event l e = elim e.content [
 -- an event of a document
 abbrev Moves : LoaderResult → Option Part → List Start → Built → List yaml_alias_data_t → Type 0
 Moves o None es b xs = o ≡ OK (there xs b)
-Moves o (Some p) es b xs = Follows o (composer_part_fault es p) (behind p es) (build es p b)
+Moves o (Some p) es b xs = Follows o (composer_part_fault es p) (following p es) (build es p b)
 
 end_follows : (n : Mark) (xs : List yaml_alias_data_t) (es : List Start) (s : List ℕ) (hs : List Held)
     (k : unnamed_yaml_event_t_data) (m : Mark) → Agrees es xs → AllSound hs

@@ -13,7 +13,7 @@ use Rattle.rust_original.specs.parser.Parser.{Mends, OK, ParserResult, OriginalP
 use Rattle.rust_original.specs.parser.Runs.{as_here, call}
 use Rattle.rust_original.proofs.parser.Documents as documents
 use Rattle.rust_original.proofs.parser.States as states
-use Rattle.rust_original.proofs.parser.Relation.{Agree, Below, Fits, IsInside, Matches, Opens, SamePlace, before, behind, behind_end, entering, feed, first, inside, over, root_end, there_with, tokens_of}
+use Rattle.rust_original.proofs.parser.Relation.{Agree, Below, Fits, IsInside, Matches, Opens, SamePlace, before, following, after_end, entering, feed, first, inside, over, root_end, there_with, tokens_of}
 
 module _ (f : Fault) (x : Fault) (ss : List yaml_parser_state_t) where
   abbrev conf : yaml_parser_state_t → List Mark → Handles → Bool → Config
@@ -79,8 +79,8 @@ module _ (f : Fault) (x : Fault) (ss : List yaml_parser_state_t) where
       → Fits ss s s' ms ms' tags hs be flag ended l l' → is_end_state s ≡ false → Same s s' ms ms' tags hs be flag ended l l'
   called (before {ms} {l}) e = documents.stream_start f x ss ms l
   called (first {ms} {l}) e = documents.first_document f x ss ms l
-  called (behind_end {ms} {l}) e = documents.bare_document f x ss ms l
-  called (behind {ms} {be} {t} {l} i) e = documents.next_document f x ss ms be t.content t.start_mark t.end_mark l i
+  called (after_end {ms} {l}) e = documents.bare_document f x ss ms l
+  called (following {ms} {be} {t} {l} i) e = documents.next_document f x ss ms be t.content t.start_mark t.end_mark l i
   called (root_end {ms} {tags} {hs} {be} {flag} {l}) e = states.document_end f tags hs be flag x ss ms l
   called (entering {s} {s'} {ms} {tags} {hs} {be} {flag} {t} {l} i b a n) e
       = entered s' s ms tags hs be flag t l i b a n
@@ -93,8 +93,8 @@ pub flagged : {ss : List yaml_parser_state_t} {s s' : yaml_parser_state_t} {ms m
     → Fits ss s s' ms ms' tags hs be flag ended l l' → ended ≡ is_end_state s
 flagged before = refl
 flagged first = refl
-flagged behind_end = refl
-flagged (behind e) = refl
+flagged after_end = refl
+flagged (following e) = refl
 flagged root_end = refl
 flagged (entering {s} {s'} i b a e) = go s' s i
   where
@@ -117,8 +117,8 @@ both_end : {ss : List yaml_parser_state_t} {s s' : yaml_parser_state_t} {ms ms' 
     → Fits ss s s' ms ms' tags hs be flag ended l l' → is_end_state s' ≡ is_end_state s
 both_end before = refl
 both_end first = refl
-both_end behind_end = refl
-both_end (behind e) = refl
+both_end after_end = refl
+both_end (following e) = refl
 both_end root_end = refl
 both_end (entering {s} {s'} i b a e) = go s' s i
   where

@@ -45,17 +45,17 @@ module _ (f : Fault) (x : Fault) (ss : List yaml_parser_state_t) (ms : List Mark
   abbrev directive_texts : Option yaml_version_directive_t → List yaml_tag_directive_t → Texts
   directive_texts v ts = record no_texts { version = v; tag_directives = ts }
 
-  abbrev behind_directive : Mark → Option yaml_version_directive_t → List yaml_tag_directive_t → Want
-  behind_directive a v ts = record { next = automaton.BehindDirective a (is_some v); texts = directive_texts v ts }
+  abbrev after_directive : Mark → Option yaml_version_directive_t → List yaml_tag_directive_t → Want
+  after_directive a v ts = record { next = automaton.AfterDirective a (is_some v); texts = directive_texts v ts }
 
   module _ (s s' : yaml_parser_state_t) (be flag : Bool) where
     abbrev next_there : Mark → Option yaml_version_directive_t → List yaml_tag_directive_t → OriginalParser → ParserResult
-    next_there = orig.behind_directives
+    next_there = orig.after_directives
 
     abbrev FollowsFrom : Mark → Option yaml_version_directive_t → (ts tags : List yaml_tag_directive_t) → Handles → List Token
         → Type 0
     FollowsFrom a o ts tags hs l = Matches f (directives_from o ts (next_there a) l (par s' flag tags l))
-        (feed f (behind_directive a o ts) (here s be hs) l)
+        (feed f (after_directive a o ts) (here s be hs) l)
 
     abbrev Follows : List Token → Type 0
     Follows l = (a : Mark) (o : Option yaml_version_directive_t) (ts tags : List yaml_tag_directive_t) (hs : Handles)
@@ -115,7 +115,7 @@ module _ (f : Fault) (x : Fault) (ss : List yaml_parser_state_t) (ms : List Mark
     directive_token a o ts (TagDirective g) m n l tags hs ih r = tag_token a o ts g m n l tags hs ih r
     directive_token a o ts DocumentStart m n l tags hs ih r
         = subst (λ y. Matches f y
-        (feed f (behind_directive a o ts) (here s be hs) (tk DocumentStart m n ∷ l)))
+        (feed f (after_directive a o ts) (here s be hs) (tk DocumentStart m n ∷ l)))
         (sym (defaults_appended (par s' flag tags (tk DocumentStart m n ∷ l)) m (next_there a o ts))) (
           refl,
           standing refl (inside tt tt (agree tags hs r)) tt,
@@ -140,7 +140,7 @@ module _ (f : Fault) (x : Fault) (ss : List yaml_parser_state_t) (ms : List Mark
 
     pub explicit : (k : Content) (m n : Mark) (l : List Token)
         → Matches f (orig.explicit_document_start m (par s' flag [] (tk k m n ∷ l)))
-        (feed f (behind_directive m None []) (here s be no_handles) (tk k m n ∷ l))
+        (feed f (after_directive m None []) (here s be no_handles) (tk k m n ∷ l))
     explicit k m n l = directives (tk k m n ∷ l) m None [] [] no_handles none_declared
 
   -- where a document may be implicit: the first one

@@ -187,59 +187,59 @@ module _ (f : Fault) (tags : List yaml_tag_directive_t) (hs : Handles) (agree : 
         (fed f (content_here anchor g a b y t (with_prefix (or_default (get hs (z ∷ zs)) (z ∷ zs)) g.suffix)) l))
         (sym (agree (z ∷ zs))) (found anchor g (z ∷ zs) a b y t l (or_default (get hs (z ∷ zs)) (z ∷ zs)))
 
-    abbrev behind_here : (anchor : Option (List ℕ)) (tag : Option TagName) (a c y : Mark) → Token → Progressed
-    behind_here anchor tag a c y t
-        = parser_machine.content_behind tag p (props anchor (written_text tag) a c y) (config_of (conf ss)) (texts anchor tag)
+    abbrev after_here : (anchor : Option (List ℕ)) (tag : Option TagName) (a c y : Mark) → Token → Progressed
+    after_here anchor tag a c y t
+        = parser_machine.content_after tag p (props anchor (written_text tag) a c y) (config_of (conf ss)) (texts anchor tag)
         (conf ss) t t.content
 
-    behind : (anchor : Option (List ℕ)) (tag : Option TagName) (a b c y : Mark) (t : Token) (l : List Token)
+    following : (anchor : Option (List ℕ)) (tag : Option TagName) (a b c y : Mark) (t : Token) (l : List Token)
         → OnlyAt (written_text tag) anchor a t.start_mark b c → Matches f
         (orig.after_properties (par ss (t ∷ l)) (is_block_place p) (may_be_indentless p) anchor (wrote tag y) a b)
-        (fed f (behind_here anchor tag a c y t) l)
-    behind anchor None a b c y t l o
+        (fed f (after_here anchor tag a c y t) l)
+    following anchor None a b c y t l o
         = content (texts anchor None) anchor None a b c y t.content t.start_mark t.end_mark l o
-    behind anchor (Some g) a b c y t l o
+    following anchor (Some g) a b c y t l o
         = subst (λ z. Matches f (orig.after_properties (par ss (t ∷ l)) (is_block_place p) (may_be_indentless p) anchor
-        (wrote (Some g) y) a b) (fed f (behind_here anchor (Some g) a z y t) l))
+        (wrote (Some g) y) a b) (fed f (after_here anchor (Some g) a z y t) l))
         o (resolved anchor g g.handle a b y t l)
 
     abbrev next_here : (anchor : Option (List ℕ)) (tag : Option TagName) (a c y : Mark) (k : Content) (m n : Mark)
         → Progressed
     next_here anchor tag a c y k m n
-        = with_texts (texts anchor tag) (conf ss) (tk k m n) k (automaton.behind_properties p
+        = with_texts (texts anchor tag) (conf ss) (tk k m n) k (automaton.parse_after_properties p
         (props anchor (written_text tag) a c y) (config_of (conf ss)) (seen (tk k m n) k) (token_type k))
 
     -- after both properties no further one is read
-    behind_both : (anchor : List ℕ) (g : TagName) (a b y : Mark) (k : Content) (m n : Mark) (l : List Token)
+    after_both : (anchor : List ℕ) (g : TagName) (a b y : Mark) (k : Content) (m n : Mark) (l : List Token)
         → Matches f
         (orig.after_properties (par ss (tk k m n ∷ l)) (is_block_place p) (may_be_indentless p) (Some anchor)
         (wrote (Some g) y) a b)
         (fed f (next_here (Some anchor) (Some g) a b y k m n) l)
-    behind_both anchor g a b y (Anchor z) m n l = behind (Some anchor) (Some g) a b b y (tk (Anchor z) m n) l refl
-    behind_both anchor g a b y (Tag z) m n l = behind (Some anchor) (Some g) a b b y (tk (Tag z) m n) l refl
-    behind_both anchor g a b y k m n l = behind (Some anchor) (Some g) a b b y (tk k m n) l refl
+    after_both anchor g a b y (Anchor z) m n l = following (Some anchor) (Some g) a b b y (tk (Anchor z) m n) l refl
+    after_both anchor g a b y (Tag z) m n l = following (Some anchor) (Some g) a b b y (tk (Tag z) m n) l refl
+    after_both anchor g a b y k m n l = following (Some anchor) (Some g) a b b y (tk k m n) l refl
 
     -- after an anchor, and after a tag
-    behind_anchor : (z : AnchorName) (a b : Mark) (k : Content) (m n : Mark) (l : List Token)
+    after_anchor : (z : AnchorName) (a b : Mark) (k : Content) (m n : Mark) (l : List Token)
         → Matches f
         (orig.yaml_parser_parse_node (par ss (tk (Anchor z) a b ∷ tk k m n ∷ l)) (is_block_place p)
         (may_be_indentless p))
         (fed f (next_here (Some z.value) None a b zero_mark k m n) l)
-    behind_anchor z a b (Tag g) m n [] = refl
-    behind_anchor z a b (Tag g) m n (w ∷ l)
-        = behind_both z.value g a n m w.content w.start_mark w.end_mark l
-    behind_anchor z a b (Anchor y) m n l = behind (Some z.value) None a b b zero_mark (tk (Anchor y) m n) l refl
-    behind_anchor z a b k m n l = behind (Some z.value) None a b b zero_mark (tk k m n) l refl
+    after_anchor z a b (Tag g) m n [] = refl
+    after_anchor z a b (Tag g) m n (w ∷ l)
+        = after_both z.value g a n m w.content w.start_mark w.end_mark l
+    after_anchor z a b (Anchor y) m n l = following (Some z.value) None a b b zero_mark (tk (Anchor y) m n) l refl
+    after_anchor z a b k m n l = following (Some z.value) None a b b zero_mark (tk k m n) l refl
 
-    behind_tag : (g : TagName) (a b : Mark) (k : Content) (m n : Mark) (l : List Token)
+    after_tag : (g : TagName) (a b : Mark) (k : Content) (m n : Mark) (l : List Token)
         → Matches f
         (orig.yaml_parser_parse_node (par ss (tk (Tag g) a b ∷ tk k m n ∷ l)) (is_block_place p)
         (may_be_indentless p))
         (fed f (next_here None (Some g) a b a k m n) l)
-    behind_tag g a b (Anchor y) m n [] = refl
-    behind_tag g a b (Anchor y) m n (w ∷ l) = behind_both y.value g a n a w.content w.start_mark w.end_mark l
-    behind_tag g a b (Tag y) m n l = behind None (Some g) a b b a (tk (Tag y) m n) l refl
-    behind_tag g a b k m n l = behind None (Some g) a b b a (tk k m n) l refl
+    after_tag g a b (Anchor y) m n [] = refl
+    after_tag g a b (Anchor y) m n (w ∷ l) = after_both y.value g a n a w.content w.start_mark w.end_mark l
+    after_tag g a b (Tag y) m n l = following None (Some g) a b b a (tk (Tag y) m n) l refl
+    after_tag g a b k m n l = following None (Some g) a b b a (tk k m n) l refl
 
     bare : (k : Content) (m n : Mark) (l : List Token)
         → Matches f (orig.after_properties (par ss (tk k m n ∷ l)) (is_block_place p) (may_be_indentless p) None None m m)
@@ -255,7 +255,7 @@ module _ (f : Fault) (tags : List yaml_tag_directive_t) (hs : Handles) (agree : 
         (seen (tk k m n) k) (token_type k))) l)
     parsed (Alias z) m n l = (refl, standing refl (popped_fits ss inner agree) (popped_fresh ss _ inner))
     parsed (Anchor z) m n [] = refl
-    parsed (Anchor z) m n (u ∷ l) = behind_anchor z m n u.content u.start_mark u.end_mark l
+    parsed (Anchor z) m n (u ∷ l) = after_anchor z m n u.content u.start_mark u.end_mark l
     parsed (Tag g) m n [] = refl
-    parsed (Tag g) m n (u ∷ l) = behind_tag g m n u.content u.start_mark u.end_mark l
+    parsed (Tag g) m n (u ∷ l) = after_tag g m n u.content u.start_mark u.end_mark l
     parsed k m n l = bare k m n l

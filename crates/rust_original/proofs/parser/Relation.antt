@@ -48,7 +48,7 @@ there f tags flag state ended c l = record {
   states = c.states;
   marks = c.marks;
   tag_directives = tags;
-  behind_explicit_end = flag;
+  after_explicit_end = flag;
 }
 
 abbrev pub there_with : Fault → List yaml_tag_directive_t → Bool → yaml_parser_state_t → Bool → Config → List Mark
@@ -109,10 +109,10 @@ pub data Fits (ss : List yaml_parser_state_t) : (here there : yaml_parser_state_
   first : {ms : List Mark} {l : List Token}
       → Fits ss st.YAML_PARSE_IMPLICIT_DOCUMENT_START_STATE st.YAML_PARSE_IMPLICIT_DOCUMENT_START_STATE ms ms []
       no_handles false false false l l
-  behind_end : {ms : List Mark} {l : List Token}
+  after_end : {ms : List Mark} {l : List Token}
       → Fits ss st.YAML_PARSE_IMPLICIT_DOCUMENT_START_STATE st.YAML_PARSE_DOCUMENT_START_STATE ms ms [] no_handles true
       true false l l
-  behind : {ms : List Mark} {be : Bool} {t : Token} {l : List Token} → is_document_end t.content ≡ false
+  following : {ms : List Mark} {be : Bool} {t : Token} {l : List Token} → is_document_end t.content ≡ false
       → Fits ss st.YAML_PARSE_DOCUMENT_START_STATE st.YAML_PARSE_DOCUMENT_START_STATE ms ms [] no_handles be false false
       (t ∷ l) (t ∷ l)
   root_end : {ms : List Mark} {tags : List yaml_tag_directive_t} {hs : Handles} {be flag : Bool} {l : List Token}

@@ -15,11 +15,11 @@ use Rattle.rust_original.specs.parser.Parser as orig
 use Rattle.rust_original.specs.parser.Parser.{OriginalParser, ParserResult, is_one_of}
 use Rattle.rust_original.specs.parser.Runs.{as_here}
 use Rattle.rust_original.proofs.parser.Nodes.{parsed}
-use Rattle.rust_original.proofs.parser.Relation.{Agree, Below, Matches, standing, behind as behind_document, behind_end, feed, inside, popped_fits, popped_fresh, there, tk}
+use Rattle.rust_original.proofs.parser.Relation.{Agree, Below, Matches, standing, following as after_document, after_end, feed, inside, popped_fits, popped_fresh, there, tk}
 
 -- a token is wanted for this, and no text is held
-abbrev behind : automaton.Purpose → Want
-behind n = record { next = n; texts = no_texts }
+abbrev following : automaton.Purpose → Want
+following n = record { next = n; texts = no_texts }
 
 -- a token that is no STREAM-END is skipped
 end_same : (k : Content) (m n : Mark)
@@ -43,8 +43,8 @@ module _ (f : Fault) (tags : List yaml_tag_directive_t) (hs : Handles) (be flag 
   document_end_token : (s' : yaml_parser_state_t) (ms : List Mark) (k : Content) (m n : Mark) (l : List Token)
       → Matches f (orig.yaml_parser_parse_document_end (par s' false ms (tk k m n ∷ l)))
       (feed f AtState (here st.YAML_PARSE_DOCUMENT_END_STATE ms) (tk k m n ∷ l))
-  document_end_token s' ms DocumentEnd m n l = (refl, standing refl behind_end tt)
-  document_end_token s' ms k m n l = (refl, standing refl (behind_document refl) tt)
+  document_end_token s' ms DocumentEnd m n l = (refl, standing refl after_end tt)
+  document_end_token s' ms k m n l = (refl, standing refl (after_document refl) tt)
 
   pub document_end : (ms : List Mark) (l : List Token)
       → Matches f (orig.yaml_parser_parse_document_end (par st.YAML_PARSE_DOCUMENT_END_STATE false ms l))
@@ -66,18 +66,18 @@ module _ (f : Fault) (tags : List yaml_tag_directive_t) (hs : Handles) (be flag 
       OfTokens call s = (l : List Token) → Alike call AtState s l l
 
       -- block sequences
-      behind_item : (a b : Mark) (k : Content) (m n : Mark) (l : List Token)
-          → Alike (λ p. orig.yaml_parser_parse_block_sequence_entry p false) (behind (automaton.BehindBlockEntry b)) st.YAML_PARSE_BLOCK_SEQUENCE_ENTRY_STATE
+      after_item : (a b : Mark) (k : Content) (m n : Mark) (l : List Token)
+          → Alike (λ p. orig.yaml_parser_parse_block_sequence_entry p false) (following (automaton.AfterBlockEntry b)) st.YAML_PARSE_BLOCK_SEQUENCE_ENTRY_STATE
           (tk BlockEntry a b ∷ tk k m n ∷ l) (tk k m n ∷ l)
-      behind_item a b BlockEntry m n l = (refl, standing refl (inside tt inner agree) tt)
-      behind_item a b BlockEnd m n l = (refl, standing refl (inside tt inner agree) tt)
-      behind_item a b k m n l
+      after_item a b BlockEntry m n l = (refl, standing refl (inside tt inner agree) tt)
+      after_item a b BlockEnd m n l = (refl, standing refl (inside tt inner agree) tt)
+      after_item a b k m n l
           = parsed f tags hs agree be flag x st.YAML_PARSE_BLOCK_SEQUENCE_ENTRY_STATE s' ms Block
           (st.YAML_PARSE_BLOCK_SEQUENCE_ENTRY_STATE ∷ ss) inner k m n l
 
       item_token : OfToken (λ p. orig.yaml_parser_parse_block_sequence_entry p false) st.YAML_PARSE_BLOCK_SEQUENCE_ENTRY_STATE
       item_token BlockEntry m n [] = refl
-      item_token BlockEntry m n (u ∷ l) = behind_item m n u.content u.start_mark u.end_mark l
+      item_token BlockEntry m n (u ∷ l) = after_item m n u.content u.start_mark u.end_mark l
       item_token BlockEnd m n l = (refl, standing refl (popped_fits ss inner agree) (popped_fresh ss _ inner))
       item_token k m n l = refl
 
@@ -87,14 +87,14 @@ module _ (f : Fault) (tags : List yaml_tag_directive_t) (hs : Handles) (be flag 
       block_sequence_entry (t ∷ l) = item_token t.content t.start_mark t.end_mark l
 
       -- indentless sequences
-      behind_indentless_item : (a b : Mark) (k : Content) (m n : Mark) (l : List Token)
-          → Alike orig.yaml_parser_parse_indentless_sequence_entry (behind (automaton.BehindIndentlessEntry b)) st.YAML_PARSE_INDENTLESS_SEQUENCE_ENTRY_STATE
+      after_indentless_item : (a b : Mark) (k : Content) (m n : Mark) (l : List Token)
+          → Alike orig.yaml_parser_parse_indentless_sequence_entry (following (automaton.AfterIndentlessEntry b)) st.YAML_PARSE_INDENTLESS_SEQUENCE_ENTRY_STATE
           (tk BlockEntry a b ∷ tk k m n ∷ l) (tk k m n ∷ l)
-      behind_indentless_item a b BlockEntry m n l = (refl, standing refl (inside tt inner agree) tt)
-      behind_indentless_item a b Key m n l = (refl, standing refl (inside tt inner agree) tt)
-      behind_indentless_item a b Value m n l = (refl, standing refl (inside tt inner agree) tt)
-      behind_indentless_item a b BlockEnd m n l = (refl, standing refl (inside tt inner agree) tt)
-      behind_indentless_item a b k m n l
+      after_indentless_item a b BlockEntry m n l = (refl, standing refl (inside tt inner agree) tt)
+      after_indentless_item a b Key m n l = (refl, standing refl (inside tt inner agree) tt)
+      after_indentless_item a b Value m n l = (refl, standing refl (inside tt inner agree) tt)
+      after_indentless_item a b BlockEnd m n l = (refl, standing refl (inside tt inner agree) tt)
+      after_indentless_item a b k m n l
           = parsed f tags hs agree be flag x st.YAML_PARSE_INDENTLESS_SEQUENCE_ENTRY_STATE s' ms Block
           (st.YAML_PARSE_INDENTLESS_SEQUENCE_ENTRY_STATE ∷ ss) inner k m n l
 
@@ -102,7 +102,7 @@ module _ (f : Fault) (tags : List yaml_tag_directive_t) (hs : Handles) (be flag 
           st.YAML_PARSE_INDENTLESS_SEQUENCE_ENTRY_STATE
       indentless_sequence_entry_token BlockEntry m n [] = refl
       indentless_sequence_entry_token BlockEntry m n (u ∷ l)
-          = behind_indentless_item m n u.content u.start_mark u.end_mark l
+          = after_indentless_item m n u.content u.start_mark u.end_mark l
       indentless_sequence_entry_token k m n l
           = (refl, standing refl (popped_fits ss inner agree) (popped_fresh ss _ inner))
 
@@ -112,20 +112,20 @@ module _ (f : Fault) (tags : List yaml_tag_directive_t) (hs : Handles) (be flag 
       indentless_sequence_entry (t ∷ l) = indentless_sequence_entry_token t.content t.start_mark t.end_mark l
 
       -- block mappings
-      behind_key : (a b : Mark) (k : Content) (m n : Mark) (l : List Token)
-          → Alike (λ p. orig.yaml_parser_parse_block_mapping_key as_here p false) (behind (automaton.BehindKey b)) st.YAML_PARSE_BLOCK_MAPPING_KEY_STATE
+      after_key : (a b : Mark) (k : Content) (m n : Mark) (l : List Token)
+          → Alike (λ p. orig.yaml_parser_parse_block_mapping_key as_here p false) (following (automaton.AfterKey b)) st.YAML_PARSE_BLOCK_MAPPING_KEY_STATE
           (tk Key a b ∷ tk k m n ∷ l) (tk k m n ∷ l)
-      behind_key a b Key m n l = (refl, standing refl (inside tt inner agree) tt)
-      behind_key a b Value m n l = (refl, standing refl (inside tt inner agree) tt)
-      behind_key a b BlockEnd m n l = (refl, standing refl (inside tt inner agree) tt)
-      behind_key a b k m n l
+      after_key a b Key m n l = (refl, standing refl (inside tt inner agree) tt)
+      after_key a b Value m n l = (refl, standing refl (inside tt inner agree) tt)
+      after_key a b BlockEnd m n l = (refl, standing refl (inside tt inner agree) tt)
+      after_key a b k m n l
           = parsed f tags hs agree be flag x st.YAML_PARSE_BLOCK_MAPPING_KEY_STATE s' ms BlockOrIndentlessSequence
           (st.YAML_PARSE_BLOCK_MAPPING_VALUE_STATE ∷ ss) inner k m n l
 
       block_mapping_key_token : OfToken (λ p. orig.yaml_parser_parse_block_mapping_key as_here p false)
           st.YAML_PARSE_BLOCK_MAPPING_KEY_STATE
       block_mapping_key_token Key m n [] = refl
-      block_mapping_key_token Key m n (u ∷ l) = behind_key m n u.content u.start_mark u.end_mark l
+      block_mapping_key_token Key m n (u ∷ l) = after_key m n u.content u.start_mark u.end_mark l
       block_mapping_key_token Value m n l = (refl, standing refl (inside tt inner agree) tt)
       block_mapping_key_token BlockEnd m n l
           = (refl, standing refl (popped_fits ss inner agree) (popped_fresh ss _ inner))
@@ -136,19 +136,19 @@ module _ (f : Fault) (tags : List yaml_tag_directive_t) (hs : Handles) (be flag 
       block_mapping_key [] = refl
       block_mapping_key (t ∷ l) = block_mapping_key_token t.content t.start_mark t.end_mark l
 
-      behind_value : (a b : Mark) (k : Content) (m n : Mark) (l : List Token)
-          → Alike orig.yaml_parser_parse_block_mapping_value (behind (automaton.BehindValue b)) st.YAML_PARSE_BLOCK_MAPPING_VALUE_STATE
+      after_value : (a b : Mark) (k : Content) (m n : Mark) (l : List Token)
+          → Alike orig.yaml_parser_parse_block_mapping_value (following (automaton.AfterValue b)) st.YAML_PARSE_BLOCK_MAPPING_VALUE_STATE
           (tk Value a b ∷ tk k m n ∷ l) (tk k m n ∷ l)
-      behind_value a b Key m n l = (refl, standing refl (inside tt inner agree) tt)
-      behind_value a b Value m n l = (refl, standing refl (inside tt inner agree) tt)
-      behind_value a b BlockEnd m n l = (refl, standing refl (inside tt inner agree) tt)
-      behind_value a b k m n l
+      after_value a b Key m n l = (refl, standing refl (inside tt inner agree) tt)
+      after_value a b Value m n l = (refl, standing refl (inside tt inner agree) tt)
+      after_value a b BlockEnd m n l = (refl, standing refl (inside tt inner agree) tt)
+      after_value a b k m n l
           = parsed f tags hs agree be flag x st.YAML_PARSE_BLOCK_MAPPING_VALUE_STATE s' ms BlockOrIndentlessSequence
           (st.YAML_PARSE_BLOCK_MAPPING_KEY_STATE ∷ ss) inner k m n l
 
       block_mapping_value_token : OfToken orig.yaml_parser_parse_block_mapping_value st.YAML_PARSE_BLOCK_MAPPING_VALUE_STATE
       block_mapping_value_token Value m n [] = refl
-      block_mapping_value_token Value m n (u ∷ l) = behind_value m n u.content u.start_mark u.end_mark l
+      block_mapping_value_token Value m n (u ∷ l) = after_value m n u.content u.start_mark u.end_mark l
       block_mapping_value_token k m n l = (refl, standing refl (inside tt inner agree) tt)
 
       pub block_mapping_value : OfTokens orig.yaml_parser_parse_block_mapping_value st.YAML_PARSE_BLOCK_MAPPING_VALUE_STATE
@@ -194,19 +194,19 @@ module _ (f : Fault) (tags : List yaml_tag_directive_t) (hs : Handles) (be flag 
       pair_key [] = refl
       pair_key (t ∷ l) = pair_key_token t.content t.start_mark t.end_mark l
 
-      behind_pair_value : (a b : Mark) (k : Content) (m n : Mark) (l : List Token)
-          → Alike orig.yaml_parser_parse_flow_sequence_entry_mapping_value (behind automaton.BehindFlowSequenceValue) st.YAML_PARSE_FLOW_SEQUENCE_ENTRY_MAPPING_VALUE_STATE
+      after_pair_value : (a b : Mark) (k : Content) (m n : Mark) (l : List Token)
+          → Alike orig.yaml_parser_parse_flow_sequence_entry_mapping_value (following automaton.AfterFlowSequenceValue) st.YAML_PARSE_FLOW_SEQUENCE_ENTRY_MAPPING_VALUE_STATE
           (tk Value a b ∷ tk k m n ∷ l) (tk k m n ∷ l)
-      behind_pair_value a b FlowEntry m n l = (refl, standing refl (inside tt inner agree) tt)
-      behind_pair_value a b FlowSequenceEnd m n l = (refl, standing refl (inside tt inner agree) tt)
-      behind_pair_value a b k m n l
+      after_pair_value a b FlowEntry m n l = (refl, standing refl (inside tt inner agree) tt)
+      after_pair_value a b FlowSequenceEnd m n l = (refl, standing refl (inside tt inner agree) tt)
+      after_pair_value a b k m n l
           = parsed f tags hs agree be flag x st.YAML_PARSE_FLOW_SEQUENCE_ENTRY_MAPPING_VALUE_STATE s' ms Flow
           (st.YAML_PARSE_FLOW_SEQUENCE_ENTRY_MAPPING_END_STATE ∷ ss) inner k m n l
 
       pair_value_token : OfToken orig.yaml_parser_parse_flow_sequence_entry_mapping_value
           st.YAML_PARSE_FLOW_SEQUENCE_ENTRY_MAPPING_VALUE_STATE
       pair_value_token Value m n [] = refl
-      pair_value_token Value m n (u ∷ l) = behind_pair_value m n u.content u.start_mark u.end_mark l
+      pair_value_token Value m n (u ∷ l) = after_pair_value m n u.content u.start_mark u.end_mark l
       pair_value_token k m n l = (refl, standing refl (inside tt inner agree) tt)
 
       pub pair_value : OfTokens orig.yaml_parser_parse_flow_sequence_entry_mapping_value
@@ -221,7 +221,7 @@ module _ (f : Fault) (tags : List yaml_tag_directive_t) (hs : Handles) (be flag 
 
       -- flow mappings
       flow_key : (a b c d : Mark) (k : Content) (m n : Mark) (l : List Token)
-          → Alike (λ p. orig.yaml_parser_parse_flow_mapping_key p false) (behind automaton.BehindFlowMappingKey) st.YAML_PARSE_FLOW_MAPPING_FIRST_KEY_STATE
+          → Alike (λ p. orig.yaml_parser_parse_flow_mapping_key p false) (following automaton.AfterFlowMappingKey) st.YAML_PARSE_FLOW_MAPPING_FIRST_KEY_STATE
           (tk FlowEntry a b ∷ tk Key c d ∷ tk k m n ∷ l) (tk k m n ∷ l)
       flow_key a b c d Value m n l = (refl, standing refl (inside tt inner agree) tt)
       flow_key a b c d FlowEntry m n l = (refl, standing refl (inside tt inner agree) tt)
@@ -252,19 +252,19 @@ module _ (f : Fault) (tags : List yaml_tag_directive_t) (hs : Handles) (be flag 
       flow_mapping_key [] = refl
       flow_mapping_key (t ∷ l) = flow_mapping_key_token t.content t.start_mark t.end_mark l
 
-      behind_flow_value : (a b : Mark) (k : Content) (m n : Mark) (l : List Token)
-          → Alike (λ p. orig.yaml_parser_parse_flow_mapping_value p false) (behind automaton.BehindFlowMappingValue) st.YAML_PARSE_FLOW_MAPPING_VALUE_STATE
+      after_flow_value : (a b : Mark) (k : Content) (m n : Mark) (l : List Token)
+          → Alike (λ p. orig.yaml_parser_parse_flow_mapping_value p false) (following automaton.AfterFlowMappingValue) st.YAML_PARSE_FLOW_MAPPING_VALUE_STATE
           (tk Value a b ∷ tk k m n ∷ l) (tk k m n ∷ l)
-      behind_flow_value a b FlowEntry m n l = (refl, standing refl (inside tt inner agree) tt)
-      behind_flow_value a b FlowMappingEnd m n l = (refl, standing refl (inside tt inner agree) tt)
-      behind_flow_value a b k m n l
+      after_flow_value a b FlowEntry m n l = (refl, standing refl (inside tt inner agree) tt)
+      after_flow_value a b FlowMappingEnd m n l = (refl, standing refl (inside tt inner agree) tt)
+      after_flow_value a b k m n l
           = parsed f tags hs agree be flag x st.YAML_PARSE_FLOW_MAPPING_VALUE_STATE s' ms Flow
           (st.YAML_PARSE_FLOW_MAPPING_KEY_STATE ∷ ss) inner k m n l
 
       flow_mapping_value_token : OfToken (λ p. orig.yaml_parser_parse_flow_mapping_value p false)
           st.YAML_PARSE_FLOW_MAPPING_VALUE_STATE
       flow_mapping_value_token Value m n [] = refl
-      flow_mapping_value_token Value m n (u ∷ l) = behind_flow_value m n u.content u.start_mark u.end_mark l
+      flow_mapping_value_token Value m n (u ∷ l) = after_flow_value m n u.content u.start_mark u.end_mark l
       flow_mapping_value_token k m n l = (refl, standing refl (inside tt inner agree) tt)
 
       pub flow_mapping_value : OfTokens (λ p. orig.yaml_parser_parse_flow_mapping_value p false)
@@ -277,7 +277,7 @@ module _ (f : Fault) (tags : List yaml_tag_directive_t) (hs : Handles) (be flag 
       flow_mapping_empty_value [] = refl
       flow_mapping_empty_value (t ∷ l) = (refl, standing refl (inside tt inner agree) tt)
 
-      first_sequence_token : OfToken (orig.sequence_entry_behind_start true) st.YAML_PARSE_FLOW_SEQUENCE_FIRST_ENTRY_STATE
+      first_sequence_token : OfToken (orig.sequence_entry_after_start true) st.YAML_PARSE_FLOW_SEQUENCE_FIRST_ENTRY_STATE
       first_sequence_token FlowSequenceEnd m n l
           = (refl, standing refl (popped_fits ss inner agree) (popped_fresh ss _ inner))
       first_sequence_token Key m n l = (refl, standing refl (inside tt inner agree) tt)
@@ -285,12 +285,12 @@ module _ (f : Fault) (tags : List yaml_tag_directive_t) (hs : Handles) (be flag 
           = parsed f tags hs agree be flag x st.YAML_PARSE_FLOW_SEQUENCE_FIRST_ENTRY_STATE s' ms Flow
           (st.YAML_PARSE_FLOW_SEQUENCE_ENTRY_STATE ∷ ss) inner k m n l
 
-      first_sequence_entry : OfTokens (orig.sequence_entry_behind_start true) st.YAML_PARSE_FLOW_SEQUENCE_FIRST_ENTRY_STATE
+      first_sequence_entry : OfTokens (orig.sequence_entry_after_start true) st.YAML_PARSE_FLOW_SEQUENCE_FIRST_ENTRY_STATE
       first_sequence_entry [] = refl
       first_sequence_entry (t ∷ l) = first_sequence_token t.content t.start_mark t.end_mark l
 
       first_flow_key : (c d : Mark) (k : Content) (m n : Mark) (l : List Token)
-          → Alike (orig.mapping_key_behind_start true) (behind automaton.BehindFlowMappingKey) st.YAML_PARSE_FLOW_MAPPING_FIRST_KEY_STATE
+          → Alike (orig.mapping_key_after_start true) (following automaton.AfterFlowMappingKey) st.YAML_PARSE_FLOW_MAPPING_FIRST_KEY_STATE
           (tk Key c d ∷ tk k m n ∷ l) (tk k m n ∷ l)
       first_flow_key c d Value m n l = (refl, standing refl (inside tt inner agree) tt)
       first_flow_key c d FlowEntry m n l = (refl, standing refl (inside tt inner agree) tt)
@@ -299,7 +299,7 @@ module _ (f : Fault) (tags : List yaml_tag_directive_t) (hs : Handles) (be flag 
           = parsed f tags hs agree be flag x st.YAML_PARSE_FLOW_MAPPING_FIRST_KEY_STATE s' ms Flow
           (st.YAML_PARSE_FLOW_MAPPING_VALUE_STATE ∷ ss) inner k m n l
 
-      first_mapping_token : OfToken (orig.mapping_key_behind_start true) st.YAML_PARSE_FLOW_MAPPING_FIRST_KEY_STATE
+      first_mapping_token : OfToken (orig.mapping_key_after_start true) st.YAML_PARSE_FLOW_MAPPING_FIRST_KEY_STATE
       first_mapping_token FlowMappingEnd m n l
           = (refl, standing refl (popped_fits ss inner agree) (popped_fresh ss _ inner))
       first_mapping_token Key m n [] = refl
@@ -308,7 +308,7 @@ module _ (f : Fault) (tags : List yaml_tag_directive_t) (hs : Handles) (be flag 
           = parsed f tags hs agree be flag x st.YAML_PARSE_FLOW_MAPPING_FIRST_KEY_STATE s' ms Flow
           (st.YAML_PARSE_FLOW_MAPPING_EMPTY_VALUE_STATE ∷ ss) inner k m n l
 
-      first_mapping_key : OfTokens (orig.mapping_key_behind_start true) st.YAML_PARSE_FLOW_MAPPING_FIRST_KEY_STATE
+      first_mapping_key : OfTokens (orig.mapping_key_after_start true) st.YAML_PARSE_FLOW_MAPPING_FIRST_KEY_STATE
       first_mapping_key [] = refl
       first_mapping_key (t ∷ l) = first_mapping_token t.content t.start_mark t.end_mark l
 
@@ -384,7 +384,7 @@ module _ (f : Fault) (tags : List yaml_tag_directive_t) (hs : Handles) (be flag 
     flow_sequence_first_entry ms t l e
         = skipped t e
         (λ b. Matches f
-        (orig.sequence_entry_behind_start true
+        (orig.sequence_entry_after_start true
         (par st.YAML_PARSE_FLOW_SEQUENCE_FIRST_ENTRY_STATE b (t.start_mark ∷ ms) l))
         (feed f AtState (here st.YAML_PARSE_FLOW_SEQUENCE_FIRST_ENTRY_STATE (t.start_mark ∷ ms)) l))
         (first_sequence_entry st.YAML_PARSE_FLOW_SEQUENCE_FIRST_ENTRY_STATE (t.start_mark ∷ ms) l)
@@ -396,7 +396,7 @@ module _ (f : Fault) (tags : List yaml_tag_directive_t) (hs : Handles) (be flag 
     flow_mapping_first_key ms t l e
         = skipped t e
         (λ b. Matches f
-        (orig.mapping_key_behind_start true
+        (orig.mapping_key_after_start true
         (par st.YAML_PARSE_FLOW_MAPPING_FIRST_KEY_STATE b (t.start_mark ∷ ms) l))
         (feed f AtState (here st.YAML_PARSE_FLOW_MAPPING_FIRST_KEY_STATE (t.start_mark ∷ ms)) l))
         (first_mapping_key st.YAML_PARSE_FLOW_MAPPING_FIRST_KEY_STATE (t.start_mark ∷ ms) l)

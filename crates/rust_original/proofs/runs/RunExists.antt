@@ -23,15 +23,15 @@ use Rattle.rust_original.specs.parser.Differences.{Differs, bare_document, call_
 use Rattle.rust_original.specs.parser.Parser.{FAIL, Mends, OK, ParserResult, OriginalParser, SKIP_TOKEN, is_one_of, scalar_event_with, set_state}
 use Rattle.rust_original.specs.parser.Runs.{Runs, call, ends, fails, goes_on, new_original_parser}
 use Rattle.rust_original.proofs.parser.Calls.{call_same, flagged}
-use Rattle.rust_original.proofs.parser.Relation.{standing, Agree, Below, Fits, HereCall, IsFresh, Matches, Opens, SamePlace, before, behind, behind_end, entering, first, inside, over, root_end, there, there_with, tk, tokens_of}
+use Rattle.rust_original.proofs.parser.Relation.{standing, Agree, Below, Fits, HereCall, IsFresh, Matches, Opens, SamePlace, before, following, after_end, entering, first, inside, over, root_end, there, there_with, tk, tokens_of}
 use Rattle.rust_original.proofs.runs.MachineCalls as does
 use Rattle.rust_original.proofs.runs.MachineCalls.{Does}
 use Rattle.rust_original.proofs.runs.Ended.{NoEnd}
 
 -- where the key of a flow sequence's pair is due: an empty scalar that stands at the end of the token that the
 -- original skips
-abbrev behind_pair_key : Config → Config
-behind_pair_key c = record c { lookahead = None; state = st.YAML_PARSE_FLOW_SEQUENCE_ENTRY_MAPPING_VALUE_STATE }
+abbrev after_pair_key : Config → Config
+after_pair_key c = record c { lookahead = None; state = st.YAML_PARSE_FLOW_SEQUENCE_ENTRY_MAPPING_VALUE_STATE }
 
 abbrev empty_token : Mark → Token
 empty_token n = tk (Scalar (record { value = []; style = YAML_PLAIN_SCALAR_STYLE })) n n
@@ -40,9 +40,9 @@ abbrev empty_at : Mark → Event
 empty_at n = event (scalar_event_with None None [] true false YAML_PLAIN_SCALAR_STYLE) n n
 
 empty_step : (n : Mark) (c : Config) → c.state ≡ st.YAML_PARSE_FLOW_SEQUENCE_ENTRY_MAPPING_KEY_STATE
-    → step AtState (taken c) (empty_token n) ≡ Ok (Given (empty_at n), behind_pair_key c)
+    → step AtState (taken c) (empty_token n) ≡ Ok (Given (empty_at n), after_pair_key c)
 empty_step n c i = subst (λ (s : yaml_parser_state_t).
-    step AtState (taken (record c { state = s })) (empty_token n) ≡ Ok (Given (empty_at n), behind_pair_key c)) (sym i) refl
+    step AtState (taken (record c { state = s })) (empty_token n) ≡ Ok (Given (empty_at n), after_pair_key c)) (sym i) refl
 
 not_both : {b : Bool} → b ≡ false → b ≡ true → ⊥
 not_both e h = no (sym e ∙ h)
@@ -67,8 +67,8 @@ pair_stands : {ss : List yaml_parser_state_t} {s s' : yaml_parser_state_t} {ms m
     → Below ss × Agree tags hs × (s ≡ st.YAML_PARSE_FLOW_SEQUENCE_ENTRY_MAPPING_KEY_STATE) × (ms' ≡ ms) × (l' ≡ l)
 pair_stands before e = absurd cc
 pair_stands first e = absurd cc
-pair_stands behind_end e = absurd cc
-pair_stands (behind i) e = absurd cc
+pair_stands after_end e = absurd cc
+pair_stands (following i) e = absurd cc
 pair_stands root_end e = absurd cc
 pair_stands (entering {s} {s'} i b a n) e = absurd (opens_pair_key s (subst (λ (x : yaml_parser_state_t). Opens x s) e i))
 pair_stands (inside i b a) e = (b, a, e, refl, refl)
@@ -125,10 +125,10 @@ module _ (f : Fault) (m : Mends) (b : Bool)
   }
 
   -- after an event
-  behind_event : (n : ℕ) (q p : OriginalParser) (e : Event) (d : Config) (rest l all : List Token) (g : List Event)
+  after_event : (n : ℕ) (q p : OriginalParser) (e : Event) (d : Config) (rest l all : List Token) (g : List Event)
       → call m q ≡ OK e p → Along p d rest l (g ++ e ∷ []) → ended_or_failed d ≡ is_stream_end e
       → (b ≡ false → all ≡ l ++ rest) → 4 * most < suc n + length g → Next n → HasRun q all g
-  behind_event n q p e d rest l all g i a ends_so same less next = go p.stream_end_produced refl
+  after_event n q p e d rest l all g i a ends_so same less next = go p.stream_end_produced refl
     where
       none : (o : Option Token) → Fed AtState (taken d) o l (g ++ e ∷ []) → ended_or_failed d ≡ true
           → Fed AtState (taken d) None l (g ++ e ∷ [])
@@ -178,7 +178,7 @@ module _ (f : Fault) (m : Mends) (b : Bool)
           let parts : l ++ rest ≡ (l ++ more) ++ r
           = ap (λ (z : List Token). l ++ z) j ∙ sym (append_assoc l more r) in
           let few : length (l ++ more) + length r ≤ most = fewer (l ++ more) r parts in
-          behind_event n q p y x r (l ++ more) (l ++ rest) g (same ∙ (i ∙ ap (λ (z : Event). OK z p) w.0))
+          after_event n q p y x r (l ++ more) (l ++ rest) g (same ∙ (i ∙ ap (λ (z : Event). OK z p) w.0))
           (record { stands = w.1; fed = fed; few = few }) ends_so (λ k. parts) less next
         where
           fewer : (a' r' : List Token) → l ++ rest ≡ a' ++ r' → length a' + length r' ≤ most
@@ -213,8 +213,8 @@ module _ (f : Fault) (m : Mends) (b : Bool)
       let one : length (l ++ empty_token t.end_mark ∷ []) ≡ length l + 1 = length-append l (empty_token t.end_mark ∷ []) in
       let gone : length rest ≡ suc (length k) = ap length left in
       let few = a.few in
-      behind_event n q (set_state st.YAML_PARSE_FLOW_SEQUENCE_ENTRY_MAPPING_VALUE_STATE (SKIP_TOKEN q))
-      (empty_at t.end_mark) (behind_pair_key d) k (l ++ empty_token t.end_mark ∷ []) (l ++ rest) g c (record {
+      after_event n q (set_state st.YAML_PARSE_FLOW_SEQUENCE_ENTRY_MAPPING_VALUE_STATE (SKIP_TOKEN q))
+      (empty_at t.end_mark) (after_pair_key d) k (l ++ empty_token t.end_mark ∷ []) (l ++ rest) g c (record {
         stands = record {
           tags = a.stands.tags;
           flag = a.stands.flag;
@@ -228,15 +228,15 @@ module _ (f : Fault) (m : Mends) (b : Bool)
               ∙ (ap (λ (y : List Token). goes (there f a.stands.tags a.stands.flag a.stands.state a.stands.ended d y))
               (fits.4 ∙ tokens)
               ∙ ap (λ (u : Bool). there f a.stands.tags a.stands.flag
-              st.YAML_PARSE_FLOW_SEQUENCE_ENTRY_MAPPING_VALUE_STATE u (behind_pair_key d) k)
+              st.YAML_PARSE_FLOW_SEQUENCE_ENTRY_MAPPING_VALUE_STATE u (after_pair_key d) k)
               (no_end t.content t.start_mark t.end_mark i)));
           fits = inside tt fits.0 fits.1;
           fresh = tt;
         };
-        fed = push_lemmas.gives_on AtState (taken d) (empty_token t.end_mark) hand (empty_at t.end_mark) (behind_pair_key d) led;
+        fed = push_lemmas.gives_on AtState (taken d) (empty_token t.end_mark) hand (empty_at t.end_mark) (after_pair_key d) led;
         few = omega arith;
       })
-      (gives_end hand (empty_at t.end_mark) (behind_pair_key d) led) (λ j. absurd (not_both j may)) less next
+      (gives_end hand (empty_at t.end_mark) (after_pair_key d) led) (λ j. absurd (not_both j may)) less next
     where
       goes : OriginalParser → OriginalParser
       goes p = set_state st.YAML_PARSE_FLOW_SEQUENCE_ENTRY_MAPPING_VALUE_STATE (SKIP_TOKEN p)

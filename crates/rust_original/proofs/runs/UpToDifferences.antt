@@ -10,9 +10,9 @@ use Rattle.libyaml_grammar.specs.runs.Runs.{Ending, Ends, Fails}
 use Rattle.libyaml_grammar.specs.grammar.Events.{Event}
 use Rattle.libyaml_grammar.specs.grammar.Tokens.{Content, DocumentEnd, DocumentStart, FlowEntry, FlowSequenceEnd, Mark, StreamEnd, TagDirective, Token, Value, VersionDirective}
 use Rattle.rust_original.specs.parser.Parser as orig
-use Rattle.rust_original.specs.parser.Parser.{FAIL, Mends, OK, ParserResult, OriginalParser, SKIP_TOKEN, behind_directives, implicit_document_start, is_one_of, skip_document_ends, yaml_parser_parse, yaml_parser_state_machine}
+use Rattle.rust_original.specs.parser.Parser.{FAIL, Mends, OK, ParserResult, OriginalParser, SKIP_TOKEN, after_directives, implicit_document_start, is_one_of, skip_document_ends, yaml_parser_parse, yaml_parser_state_machine}
 use Rattle.rust_original.specs.parser.Runs.{Runs, as_here, as_there, ends, fails, goes_on}
-use Rattle.rust_original.specs.parser.Differences.{Compares, Differs, bare_document, behind_entry, behind_start, by_call, call_here, call_there, here, pair_key, parts, same, value_first}
+use Rattle.rust_original.specs.parser.Differences.{Compares, Differs, bare_document, after_entry, after_start, by_call, call_here, call_there, here, pair_key, parts, same, value_first}
 use Rattle.rust_original.proofs.parser.Handles.{defaults_appended}
 use Rattle.libyaml_events.specs.machine.Config.{is_end_state, is_fault}
 use Rattle.rust_original.proofs.parser.Relation.{tk}
@@ -36,14 +36,14 @@ pair_keys p k m n l s = inl refl
 keys : (p : OriginalParser) (k : Content) (m n : Mark) (l : List Token) → p.state ≡ st.YAML_PARSE_BLOCK_MAPPING_KEY_STATE
     → Apart (with p (tk k m n ∷ l)) (orig.yaml_parser_parse_block_mapping_key as_there (with p (tk k m n ∷ l)) false)
     (orig.yaml_parser_parse_block_mapping_key as_here (with p (tk k m n ∷ l)) false)
-keys p Value m n l s = inr (value_first _ _ l (behind_entry s) refl refl)
+keys p Value m n l s = inr (value_first _ _ l (after_entry s) refl refl)
 keys p k m n l s = inl refl
 
 first_keys : (p : OriginalParser) (t : Token) (k : Content) (m n : Mark) (l : List Token)
     → p.state ≡ st.YAML_PARSE_BLOCK_MAPPING_FIRST_KEY_STATE → Apart (with p (t ∷ tk k m n ∷ l))
     (orig.yaml_parser_parse_block_mapping_key as_there (with p (t ∷ tk k m n ∷ l)) true)
     (orig.yaml_parser_parse_block_mapping_key as_here (with p (t ∷ tk k m n ∷ l)) true)
-first_keys p t Value m n l s = inr (value_first _ _ l (behind_start t _ s refl) refl refl)
+first_keys p t Value m n l s = inr (value_first _ _ l (after_start t _ s refl) refl refl)
 first_keys p t k m n l s = inl refl
 
 -- after DOCUMENT-ENDs, a token that begins no explicit document
@@ -51,7 +51,7 @@ record Bare (p : OriginalParser) (o u : ParserResult) : Type 0 where
   q : OriginalParser
   t : Token
   l : List Token
-  ended : p.behind_explicit_end ≡ true
+  ended : p.after_explicit_end ≡ true
   skipped : skip_document_ends p.tokens p ≡ q
   tokens : q.tokens ≡ t ∷ l
   kind : is_one_of t
@@ -70,7 +70,7 @@ abbrev Starts : OriginalParser → Type 0
 Starts p = (start_there p ≡ start_here p) ⊎ Bare p (start_there p) (start_here p)
 
 abbrev ended : OriginalParser → Bool → List Token → OriginalParser
-ended p b l = record p { tokens = l; behind_explicit_end = b }
+ended p b l = record p { tokens = l; after_explicit_end = b }
 
 -- one DOCUMENT-END more
 further : (p : OriginalParser) (b : Bool) (m n : Mark) (l : List Token)
@@ -103,7 +103,7 @@ start_token true p k m n l ih = inr (record {
   skipped = refl;
   tokens = refl;
   kind = refl;
-  fault_there = defaults_appended (ended p true (tk k m n ∷ l)) m (behind_directives m None []);
+  fault_there = defaults_appended (ended p true (tk k m n ∷ l)) m (after_directives m None []);
   begun_here = refl;
 })
 start_token false p DocumentEnd m n l ih = further p false m n l ih
@@ -112,7 +112,7 @@ start_token false p k m n l ih = inl refl
 starts : (l : List Token) (p : OriginalParser) → Starts (with p l)
 starts [] p = inl refl
 starts (t ∷ l) p
-    = start_token p.behind_explicit_end p t.content t.start_mark t.end_mark l (starts l (SKIP_TOKEN (with p (t ∷ l))))
+    = start_token p.after_explicit_end p t.content t.start_mark t.end_mark l (starts l (SKIP_TOKEN (with p (t ∷ l))))
 
 -- a call
 apart_at : (p : OriginalParser) (s : yaml_parser_state_t) → p.state ≡ s

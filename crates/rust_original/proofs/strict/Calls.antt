@@ -19,7 +19,7 @@ use Rattle.libyaml_events.proofs.exported.Pushes.{fed_ended, hand_runs, wants_ru
 use Rattle.token_steps.specs.Records.{event_of, shape_of, step_fault}
 use Rattle.token_steps.specs.RunLaws.{want_with}
 use Rattle.token_steps.specs.Runs.{Run, StepCalls, begins, gave, moves, stays, takes, wants}
-use Rattle.token_steps.specs.Texts.{event_with, handles_past, kept_behind}
+use Rattle.token_steps.specs.Texts.{event_with, handles_past, texts_kept_after}
 use Rattle.token_steps.specs.declared.records.step_event_t.{step_event_t}
 use Rattle.token_steps.specs.declared.records.step_fault_t.{step_fault_t}
 use Rattle.token_steps.specs.declared.steps.steps_t.{steps_t}
@@ -91,7 +91,7 @@ ended (moves d d' ss ss' ms ms' hs h o l g r v w e) k n f more
 ended (takes d ss ms hs h l g t r e) k n f more
     = subst (λ (z : List Token). StrictOver z f g (Over Ends)) (sym (append_assoc l (t ∷ []) more)) (ended r k n f (t ∷ more))
 ended (wants d d' ss ss' ms ms' hs h l g t e i r c) k n f more
-    = absurd (no (sym n ∙ wants_runs (fed d ss ms hs h (Some t) l g r).0 (want_with d' (kept_behind h t.content))
+    = absurd (no (sym n ∙ wants_runs (fed d ss ms hs h (Some t) l g r).0 (want_with d' (texts_kept_after h t.content))
     (config_at d' ss' ms' (declared_by hs t.content)) (step_wants d d' ss ss' ms ms' hs h l g t e i r c)))
   where
     no : true ≡ false → ⊥

@@ -14,13 +14,13 @@ use Rattle.libyaml_automaton.specs.declared.difference.Difference.TheVariants.{N
 use Rattle.libyaml_events.specs.machine.Config.{Config, Handles, config_of, is_end_state, no_handles, taken}
 use Rattle.libyaml_events.specs.machine.Machine.{Progressed, seen, step}
 use Rattle.libyaml_events.specs.machine.Want.{AtState, Given, Want, Wants}
-use Rattle.rust_original.specs.parser.Differences.{Differs, bare_document, behind_entry, behind_start, call_here, call_there, pair_key, value_first}
-use Rattle.rust_original.specs.parser.Parser.{OriginalParser, PUSH_mark, ParserResult, SKIP_TOKEN, behind_directives, scalar_event_with, set_state, yaml_parser_process_empty_scalar}
+use Rattle.rust_original.specs.parser.Differences.{Differs, bare_document, after_entry, after_start, call_here, call_there, pair_key, value_first}
+use Rattle.rust_original.specs.parser.Parser.{OriginalParser, PUSH_mark, ParserResult, SKIP_TOKEN, after_directives, scalar_event_with, set_state, yaml_parser_process_empty_scalar}
 use Rattle.rust_original.specs.parser.Strict.{DoesThere, GivesEvent, differs_by}
 use Rattle.rust_original.proofs.parser.Handles.{defaults_appended}
-use Rattle.rust_original.proofs.parser.Relation.{Fits, IsInside, Opens, SamePlace, before, behind, behind_end, entering, first, inside, over, root_end, there_with, tk, tokens_of}
+use Rattle.rust_original.proofs.parser.Relation.{Fits, IsInside, Opens, SamePlace, before, following, after_end, entering, first, inside, over, root_end, there_with, tk, tokens_of}
 use Rattle.rust_original.proofs.strict.Quiet as quiet
-use Rattle.rust_original.proofs.strict.Quiet.{Quiet, QuietProgress, QuietState, QuietStep, quiet_behind, quiet_by}
+use Rattle.rust_original.proofs.strict.Quiet.{Quiet, QuietProgress, QuietState, QuietStep, quiet_after, quiet_by}
 
 -- what the questions of one call say: none is met, or one is, with the marks of the innermost collection and the token
 pub data Judged : Type 0 where
@@ -52,10 +52,10 @@ still [] w c q = refl
 still (t ∷ l) w c q
     = ap (λ (k : Difference). judged_at k c t (judged_by (step w c t) (λ v d. judged v d l)))
     (quiet.nowhere w.next c.state c.behind_document_end (token_type t.content) q)
-    ∙ after (λ v d. judged v d l) (λ v d h. still l v d h) (step w c t) (quiet_behind w c t q)
+    ∙ after (λ v d. judged v d l) (λ v d h. still l v d h) (step w c t) (quiet_after w c t q)
 
-behind_token : (l : List Token) (o : Progressed) → QuietProgress o → judged_by o (λ v d. judged v d l) ≡ none
-behind_token l o q = after (λ v d. judged v d l) (still l) o q
+after_token : (l : List Token) (o : Progressed) → QuietProgress o → judged_by o (λ v d. judged v d l) ≡ none
+after_token l o q = after (λ v d. judged v d l) (still l) o q
 
 -- what a call of the original does then
 abbrev pub Found : Judged → OriginalParser → Type 0
@@ -85,7 +85,7 @@ module _ (f : Fault) (x : Fault) (ss : List yaml_parser_state_t) where
   silent s q ms hs be (t ∷ l)
       = ap (λ (k : Difference). judged_at k (conf s ms hs be) t
       (judged_by (step AtState (conf s ms hs be) t) (λ v d. judged v d l))) (same s q)
-      ∙ behind_token l (step AtState (conf s ms hs be) t)
+      ∙ after_token l (step AtState (conf s ms hs be) t)
       (quiet_by AtState (conf s ms hs be) t
       (quiet.at_state s (config_of (conf s ms hs be)) (seen t t.content) (token_type t.content) (still_quiet s q)))
     where
@@ -104,7 +104,7 @@ module _ (f : Fault) (x : Fault) (ss : List yaml_parser_state_t) where
   -- the same of a state's function alone: its steps want no token for a state's
   unmet : (s : yaml_parser_state_t) → QuietState s → (ms : List Mark) (hs : Handles) (be : Bool) (t : Token)
       (l : List Token) → judged_by (step AtState (conf s ms hs be) t) (λ v d. judged v d l) ≡ none
-  unmet s q ms hs be t l = behind_token l (step AtState (conf s ms hs be) t)
+  unmet s q ms hs be t l = after_token l (step AtState (conf s ms hs be) t)
       (quiet_by AtState (conf s ms hs be) t
       (quiet.at_state s (config_of (conf s ms hs be)) (seen t t.content) (token_type t.content) q))
 
@@ -133,7 +133,7 @@ module _ (f : Fault) (x : Fault) (ss : List yaml_parser_state_t) where
       go Value m n = (
         value_first
             (there_with f tags flag st.YAML_PARSE_BLOCK_MAPPING_KEY_STATE false (conf st.YAML_PARSE_BLOCK_MAPPING_KEY_STATE ms hs be) ms (tk Value m n ∷ l))
-            (tk Value m n) l (behind_entry refl) refl refl,
+            (tk Value m n) l (after_entry refl) refl refl,
         refl,
       )
       go k m n = unasked st.YAML_PARSE_BLOCK_MAPPING_KEY_STATE st.YAML_PARSE_BLOCK_MAPPING_KEY_STATE ms ms tags hs be flag false
@@ -153,18 +153,18 @@ module _ (f : Fault) (x : Fault) (ss : List yaml_parser_state_t) where
         value_first
             (SKIP_TOKEN (PUSH_mark t.start_mark (there_with f tags flag st.YAML_PARSE_BLOCK_MAPPING_FIRST_KEY_STATE false (conf st.YAML_PARSE_BLOCK_MAPPING_KEY_STATE (t.start_mark ∷ ms) hs be) ms
             (t ∷ tk Value m n ∷ l))))
-            (tk Value m n) l (behind_start t (tk Value m n ∷ l) refl refl) refl refl,
+            (tk Value m n) l (after_start t (tk Value m n ∷ l) refl refl) refl refl,
         refl,
       )
       go k m n = unasked st.YAML_PARSE_BLOCK_MAPPING_KEY_STATE st.YAML_PARSE_BLOCK_MAPPING_FIRST_KEY_STATE (t.start_mark ∷ ms) ms tags hs be flag false
           (tk k m n ∷ l) (t ∷ tk k m n ∷ l) (unmet st.YAML_PARSE_BLOCK_MAPPING_KEY_STATE tt (t.start_mark ∷ ms) hs be (tk k m n) l) refl
 
   -- after the KEY of a pair
-  behind_pair_key : (ms : List Mark) (tags : List yaml_tag_directive_t) (hs : Handles) (be flag : Bool) (l : List Token)
+  after_pair_key : (ms : List Mark) (tags : List yaml_tag_directive_t) (hs : Handles) (be flag : Bool) (l : List Token)
       → Finds st.YAML_PARSE_FLOW_SEQUENCE_ENTRY_MAPPING_KEY_STATE st.YAML_PARSE_FLOW_SEQUENCE_ENTRY_MAPPING_KEY_STATE ms ms
       tags hs be flag false l l
-  behind_pair_key ms tags hs be flag [] = refl
-  behind_pair_key ms tags hs be flag (t ∷ l) = go t.content t.start_mark t.end_mark
+  after_pair_key ms tags hs be flag [] = refl
+  after_pair_key ms tags hs be flag (t ∷ l) = go t.content t.start_mark t.end_mark
     where
       goes : (u : Token) → GivesEvent (yaml_parser_process_empty_scalar u.end_mark
           (set_state st.YAML_PARSE_FLOW_SEQUENCE_ENTRY_MAPPING_VALUE_STATE (SKIP_TOKEN
@@ -211,7 +211,7 @@ module _ (f : Fault) (x : Fault) (ss : List yaml_parser_state_t) where
   first_document : (ms : List Mark) (hs : Handles) (l : List Token)
       → judged AtState (conf st.YAML_PARSE_IMPLICIT_DOCUMENT_START_STATE ms hs false) l ≡ none
   first_document ms hs [] = refl
-  first_document ms hs (t ∷ l) = behind_token l (step AtState (conf st.YAML_PARSE_IMPLICIT_DOCUMENT_START_STATE ms hs false) t)
+  first_document ms hs (t ∷ l) = after_token l (step AtState (conf st.YAML_PARSE_IMPLICIT_DOCUMENT_START_STATE ms hs false) t)
       (quiet_by AtState (conf st.YAML_PARSE_IMPLICIT_DOCUMENT_START_STATE ms hs false) t
       (quiet.first_document (config_of (conf st.YAML_PARSE_IMPLICIT_DOCUMENT_START_STATE ms hs false)) (seen t t.content)
       (token_type t.content) refl))
@@ -224,11 +224,11 @@ module _ (f : Fault) (x : Fault) (ss : List yaml_parser_state_t) where
   carried : {o u : ParserResult} (ms : List Mark) (m n : Mark) (l : List Token) → Differs (between ms l) o u
       → Differs (between ms (tk DocumentEnd m n ∷ l)) o u
   carried ms m n l (bare_document r t rest s e i h j) = bare_document r t rest s e i h j
-  carried ms m n l (value_first r t rest (behind_start u v s i) j e) = absurd (no s)
+  carried ms m n l (value_first r t rest (after_start u v s i) j e) = absurd (no s)
     where
       no : st.YAML_PARSE_DOCUMENT_START_STATE ≡ st.YAML_PARSE_BLOCK_MAPPING_FIRST_KEY_STATE → ⊥
       no h = cc
-  carried ms m n l (value_first r t rest (behind_entry s) j e) = absurd (no s)
+  carried ms m n l (value_first r t rest (after_entry s) j e) = absurd (no s)
     where
       no : st.YAML_PARSE_DOCUMENT_START_STATE ≡ st.YAML_PARSE_BLOCK_MAPPING_KEY_STATE → ⊥
       no h = cc
@@ -257,7 +257,7 @@ module _ (f : Fault) (x : Fault) (ss : List yaml_parser_state_t) where
           → judged_by (step AtState (conf st.YAML_PARSE_IMPLICIT_DOCUMENT_START_STATE ms no_handles true) (tk k m n))
           (λ v d. judged v d l) ≡ none
       directive k m n q
-          = behind_token l (step AtState (conf st.YAML_PARSE_IMPLICIT_DOCUMENT_START_STATE ms no_handles true) (tk k m n)) q
+          = after_token l (step AtState (conf st.YAML_PARSE_IMPLICIT_DOCUMENT_START_STATE ms no_handles true) (tk k m n)) q
 
       go : (k : Content) (m n : Mark) → Goal l → Goal (tk k m n ∷ l)
       go DocumentEnd m n ih = further ms m n l (judged AtState (conf st.YAML_PARSE_IMPLICIT_DOCUMENT_START_STATE ms no_handles true) l) ih
@@ -273,7 +273,7 @@ module _ (f : Fault) (x : Fault) (ss : List yaml_parser_state_t) where
         bare_document _ _ l refl refl refl refl refl,
         defaults_appended (there_with f [] true st.YAML_PARSE_DOCUMENT_START_STATE false
             (conf st.YAML_PARSE_IMPLICIT_DOCUMENT_START_STATE ms no_handles true) ms (tk k m n ∷ l)) m
-            (behind_directives m None []),
+            (after_directives m None []),
       )
 
   quiet_state : (s : yaml_parser_state_t) → Silent s → (ms ms' : List Mark) (tags : List yaml_tag_directive_t)
@@ -312,7 +312,7 @@ module _ (f : Fault) (x : Fault) (ss : List yaml_parser_state_t) where
   within : (s : yaml_parser_state_t) (ms : List Mark) (tags : List yaml_tag_directive_t) (hs : Handles) (be flag : Bool)
       (l : List Token) → IsInside s → Finds s s ms ms tags hs be flag false l l
   within st.YAML_PARSE_BLOCK_MAPPING_KEY_STATE ms tags hs be flag l i = block_key ms tags hs be flag l
-  within st.YAML_PARSE_FLOW_SEQUENCE_ENTRY_MAPPING_KEY_STATE ms tags hs be flag l i = behind_pair_key ms tags hs be flag l
+  within st.YAML_PARSE_FLOW_SEQUENCE_ENTRY_MAPPING_KEY_STATE ms tags hs be flag l i = after_pair_key ms tags hs be flag l
   within st.YAML_PARSE_FLOW_SEQUENCE_ENTRY_STATE ms tags hs be flag l i
       = found_none _ _ (sequence_entry ms hs be l) refl
   within st.YAML_PARSE_FLOW_MAPPING_KEY_STATE ms tags hs be flag l i = found_none _ _ (mapping_key ms hs be l) refl
@@ -347,8 +347,8 @@ module _ (f : Fault) (x : Fault) (ss : List yaml_parser_state_t) where
       = quiet_state st.YAML_PARSE_STREAM_START_STATE tt ms ms [] no_handles false false false
       st.YAML_PARSE_STREAM_START_STATE l l refl
   found (first {ms} {l}) e = found_none _ _ (first_document ms no_handles l) refl
-  found (behind_end {ms} {l}) e = bare ms l
-  found (behind {ms} {be} {t} {l} i) e = next_document ms be t.content t.start_mark t.end_mark l i
+  found (after_end {ms} {l}) e = bare ms l
+  found (following {ms} {be} {t} {l} i) e = next_document ms be t.content t.start_mark t.end_mark l i
   found (root_end {ms} {tags} {hs} {be} {flag} {l}) e
       = quiet_state st.YAML_PARSE_DOCUMENT_END_STATE tt ms ms tags hs be flag false st.YAML_PARSE_DOCUMENT_END_STATE l l
       refl

@@ -17,9 +17,9 @@ use Rattle.libyaml_automaton.specs.declared.node_place.NodePlace.TheVariants as 
 use Rattle.libyaml_automaton.specs.declared.slot.Slot.{Slot}
 use Rattle.libyaml_automaton.specs.declared.slot.Slot.TheVariants as at
 use Rattle.libyaml_automaton.specs.Differing.{differs}
-use Rattle.libyaml_automaton.specs.Slots.{entered, is_nothing_before, left_out, slot_place, state_behind}
+use Rattle.libyaml_automaton.specs.Slots.{entered, is_nothing_before, left_out, slot_place, state_after}
 use Rattle.libyaml_events.specs.machine.Config.{Config, config_of}
-use Rattle.libyaml_events.specs.machine.Machine.{Progressed, content_behind, content_resolved, is_accepted_in, put, resolve, seen, step, was_declared, with_texts}
+use Rattle.libyaml_events.specs.machine.Machine.{Progressed, content_after, content_resolved, is_accepted_in, put, resolve, seen, step, was_declared, with_texts}
 use Rattle.libyaml_events.specs.machine.Want.{Texts, Want, Wants}
 
 abbrev pub Quiet : Purpose → Type 0
@@ -70,21 +70,21 @@ pub slot : (s : Slot) (m : yaml_mark_t) (x : Stacks) (t : KindAndMarks) (k : yam
     → QuietStep (automaton.at_slot s m x t k)
 slot s m x t k = go (is_nothing_before s k)
   where
-    go : (b : Bool) → QuietStep (if b then automaton.process_empty_scalar m (left_out (state_behind s) x)
-        else automaton.parse_node (slot_place s) (entered (state_behind s) x) t k)
+    go : (b : Bool) → QuietStep (if b then automaton.process_empty_scalar m (left_out (state_after s) x)
+        else automaton.parse_node (slot_place s) (entered (state_after s) x) t k)
     go true = tt
-    go false = node (slot_place s) (entered (state_behind s) x) t k
+    go false = node (slot_place s) (entered (state_after s) x) t k
 
 properties : (p : NodePlace) (r : PropertiesRead) (x : Stacks) (t : KindAndMarks) (k : yaml_token_type_t)
-    → QuietStep (automaton.behind_properties p r x t k)
+    → QuietStep (automaton.parse_after_properties p r x t k)
 properties p r x t kinds.YAML_ANCHOR_TOKEN = go r.anchor
   where
-    go : (b : Bool) → QuietStep (automaton.anchor_behind b p r x t)
+    go : (b : Bool) → QuietStep (automaton.anchor_after b p r x t)
     go true = tt
     go false = tt
 properties p r x t kinds.YAML_TAG_TOKEN = go r.tag
   where
-    go : (b : Bool) → QuietStep (automaton.tag_behind b p r x t)
+    go : (b : Bool) → QuietStep (automaton.tag_after b p r x t)
     go true = tt
     go false = tt
 properties p r x t _ = tt
@@ -199,17 +199,17 @@ at_state st.YAML_PARSE_FLOW_MAPPING_EMPTY_VALUE_STATE x t k q = tt
 at_state _ x t k q = tt
 
 -- a token that follows another within a production
-behind : (p : Purpose) (x : Stacks) (t : KindAndMarks) (k : yaml_token_type_t) → Quiet p → QuietStep (automaton.step p x t k)
-behind automaton.AtState x t k q = absurd q
-behind (automaton.BehindDirective m b) x t k q = explicit m b x t k
-behind (automaton.BehindProperties p r) x t k q = properties p r x t k
-behind (automaton.BehindBlockEntry m) x t k q = slot at.BlockEntry m x t k
-behind (automaton.BehindIndentlessEntry m) x t k q = slot at.IndentlessEntry m x t k
-behind (automaton.BehindKey m) x t k q = slot at.BlockKey m x t k
-behind (automaton.BehindValue m) x t k q = slot at.BlockValue m x t k
-behind automaton.BehindFlowSequenceValue x t k q = slot at.PairValue t.start_mark x t k
-behind automaton.BehindFlowMappingKey x t k q = slot at.FlowKey t.start_mark x t k
-behind automaton.BehindFlowMappingValue x t k q = slot at.FlowValue t.start_mark x t k
+following : (p : Purpose) (x : Stacks) (t : KindAndMarks) (k : yaml_token_type_t) → Quiet p → QuietStep (automaton.step p x t k)
+following automaton.AtState x t k q = absurd q
+following (automaton.AfterDirective m b) x t k q = explicit m b x t k
+following (automaton.AfterProperties p r) x t k q = properties p r x t k
+following (automaton.AfterBlockEntry m) x t k q = slot at.BlockEntry m x t k
+following (automaton.AfterIndentlessEntry m) x t k q = slot at.IndentlessEntry m x t k
+following (automaton.AfterKey m) x t k q = slot at.BlockKey m x t k
+following (automaton.AfterValue m) x t k q = slot at.BlockValue m x t k
+following automaton.AfterFlowSequenceValue x t k q = slot at.PairValue t.start_mark x t k
+following automaton.AfterFlowMappingKey x t k q = slot at.FlowKey t.start_mark x t k
+following automaton.AfterFlowMappingValue x t k q = slot at.FlowValue t.start_mark x t k
 
 -- with texts
 put_quiet : (h : Texts) (b g : Option (List ℕ)) (c : Config) (t : Token) (k : Content) (s : Step) → QuietStep s
@@ -227,7 +227,7 @@ resolved_quiet (Some g) p r x h c t k
     (content p r x (seen t k) (token_type k))
 
 content_quiet : (o : Option unnamed_yaml_token_t_data_tag) (p : NodePlace) (r : PropertiesRead) (x : Stacks) (h : Texts)
-    (c : Config) (t : Token) (k : Content) → QuietProgress (content_behind o p r x h c t k)
+    (c : Config) (t : Token) (k : Content) → QuietProgress (content_after o p r x h c t k)
 content_quiet None p r x h c t k = put_quiet h h.anchor None c t k (automaton.node_content p r x (seen t k) (token_type k))
     (content p r x (seen t k) (token_type k))
 content_quiet (Some g) p r x h c t k = resolved_quiet (resolve c.handles g.handle g.suffix) p r x h c t k
@@ -257,5 +257,5 @@ pub quiet_by : (w : Want) (c : Config) (t : Token)
 quiet_by w c t q = texts_quiet w.texts c t t.content
     (automaton.step w.next (config_of c) (seen t t.content) (token_type t.content)) q
 
-pub quiet_behind : (w : Want) (c : Config) (t : Token) → Quiet w.next → QuietProgress (step w c t)
-quiet_behind w c t q = quiet_by w c t (behind w.next (config_of c) (seen t t.content) (token_type t.content) q)
+pub quiet_after : (w : Want) (c : Config) (t : Token) → Quiet w.next → QuietProgress (step w c t)
+quiet_after w c t q = quiet_by w c t (following w.next (config_of c) (seen t t.content) (token_type t.content) q)

@@ -118,12 +118,12 @@ module _ (f : Fault) where
       go (OK a p) k w = absurd w
       go (FAIL h) k w = (alike ∙ (k ∙ ap FAIL w), k ∙ ap FAIL w)
 
-  behind_event : (q : OriginalParser) (e : Event) (d : Config) (r : List Token) (later : List Event) (x : StrictEnding)
+  after_event : (q : OriginalParser) (e : Event) (d : Config) (r : List Token) (later : List Event) (x : StrictEnding)
       → (s : Same q e d r) → is_end_state d.state ≡ false → Result s.next later x → Result q (e ∷ later) x
-  behind_event q e d r later (Over y) s n h =
+  after_event q e d r later (Over y) s n h =
       let flag = same_flag f s.next d r s.stands ∙ n in
       (goes_on s.calls_there flag h.0, goes_on s.calls_here flag h.1)
-  behind_event q e d r later (Stopped k m o) s n h = record {
+  after_event q e d r later (Stopped k m o) s n h = record {
     before = h.before;
     reached = by_call s.calls_there s.calls_here (same_flag f s.next d r s.stands ∙ n) h.reached;
     differs = h.differs;
@@ -139,7 +139,7 @@ module _ (f : Fault) where
       let h = failed_call q d l s n j g i in (fails h.0, fails h.1)
   follows (e ∷ later) x q d l s n (gives {d = y} {r} j i k rest) =
       let h = same_call q d l s n j e y r i in
-      behind_event q e y r later x h k (follows later x h.next y r h.stands k (split rest))
+      after_event q e y r later x h k (follows later x h.next y r h.stands k (split rest))
   follows (e ∷ []) x q d l s n (at_end {d = y} {r} j i k) =
       let h = same_call q d l s n j e y r i in
       let flag = same_flag f h.next y r h.stands ∙ k in (ends h.calls_there flag, ends h.calls_here flag)
@@ -159,15 +159,15 @@ module _ (f : Fault) where
           → feed f v d l ≡ given e d' r → is_end_state d'.state ≡ false → Any AtState (taken d') (to_come d'.lookahead r))
           → Any v d l
 
-      behind : (e : Event) (d : Config) → differs_by w c t ≡ Nowhere → step w c t ≡ Ok (Given e, d) → (b : Bool)
+      following : (e : Event) (d : Config) → differs_by w c t ≡ Nowhere → step w c t ≡ Ok (Given e, d) → (b : Bool)
           → is_end_state d.state ≡ b → Any w c (t ∷ l)
-      behind e d i s true n = (e ∷ [], Over Ends, strict.ends i s n)
-      behind e d i s false n =
+      following e d i s true n = (e ∷ [], Over Ends, strict.ends i s n)
+      following e d i s false n =
           let h = more e d l (fed w c t l (Ok (Given e, d)) s) n in (e ∷ h.0, h.1, strict.gives i s n h.2)
 
       by_step : (o : Progressed) → differs_by w c t ≡ Nowhere → step w c t ≡ o → Later → Any w c (t ∷ l)
       by_step (Err g) i s ih = ([], Over (Fails g), strict.fails i s)
-      by_step (Ok (Given e, d)) i s ih = behind e d i s (is_end_state d.state) refl
+      by_step (Ok (Given e, d)) i s ih = following e d i s (is_end_state d.state) refl
       by_step (Ok (Wants v, d)) i s ih =
           let h = ih v d (λ e d' r k n. more e d' r (fed w c t l (Ok (Wants v, d)) s ∙ k) n) in
           (h.0, h.1, strict.wants i s h.2)

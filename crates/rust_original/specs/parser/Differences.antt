@@ -20,9 +20,9 @@ call_here p = call as_here p
 
 -- Where a block mapping's KEY is due: after the token that opens it, or after an entry.
 pub data KeyDue (p : OriginalParser) : OriginalParser → Type 0 where
-  behind_start : (t : Token) (l : List Token) → p.state ≡ st.YAML_PARSE_BLOCK_MAPPING_FIRST_KEY_STATE
+  after_start : (t : Token) (l : List Token) → p.state ≡ st.YAML_PARSE_BLOCK_MAPPING_FIRST_KEY_STATE
       → p.tokens ≡ t ∷ l → KeyDue p (SKIP_TOKEN (PUSH_mark t.start_mark p))
-  behind_entry : p.state ≡ st.YAML_PARSE_BLOCK_MAPPING_KEY_STATE → KeyDue p p
+  after_entry : p.state ≡ st.YAML_PARSE_BLOCK_MAPPING_KEY_STATE → KeyDue p p
 
 -- What each does, first there and then here.
 pub data Differs (p : OriginalParser) : ParserResult → ParserResult → Type 0 where
@@ -46,7 +46,7 @@ pub data Differs (p : OriginalParser) : ParserResult → ParserResult → Type 0
   -- After a document with an explicit end, a token that begins no explicit document is an error there, and
   -- begins an implicit one here.
   bare_document : (q : OriginalParser) (t : Token) (l : List Token) → p.state ≡ st.YAML_PARSE_DOCUMENT_START_STATE
-      → p.behind_explicit_end ≡ true → skip_document_ends p.tokens p ≡ q → q.tokens ≡ t ∷ l → is_one_of t (
+      → p.after_explicit_end ≡ true → skip_document_ends p.tokens p ≡ q → q.tokens ≡ t ∷ l → is_one_of t (
       kinds.YAML_VERSION_DIRECTIVE_TOKEN ∷ kinds.YAML_TAG_DIRECTIVE_TOKEN ∷ kinds.YAML_DOCUMENT_START_TOKEN
       ∷ kinds.YAML_STREAM_END_TOKEN ∷ []
       ) ≡ false

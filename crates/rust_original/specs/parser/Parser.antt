@@ -37,10 +37,10 @@ use Rattle.libyaml_automaton.specs.Config.{below, top, top_mark}
 pub record Mends : Type 0 where
   pub pair_key_stays : Bool
   pub value_begins_entry : Bool
-  pub bare_document_behind_end : Bool
+  pub bare_document_after_end : Bool
 
 -- The parser's fields: the tokens that the scanner will give, and what it fails with after them; the stacks,
--- their top first; the tag directives in their order. `behind_explicit_end`, which a mend alone looks at, is
+-- their top first; the tag directives in their order. `after_explicit_end`, which a mend alone looks at, is
 -- no field there: the last document had an explicit end.
 pub record OriginalParser : Type 0 where
   pub tokens : List Token
@@ -50,7 +50,7 @@ pub record OriginalParser : Type 0 where
   pub states : List yaml_parser_state_t
   pub marks : List Mark
   pub tag_directives : List yaml_tag_directive_t
-  pub behind_explicit_end : Bool
+  pub after_explicit_end : Bool
 
 -- What a function returns: an event and the parser after it, or the error that is set.
 pub data ParserResult : Type 0 where
@@ -237,8 +237,8 @@ implicit_document_start mark p = yaml_parser_process_directives p (begins_implic
 
 -- An explicit document's start event, from its first directive or its DOCUMENT-START to the end of
 -- DOCUMENT-START.
-abbrev pub behind_directives : (start_mark : Mark) → AfterDirectives
-behind_directives start_mark version tags p = PEEK_TOKEN p λ token. elim token.content [
+abbrev pub after_directives : (start_mark : Mark) → AfterDirectives
+after_directives start_mark version tags p = PEEK_TOKEN p λ token. elim token.content [
   | tok.DocumentStart ↦
       OK (event (document_start_data version tags false) start_mark token.end_mark)
       (SKIP_TOKEN
@@ -248,7 +248,7 @@ behind_directives start_mark version tags p = PEEK_TOKEN p λ token. elim token.
 
 -- The branch of an explicit document.
 abbrev pub explicit_document_start : (start_mark : Mark) → OriginalParser → ParserResult
-explicit_document_start start_mark p = yaml_parser_process_directives p (behind_directives start_mark)
+explicit_document_start start_mark p = yaml_parser_process_directives p (after_directives start_mark)
 
 -- The branch of STREAM-END.
 abbrev pub end_of_stream : Token → OriginalParser → ParserResult
@@ -257,7 +257,7 @@ end_of_stream token p = OK (event ev.StreamEnd token.start_mark token.end_mark)
 
 -- `implicit` there; the mend lets a document be implicit after an explicit end too.
 abbrev pub may_be_implicit : Mends → (implicit : Bool) → OriginalParser → Bool
-may_be_implicit mends implicit p = implicit || (mends.bare_document_behind_end && p.behind_explicit_end)
+may_be_implicit mends implicit p = implicit || (mends.bare_document_after_end && p.after_explicit_end)
 
 -- A document's start, or the stream's end; after the first document, DOCUMENT-ENDs are skipped before.
 abbrev pub yaml_parser_parse_document_start : Mends → OriginalParser → (implicit : Bool) → ParserResult
@@ -412,7 +412,7 @@ yaml_parser_parse_document_end p = PEEK_TOKEN p λ token.
     let ended : (explicit : Bool) → OriginalParser → OriginalParser = λ explicit q. record q {
       tag_directives = [];
       state = st.YAML_PARSE_DOCUMENT_START_STATE;
-      behind_explicit_end = explicit;
+      after_explicit_end = explicit;
     } in
     elim token.content [
       | tok.DocumentEnd ↦
@@ -510,8 +510,8 @@ separated false context problem token p next = elim token.content [
 ]
 
 -- A flow sequence's entry, after its opening token.
-abbrev pub sequence_entry_behind_start : (first : Bool) → OriginalParser → ParserResult
-sequence_entry_behind_start first q = PEEK_TOKEN q λ token. elim token.content [
+abbrev pub sequence_entry_after_start : (first : Bool) → OriginalParser → ParserResult
+sequence_entry_after_start first q = PEEK_TOKEN q λ token. elim token.content [
   | tok.FlowSequenceEnd ↦ with_end_event ev.SequenceEnd token q
   | _ ↦ separated first (codes "while parsing a flow sequence") (codes "did not find expected ',' or ']'")
       token q
@@ -526,7 +526,7 @@ sequence_entry_behind_start first q = PEEK_TOKEN q λ token. elim token.content 
 
 -- An entry, with its separator before it but at the first; a pair begins with KEY. Or FLOW-SEQUENCE-END.
 abbrev pub yaml_parser_parse_flow_sequence_entry : OriginalParser → (first : Bool) → ParserResult
-yaml_parser_parse_flow_sequence_entry p first = past_opening first p (sequence_entry_behind_start first)
+yaml_parser_parse_flow_sequence_entry p first = past_opening first p (sequence_entry_after_start first)
 
 -- A pair's key. Where none comes, the token is skipped, and the key is empty at its end; with the mend the
 -- token stays, and the key stands at its start.
@@ -565,8 +565,8 @@ yaml_parser_parse_flow_sequence_entry_mapping_end p = PEEK_TOKEN p λ token.
     (set_state st.YAML_PARSE_FLOW_SEQUENCE_ENTRY_STATE p)
 
 -- A flow mapping's key, after its opening token.
-abbrev pub mapping_key_behind_start : (first : Bool) → OriginalParser → ParserResult
-mapping_key_behind_start first q = PEEK_TOKEN q λ token. elim token.content [
+abbrev pub mapping_key_after_start : (first : Bool) → OriginalParser → ParserResult
+mapping_key_after_start first q = PEEK_TOKEN q λ token. elim token.content [
   | tok.FlowMappingEnd ↦ with_end_event ev.MappingEnd token q
   | _ ↦ separated first (codes "while parsing a flow mapping") (codes "did not find expected ',' or '}'")
       token q
@@ -587,7 +587,7 @@ mapping_key_behind_start first q = PEEK_TOKEN q λ token. elim token.content [
 -- KEY and its node, which is empty before the next token where none comes, with the separator before it but
 -- at the first entry; or a node without KEY, which has no value; or FLOW-MAPPING-END.
 abbrev pub yaml_parser_parse_flow_mapping_key : OriginalParser → (first : Bool) → ParserResult
-yaml_parser_parse_flow_mapping_key p first = past_opening first p (mapping_key_behind_start first)
+yaml_parser_parse_flow_mapping_key p first = past_opening first p (mapping_key_after_start first)
 
 -- VALUE and its node, which is empty before the next token where none comes.
 abbrev pub yaml_parser_parse_flow_mapping_value : OriginalParser → (empty : Bool) → ParserResult

@@ -18,15 +18,15 @@ new_original_parser tokens scanner_fault = record {
   states = [];
   marks = [];
   tag_directives = [];
-  behind_explicit_end = false;
+  after_explicit_end = false;
 }
 
 -- The parser as it is there, and with the three mends.
 abbrev pub as_there : Mends
-as_there = record { pair_key_stays = false; value_begins_entry = false; bare_document_behind_end = false }
+as_there = record { pair_key_stays = false; value_begins_entry = false; bare_document_after_end = false }
 
 abbrev pub as_here : Mends
-as_here = record { pair_key_stays = true; value_begins_entry = true; bare_document_behind_end = true }
+as_here = record { pair_key_stays = true; value_begins_entry = true; bare_document_after_end = true }
 
 -- A call of a parser that keeps no error.
 abbrev pub call : Mends → OriginalParser → ParserResult

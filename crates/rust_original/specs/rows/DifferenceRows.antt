@@ -92,8 +92,8 @@ RowValueFirst = parse (list (STREAM ∷ BlockMappingStart ∷ Value ∷ SCALAR (
       loads = Err (fails_without_key 2 4) ∷ [];
     }
 
-abbrev pub RowValueBehindAnEntry : Type 0
-RowValueBehindAnEntry = parse (list (STREAM ∷ BlockMappingStart ∷ Key ∷ SCALAR (codes "k") ∷ Value ∷ Value ∷
+abbrev pub RowValueAfterAnEntry : Type 0
+RowValueAfterAnEntry = parse (list (STREAM ∷ BlockMappingStart ∷ Key ∷ SCALAR (codes "k") ∷ Value ∷ Value ∷
     BlockEnd ∷ StreamEnd ∷ [])) ≡ record {
       there = broken_run (fails_without_key 2 10) (at 2 3 mapping ∷ at 6 7 (text (codes "k")) ∷ at 9 9 nothing ∷ []);
       here = run_to 14 (at 2 3 mapping ∷ at 6 7 (text (codes "k")) ∷ at 9 9 nothing ∷ at 10 10 nothing ∷
@@ -103,8 +103,8 @@ RowValueBehindAnEntry = parse (list (STREAM ∷ BlockMappingStart ∷ Key ∷ SC
 
 -- no DOCUMENT-START after a document with a DOCUMENT-END
 
-abbrev pub RowScalarBehindADocumentEnd : Type 0
-RowScalarBehindADocumentEnd = parse (list (STREAM ∷ SCALAR (codes "a") ∷ DocumentEnd ∷ SCALAR (codes "b") ∷
+abbrev pub RowScalarAfterADocumentEnd : Type 0
+RowScalarAfterADocumentEnd = parse (list (STREAM ∷ SCALAR (codes "a") ∷ DocumentEnd ∷ SCALAR (codes "b") ∷
     StreamEnd ∷ [])) ≡ record {
       there = broken_run (fails_without_document_start 6) (at 2 3 (text (codes "a")) ∷ at 4 5 explicit_end ∷ []);
       here = run_to 8 (at 2 3 (text (codes "a")) ∷ at 4 5 explicit_end ∷ at 6 6 bare_document ∷ at 6 7 (text (codes "b")) ∷
@@ -112,8 +112,8 @@ RowScalarBehindADocumentEnd = parse (list (STREAM ∷ SCALAR (codes "a") ∷ Doc
       loads = loaded [] true false 2 5 (row_node 2 3 (str plain (codes "a")) ∷ []) ∷ Err (fails_without_document_start 6) ∷ [];
     }
 
-abbrev pub RowTagBehindADocumentEnd : Type 0
-RowTagBehindADocumentEnd = parse (list (STREAM ∷ DocumentStart ∷ DocumentEnd ∷ TAG (codes "!e!") (codes "x") ∷
+abbrev pub RowTagAfterADocumentEnd : Type 0
+RowTagAfterADocumentEnd = parse (list (STREAM ∷ DocumentStart ∷ DocumentEnd ∷ TAG (codes "!e!") (codes "x") ∷
     SCALAR (codes "b") ∷ StreamEnd ∷ [])) ≡ record {
       there = fails (fails_without_document_start 6) (at 0 0 stream ∷ at 2 3 (headed_document None []) ∷ at 4 4 nothing ∷
           at 4 5 explicit_end ∷ []);
@@ -122,8 +122,8 @@ RowTagBehindADocumentEnd = parse (list (STREAM ∷ DocumentStart ∷ DocumentEnd
       loads = loaded [] false false 2 5 (row_node 4 4 (str plain []) ∷ []) ∷ Err (fails_without_document_start 6) ∷ [];
     }
 
-abbrev pub RowNoNodeBehindADocumentEnd : Type 0
-RowNoNodeBehindADocumentEnd = parse (list (STREAM ∷ SCALAR (codes "a") ∷ DocumentEnd ∷ BlockEnd ∷ StreamEnd ∷
+abbrev pub RowNoNodeAfterADocumentEnd : Type 0
+RowNoNodeAfterADocumentEnd = parse (list (STREAM ∷ SCALAR (codes "a") ∷ DocumentEnd ∷ BlockEnd ∷ StreamEnd ∷
     [])) ≡ record {
       there = broken_run (fails_without_document_start 6) (at 2 3 (text (codes "a")) ∷ at 4 5 explicit_end ∷ []);
       here = broken_run (fails_without_block_content 6) (at 2 3 (text (codes "a")) ∷ at 4 5 explicit_end ∷ at 6 6 bare_document ∷ []);

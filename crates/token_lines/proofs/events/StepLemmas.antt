@@ -12,7 +12,7 @@ use Rattle.libyaml_events.specs.sources.Calls.{EventOrError}
 use Rattle.libyaml_events.specs.sources.History.{is_over}
 use Rattle.libyaml_events.specs.sources.RunToCome.{FailsHere, RunToCome}
 use Rattle.libyaml_events.proofs.exported.CallsInTurn.{both_calls, one_call}
-use Rattle.libyaml_events.proofs.exported.KnownTokens.{fails_behind, further, nothing_behind_end}
+use Rattle.libyaml_events.proofs.exported.KnownTokens.{fails_after, further, nothing_after_end}
 use Rattle.libyaml_grammar.specs.runs.Runs.{Ending, Ends, Fails}
 use Rattle.libyaml_types.specs.declared.fault.yaml_parser_t_prefix.{yaml_parser_t_prefix}
 use Rattle.libyaml_types.specs.Fault.{Answer, Fault, fault_of}
@@ -60,7 +60,7 @@ module _ {S : Type 0} (g : Ghosts S)
         let k = both_calls g.gives first p q r.asked r.given w.events (e ∷ []) w.carried
         (one_call g.gives p p q (r.asked ++ w.carried.more) (r.given ++ w.events) e on) in
         let rest = further g follows first q all ending r k.more done k.gave k.history in
-        let none = nothing_behind_end g.known q (on.ends ∙ wrote.0) rest.later ending rest.run in
+        let none = nothing_after_end g.known q (on.ends ∙ wrote.0) rest.later ending rest.run in
         let same : w.events ++ e ∷ [] ≡ all =
         sym (rest.all ∙ ap (λ (l : List yaml_event_t). done ++ l) none.0 ∙ append-nil done) in
         let lines : Appends a c (concat (event_lines (w.events ++ e ∷ []))) =
@@ -100,7 +100,7 @@ module _ {S : Type 0} (g : Ghosts S)
               let rest = further g follows first p all ending r w.carried.more w.events w.carried.gave w.carried.history in
               fails_there rest.later rest.all (inr (inl wrote.0)) (then_fault wrote.1)
           go (failed by wrote) =
-              let rest = fails_behind g follows first p q all ending r w.carried.more w.events w.carried.gave
+              let rest = fails_after g follows first p q all ending r w.carried.more w.events w.carried.gave
               w.carried.history by in
               fails_there rest.0 rest.1
               (subst (λ (v : Fault). FailsHere (g.may_break q.source) v rest.0 ending) (sym wrote.0) rest.2)

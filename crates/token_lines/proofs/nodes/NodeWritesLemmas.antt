@@ -23,7 +23,7 @@ use Rattle.libyaml_graphs.specs.loads.GraphLaws.{RootsFollow}
 use Rattle.libyaml_graphs.specs.loads.Loads.{Load, left_over}
 use Rattle.libyaml_graphs.proofs.exported.Roots as roots
 use Rattle.libyaml_graphs.proofs.exported.Roots.{earlier_of, last_of, roots_follow}
-use Rattle.libyaml_graphs.proofs.exported.LoadLists.{HasRoot, roots_behind}
+use Rattle.libyaml_graphs.proofs.exported.LoadLists.{HasRoot, roots_after}
 use Rattle.libyaml_loader.specs.loads.Loading.{DocumentOrError}
 use Rattle.libyaml_loader.specs.loads.NextLoad.{LoadOfRun}
 use Rattle.libyaml_loader.proofs.exported.Loops.{load_of_run}
@@ -116,7 +116,7 @@ module _ {S W : Type 0} (g : Ghosts S)
   follow : RootsFollow rest.later
   follow =
       let r = rest.run in
-      roots_behind r.given rest.later
+      roots_after r.given rest.later
       (roots_follow (r.given ++ rest.later)
       (run_nests_so_far (r.asked ++ r.rest) r.fault (r.given ++ rest.later) ending r.run))
 

@@ -24,7 +24,7 @@ use Rattle.libyaml_graphs.specs.loads.Bounds.{bounded_loads, next_bounded}
 use Rattle.libyaml_graphs.specs.loads.GraphLaws.{RootsFollow}
 use Rattle.libyaml_graphs.specs.loads.Loads.{Load, last_load, left_over}
 use Rattle.libyaml_graphs.proofs.exported.Roots.{fault_of, last_of, roots_follow}
-use Rattle.libyaml_graphs.proofs.exported.LoadLists.{last_same, roots_behind, same_loads}
+use Rattle.libyaml_graphs.proofs.exported.LoadLists.{last_same, roots_after, same_loads}
 use Rattle.libyaml_loader.specs.loads.Loading.{DocumentOrError, LoadsFrom, at_end, by_loader, by_memory, by_parser, whole}
 use Rattle.libyaml_loader.specs.loads.OneLoad.{results_in}
 use Rattle.libyaml_types.specs.Fault.{Answer, Fault, memory_fault, no_fault}
@@ -89,7 +89,7 @@ module _ {S W : Type 0} (g : Ghosts S) (contents : W → Option (List ℕ)) (n :
     roots : (end : run_end_t) (o : Of end) (p : Parser S) (taken : List yaml_event_t)
         → (c : CarriedOn g.gives o.parser p (asked ++ (so_far end o).more) (given ++ o.earlier.loaded.taken) taken)
         → RootsFollow taken
-    roots end o p taken c = roots_behind (given ++ o.earlier.loaded.taken) taken
+    roots end o p taken c = roots_after (given ++ o.earlier.loaded.taken) taken
         (roots_follow ((given ++ o.earlier.loaded.taken) ++ taken)
         (histories.nests p ((asked ++ (so_far end o).more) ++ c.more) ((given ++ o.earlier.loaded.taken) ++ taken) c.history))
 

@@ -16,7 +16,7 @@ use Rattle.libyaml_loader.specs.loads.Loading.{DocumentOrError, LoadsFrom}
 use Rattle.libyaml_loader.specs.pushes.Composing.{closing_by, ended_by, state_by, composer_state}
 use Rattle.libyaml_loader.proofs.loads.Ended.{has_not_ended, no_error, still_ended}
 use Rattle.libyaml_loader.proofs.loads.OnTheWay.{OnTheWay, way_ends, way_fails, way_finds_end, way_more, way_none, way_refused}
-use Rattle.libyaml_loader.proofs.loads.Taking.{behind_close, finds_end, parser_fails, running, took_event}
+use Rattle.libyaml_loader.proofs.loads.Taking.{after_close, finds_end, parser_fails, running, took_event}
 use Rattle.libyaml_loader.proofs.load.next_document.Given as given
 use Rattle.libyaml_loader.proofs.load.next_document.Goals as goal
 use Rattle.libyaml_loader.proofs.load.next_document.Goals.{After-yaml_parser_parse_into}
@@ -135,7 +135,7 @@ returns-in-Ok-Some-clause-loads g c =
     (composer_state x) c.loop-composer.invariant.0 call.new.parser call.new.event (opening_of_document x.ctx.document) (loader_of x.ctx)
     (closing_by c.in-Ok-Some.closing) c.into_document.result k.took (ap (λ (b : Bool). state_by b x.ctx) ends.0) ends.1
     (c.into_document.ensures ∙ ap (λ (y : Composer). ended_by (closing_by c.in-Ok-Some.closing) y.ctx) ends.2)
-    (behind_close t g.met.S.yaml_token_source_t.follows c.loop-composer.parser call.new.parser
+    (after_close t g.met.S.yaml_token_source_t.follows c.loop-composer.parser call.new.parser
     (answered call.result call.new.event)
     call.ensures call.new.event
     (ap (λ r. answered r call.new.event) c.in_ok-yaml_parser_parse_into.was) (closing_by c.in-Ok-Some.closing) ends.1)

@@ -3,7 +3,7 @@ use Rattle.std.specs.List.{concat}
 use Rattle.std.specs.Io.KnownBytes.{Appends}
 use Rattle.std.proofs.KnownBytes.{Appends-trans}
 use Rattle.line_writing.specs.DocumentText.{document_line, node_lines}
-use Rattle.line_writing.proofs.DocumentLemmas.{wrote_none, wrote_behind}
+use Rattle.line_writing.proofs.DocumentLemmas.{wrote_none, wrote_after}
 use Rattle.line_writing.proofs.document_text.write_document.Goals as goal
 
 -- lines after a first one
@@ -28,7 +28,7 @@ pub returns-clause-memory : goal.returns-clause-memory
 returns-clause-memory g c refused =
     let document = c.args.document.now in
     let line = c.in_ok-append_document.ensures ∙ ap (λ l. l ++ document_line document) c.in_ok-line.ensures.bytes in
-    wrote_behind (document_line document) (node_lines 1 document.nodes) _ _ _
+    wrote_after (document_line document) (node_lines 1 document.nodes) _ _ _
     (subst (Appends _ _) line c.in_ok-write_line.ensures.ok)
     (rw c.nodes.ensures.all at (c.write_nodes.ensures.memory refused))
 

@@ -6,21 +6,21 @@ use Rattle.std.proofs.lemmas.Str.Ascii.{IsAscii-cons, IsAscii-nil}
 use Rattle.libyaml_documents.specs.declared.node.unnamed_yaml_node_t_data.{unnamed_yaml_node_t_data}
 use Rattle.libyaml_documents.specs.declared.node.unnamed_yaml_node_t_data.TheVariants.{Scalar, Sequence, Mapping}
 use Rattle.line_writing.specs.DocumentText.{node_name}
-use Rattle.line_writing.specs.FieldTexts.{behind_spaces}
-use Rattle.line_writing.proofs.SpacedLemmas.{behind_spaces-append}
+use Rattle.line_writing.specs.FieldTexts.{after_spaces}
+use Rattle.line_writing.proofs.SpacedLemmas.{after_spaces-append}
 use Rattle.line_writing.proofs.node_start.append_node_start.Goals as goal
 
 -- what is at the end of the text, one piece after the other
 gathered : (text b3 b2 b1 id name m1 m2 : List ℕ) (n from : ℕ) → length text ≤ n → drop from text ≡ id ++ b3
-    → b3 ≡ behind_spaces (name ∷ []) ++ b2
-    → b2 ≡ behind_spaces (m1 ∷ []) ++ b1 → b1 ≡ behind_spaces (m2 ∷ []) ++ []
-    → take (n - from) (drop from text) ≡ id ++ behind_spaces (name ∷ m1 ∷ m2 ∷ [])
+    → b3 ≡ after_spaces (name ∷ []) ++ b2
+    → b2 ≡ after_spaces (m1 ∷ []) ++ b1 → b1 ≡ after_spaces (m2 ∷ []) ++ []
+    → take (n - from) (drop from text) ≡ id ++ after_spaces (name ∷ m1 ∷ m2 ∷ [])
 gathered text b3 b2 b1 id name m1 m2 n from long e4 e3 e2 e1 =
     take_all (n - from) (drop from text) (omega (arith, length-drop from text))
-    ∙ e4 ∙ ap (λ l. id ++ l) (e3 ∙ ap (λ l. behind_spaces (name ∷ []) ++ l)
-    (e2 ∙ ap (λ l. behind_spaces (m1 ∷ []) ++ l) (e1 ∙ append-nil _)))
-    ∙ ap (λ l. id ++ (behind_spaces (name ∷ []) ++ l)) (sym (behind_spaces-append (m1 ∷ []) (m2 ∷ [])))
-    ∙ ap (λ l. id ++ l) (sym (behind_spaces-append (name ∷ []) (m1 ∷ m2 ∷ [])))
+    ∙ e4 ∙ ap (λ l. id ++ l) (e3 ∙ ap (λ l. after_spaces (name ∷ []) ++ l)
+    (e2 ∙ ap (λ l. after_spaces (m1 ∷ []) ++ l) (e1 ∙ append-nil _)))
+    ∙ ap (λ l. id ++ (after_spaces (name ∷ []) ++ l)) (sym (after_spaces-append (m1 ∷ []) (m2 ∷ [])))
+    ∙ ap (λ l. id ++ l) (sym (after_spaces-append (name ∷ []) (m1 ∷ m2 ∷ [])))
 
 ascii_name : (content : unnamed_yaml_node_t_data) → IsAscii (node_name content)
 ascii_name (Scalar s) = λ i. grind arith
@@ -31,10 +31,10 @@ ascii_spaced : (field rest : List ℕ) → IsAscii field → IsAscii rest → Is
 ascii_spaced field rest a b = IsAscii-cons 0x20 (field ++ rest) (omega arith) (IsAscii-append field rest a b)
 
 ascii_front : (id name m1 m2 : List ℕ) → IsAscii id → IsAscii name → IsAscii m1 → IsAscii m2
-    → IsAscii (id ++ behind_spaces (name ∷ m1 ∷ m2 ∷ []))
+    → IsAscii (id ++ after_spaces (name ∷ m1 ∷ m2 ∷ []))
 ascii_front id name m1 m2 a b c d =
-    let marks = ascii_spaced m1 (behind_spaces (m2 ∷ [])) c (ascii_spaced m2 [] d IsAscii-nil) in
-    IsAscii-append id (behind_spaces (name ∷ m1 ∷ m2 ∷ [])) a (ascii_spaced name (behind_spaces (m1 ∷ m2 ∷ [])) b marks)
+    let marks = ascii_spaced m1 (after_spaces (m2 ∷ [])) c (ascii_spaced m2 [] d IsAscii-nil) in
+    IsAscii-append id (after_spaces (name ∷ m1 ∷ m2 ∷ [])) a (ascii_spaced name (after_spaces (m1 ∷ m2 ∷ [])) b marks)
 
 pushed : {X E : Type 0} (old new text wanted : List ℕ) (r : Result X E) → text ≡ wanted
     → new ≡ (if is_ok r then old ++ text else old)

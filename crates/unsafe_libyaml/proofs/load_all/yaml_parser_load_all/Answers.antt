@@ -38,8 +38,8 @@ returns-then-is_empty-clause-of_tree g c t f o k =
     (n.0, returns-then-is_empty-clause-of_list g c _ f _ n.1 k)
 
 pub returns-then-is_empty-clause-of_partial_tree : goal.returns-then-is_empty-clause-of_partial_tree
-returns-then-is_empty-clause-of_partial_tree g c before token behind cut f fits waited k =
-    let a = partial_tree_loads before token behind cut f fits waited in
+returns-then-is_empty-clause-of_partial_tree g c before token following cut f fits waited k =
+    let a = partial_tree_loads before token following cut f fits waited in
     (a.0, a.2, returns-then-is_empty-clause-of_list g c _ f _ a.1 k)
 
 pub returns-then-is_empty-clause-roots : goal.returns-then-is_empty-clause-roots
@@ -89,8 +89,8 @@ returns-in-Err-clause-of_tree g c t f o k =
     if_ok c.failed_load.result _ _ (returns-in-Err-clause-of_list g c _ f _ n.1 k) (λ all r. (n.0, r))
 
 pub returns-in-Err-clause-of_partial_tree : goal.returns-in-Err-clause-of_partial_tree
-returns-in-Err-clause-of_partial_tree g c before token behind cut f fits waited k =
-    let a = partial_tree_loads before token behind cut f fits waited in
+returns-in-Err-clause-of_partial_tree g c before token following cut f fits waited k =
+    let a = partial_tree_loads before token following cut f fits waited in
     if_ok c.failed_load.result _ _ (returns-in-Err-clause-of_list g c _ f _ a.1 k) (λ all r. (a.0, a.2, r))
 
 pub returns-then-is_empty-clause-linear : goal.returns-then-is_empty-clause-linear

@@ -42,9 +42,9 @@ returns-then-is_last-clause-of_tree g c t f o k = returns-then-is_last-clause-of
     (tree_runs t f o) k
 
 pub returns-then-is_last-clause-of_partial_tree : goal.returns-then-is_last-clause-of_partial_tree
-returns-then-is_last-clause-of_partial_tree g c before token behind cut f fits waited k
+returns-then-is_last-clause-of_partial_tree g c before token following cut f fits waited k
     = returns-then-is_last-clause-of_list g c _ f _ _
-    (partial_run before token behind cut f fits waited) k
+    (partial_run before token following cut f fits waited) k
 
 pub returns-in-Err-clause-gathers : goal.returns-in-Err-clause-gathers
 returns-in-Err-clause-gathers g c =
@@ -70,5 +70,5 @@ returns-in-Err-clause-of_tree g c t f o k = returns-in-Err-clause-of_list g c _ 
     (tree_runs t f o) k
 
 pub returns-in-Err-clause-of_partial_tree : goal.returns-in-Err-clause-of_partial_tree
-returns-in-Err-clause-of_partial_tree g c before token behind cut f fits waited k
-    = returns-in-Err-clause-of_list g c _ f _ _ (partial_run before token behind cut f fits waited) k
+returns-in-Err-clause-of_partial_tree g c before token following cut f fits waited k
+    = returns-in-Err-clause-of_list g c _ f _ _ (partial_run before token following cut f fits waited) k

@@ -4,7 +4,7 @@ use mir.Val.{SFits}
 use Rattle.libyaml_types.specs.declared.enums.yaml_node_type_t.TheVariants.{YAML_NO_NODE, YAML_MAPPING_NODE}
 use Rattle.libyaml_documents.specs.Nodes.{IsIdUpTo, KeepsTypes, with_pair}
 use Rattle.libyaml_documents.specs.Documents.{Document}
-use Rattle.libyaml_documents.proofs.Ids.{AreNodes-set, inside-type_at, KeepsTypes-set, pair_behind-type, with_pair-keeps, with_changed_node-set}
+use Rattle.libyaml_documents.proofs.Ids.{AreNodes-set, inside-type_at, KeepsTypes-set, pair_after-type, with_pair-keeps, with_changed_node-set}
 use Rattle.libyaml_documents.proofs.document.append.yaml_document_append_mapping_pair.Goals as goal
 
 pub returns-clause-ok : goal.returns-clause-ok
@@ -28,7 +28,7 @@ returns-clause-types_kept c =
     (KeepsTypes-set c.place_of.result (with_pair c.args.key c.args.value) c.document.inside.nodes.items
     c.index_mut-node.result.now c.push_pair.new.self
     c.index_mut-node.ensures.value pushed
-    (λ node. pair_behind-type (record { key = c.args.key; value = c.args.value }) node.content))
+    (λ node. pair_after-type (record { key = c.args.key; value = c.args.value }) node.content))
 
 pub invariant_of-document-2 : goal.invariant_of-document-2
 invariant_of-document-2 c =

@@ -4,7 +4,7 @@ use mir.Val.{SFits}
 use Rattle.libyaml_types.specs.declared.enums.yaml_node_type_t.TheVariants.{YAML_NO_NODE, YAML_SEQUENCE_NODE}
 use Rattle.libyaml_documents.specs.Nodes.{IsIdUpTo, KeepsTypes, with_item}
 use Rattle.libyaml_documents.specs.Documents.{Document}
-use Rattle.libyaml_documents.proofs.Ids.{AreNodes-set, inside-type_at, KeepsTypes-set, item_behind-type, with_item-keeps, with_changed_node-set}
+use Rattle.libyaml_documents.proofs.Ids.{AreNodes-set, inside-type_at, KeepsTypes-set, item_after-type, with_item-keeps, with_changed_node-set}
 use Rattle.libyaml_documents.proofs.document.append.yaml_document_append_sequence_item.Goals as goal
 
 pub returns-clause-ok : goal.returns-clause-ok
@@ -24,7 +24,7 @@ returns-clause-types_kept c =
     (set c.document.inside.nodes.items c.place_of.result c.push_item.new.self)) c.document.view_is
     (KeepsTypes-set c.place_of.result (with_item c.args.item) c.document.inside.nodes.items
     c.index_mut-node.result.now c.push_item.new.self
-    c.index_mut-node.ensures.value pushed (λ node. item_behind-type c.args.item node.content))
+    c.index_mut-node.ensures.value pushed (λ node. item_after-type c.args.item node.content))
 
 pub invariant_of-document-2 : goal.invariant_of-document-2
 invariant_of-document-2 c =

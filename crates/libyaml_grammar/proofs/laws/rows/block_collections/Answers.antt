@@ -14,6 +14,6 @@ returns c = record {
   empty_values = valid_list_row 13 _ _ _ _ refl refl refl;
   keys_without_values = valid_list_row 8 _ _ _ _ refl refl refl;
   entry_that_begins_with_value = valid_list_row 6 _ _ _ _ refl refl refl;
-  value_behind_value = valid_list_row 11 _ _ _ _ refl refl refl;
+  value_after_value = valid_list_row 11 _ _ _ _ refl refl refl;
   collections_in_mapping = valid_list_row 19 _ _ _ _ refl refl refl;
 }

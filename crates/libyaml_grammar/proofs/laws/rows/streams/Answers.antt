@@ -9,9 +9,9 @@ returns c = record {
   explicit_documents = valid_list_row 6 _ _ _ _ refl refl refl;
   empty_documents = valid_list_row 10 _ _ _ _ refl refl refl;
   document_ends = valid_list_row 5 _ _ _ _ refl refl refl;
-  implicit_behind_document_end = valid_list_row 6 _ _ _ _ refl refl refl;
-  implicit_behind_implicit = valid_list_row 6 _ _ _ _ refl refl refl;
-  explicit_behind_document_end = valid_list_row 8 _ _ _ _ refl refl refl;
+  implicit_after_document_end = valid_list_row 6 _ _ _ _ refl refl refl;
+  implicit_after_implicit = valid_list_row 6 _ _ _ _ refl refl refl;
+  explicit_after_document_end = valid_list_row 8 _ _ _ _ refl refl refl;
   directives = valid_list_row 7 _ _ _ _ refl refl refl;
-  behind_stream_end = valid_list_row 3 _ _ _ _ refl refl refl;
+  after_stream_end = valid_list_row 3 _ _ _ _ refl refl refl;
 }

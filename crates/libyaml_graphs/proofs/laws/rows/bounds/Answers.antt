@@ -12,5 +12,5 @@ returns c = record {
   alias_before_bound = bounded_rows _ 8 _ _ _ _ refl refl refl;
   pair_in_bound = bounded_rows _ 9 _ _ _ _ refl refl refl;
   key_beyond_bound = bounded_rows _ 14 _ _ _ _ refl refl refl;
-  undefined_alias_behind_key = bounded_rows _ 14 _ _ _ _ refl refl refl;
+  undefined_alias_after_key = bounded_rows _ 14 _ _ _ _ refl refl refl;
 }

@@ -5,7 +5,7 @@ use Rattle.std.specs.Io.KnownBytes.{Appends, Keeps}
 use Rattle.libyaml_types.specs.declared.event.yaml_event_t.{yaml_event_t}
 use Rattle.libyaml_types.specs.Fault.{fault_of}
 use Rattle.libyaml_events.specs.sources.History.{is_over}
-use Rattle.libyaml_events.proofs.exported.KnownTokens.{nothing_behind_end}
+use Rattle.libyaml_events.proofs.exported.KnownTokens.{nothing_after_end}
 use Rattle.token_lines.specs.declared.run.run_end_t.TheVariants.{OutputFailed}
 use Rattle.line_writing.specs.EventText.{event_line}
 use Rattle.token_lines.specs.events.EventRun.{event_lines}
@@ -35,7 +35,7 @@ returns-in-Ended-clause-writes g c events ending run =
     (λ (over : is_over first ≡ true).
     let still = at.invariant.ended over in
     let last = c.in-Ended.ensures.ended (ap is_over still.0 ∙ over) in
-    let none = nothing_behind_end t.known first over events ending run in
+    let none = nothing_after_end t.known first over events ending run in
     let kept = subst (λ w. Keeps (contents w) after) (last.2 ∙ still.1) c.flushed.ensures.keeps in (
       none.1,
       subst (λ (l : List yaml_event_t). Appends before after (concat (event_lines l))) (sym none.0)

@@ -8,8 +8,8 @@ returns-in-Empty-clause-tells c =
     let untagged : head_tag c.args.head.now ≡ NoTag = search rules in
     rw untagged (search rules)
 
-pub returns-in-EmptyBehind-clause-tells : goal.returns-in-EmptyBehind-clause-tells
-returns-in-EmptyBehind-clause-tells c =
+pub returns-in-EmptyAfter-clause-tells : goal.returns-in-EmptyAfter-clause-tells
+returns-in-EmptyAfter-clause-tells c =
     let untagged : head_tag c.args.head.now ≡ NoTag = search rules in
     rw untagged (search rules)
 

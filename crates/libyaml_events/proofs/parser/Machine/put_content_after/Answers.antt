@@ -1,6 +1,6 @@
 use Rattle.std.proofs.Common.{option_map, string_bytes}
 use Rattle.libyaml_events.proofs.layer.Contents.{asked_content, steps_from}
-use Rattle.libyaml_events.proofs.parser.Machine.put_content_behind.Goals as goal
+use Rattle.libyaml_events.proofs.parser.Machine.put_content_after.Goals as goal
 
 pub returns-clause-puts : goal.returns-clause-puts
 returns-clause-puts c = λ out h l.

@@ -11,7 +11,7 @@ ghost use Rattle.libyaml_events.specs.machine.Growth.{joins};
 ghost use Rattle.libyaml_events.specs.machine.Machine.{Progressed};
 ghost use Rattle.libyaml_events.specs.machine.Steps.{Steps};
 ghost use Rattle.libyaml_events.specs.machine.Want.{Texts};
-ghost use Rattle.libyaml_events.specs.automaton.AutomatonResults.{GrowsBehind, IsContent, IsOpening, Puts, PutsContent};
+ghost use Rattle.libyaml_events.specs.automaton.AutomatonResults.{GrowsAfter, IsContent, IsOpening, Puts, PutsContent};
 ghost use Rattle.libyaml_events.specs.automaton.AutomatonResults.{ReadsTag, RefusesTag, SaysContent};
 
 use crate::parser::Machine;
@@ -29,7 +29,7 @@ use libyaml_types::{
 impl Machine {
     /// Puts the content of a node after its properties. A handle that is not defined is found here.
     #[inline(never)]
-    pub(super) fn put_content_behind(
+    pub(super) fn put_content_after(
         &mut self,
         token: &mut yaml_token_t,
         pending: &mut Pending,
@@ -39,7 +39,7 @@ impl Machine {
         ensures puts { Puts Action.AsksContent token.old pending.old self.old result token.new pending.new
             out.new self.new }
         ensures grows { result ≡ Step.Failed → self.new.fault.error ≡ yaml_error_type_t.YAML_MEMORY_ERROR
-            → GrowsBehind pending.old self.old token.old }
+            → GrowsAfter pending.old self.old token.old }
     {
         let tag = match self.take_tag(pending) {
             Ok(tag) => tag,
@@ -50,7 +50,7 @@ impl Machine {
 
     /// Puts the content of a node after an anchor alone.
     #[inline(never)]
-    pub(super) fn put_content_behind_anchor(
+    pub(super) fn put_content_after_anchor(
         &mut self,
         token: &mut yaml_token_t,
         pending: &mut Pending,
@@ -61,7 +61,7 @@ impl Machine {
         ensures puts { Puts Action.AsksContent token.old pending.old self.old result token.new pending.new
             out.new self.new }
         ensures grows { result ≡ Step.Failed → self.new.fault.error ≡ yaml_error_type_t.YAML_MEMORY_ERROR
-            → GrowsBehind pending.old self.old token.old }
+            → GrowsAfter pending.old self.old token.old }
     {
         self.put_content(None, token, pending, out)
     }
@@ -169,7 +169,7 @@ impl Machine {
             → opens_at (place_of pending.old.reading.place) (token_type token.now.content) ≡ true }
         ensures undone { result ≡ Action.FullMarks → (self.new ≡ self.old) × (pending.new ≡ pending.old) }
     {
-        self.automaton.content_behind(
+        self.automaton.content_after(
             &mut pending.reading,
             token.type_(),
             &token.start_mark,
@@ -199,11 +199,11 @@ impl Machine {
     {
         match led {
             Action::Scalar => {
-                self.put_scalar_behind(tag, start_mark, end_mark, token, pending, out);
+                self.put_scalar_after(tag, start_mark, end_mark, token, pending, out);
                 Step::Given
             }
             Action::EmptyHead => {
-                self.put_empty_behind(tag, start_mark, end_mark, token, pending, out);
+                self.put_empty_after(tag, start_mark, end_mark, token, pending, out);
                 Step::GivenBefore
             }
             Action::IndentlessSequence => {
@@ -224,7 +224,7 @@ impl Machine {
 
     /// Puts a scalar after properties.
     #[inline(always)]
-    fn put_scalar_behind(
+    fn put_scalar_after(
         &mut self,
         tag: Option<String>,
         start_mark: &yaml_mark_t,
@@ -271,7 +271,7 @@ impl Machine {
 
     /// Puts a node of properties alone.
     #[inline(never)]
-    fn put_empty_behind(
+    fn put_empty_after(
         &mut self,
         tag: Option<String>,
         start_mark: &yaml_mark_t,

@@ -1,6 +1,6 @@
 use Rattle.std.proofs.Common.{None, refl}
 use Rattle.libyaml_events.proofs.layer.Contents.{asked_content}
-use Rattle.libyaml_events.proofs.parser.Machine.put_content_behind_anchor.Goals as goal
+use Rattle.libyaml_events.proofs.parser.Machine.put_content_after_anchor.Goals as goal
 
 pub returns-clause-puts : goal.returns-clause-puts
 returns-clause-puts c = λ out h l.

@@ -1,7 +1,7 @@
 use Rattle.std.proofs.Common.{◌≡◌, ◌+◌, ◌-◌, length, length-drop, take, drop, sym, arith}
 use Rattle.std.proofs.lemmas.List.{take_all}
 use Rattle.line_reading.proofs.tokens.Marks.{some_further}
-use Rattle.line_reading.proofs.token_line.fields_behind.Goals as goal
+use Rattle.line_reading.proofs.token_line.fields_after.Goals as goal
 
 pub returns : goal.returns
 returns c =
