@@ -10,7 +10,7 @@ use Rattle.libyaml_automaton.specs.declared.next.Next.{Next}
 use Rattle.libyaml_automaton.specs.declared.next.Next.TheVariants as next
 use Rattle.libyaml_automaton.specs.declared.node_place.NodePlace.{NodePlace}
 use Rattle.libyaml_automaton.specs.Numbers.{next_of}
-use Rattle.libyaml_automaton.specs.Purposes.{wanted_by}
+use Rattle.libyaml_automaton.specs.Purposes.{purpose_by}
 use Rattle.libyaml_automaton.specs.Fits.{FitsBare, IsFull, IsNothingDone, Stays, SameReading, begins_at, opens_at}
 use Rattle.libyaml_automaton.specs.Growth.{pushes, begun_place, opens, HasNoRoom}
 
@@ -30,7 +30,7 @@ full_marks_where n k p a m d marks b s f = rw (b, sym s) f
 
 -- what was read is wanted still
 wanted_still : (n : Next) (k : yaml_token_type_t) (p : NodePlace) (r : Reading) (entering place : ℕ)
-    → begun_place n k ≡ Some p → wanted_by n (record r { entering = entering; place = place }) ≡ wanted_by n r
+    → begun_place n k ≡ Some p → purpose_by n (record r { entering = entering; place = place }) ≡ purpose_by n r
 wanted_still next.AfterProperties k p r e q b = absurd cc
 wanted_still _ k p r e q b = refl
 

@@ -19,7 +19,7 @@ use Rattle.libyaml_automaton.specs.Config.{Stacks, stacks_of}
 use Rattle.libyaml_automaton.specs.Fits.{FitsStep, FitsDocument, FitsContent, HandledBy, Nodes, Documents, is_simple, opens_at}
 use Rattle.libyaml_automaton.specs.Growth.{HasNoRoom, opens, stack_part_of, pushes, pushes_in_documents}
 use Rattle.libyaml_automaton.specs.Numbers.{flag, next_of}
-use Rattle.libyaml_automaton.specs.Purposes.{purpose_of, wanted_by}
+use Rattle.libyaml_automaton.specs.Purposes.{purpose_of, purpose_by}
 use Rattle.token_steps.specs.Facts.{StepResult, TagRead, NoTag, EmptyTag, Bang, OtherTag, Undefined, StepToken, content_by_fact, put_by_fact, without_fact, step_by_fact, with_facts}
 use Rattle.token_steps.specs.Growth.{content_opens, pushes_by, pushes_mark, pushes_state}
 use Rattle.token_steps.specs.Records.{is_undefined}
@@ -315,11 +315,11 @@ told_step w w' tag c t a h u r d e s x = ap (λ (y : automaton.Purpose). with_fa
 -- and leaves no mark unput after properties
 pub told_opens_none : (n : Next) (g : TagRead) (q : NodePlace) (m : Reading) (c : Stacks) (t : automaton.KindAndMarks)
     (k : yaml_token_type_t) (a : Action) (h : PropertiesRead) (r : Reading) (d : Stacks)
-    → IsOutcome (automaton.step (wanted_by n m) c t k) (outcome a h t r d) → IsTold a → n ≡ next.AfterProperties
+    → IsOutcome (automaton.step (purpose_by n m) c t k) (outcome a h t r d) → IsTold a → n ≡ next.AfterProperties
     → pushes_mark n g q k ≡ true → ⊥
 told_opens_none n g q m c t k a h r d e x b o =
-    let says = subst (λ (y : Next). IsOutcome (automaton.step (wanted_by y m) c t k) (outcome a h t r d)) b e in
-    let asks : is_asking (automaton.step (wanted_by next.AfterProperties m) c t k) ≡ true
+    let says = subst (λ (y : Next). IsOutcome (automaton.step (purpose_by y m) c t k) (outcome a h t r d)) b e in
+    let asks : is_asking (automaton.step (purpose_by next.AfterProperties m) c t k) ≡ true
     = content_asks g q _ _ c t k (sym (mark_after n g q k b) ∙ o) in
     true≢false (sym asks ∙ asks_nothing _ a h t r d says x)
 

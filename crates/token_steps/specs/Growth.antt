@@ -7,13 +7,13 @@ use Rattle.libyaml_automaton.specs.declared.node_place.NodePlace.{NodePlace}
 use Rattle.libyaml_automaton.specs.Fits.{HandledBy, Nodes, Documents, opens_at}
 use Rattle.libyaml_automaton.specs.Growth.{stack_part_of, pushes, pushes_in_documents, opens}
 use Rattle.libyaml_automaton.specs.Numbers.{next_of, state_of, place_of, flag}
-use Rattle.libyaml_automaton.specs.Purposes.{settled}
+use Rattle.libyaml_automaton.specs.Purposes.{next_at_or}
 use Rattle.token_steps.specs.declared.steps.steps_t.{steps_t}
 use Rattle.token_steps.specs.Facts.{TagRead, Undefined, tag_if}
 
 -- the function that takes the next token
 abbrev pub next_in : steps_t → Next
-next_in d = settled (next_of d.read.next) (state_of d.machine.state)
+next_in d = next_at_or (next_of d.read.next) (state_of d.machine.state)
 
 abbrev pub pushes_by : HandledBy → (pushes in_documents : Bool) → Bool
 pushes_by Nodes pushes in_documents = pushes

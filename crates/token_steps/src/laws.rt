@@ -31,7 +31,7 @@ pub fn run_is_fed()
 /// with it they are those of the whole tree, and of the run of all lists that begin so. They nest, and are at
 /// most four for each token.
 pub fn run_is_right()
-    ensures settled { BetweenTokens (λ tokens events. has_end tokens ≡ false → StopsShort tokens events) }
+    ensures next_at_or { BetweenTokens (λ tokens events. has_end tokens ≡ false → StopsShort tokens events) }
     ensures whole { BetweenTokens (λ tokens events. has_end tokens ≡ true → IsWhole tokens events) }
     ensures run_so_far { BetweenTokens (λ tokens events. has_end tokens ≡ false
         → (source : Fault) → IsRun tokens source events (Fails source)) }

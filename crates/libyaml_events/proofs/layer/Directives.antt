@@ -19,7 +19,7 @@ use Rattle.libyaml_automaton.specs.Config as automaton_config
 use Rattle.libyaml_automaton.specs.Fits.{FitsDocument, Documents}
 use Rattle.libyaml_automaton.specs.Growth.{pushes_at_directive, pushes_at_document, pushes_in_documents, stack_part_of}
 use Rattle.libyaml_automaton.specs.Numbers.{next_of}
-use Rattle.libyaml_automaton.specs.Purposes.{IsAt, kind_and_marks, wanted_by}
+use Rattle.libyaml_automaton.specs.Purposes.{IsAt, kind_and_marks, purpose_by}
 use Rattle.libyaml_automaton.specs.Purposes as purposes
 use Rattle.libyaml_events.specs.declared.pending.Pending.{Pending}
 use Rattle.libyaml_events.specs.machine.Outcomes.{directive_texts, wanted}
@@ -56,7 +56,7 @@ pushed_at_document b tok.DocumentEnd e = e
 pushed_at_document b _ e = refl
 
 pushed_there : (n : Next) (r : Reading) (h : Texts) (c : Config) (k : unnamed_yaml_token_t_data) → IsAt n c.state
-    → pushes_in_documents n c.behind_document_end (token_type k) ≡ true → grows_for (wanted_by n r) h c k ≡ true
+    → pushes_in_documents n c.behind_document_end (token_type k) ≡ true → grows_for (purpose_by n r) h c k ≡ true
 pushed_there next.AtImplicitDocumentStart r h c k i e = rw i (pushed_at_document c.behind_document_end k e)
 pushed_there next.AtDocumentStart r h c k i e = rw i (pushed_at_directive k e)
 pushed_there next.AfterDirective r h c k i e = pushed_at_directive k e
@@ -81,8 +81,8 @@ handle_at_document b _ e = absurd cc
 handle_there : (n : Next) (r : Reading) (h : Texts) (c : Config) (t : automaton.KindAndMarks) (k : unnamed_yaml_token_t_data)
     (start : yaml_mark_t) (v : Bool) (x : automaton_config.Stacks) → stack_part_of n ≡ Documents → IsAt n c.state
     → token_type k ≡ kinds.YAML_TAG_DIRECTIVE_TOKEN
-    → automaton.step (wanted_by n r) (config_of c) t (token_type k) ≡ automaton.AsksHandle start v x
-    → grows_for (wanted_by n r) h c k ≡ true
+    → automaton.step (purpose_by n r) (config_of c) t (token_type k) ≡ automaton.AsksHandle start v x
+    → grows_for (purpose_by n r) h c k ≡ true
 handle_there next.AtImplicitDocumentStart r h c t k start v x d i e s
     = rw i (handle_at_document c.behind_document_end k e)
 handle_there next.AtDocumentStart r h c t k start v x d i e s = rw i (handle_at_directive k e)

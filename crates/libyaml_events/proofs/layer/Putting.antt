@@ -21,7 +21,7 @@ use Rattle.libyaml_automaton.specs.Automaton as automaton
 use Rattle.libyaml_automaton.specs.Config as automaton_config
 use Rattle.libyaml_automaton.specs.Fits.{FitsAtDirective}
 use Rattle.libyaml_automaton.specs.Numbers.{next_of}
-use Rattle.libyaml_automaton.specs.Purposes.{wanted_by}
+use Rattle.libyaml_automaton.specs.Purposes.{purpose_by}
 use Rattle.libyaml_automaton.specs.Purposes as purposes
 use Rattle.libyaml_events.specs.declared.pending.Pending.{Pending}
 use Rattle.libyaml_events.specs.declared.step.Step.{Step}
@@ -74,9 +74,9 @@ goes_on : (n : Next) (r : Reading) (h : Texts) (k : unnamed_yaml_token_t_data) (
     (a : automaton_config.Stacks) (hs : Handles) (f : Fault) (o : Option yaml_token_t) (new : Config)
     → n ≡ next.AfterDirective → with_directive h k ≡ directive_texts ds → config_with a (declared_by hs k) f o ≡ new
     → ◌≡◌ {A = Progressed} (Ok (
-      Wants (record { next = wanted_by n r; texts = texts_after h k (wanted_by n r) }),
-      config_with a (handles_after_directive hs k (wanted_by n r)) f o,
-    )) (Ok (Wants (record { next = wanted_by n r; texts = texts_for (wanted_by n r) p ds }), new))
+      Wants (record { next = purpose_by n r; texts = texts_after h k (purpose_by n r) }),
+      config_with a (handles_after_directive hs k (purpose_by n r)) f o,
+    )) (Ok (Wants (record { next = purpose_by n r; texts = texts_for (purpose_by n r) p ds }), new))
 goes_on next.AfterDirective r h k p ds a hs f o new n i j = rw (i, j) refl
 goes_on _ r h k p ds a hs f o new n i j = absurd cc
 

@@ -22,7 +22,7 @@ use Rattle.libyaml_automaton.specs.Config as automaton_config
 use Rattle.libyaml_automaton.specs.Fits.{FitsStep, IsFull, is_simple, SameReading, opens_at}
 use Rattle.libyaml_automaton.specs.Growth.{opens, pushes}
 use Rattle.libyaml_automaton.specs.Numbers.{next_of, place_of}
-use Rattle.libyaml_automaton.specs.Purposes.{IsAt, properties, kind_and_marks, wanted_by}
+use Rattle.libyaml_automaton.specs.Purposes.{IsAt, properties, kind_and_marks, purpose_by}
 use Rattle.libyaml_automaton.specs.Purposes as purposes
 use Rattle.libyaml_events.specs.declared.pending.Pending.{Pending}
 use Rattle.libyaml_events.specs.machine.Outcomes.{property_texts, texts_for, wanted}
@@ -126,13 +126,13 @@ module _ (p : PropertyTexts) (d : DirectiveTexts) (c : automaton_config.Stacks) 
   tag_in g _ = refl
 
 -- a token is wanted for what has no texts
-plain : (n : Next) (r : Reading) → is_simple n ≡ true → IsPlain (wanted_by n r)
+plain : (n : Next) (r : Reading) → is_simple n ≡ true → IsPlain (purpose_by n r)
 plain next.AfterDirective r e = absurd cc
 plain next.AfterProperties r e = absurd cc
 plain _ r e = tt
 
 asked : (n : Next) (r : Reading) (p : PropertyTexts) (d : DirectiveTexts) → n ≡ next.AfterProperties
-    → texts_for (wanted_by n r) p d ≡ property_texts (properties r) p
+    → texts_for (purpose_by n r) p d ≡ property_texts (properties r) p
 asked n r p d e = rw e refl
 
 -- what the texts that were held have to do with those that are held now
@@ -187,7 +187,7 @@ still_ready q r' c d e s y = (
 
 -- where the automaton pushes, the parser may take memory
 grows_there : (n : Next) (r : Reading) (h : Texts) (c : Config) (k : unnamed_yaml_token_t_data) → IsAt n c.state
-    → pushes n (token_type k) || opens n (token_type k) ≡ true → grows_for (wanted_by n r) h c k ≡ true
+    → pushes n (token_type k) || opens n (token_type k) ≡ true → grows_for (purpose_by n r) h c k ≡ true
 grows_there next.AtStreamStart r h c k i e = rw i e
 grows_there next.AtImplicitDocumentStart r h c k i e = absurd cc
 grows_there next.AtDocumentStart r h c k i e = absurd cc
@@ -232,9 +232,9 @@ joins_asked hs h n m r r' c x t _ e j = j
 content_grows : (n : Next) (r : Reading) (p : PropertyTexts) (d : DirectiveTexts) (c : Config) (t : automaton.KindAndMarks)
     (m : NodePlace) (r' : automaton.PropertiesRead) (x : automaton_config.Stacks) (k : unnamed_yaml_token_t_data)
     → n ≡ next.AfterProperties
-    → automaton.step (wanted_by n r) (config_of c) t (token_type k) ≡ automaton.AsksContent m r' x
+    → automaton.step (purpose_by n r) (config_of c) t (token_type k) ≡ automaton.AsksContent m r' x
     → (joins (property_texts (properties r) p).tag c.handles ≡ true) ⊎ (opens_at (place_of r.place) (token_type k) ≡ true)
-    → grows_for (wanted_by n r) (texts_for (wanted_by n r) p d) c k ≡ true
+    → grows_for (purpose_by n r) (texts_for (purpose_by n r) p d) c k ≡ true
 content_grows n r p d c t m r' x k i e (inl j) = rw i (either _ _ (inl (joins_asked c.handles
     (property_texts (properties r) p) (place_of r.place) m (properties r) r' (config_of c) x t k (rw i at e) j)))
 content_grows n r p d c t m r' x k i e (inr j) = rw i (either _ _ (inr j))

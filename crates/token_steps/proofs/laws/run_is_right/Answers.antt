@@ -6,7 +6,7 @@ use Rattle.token_steps.proofs.laws.run_is_right.Goals as goal
 
 pub returns : goal.returns
 returns c = record {
-  settled = λ d ss ms hs h l g r. fed_determined (fed d ss ms hs h None l g r).0;
+  next_at_or = λ d ss ms hs h l g r. fed_determined (fed d ss ms hs h None l g r).0;
   whole = λ d ss ms hs h l g r. fed_whole (fed d ss ms hs h None l g r).0;
   run_so_far = λ d ss ms hs h l g r e f. short_run l g f (fed_determined (fed d ss ms hs h None l g r).0 e);
   run = λ d ss ms hs h l g r e more f. whole_run l g more f (fed_whole (fed d ss ms hs h None l g r).0 e);
