@@ -190,7 +190,7 @@ impl AutomatonWithStacks {
 
     /// Has the function of the state take the next token.
     #[inline(always)]
-    pub(crate) fn begin(&self, read: &mut Reading)
+    pub(crate) fn begin_call(&self, read: &mut Reading)
         ensures wanted { purpose_of read.new ≡ AtState }
         ensures at { IsAt (next_of read.new.next) self.now.state }
         ensures kept { read.new ≡ record read.old { next = read.new.next } }

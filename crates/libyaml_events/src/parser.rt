@@ -36,7 +36,7 @@ use std::marker::Model;
 /// libyaml: `yaml_parser_t`.
 #[derive(Drop)]
 pub struct yaml_parser_t<S> {
-    pub(crate) machine: Machine,
+    pub(crate) token_parser: TokenParser,
     pub(crate) source: S,
     max_entries: MaxEntries,
     /// What a call has read of a node or of directives. It is a field so that no call has to make it.
@@ -56,20 +56,20 @@ impl<S> Model for yaml_parser_t<S> {
 
     ghost view = { λ p. record {
       source = p.source;
-      config = with_lookahead p.lookahead p.machine;
+      config = with_lookahead p.lookahead p.token_parser;
       max_entries = p.max_entries.number;
     } };
 
     ghost invariant = { λ p. Remembers (record {
       source = p.source;
-      config = with_lookahead p.lookahead p.machine;
+      config = with_lookahead p.lookahead p.token_parser;
       max_entries = p.max_entries.number;
     }) };
 }
 
 /// What a parser keeps from one call to the next, beside its source and the lookahead.
 #[derive(Drop)]
-pub(crate) struct Machine {
+pub(crate) struct TokenParser {
     pub(crate) automaton: AutomatonWithStacks,
     handles: BTreeMap<String, String>,
     /// A text of an earlier event, whose memory a later token's text or full tag may take. Its value has no
@@ -79,7 +79,7 @@ pub(crate) struct Machine {
     alloc: Global,
 }
 
-impl Model for Machine {
+impl Model for TokenParser {
     ghost use Rattle.std.specs.Coded.{codes};
     ghost use Rattle.std.specs.Prelude.{None};
     ghost use Rattle.libyaml_types.specs.Fault.{fault_of};
@@ -110,7 +110,7 @@ pub fn yaml_parser_initialize<S>(alloc: Global, source: S) -> yaml_parser_t<S>
 {
     yaml_parser_t {
         source,
-        machine: Machine::new(alloc),
+        token_parser: TokenParser::new(alloc),
         max_entries: MaxEntries::all(),
         pending: Pending::new(alloc),
         lookahead: Lookahead::new(),
@@ -137,7 +137,7 @@ pub fn yaml_parser_between_documents<S>(parser: &yaml_parser_t<S>) -> bool
     ensures failed { has_failed parser.now ≡ true → result ≡ true }
     ensures by_events { ForHistory parser.now (λ _ given. result ≡ is_outside (stage_of given)) }
 {
-    parser.machine.stands_between_documents()
+    parser.token_parser.stands_between_documents()
 }
 
 /// Sets how many entries each list of a loaded document may have.
@@ -164,7 +164,7 @@ impl<S> yaml_parser_t<S> {
         // before an error it is `NO_FAULT`
         ensures before_fault { ForHistory self.now (λ _ _. fault_of result.now ≡ no_fault) }
     {
-        self.machine.kept_prefix()
+        self.token_parser.kept_prefix()
     }
 
     /// Returns how many entries each list of a loaded document may have: 2,147,483,647 unless it was set.
@@ -186,7 +186,7 @@ impl<S> yaml_parser_t<S> {
         ensures fault { kept_fault self.new ≡ fault_of fault }
         ensures ended { is_over self.new ≡ true }
     {
-        self.machine.keep_prefix(fault);
+        self.token_parser.keep_prefix(fault);
     }
 
     /// Returns whether the source may have to wait for its next token (`yaml_token_source_t::may_wait`).
@@ -201,29 +201,29 @@ impl<S> yaml_parser_t<S> {
     pub fn remembered(&self)
         ensures { Remembers self.now }
     {
-        let _ = &self.machine;
+        let _ = &self.token_parser;
     }
 
     /// Returns whether no more events come.
     pub fn is_over(&self) -> bool
         ensures { result ≡ is_over self.now }
     {
-        self.machine.is_over()
+        self.token_parser.is_over()
     }
 
     /// Returns the allocator of the parser's memory.
     pub fn allocator(&self) -> Global {
-        self.machine.alloc
+        self.token_parser.alloc
     }
 }
 
-impl Machine {
+impl TokenParser {
     /// Returns a machine at the start of a stream, without an allocation.
     #[inline(always)]
     pub(crate) fn new(alloc: Global) -> Self
         ensures { result ≡ start }
     {
-        Machine {
+        TokenParser {
             automaton: AutomatonWithStacks::new(alloc),
             handles: BTreeMap::new(alloc),
             spare: String::new(alloc),

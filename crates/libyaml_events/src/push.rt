@@ -11,7 +11,7 @@ ghost use Rattle.libyaml_events.specs.sources.Pushed.{RemembersPushes};
 ghost use Rattle.libyaml_events.specs.sources.Pushes.{Pushes, Takes};
 
 use crate::event_kinds::no_event;
-use crate::parser::Machine;
+use crate::parser::TokenParser;
 use crate::pending::Pending;
 use crate::step::Step;
 use libyaml_types::{yaml_error_type_t, yaml_event_t, yaml_parser_t_prefix, yaml_token_t};
@@ -21,7 +21,7 @@ use std::marker::Model;
 /// A parser that is handed one token after another.
 #[derive(Drop)]
 pub struct yaml_push_parser_t {
-    machine: Machine,
+    token_parser: TokenParser,
     /// What was read of a node or of directives, and which function takes the next token.
     pending: Pending,
 }
@@ -38,12 +38,12 @@ impl Model for yaml_push_parser_t {
 
     ghost coded = { Prim.hlevel (codes, handles_code) };
 
-    ghost view = { λ p. standing (wanted p.pending) p.machine };
+    ghost view = { λ p. standing (wanted p.pending) p.token_parser };
 
     // no token is held between two pushes
-    ghost invariant = { λ p. (p.machine.lookahead ≡ None)
-        × (ended_or_failed p.machine ≡ false → InStep p.pending p.machine)
-        × RemembersPushes (standing (wanted p.pending) p.machine) };
+    ghost invariant = { λ p. (p.token_parser.lookahead ≡ None)
+        × (ended_or_failed p.token_parser ≡ false → InStep p.pending p.token_parser)
+        × RemembersPushes (standing (wanted p.pending) p.token_parser) };
 }
 
 impl yaml_push_parser_t {
@@ -53,7 +53,7 @@ impl yaml_push_parser_t {
         ensures begins { Pushed result [] [] }
     {
         yaml_push_parser_t {
-            machine: Machine::new(alloc),
+            token_parser: TokenParser::new(alloc),
             pending: Pending::new(alloc),
         }
     }
@@ -91,17 +91,17 @@ impl yaml_push_parser_t {
         ensures { Pushes (vec_capacity events.old ≤ vec_len events.new) self.old token.old events.old.items
             result self.new events.new.items }
     {
-        if self.machine.is_over() {
-            return self.machine.kept_error();
+        if self.token_parser.is_over() {
+            return self.token_parser.kept_error();
         }
-        self.machine.feed(token, &mut self.pending, events)
+        self.token_parser.feed(token, &mut self.pending, events)
     }
 
     /// Does nothing. A parser that keeps no error has a history: some pushes lead to a parser like it.
     pub fn remembered(&self)
         ensures { RemembersPushes self.now }
     {
-        let _ = &self.machine;
+        let _ = &self.token_parser;
     }
 
     /// Returns the error that the parser keeps, or `NO_FAULT` if it keeps none.
@@ -109,11 +109,11 @@ impl yaml_push_parser_t {
         ensures kept { fault_of result.now ≡ fault_in self.now }
         ensures before_fault { ForPushed self.now (λ _ _. fault_of result.now ≡ no_fault) }
     {
-        self.machine.kept_prefix()
+        self.token_parser.kept_prefix()
     }
 }
 
-impl Machine {
+impl TokenParser {
     /// Takes the token in its variable, as long as it stays.
     fn feed(
         &mut self,
@@ -136,13 +136,13 @@ impl Machine {
             match self.step_onto(token, pending, events) {
                 Step::Wants => return Ok(()),
                 Step::Given => {
-                    self.begin(pending);
+                    self.begin_call(pending);
                     return Ok(());
                 }
                 Step::GivenBefore => {}
                 Step::Failed => return Err(self.fail()),
             }
-            self.begin(pending);
+            self.begin_call(pending);
             if self.is_over() {
                 return Ok(());
             }

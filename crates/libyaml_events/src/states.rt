@@ -15,9 +15,9 @@ ghost use Rattle.libyaml_automaton.specs.Growth.{stack_part_of};
 ghost use Rattle.libyaml_events.specs.machine.Config.{with_fault};
 ghost use Rattle.libyaml_events.specs.machine.Machine.{fault_with, step};
 ghost use Rattle.libyaml_events.specs.machine.Steps.{Steps};
-ghost use Rattle.libyaml_events.specs.machine.Outcomes.{result_of, standing_by, wanted};
+ghost use Rattle.libyaml_events.specs.machine.Outcomes.{result_of, config_after, wanted};
 ghost use Rattle.libyaml_events.specs.machine.Growth.{may_grow};
-ghost use Rattle.libyaml_events.specs.automaton.AutomatonResults.{GrowsAfter, IsPut, Led, Puts};
+ghost use Rattle.libyaml_events.specs.automaton.AutomatonResults.{GrowsAfter, IsPut, FollowsAutomaton, Puts};
 ghost use Rattle.libyaml_events.specs.automaton.View.{Ready};
 
 mod after_properties;
@@ -26,7 +26,7 @@ mod documents;
 mod node_events;
 mod properties;
 
-use crate::parser::Machine;
+use crate::parser::TokenParser;
 use crate::pending::Pending;
 use crate::states::contents::{
     put_alias, put_bare_scalar, put_empty_scalar, put_mapping_end, put_mapping_start,
@@ -58,7 +58,7 @@ fn give(
     out.content = content;
 }
 
-impl Machine {
+impl TokenParser {
     /// Takes one token in the function that `pending.reading` names, and returns what it led to. `out` gets
     /// the event. An error is kept.
     ///
@@ -72,12 +72,12 @@ impl Machine {
     ) -> Step
         requires ready { Ready pending.old self.old }
         ensures steps { Steps (step (wanted pending.old) self.old token.old) self.old
-            (result_of result pending.new out.new self.new) (standing_by result token.new self.new) }
+            (result_of result pending.new out.new self.new) (config_after result token.new self.new) }
         ensures ready { result ≡ Step.Wants → Ready pending.new self.new }
         ensures grows { result ≡ Step.Failed → self.new.fault.error ≡ yaml_error_type_t.YAML_MEMORY_ERROR
             → may_grow (wanted pending.old) self.old token.old.content ≡ true }
     {
-        match self.lead(token, pending) {
+        match self.step_automaton(token, pending) {
             Action::FullStates => self.step_again(Action::FullStates, token, pending, out),
             Action::FullMarks => self.step_again(Action::FullMarks, token, pending, out),
             Action::Document => self.step_document(token, pending, out),
@@ -98,13 +98,13 @@ impl Machine {
         requires ready { Ready pending.old self.old }
         requires grows { may_grow (wanted pending.old) self.old token.old.content ≡ true }
         ensures steps { Steps (step (wanted pending.old) self.old token.old) self.old
-            (result_of result pending.new out.new self.new) (standing_by result token.new self.new) }
+            (result_of result pending.new out.new self.new) (config_after result token.new self.new) }
         ensures ready { result ≡ Step.Wants → Ready pending.new self.new }
     {
         if !self.automaton.grow(full) {
             return self.fail_out_of_memory();
         }
-        match self.lead(token, pending) {
+        match self.step_automaton(token, pending) {
             Action::FullStates => self.fail_out_of_memory(),
             Action::FullMarks => self.fail_out_of_memory(),
             Action::Document => self.step_document(token, pending, out),
@@ -114,9 +114,9 @@ impl Machine {
 
     /// Does a step of the parser without texts.
     #[inline(always)]
-    fn lead(&mut self, token: &yaml_token_t, pending: &mut Pending) -> Action
+    fn step_automaton(&mut self, token: &yaml_token_t, pending: &mut Pending) -> Action
         requires { Ready pending.old self.old }
-        ensures led { Led (step (wanted pending.old) self.old token.now) (wanted pending.old).texts token.now
+        ensures led { FollowsAutomaton (step (wanted pending.old) self.old token.now) (wanted pending.old).texts token.now
             result pending.new self.new }
         ensures fits { FitsStep result (token_type token.now.content) pending.new.reading self.new.state }
         ensures none { self.new.lookahead ≡ None }

@@ -45,17 +45,17 @@ content_number EmptyTag tag p r c t = put_content _ _ _ EmptyTag tag t _ (node_c
 content_number Bang tag p r c t = put_content _ _ _ Bang tag t _ (node_content p r c (without_fact t) t.kind)
 content_number OtherTag tag p r c t = put_content _ _ _ OtherTag tag t _ (node_content p r c (without_fact t) t.kind)
 
-answered : (v : Keeping) (k : yaml_token_type_t) (tag : ℕ) (t : StepToken) (s : Step) → Follows v k s
+event_result : (v : Keeping) (k : yaml_token_type_t) (tag : ℕ) (t : StepToken) (s : Step) → Follows v k s
     → Numbered (with_facts tag t s)
-answered v k tag t (automaton.Gives e c) x = tt
-answered v k tag t (automaton.Wants w c) x = tt
-answered v k tag t (automaton.Fails f) x = x
-answered v k tag t (automaton.AsksVersion m c) x = first_version (flag t.fact) m c tag t
-answered v k tag t (automaton.AsksHandle m h c) x = tag_directive (flag t.fact) m h c tag t
-answered v k tag t (automaton.AsksContent p r c) x = content_number (tag_if r.tag tag) tag p r c t
+event_result v k tag t (automaton.Gives e c) x = tt
+event_result v k tag t (automaton.Wants w c) x = tt
+event_result v k tag t (automaton.Fails f) x = x
+event_result v k tag t (automaton.AsksVersion m c) x = first_version (flag t.fact) m c tag t
+event_result v k tag t (automaton.AsksHandle m h c) x = tag_directive (flag t.fact) m h c tag t
+event_result v k tag t (automaton.AsksContent p r c) x = content_number (tag_if r.tag tag) tag p r c t
 
 pub step_number : (v : StepWant) (c : Stacks) (t : StepToken) → Numbered (step_by_fact v c t)
-step_number v c t = answered (keeping v.next) t.kind v.tag t _ (follows v.next c (without_fact t) t.kind)
+step_number v c t = event_result (keeping v.next) t.kind v.tag t _ (follows v.next c (without_fact t) t.kind)
 
 abbrev IsNotFailed : Did → Type 0
 IsNotFailed did.Failed = ⊥

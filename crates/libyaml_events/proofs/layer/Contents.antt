@@ -23,17 +23,17 @@ use Rattle.libyaml_automaton.specs.Purposes.{properties}
 use Rattle.libyaml_events.specs.declared.pending.Pending.{Pending}
 use Rattle.libyaml_events.specs.declared.step.Step.{Step}
 use Rattle.libyaml_events.specs.declared.step.Step.TheVariants as stepped
-use Rattle.libyaml_events.specs.machine.Outcomes.{result_of, only_if, standing_by}
+use Rattle.libyaml_events.specs.machine.Outcomes.{result_of, only_if, config_after}
 use Rattle.libyaml_events.specs.machine.Config.{Config, config_of}
 use Rattle.libyaml_events.specs.machine.Machine.{Progressed, content_after, mapping_start_with, put, seen, sequence_start_with}
 use Rattle.libyaml_events.specs.machine.Steps.{Steps}
 use Rattle.libyaml_events.specs.machine.Want.{Given, Texts}
-use Rattle.libyaml_events.specs.automaton.AutomatonResults.{IsContent, IsOpening, Led, PutsContent, ReadsTag, SaysContent, collection_start}
+use Rattle.libyaml_events.specs.automaton.AutomatonResults.{IsContent, IsOpening, FollowsAutomaton, PutsContent, ReadsTag, SaysContent, collection_start}
 
 -- what a step leads to that wants no token hangs on the parser that it leaves alone
 pub steps_from : (out : Progressed) (old old' : Config) (s : Step) (t : yaml_token_t) (q : Pending) (e : yaml_event_t)
-    (new : Config) → (s ≡ stepped.Wants → ⊥) → Steps out old (result_of s q e new) (standing_by s t new)
-    → Steps out old' (result_of s q e new) (standing_by s t new)
+    (new : Config) → (s ≡ stepped.Wants → ⊥) → Steps out old (result_of s q e new) (config_after s t new)
+    → Steps out old' (result_of s q e new) (config_after s t new)
 steps_from out old old' stepped.Given t q e new n h = h
 steps_from out old old' stepped.GivenBefore t q e new n h = h
 steps_from out old old' stepped.Wants t q e new n h = absurd (n refl)
@@ -85,7 +85,7 @@ tag_read (Some tag) (Some g) p r x h c t k e = rw e refl
 
 -- what was asked is then what the content does
 pub asked_content : (out : Progressed) (h : Texts) (t : yaml_token_t) (q : Pending) (c : Config) (g : Option (List ℕ))
-    → ReadsTag (only_if (flag q.reading.has_tag) q.properties.tag) c g → Led out h t action.AsksContent q c
+    → ReadsTag (only_if (flag q.reading.has_tag) q.properties.tag) c g → FollowsAutomaton out h t action.AsksContent q c
     → IsContent out h (only_if (flag q.reading.has_anchor) q.properties.anchor) g t q.reading c
 asked_content out h t q c g e l =
     let texts = l.0 in
@@ -102,7 +102,7 @@ module _ (o : Progressed) (h : Texts) (g : Option (List ℕ)) (t : yaml_token_t)
   pub content_put : (x : Action) (r' : Reading) (a' : Option (List ℕ)) (start end : yaml_mark_t) → a' ≡ a
       → r.start_mark ≡ start → r.end_mark ≡ end → (IsContent o h a g t r was → SaysContent o h a g t x r r' mid)
       → PutsContent a' g start end x t r' mid s t' q e new → IsContent o h a0 g t r0 old
-      → Steps o old (result_of s q e new) (standing_by s t' new) × (s ≡ stepped.Wants → ⊥)
+      → Steps o old (result_of s q e new) (config_after s t' new) × (s ≡ stepped.Wants → ⊥)
   content_put x r' a' start end ea' es ee leads puts i =
       let j : IsContent o h a g t r was = rw (ea, er, same) i in
       let w = puts o h r es ee (rw ea' (leads j)) in
@@ -110,8 +110,8 @@ module _ (o : Progressed) (h : Texts) (g : Option (List ℕ)) (t : yaml_token_t)
 
   -- or from the parser as it was, where nothing was done
   pub content_again : (IsContent o h a g t r was
-      → Steps o was (result_of s q e new) (standing_by s t' new) × (s ≡ stepped.Wants → ⊥))
-      → IsContent o h a0 g t r0 old → Steps o old (result_of s q e new) (standing_by s t' new) × (s ≡ stepped.Wants → ⊥)
+      → Steps o was (result_of s q e new) (config_after s t' new) × (s ≡ stepped.Wants → ⊥))
+      → IsContent o h a0 g t r0 old → Steps o old (result_of s q e new) (config_after s t' new) × (s ≡ stepped.Wants → ⊥)
   content_again puts i =
       let w = puts (rw (ea, er, same) i) in
       (steps_from o was old s t' q e new w.1 w.0, w.1)

@@ -27,7 +27,7 @@ use Rattle.libyaml_events.specs.machine.Config.{Config, Handles, config_of, conf
 use Rattle.libyaml_events.specs.machine.Growth.{grows_at_directive, grows_at_document, grows_for, may_grow}
 use Rattle.libyaml_events.specs.machine.Machine.{step}
 use Rattle.libyaml_events.specs.machine.Want.{Texts}
-use Rattle.libyaml_events.specs.automaton.AutomatonResults.{LedDocument}
+use Rattle.libyaml_events.specs.automaton.AutomatonResults.{FollowsAutomatonInDocuments}
 use Rattle.libyaml_events.specs.automaton.View.{Ready}
 use Rattle.libyaml_events.proofs.layer.StepWithTexts.{says_texts}
 
@@ -36,9 +36,9 @@ pub document_leads : (hs : Handles) (f : Fault) (o : Option yaml_token_t) (a b :
     → k ≡ token_type t.content → (wanted q).texts ≡ directive_texts q.directives
     → IsOutcome (automaton.step (purposes.purpose_of q.reading) a (kind_and_marks k t.start_mark t.end_mark) k)
     (outcome x (automaton.no_properties (kind_and_marks k t.start_mark t.end_mark)) (kind_and_marks k t.start_mark t.end_mark) r' b)
-    → LedDocument (step (wanted q) c t) (wanted q).texts t x (record q { reading = r' }) (config_with b hs f o)
+    → FollowsAutomatonInDocuments (step (wanted q) c t) (wanted q).texts t x (record q { reading = r' }) (config_with b hs f o)
 document_leads hs f o a b c t q r' x k ec ek declared s =
-    subst (λ (y : Config). LedDocument (step (wanted q) y t) (wanted q).texts t x (record q { reading = r' })
+    subst (λ (y : Config). FollowsAutomatonInDocuments (step (wanted q) y t) (wanted q).texts t x (record q { reading = r' })
     (config_with b hs f o)) ec (declared, says_texts hs f o a b (wanted q).texts t _ _ (rw ek at s))
 
 -- where a document begins the parser may take memory

@@ -26,7 +26,7 @@ use Rattle.libyaml_automaton.specs.Purposes as purposes
 use Rattle.libyaml_events.specs.declared.pending.Pending.{Pending}
 use Rattle.libyaml_events.specs.declared.step.Step.{Step}
 use Rattle.libyaml_events.specs.declared.step.Step.TheVariants as stepped
-use Rattle.libyaml_events.specs.machine.Outcomes.{result_of, directive_texts, standing_by, texts_for, wanted}
+use Rattle.libyaml_events.specs.machine.Outcomes.{result_of, directive_texts, config_after, texts_for, wanted}
 use Rattle.libyaml_events.specs.machine.Config.{Config, Handles, config_with}
 use Rattle.libyaml_events.specs.machine.Machine.{Progressed, declared_by, fault_with, handles_after_directive, put, seen, step}
 use Rattle.libyaml_events.specs.machine.Growth.{may_grow}
@@ -44,8 +44,8 @@ from_before out old mid (Err e) new o m h = h
 
 -- an event is given, before the token or not
 pub given_by : (out : Progressed) (old : Config) (s : Step) (t : yaml_token_t) (q : Pending) (e : yaml_event_t)
-    (new : Config) → (s ≡ stepped.Given) ⊎ (s ≡ stepped.GivenBefore) → Steps out old (result_of s q e new) (standing_by s t new)
-    → Steps out old (Ok (Given e)) (standing_by s t new)
+    (new : Config) → (s ≡ stepped.Given) ⊎ (s ≡ stepped.GivenBefore) → Steps out old (result_of s q e new) (config_after s t new)
+    → Steps out old (Ok (Given e)) (config_after s t new)
 given_by out old stepped.Given t q e new i h = h
 given_by out old stepped.GivenBefore t q e new i h = h
 given_by out old stepped.Wants t q e new (inl i) h = absurd cc
@@ -110,7 +110,7 @@ pub wants_or_fails : (out : Progressed) (old : Config) (s : Step) (t : yaml_toke
     (new : Config) → (s ≡ stepped.Given → ⊥) → (s ≡ stepped.GivenBefore → ⊥)
     → (s ≡ stepped.Wants → Steps out old (Ok (Wants (wanted q))) new × Ready q new)
     → (s ≡ stepped.Failed → new.fault ≡ memory_fault)
-    → Steps out old (result_of s q e new) (standing_by s t new) × (s ≡ stepped.Wants → Ready q new)
+    → Steps out old (result_of s q e new) (config_after s t new) × (s ≡ stepped.Wants → Ready q new)
 wants_or_fails out old stepped.Given t q e new g b w f = absurd (g refl)
 wants_or_fails out old stepped.GivenBefore t q e new g b w f = absurd (b refl)
 wants_or_fails out old stepped.Wants t q e new g b w f = let y = w refl in (y.0, λ i. y.1)

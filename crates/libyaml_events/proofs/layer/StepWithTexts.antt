@@ -31,7 +31,7 @@ use Rattle.libyaml_events.specs.machine.Growth.{grows_for, joins, joins_before, 
 use Rattle.libyaml_events.specs.machine.Machine.{content_after, content_resolved, put, resolve, step, with_texts}
 use Rattle.libyaml_events.specs.machine.Read.{PropertyTexts, DirectiveTexts}
 use Rattle.libyaml_events.specs.machine.Want.{Texts}
-use Rattle.libyaml_events.specs.automaton.AutomatonResults.{GrowsAfter, IsHeld, IsPlain, Led, SaysIn}
+use Rattle.libyaml_events.specs.automaton.AutomatonResults.{GrowsAfter, IsHeld, IsPlain, FollowsAutomaton, SaysIn}
 use Rattle.libyaml_events.specs.automaton.View.{Ready}
 
 -- What a step does with texts hangs on the handles, the error and the lookahead, which the automaton leaves alone.
@@ -165,9 +165,9 @@ pub leads : (hs : Handles) (f : Fault) (o : Option yaml_token_t) (a b : automato
     → k ≡ token_type t.content → FitsStep x k r' b.state → (x ≡ action.AsksContent → r' ≡ q.reading)
     → IsOutcome (automaton.step (purposes.purpose_of q.reading) a (kind_and_marks k t.start_mark t.end_mark) k)
     (outcome x (automaton.no_properties (kind_and_marks k t.start_mark t.end_mark)) (kind_and_marks k t.start_mark t.end_mark) r' b)
-    → Led (step (wanted q) c t) (wanted q).texts t x (record q { reading = r' }) (config_with b hs f o)
+    → FollowsAutomaton (step (wanted q) c t) (wanted q).texts t x (record q { reading = r' }) (config_with b hs f o)
 leads hs f o a b c t q r' x k ec ek fits u s =
-    subst (λ (y : Config). Led (step (wanted q) y t) (wanted q).texts t x (record q { reading = r' }) (config_with b hs f o))
+    subst (λ (y : Config). FollowsAutomaton (step (wanted q) y t) (wanted q).texts t x (record q { reading = r' }) (config_with b hs f o))
     ec (
       held q r' x a (kind_and_marks k t.start_mark t.end_mark) k b.state b fits u s,
       says_texts hs f o a b (wanted q).texts t _ _ (rw ek at s),

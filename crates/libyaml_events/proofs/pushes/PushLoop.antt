@@ -14,7 +14,7 @@ use Rattle.libyaml_events.specs.machine.Steps.{FailsAs, Steps}
 use Rattle.libyaml_events.specs.machine.StepsOnto.{FailsOnto, by_list, by_step}
 use Rattle.libyaml_events.specs.machine.Want.{Want, AtState, Given, Wants}
 use Rattle.libyaml_events.specs.parsers.EventsLeft.{held_rank, rank}
-use Rattle.libyaml_events.specs.parsers.Left.{let_go}
+use Rattle.libyaml_events.specs.parsers.Left.{without_stacks}
 use Rattle.libyaml_events.specs.sources.Pushed.{Fed, standing}
 use Rattle.libyaml_events.proofs.pushes.Steps.{gives_on, takes, wants}
 use Rattle.libyaml_events.specs.sources.Pushes.{Stops, Takes, by_grammar, by_memory, for_event, for_step}
@@ -80,7 +80,7 @@ module _ (Full : Type 0) (w0 : Want) (c0 : Config) (t : Token) (before : List Ev
   -- the step failed
   pub fails : (x : yaml_error_type_t) (w' : Want) (new : Config) → Steps (step w old u) old (Err x) new
       → (x ≡ YAML_MEMORY_ERROR → may_grow w old u.content ≡ true)
-      → Takes Full (standing w0 c0) t before (Err x) (standing w' (let_go new)) now
+      → Takes Full (standing w0 c0) t before (Err x) (standing w' (without_stacks new)) now
   fails x w' new h grows = record {
     added = k.added;
     appended = k.appended;
@@ -113,14 +113,14 @@ module _ (Full : Type 0) (w0 : Want) (c0 : Config) (t : Token) (before : List Ev
   -- a step failed that appends its event
   pub fails_onto : (Room : Type 0) → (Room → Full)
       → (x : yaml_error_type_t) (w' : Want) (new : Config) (more : List Event) → FailsOnto Room w old u x new
-      → more ≡ now → Takes Full (standing w0 c0) t before (Err x) (standing w' (let_go new)) more
+      → more ≡ now → Takes Full (standing w0 c0) t before (Err x) (standing w' (without_stacks new)) more
   fails_onto Room full x w' new more f m =
       rw (← m) at (by f)
     where
-      by : FailsOnto Room w old u x new → Takes Full (standing w0 c0) t before (Err x) (standing w' (let_go new)) now
+      by : FailsOnto Room w old u x new → Takes Full (standing w0 c0) t before (Err x) (standing w' (without_stacks new)) now
       by (by_step h grows) = fails x w' new h grows
       by (by_list e mid h i j room) =
-          rw (← i) at (no_room e mid h w' (let_go new) j (full room))
+          rw (← i) at (no_room e mid h w' (without_stacks new) j (full room))
 
   -- an event is given
   module _ (e : Event) (mid : Config) (h : Steps (step w old u) old (Ok (Given e)) mid) (more : List Event)

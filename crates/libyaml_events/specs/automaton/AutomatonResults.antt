@@ -30,7 +30,7 @@ use Rattle.libyaml_events.specs.machine.Config.{Config, config_of, with_fault}
 use Rattle.libyaml_events.specs.machine.Want.{Texts}
 use Rattle.libyaml_events.specs.machine.Machine.{Progressed, put, resolve, seen, sequence_start_with, mapping_start_with, with_texts}
 use Rattle.libyaml_events.specs.machine.Growth.{joins}
-use Rattle.libyaml_events.specs.machine.Outcomes.{result_of, directive_texts, property_texts, standing_by, texts_for}
+use Rattle.libyaml_events.specs.machine.Outcomes.{result_of, directive_texts, property_texts, config_after, texts_for}
 use Rattle.libyaml_events.specs.machine.Steps.{Steps}
 use Rattle.libyaml_events.specs.automaton.View.{Ready}
 
@@ -69,13 +69,13 @@ IsHeld action.AsksContent h q = h ≡ property_texts (properties q.reading) q.pr
 IsHeld _ h q = Unit {0}
 
 -- the result a of a step
-abbrev pub Led : Progressed → Texts → yaml_token_t → Action → Pending → Config → Type 0
-Led out h t a q d = IsHeld a h q × IsWithTexts out h t a q.reading d
+abbrev pub FollowsAutomaton : Progressed → Texts → yaml_token_t → Action → Pending → Config → Type 0
+FollowsAutomaton out h t a q d = IsHeld a h q × IsWithTexts out h t a q.reading d
 
 -- so each step of the parser that the result says is done
 abbrev pub Puts : Action → yaml_token_t → Pending → Config → Step → yaml_token_t → Pending → yaml_event_t → Config → Type 0
-Puts a t q old s t' q' e new = (out : Progressed) (h : Texts) → Led out h t a q old
-    → Steps out old (result_of s q' e new) (standing_by s t' new) × (s ≡ stepped.Wants → Ready q' new)
+Puts a t q old s t' q' e new = (out : Progressed) (h : Texts) → FollowsAutomaton out h t a q old
+    → Steps out old (result_of s q' e new) (config_after s t' new) × (s ≡ stepped.Wants → Ready q' new)
 
 -- the result is put
 abbrev pub IsPut : Action → Type 0
@@ -85,13 +85,13 @@ IsPut action.FullMarks = ⊥
 IsPut _ = Unit {0}
 
 -- directives: those that were held are those that are kept
-abbrev pub LedDocument : Progressed → Texts → yaml_token_t → Action → Pending → Config → Type 0
-LedDocument out h t a q d = (h ≡ directive_texts q.directives) × IsWithTexts out h t a q.reading d
+abbrev pub FollowsAutomatonInDocuments : Progressed → Texts → yaml_token_t → Action → Pending → Config → Type 0
+FollowsAutomatonInDocuments out h t a q d = (h ≡ directive_texts q.directives) × IsWithTexts out h t a q.reading d
 
 abbrev pub PutsDocument : Action → yaml_token_t → Pending → Config → Step → yaml_token_t → Pending → yaml_event_t → Config
     → Type 0
-PutsDocument a t q old s t' q' e new = (out : Progressed) (h : Texts) → LedDocument out h t a q old
-    → Steps out old (result_of s q' e new) (standing_by s t' new) × (s ≡ stepped.Wants → Ready q' new)
+PutsDocument a t q old s t' q' e new = (out : Progressed) (h : Texts) → FollowsAutomatonInDocuments out h t a q old
+    → Steps out old (result_of s q' e new) (config_after s t' new) × (s ≡ stepped.Wants → Ready q' new)
 
 abbrev pub IsPutDocument : Action → Type 0
 IsPutDocument action.FullStates = ⊥
@@ -123,7 +123,7 @@ abbrev pub PutsContent : (anchor tag : Option (List ℕ)) → (start end : yaml_
     → Config → Step → yaml_token_t → Pending → yaml_event_t → Config → Type 0
 PutsContent a g start end x t r' old s t' q e new = (out : Progressed) (h : Texts) (r : Reading) → r.start_mark ≡ start
     → r.end_mark ≡ end → SaysContent out h a g t x r r' old
-    → Steps out old (result_of s q e new) (standing_by s t' new) × (s ≡ stepped.Wants → ⊥)
+    → Steps out old (result_of s q e new) (config_after s t' new) × (s ≡ stepped.Wants → ⊥)
 
 -- a collection whose start is kept
 abbrev pub IsOpening : Action → Type 0

@@ -47,6 +47,6 @@ result_of stepped.Wants p e c = Ok (Wants (wanted p))
 result_of stepped.Failed p e c = Err c.fault.error
 
 -- where the parser then stands: the token t stays where the event comes before it
-abbrev pub standing_by : Step → (t : yaml_token_t) → Config → Config
-standing_by stepped.GivenBefore t c = staying t c
-standing_by _ t c = c
+abbrev pub config_after : Step → (t : yaml_token_t) → Config → Config
+config_after stepped.GivenBefore t c = staying t c
+config_after _ t c = c

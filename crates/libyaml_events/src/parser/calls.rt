@@ -3,20 +3,20 @@ ghost use Rattle.std.specs.Prelude.{◌≡◌, None};
 ghost use Rattle.libyaml_events.specs.machine.Outcomes.{wanted};
 ghost use Rattle.libyaml_events.specs.machine.Want.{AtState};
 ghost use Rattle.libyaml_events.specs.automaton.View.{Ready};
-ghost use Rattle.libyaml_events.specs.parsers.Left.{let_go};
+ghost use Rattle.libyaml_events.specs.parsers.Left.{without_stacks};
 
-use crate::parser::Machine;
+use crate::parser::TokenParser;
 use crate::pending::Pending;
 use libyaml_types::yaml_error_type_t;
 
-impl Machine {
+impl TokenParser {
     /// Has the function of the parser's state take the next token.
     #[inline(always)]
-    pub(crate) fn begin(&self, pending: &mut Pending)
+    pub(crate) fn begin_call(&self, pending: &mut Pending)
         ensures wanted { wanted pending.new ≡ AtState }
         ensures ready { Ready pending.new self.now }
     {
-        self.automaton.begin(&mut pending.reading);
+        self.automaton.begin_call(&mut pending.reading);
     }
 
     /// Does nothing. The lookahead is not in the machine.
@@ -32,7 +32,7 @@ impl Machine {
     #[inline(never)]
     pub(crate) fn fail(&mut self) -> yaml_error_type_t
         ensures error { result ≡ self.old.fault.error }
-        ensures left { self.new ≡ let_go self.old }
+        ensures left { self.new ≡ without_stacks self.old }
     {
         self.automaton.clear();
         self.kept_prefix().error

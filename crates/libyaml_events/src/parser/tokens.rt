@@ -5,12 +5,12 @@ ghost use Rattle.libyaml_events.specs.machine.Config.{with_fault, with_lookahead
 ghost use Rattle.libyaml_events.specs.sources.Calls.{Fetches};
 
 use crate::lookahead::Lookahead;
-use crate::parser::Machine;
+use crate::parser::TokenParser;
 use libyaml_types::{yaml_error_type_t, yaml_token_source_t, yaml_token_t};
 
-impl Machine {
+impl TokenParser {
     /// Asks the source for a token, and keeps its error for good.
-    fn ask<S: yaml_token_source_t>(
+    fn ask_source<S: yaml_token_source_t>(
         &mut self,
         source: &mut S,
         token: &mut yaml_token_t,
@@ -52,6 +52,6 @@ impl Machine {
             lookahead.stays = false;
             return Ok(());
         }
-        self.ask(source, &mut lookahead.token)
+        self.ask_source(source, &mut lookahead.token)
     }
 }

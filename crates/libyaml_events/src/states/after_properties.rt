@@ -6,7 +6,7 @@ ghost use Rattle.libyaml_grammar.specs.grammar.Events.{event};
 ghost use Rattle.libyaml_types.specs.declared.enums.yaml_token_type_t.TheVariants.{YAML_SCALAR_TOKEN};
 ghost use Rattle.libyaml_automaton.specs.Numbers.{flag, place_of};
 ghost use Rattle.libyaml_automaton.specs.Fits.{FitsContent, IsFull, opens_at};
-ghost use Rattle.libyaml_events.specs.machine.Outcomes.{only_if, result_of, standing_by};
+ghost use Rattle.libyaml_events.specs.machine.Outcomes.{only_if, result_of, config_after};
 ghost use Rattle.libyaml_events.specs.machine.Growth.{joins};
 ghost use Rattle.libyaml_events.specs.machine.Machine.{Progressed};
 ghost use Rattle.libyaml_events.specs.machine.Steps.{Steps};
@@ -14,7 +14,7 @@ ghost use Rattle.libyaml_events.specs.machine.Want.{Texts};
 ghost use Rattle.libyaml_events.specs.automaton.AutomatonResults.{GrowsAfter, IsContent, IsOpening, Puts, PutsContent};
 ghost use Rattle.libyaml_events.specs.automaton.AutomatonResults.{ReadsTag, RefusesTag, SaysContent};
 
-use crate::parser::Machine;
+use crate::parser::TokenParser;
 use crate::pending::Pending;
 use crate::states::contents::{make_light, put_anchored_scalar, put_over, put_scalar};
 use crate::states::node_events::{collection_start, is_missing, plain_scalar, sequence_start};
@@ -26,7 +26,7 @@ use libyaml_types::{
     yaml_mark_t, yaml_sequence_style_t, yaml_token_t,
 };
 
-impl Machine {
+impl TokenParser {
     /// Puts the content of a node after its properties. A handle that is not defined is found here.
     #[inline(never)]
     pub(super) fn put_content_after(
@@ -80,7 +80,7 @@ impl Machine {
             (only_if (flag pending.old.reading.has_anchor) pending.old.properties.anchor)
             (option_map string_bytes tag) token.old pending.old.reading self.old
             → Steps o self.old (result_of result pending.new out.new self.new)
-            (standing_by result token.new self.new)
+            (config_after result token.new self.new)
             × (result ≡ Step.Wants → ⊥) }
         ensures grows { result ≡ Step.Failed → self.new.fault.error ≡ yaml_error_type_t.YAML_MEMORY_ERROR
             → opens_at (place_of pending.old.reading.place) (token_type token.old.content) ≡ true }
@@ -119,7 +119,7 @@ impl Machine {
         ensures puts { (o : Progressed) (h : Texts) → IsContent o h pending.old.properties.anchor
             (option_map string_bytes tag) token.old pending.old.reading self.old
             → Steps o self.old (result_of result pending.new out.new self.new)
-            (standing_by result token.new self.new)
+            (config_after result token.new self.new)
             × (result ≡ Step.Wants → ⊥) }
     {
         if !self.automaton.grow(Action::FullMarks) {

@@ -52,7 +52,7 @@ pub(super) fn in_words(text: String) -> String
 /// Keeps the memory of a text, if it has more room than what was kept: a later text may take it. A text
 /// beyond `MAX_SPARE` is not kept.
 #[inline(always)]
-fn let_go(spare: &mut String, text: &mut String) {
+fn release(spare: &mut String, text: &mut String) {
     let taken = take_memory(*spare.allocator(), text);
     let room = taken.capacity();
     if room > spare.capacity() && room <= MAX_SPARE {
@@ -84,7 +84,7 @@ pub(super) fn make_light(spare: &mut String, content: &mut unnamed_yaml_event_t_
         return;
     }
     if let unnamed_yaml_event_t_data::Scalar(event) = content {
-        let_go(spare, &mut event.value);
+        release(spare, &mut event.value);
     }
 }
 
@@ -92,11 +92,11 @@ pub(super) fn make_light(spare: &mut String, content: &mut unnamed_yaml_event_t_
 fn let_go_texts(spare: &mut String, content: &mut unnamed_yaml_event_t_data) {
     match content {
         unnamed_yaml_event_t_data::Scalar(event) => {
-            let_go(spare, &mut event.value);
+            release(spare, &mut event.value);
             drop_option(&mut event.anchor);
             drop_option(&mut event.tag);
         }
-        unnamed_yaml_event_t_data::Alias(event) => let_go(spare, &mut event.anchor),
+        unnamed_yaml_event_t_data::Alias(event) => release(spare, &mut event.anchor),
         unnamed_yaml_event_t_data::SequenceStart(event) => {
             drop_option(&mut event.anchor);
             drop_option(&mut event.tag);
@@ -133,7 +133,7 @@ fn drop_text(spare: &mut String, text: &mut Option<String>)
     ensures { text.new ≡ None }
 {
     if let Some(text) = text {
-        let_go(spare, text);
+        release(spare, text);
     }
     *text = None;
 }
@@ -267,7 +267,7 @@ fn put_text(spare: &mut String, text: Option<String>, place: &mut Option<String>
     ensures { option_map string_bytes place.new ≡ option_map string_bytes text }
 {
     if let Some(earlier) = place {
-        let_go(spare, earlier);
+        release(spare, earlier);
     }
     mem::forget(mem::replace(place, text));
 }

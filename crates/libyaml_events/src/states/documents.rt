@@ -15,12 +15,12 @@ ghost use Rattle.libyaml_events.specs.machine.Config.{with_fault};
 ghost use Rattle.libyaml_events.specs.machine.Machine.{declared_by, document_end, document_start, fault_with};
 ghost use Rattle.libyaml_events.specs.machine.Machine.{is_accepted_in, step, was_declared};
 ghost use Rattle.libyaml_events.specs.machine.Steps.{Steps};
-ghost use Rattle.libyaml_events.specs.machine.Outcomes.{directive_texts, result_of, standing_by, wanted};
+ghost use Rattle.libyaml_events.specs.machine.Outcomes.{directive_texts, result_of, config_after, wanted};
 ghost use Rattle.libyaml_events.specs.machine.Growth.{may_grow};
-ghost use Rattle.libyaml_events.specs.automaton.AutomatonResults.{IsPutDocument, LedDocument, PutsDocument};
+ghost use Rattle.libyaml_events.specs.automaton.AutomatonResults.{IsPutDocument, FollowsAutomatonInDocuments, PutsDocument};
 ghost use Rattle.libyaml_events.specs.automaton.View.{Ready};
 
-use crate::parser::Machine;
+use crate::parser::TokenParser;
 use crate::pending::{DirectivesHeld, Pending};
 use crate::states::give;
 use crate::step::Step;
@@ -151,7 +151,7 @@ fn hold_version(token: &yaml_token_t, pending: &mut Pending) -> bool
     }
 }
 
-impl Machine {
+impl TokenParser {
     /// Does a step of the stream or its documents.
     #[inline(never)]
     pub(super) fn step_document(
@@ -163,13 +163,13 @@ impl Machine {
         requires ready { Ready pending.old self.old }
         requires documents { stack_part_of (next_of pending.old.reading.next) ≡ Documents }
         ensures steps { Steps (step (wanted pending.old) self.old token.old) self.old
-            (result_of result pending.new out.new self.new) (standing_by result token.new self.new) }
+            (result_of result pending.new out.new self.new) (config_after result token.new self.new) }
         ensures ready { result ≡ Step.Wants → Ready pending.new self.new }
         ensures grows { result ≡ Step.Failed → self.new.fault.error ≡ yaml_error_type_t.YAML_MEMORY_ERROR
             → may_grow (wanted pending.old) self.old token.old.content ≡ true }
     {
         self.forget_directives(pending);
-        match self.lead_document(token, pending) {
+        match self.step_automaton_in_documents(token, pending) {
             Action::FullStates => self.step_document_again(token, pending, out),
             led => self.put_document(led, token, pending, out),
         }
@@ -189,13 +189,13 @@ impl Machine {
         requires declared { (wanted pending.old).texts ≡ directive_texts pending.old.directives }
         requires grows { may_grow (wanted pending.old) self.old token.old.content ≡ true }
         ensures steps { Steps (step (wanted pending.old) self.old token.old) self.old
-            (result_of result pending.new out.new self.new) (standing_by result token.new self.new) }
+            (result_of result pending.new out.new self.new) (config_after result token.new self.new) }
         ensures ready { result ≡ Step.Wants → Ready pending.new self.new }
     {
         if !self.automaton.grow(Action::FullStates) {
             return self.fail_out_of_memory();
         }
-        match self.lead_document(token, pending) {
+        match self.step_automaton_in_documents(token, pending) {
             Action::FullStates => self.fail_out_of_memory(),
             led => self.put_document(led, token, pending, out),
         }
@@ -223,11 +223,11 @@ impl Machine {
 
     /// Does a step of the parser without texts.
     #[inline(always)]
-    fn lead_document(&mut self, token: &yaml_token_t, pending: &mut Pending) -> Action
+    fn step_automaton_in_documents(&mut self, token: &yaml_token_t, pending: &mut Pending) -> Action
         requires ready { Ready pending.old self.old }
         requires documents { stack_part_of (next_of pending.old.reading.next) ≡ Documents }
         requires declared { (wanted pending.old).texts ≡ directive_texts pending.old.directives }
-        ensures led { LedDocument (step (wanted pending.old) self.old token.now)
+        ensures led { FollowsAutomatonInDocuments (step (wanted pending.old) self.old token.now)
             (wanted pending.old).texts token.now result pending.new self.new }
         ensures fits { FitsDocument result (token_type token.now.content) pending.new.reading self.new.state }
         ensures none { self.new.lookahead ≡ None }

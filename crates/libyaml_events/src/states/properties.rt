@@ -5,7 +5,7 @@ ghost use Rattle.libyaml_automaton.specs.Numbers.{flag};
 ghost use Rattle.libyaml_events.specs.machine.Outcomes.{only_if};
 ghost use Rattle.libyaml_events.specs.automaton.AutomatonResults.{with_anchor, with_tag};
 
-use crate::parser::Machine;
+use crate::parser::TokenParser;
 use crate::pending::Pending;
 use crate::states::contents::{in_words, take_memory};
 use libyaml_types::{
@@ -96,7 +96,7 @@ pub(super) fn take_anchor(pending: &mut Pending) -> Option<String>
     pending.properties.anchor.take()
 }
 
-impl Machine {
+impl TokenParser {
     /// Holds the name of an anchor.
     #[inline(never)]
     pub(super) fn hold_anchor(&mut self, token: &mut yaml_token_t, pending: &mut Pending)

@@ -37,13 +37,13 @@ ends_here (Fails f) d h = absurd cc
 
 module _ {S : Type 0} (g : Ghosts S) where
   -- a load that returned this document, or failed
-  answered : (new : Parser S) (d : Document) (a : Load) (e : List Event) (x : Ending)
+  event_result : (new : Parser S) (d : Document) (a : Load) (e : List Event) (x : Ending)
       → UnlessBroken {A = Document} g.may_break (Ok d) new (Answers g.known a (Ok d) new e x)
       → (a ≡ Ok d) × RunToCome g.known new e x
-  answered new d a e x (no_memory h k) = absurd (no_error h)
-  answered new d a e x (breaks f b h k) = absurd (no_error h)
-  answered new d (Ok c) e x (does h) = (ap (λ (z : Document). Ok z) (ok c d (sym h.0)), h.1)
-  answered new d (Err f) e x (does h) = absurd (no_error h.0)
+  event_result new d a e x (no_memory h k) = absurd (no_error h)
+  event_result new d a e x (breaks f b h k) = absurd (no_error h)
+  event_result new d (Ok c) e x (does h) = (ap (λ (z : Document). Ok z) (ok c d (sym h.0)), h.1)
+  event_result new d (Err f) e x (does h) = absurd (no_error h.0)
 
   failed : (new : Parser S) (f : yaml_parser_t_prefix) → fault_of f ≡ kept_fault new
       → (l : List Load) (a : Load) (e : List Event) (x : Ending)
@@ -72,7 +72,7 @@ module _ {S : Type 0} (g : Ghosts S) where
       go : YieldsDocument g old None new → AreLoadsOf g.may_break new [] Ends (bounded_loads n e x)
       go (inl (failed_before, same)) = absurd (true≢false (sym failed_before ∙ histories.faultless old run.asked run.given run.history))
       go (inr (none, over, (d, no_root, next))) =
-          let b = answered new d (next_bounded n e x) (left_over e) x
+          let b = event_result new d (next_bounded n e x) (left_over e) x
           (rw within at (next.next_load e x run)) in
           let z = last_of e x n d follow b.0 no_root in
           whole (z.0 ∙ ap (λ (t : Load). t ∷ []) (sym z.1 ∙ ap last_load (sym (ends_here x d z.1))))
@@ -80,7 +80,7 @@ module _ {S : Type 0} (g : Ghosts S) where
       failed new f kept (bounded_loads n e x) (next_bounded n e x) (left_over e) x (λ (w : Fault). roots.fault_of e x n w)
       (rw within at (next.next_load e x run))
   of_run n old new documents ending e x within run follow (document d later end mid (none, root, next) more) =
-      let b = answered mid d (next_bounded n e x) (left_over e) x
+      let b = event_result mid d (next_bounded n e x) (left_over e) x
       (rw within at (next.next_load e x run)) in
       one_more new d later end (bounded_loads n (left_over e) x) (bounded_loads n e x) (earlier_of e x n d b.0 root)
       (of_run n mid new later end (left_over e) x (ap magnitude next.bound ∙ within) b.1 (left_roots e follow) more)

@@ -63,14 +63,14 @@ module _ {S : Type 0} (g : Ghosts S) (load : List Event → Ending → Load) (le
   next_load old new r kept loads events ending run
       = go r kept (load_of_run old new r events ending run (loads (histories.faultless old run.asked run.given run.history)))
     where
-      answered : (l : Load) (q : DocumentOrError) → load events ending ≡ l → Answers g.known l q new (left events) ending
+      event_result : (l : Load) (q : DocumentOrError) → load events ending ≡ l → Answers g.known l q new (left events) ending
           → UnlessBroken g.may_break q new (Answers g.known (load events ending) q new (left events) ending)
-      answered l q e h = does (subst (λ (m : Load). Answers g.known m q new (left events) ending) (sym e) h)
+      event_result l q e h = does (subst (λ (m : Load). Answers g.known m q new (left events) ending) (sym e) h)
 
       go : (q : DocumentOrError) → IfErr q (λ (x : yaml_error_type_t). (x ≡ (kept_fault new).error) × (is_over new ≡ true))
           → LoadOfRun g load left q new events ending
           → UnlessBroken g.may_break q new (Answers g.known (load events ending) q new (left events) ending)
-      go (Ok d) k h = answered (Ok d) (Ok d) h.0 (refl, h.1)
-      go (Err y) k (inl h) = answered (Err (kept_fault new)) (Err y) h (ap (λ (x : yaml_error_type_t). Err x) k.0, refl)
+      go (Ok d) k h = event_result (Ok d) (Ok d) h.0 (refl, h.1)
+      go (Err y) k (inl h) = event_result (Err (kept_fault new)) (Err y) h (ap (λ (x : yaml_error_type_t). Err x) k.0, refl)
       go (Err y) k (inr (inl m)) = no_memory (ap (λ (x : yaml_error_type_t). Err x) (k.0 ∙ ap (λ (f : Fault). f.error) m)) m
       go (Err y) k (inr (inr b)) = breaks (kept_fault new) b (ap (λ (x : yaml_error_type_t). Err x) k.0) refl

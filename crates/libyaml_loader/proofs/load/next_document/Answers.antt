@@ -3,7 +3,7 @@ use Rattle.std.proofs.Math.Nat.{le_refl}
 use Rattle.libyaml_documents.specs.Documents.{Document}
 use Rattle.libyaml_events.specs.parsers.EventsLeft.{events_left}
 use Rattle.libyaml_events.specs.parsers.Stages.{is_event}
-use Rattle.libyaml_events.specs.sources.Calls.{answered}
+use Rattle.libyaml_events.specs.sources.Calls.{event_result}
 use Rattle.libyaml_events.specs.sources.History.{is_over}
 use Rattle.libyaml_types.specs.Fault.{fault_of}
 use Rattle.libyaml_graphs.specs.graphs.GraphParts.{closing_of}
@@ -34,12 +34,12 @@ came : (g : given.Over) (c : After-yaml_parser_parse_into g) (u : Unit {0}) → 
 came g c u ok an_event =
     let t = g.S.yaml_token_source_t in
     let call = c.yaml_parser_parse_into in
-    let is = ap (λ r. answered r call.new.event) ok in
+    let is = ap (λ r. event_result r call.new.event) ok in
     let run = running t g.met.S.yaml_token_source_t.follows c.loop-composer.parser call.new.parser
-    (answered call.result call.new.event) call.ensures call.new.event is an_event in
+    (event_result call.result call.new.event) call.ensures call.new.event is an_event in
     record {
       took = took_event t g.met.S.yaml_token_source_t.follows c.loop-composer.parser call.new.parser
-          (answered call.result call.new.event) call.ensures call.new.event is an_event;
+          (event_result call.result call.new.event) call.ensures call.new.event is an_event;
       runs = run;
       fell = rw ok at (call.ensures.falls run);
     }
@@ -92,15 +92,15 @@ returns-in_err-yaml_parser_parse_into-clause-loads g c =
     (way_fails t n c.args.parser.now c.loop-composer.parser
     (composer_state c.loop-composer.composer) c.loop-composer.invariant.0 call.new.parser
     (parser_fails t g.met.S.yaml_token_source_t.follows c.loop-composer.parser call.new.parser
-    (answered call.result call.new.event) call.ensures c.in_err-yaml_parser_parse_into.field-0.0
-    (ap (λ r. answered r call.new.event) c.in_err-yaml_parser_parse_into.was)))
+    (event_result call.result call.new.event) call.ensures c.in_err-yaml_parser_parse_into.field-0.0
+    (ap (λ r. event_result r call.new.event) c.in_err-yaml_parser_parse_into.was)))
 
 pub returns-in_err-yaml_parser_parse_into-clause-ended : goal.returns-in_err-yaml_parser_parse_into-clause-ended
 returns-in_err-yaml_parser_parse_into-clause-ended g c ended =
     let call = c.yaml_parser_parse_into in
     absurd (no_error (sym (call.ensures.ended
     (still_ended c.args.parser.now c.loop-composer.parser c.loop-composer.invariant.4 ended)).0
-    ∙ (ap (λ r. answered r call.new.event) c.in_err-yaml_parser_parse_into.was)))
+    ∙ (ap (λ r. event_result r call.new.event) c.in_err-yaml_parser_parse_into.was)))
 
 pub returns-then-not-is_event-clause-loads : goal.returns-then-not-is_event-clause-loads
 returns-then-not-is_event-clause-loads g c =
@@ -110,8 +110,8 @@ returns-then-not-is_event-clause-loads g c =
     way_finds_end t c.args.composer.max_entries c.args.parser.now c.loop-composer.parser
     (composer_state c.loop-composer.composer) c.loop-composer.invariant.0 call.new.parser c.empty_document.result
     (finds_end t g.met.S.yaml_token_source_t.follows c.loop-composer.parser call.new.parser
-    (answered call.result call.new.event)
-    call.ensures call.new.event (ap (λ r. answered r call.new.event) c.in_ok-yaml_parser_parse_into.was) empty)
+    (event_result call.result call.new.event)
+    call.ensures call.new.event (ap (λ r. event_result r call.new.event) c.in_ok-yaml_parser_parse_into.was) empty)
     c.empty_document.ensures
 
 pub returns-then-not-is_event-clause-ended : goal.returns-then-not-is_event-clause-ended
@@ -136,9 +136,9 @@ returns-in-Ok-Some-clause-loads g c =
     (closing_by c.in-Ok-Some.closing) c.into_document.result k.took (ap (λ (b : Bool). state_by b x.ctx) ends.0) ends.1
     (c.into_document.ensures ∙ ap (λ (y : Composer). ended_by (closing_by c.in-Ok-Some.closing) y.ctx) ends.2)
     (after_close t g.met.S.yaml_token_source_t.follows c.loop-composer.parser call.new.parser
-    (answered call.result call.new.event)
+    (event_result call.result call.new.event)
     call.ensures call.new.event
-    (ap (λ r. answered r call.new.event) c.in_ok-yaml_parser_parse_into.was) (closing_by c.in-Ok-Some.closing) ends.1)
+    (ap (λ r. event_result r call.new.event) c.in_ok-yaml_parser_parse_into.was) (closing_by c.in-Ok-Some.closing) ends.1)
 
 pub returns-in-Ok-Some-clause-falls : goal.returns-in-Ok-Some-clause-falls
 returns-in-Ok-Some-clause-falls g c =

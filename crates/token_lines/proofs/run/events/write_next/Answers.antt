@@ -1,7 +1,7 @@
 use Rattle.std.proofs.Common.{◌++◌, refl, ap, ◌∙◌, subst, sym}
 use Rattle.std.specs.Io.KnownBytes.{Appends}
 use Rattle.std.proofs.KnownBytes.{Appends-kept}
-use Rattle.libyaml_events.specs.sources.Calls.{answered}
+use Rattle.libyaml_events.specs.sources.Calls.{event_result}
 use Rattle.libyaml_events.specs.sources.History.{is_over}
 use Rattle.line_writing.specs.EventText.{event_line}
 use Rattle.token_lines.specs.events.InTurn.{gave_event, failed}
@@ -14,8 +14,8 @@ returns-clause-falls g c written =
     let call = c.yaml_parser_parse_into-parsed in
     let an_event = sym c.is_event.ensures ∙ c.if-not-is_event.false in
     let running = running_by c.args.parser.now call.new.parser
-    (answered call.result c.yaml_parser_parse_into-parsed.new.event) c.yaml_parser_parse_into-parsed.new.event
-    (is_over c.args.parser.now) refl (ap (λ r. answered r c.yaml_parser_parse_into-parsed.new.event) c.in-Ok.is)
+    (event_result call.result c.yaml_parser_parse_into-parsed.new.event) c.yaml_parser_parse_into-parsed.new.event
+    (is_over c.args.parser.now) refl (ap (λ r. event_result r c.yaml_parser_parse_into-parsed.new.event) c.in-Ok.is)
     an_event call.ensures.ended
     in
     rw c.in-Ok.is at (call.ensures.falls running)

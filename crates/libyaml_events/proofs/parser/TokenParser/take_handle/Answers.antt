@@ -1,0 +1,52 @@
+use Rattle.std.proofs.Common.{◌≡◌, ◌∙◌, None, ap, sym}
+use Rattle.libyaml_types.specs.Fault.{fault_of}
+use Rattle.libyaml_automaton.specs.Automaton as automaton
+use Rattle.libyaml_automaton.specs.Purposes.{purpose_of}
+use Rattle.libyaml_events.specs.declared.pending.Pending.{Pending}
+use Rattle.libyaml_events.specs.machine.Outcomes.{directive_texts}
+use Rattle.libyaml_events.specs.machine.Config.{Config, config_of, config_with, handles_of}
+use Rattle.libyaml_events.specs.machine.Machine.{put, seen}
+use Rattle.libyaml_events.proofs.layer.Putting.{directive_held, directive_wants, fails_as, handle_of, refused, wants_or_fails}
+use Rattle.libyaml_events.proofs.parser.TokenParser.take_handle.Goals as goal
+
+pub returns-in-Wants : goal.returns-in-Wants
+returns-in-Wants c = record {
+  puts = λ e out h l.
+      let g = handle_of c.args.token.now.content c.requires.directive in
+      let s = c.tag_directive.ensures.steps (seen c.args.token.now c.args.token.now.content) in
+      let does = rw (
+        c.in-Wants.is,
+        c.tag_directive.ensures.kept,
+        c.in-Ok.ensures.before,
+        ap config_of c.self.view_is,
+        ap config_of c.in-Ok.ensures.ok,
+      ) at s in
+      wants_or_fails out c.args.self.now c.hold_directive.result c.hold_directive.new.token c.hold_directive.new.pending e
+      c.hold_directive.new.self c.hold_directive.ensures.given c.hold_directive.ensures.before (λ w.
+      let held = c.hold_directive.ensures.held g.0 g.1 w in
+      let made : config_with c.tag_directive.new.self (handles_of c.self.inside.handles.entries)
+      (fault_of c.self.inside.prefix) None
+      ≡ c.declare_handle.new.self = rw c.tag_directive.ensures.kept c.self.view_is in
+      directive_wants out c.args.self.now c.args.token.now c.hold_directive.new.pending h (config_of c.args.self.now)
+      c.hold_directive.new.self (rw held (rw c.in-Wants.is at c.tag_directive.ensures.fits))
+      (directive_held h c.args.token.now.content g.0 c.args.pending.now.directives g.1 l.0
+      ∙ ap (λ (p : Pending). directive_texts p.directives) (sym held)) (sym (c.hold_directive.ensures.same w ∙ (made ∙ c.in-Ok.ensures.ok))) c.requires.none
+      (l.1 ∙ ap (λ (z : automaton.Step). put h None None c.args.self.now c.args.token.now c.args.token.now.content z)
+      (does
+      ∙ ap (λ (p : Pending). automaton.Wants (purpose_of p.reading) (config_of c.args.self.now)) (sym held))))
+      (λ i. ap (λ (d : Config). d.fault) (c.hold_directive.ensures.failed i));
+}
+
+pub returns-in_default : goal.returns-in_default
+returns-in_default c = record {
+  puts = λ e out h l.
+      let s = c.tag_directive.ensures.steps (seen c.args.token.now c.args.token.now.content) in
+      let o = refused c.tag_directive.result c.args.self.now c.args.token.now c.tag_directive.new.read out h _
+      c.tag_directive.new.self c.tag_directive.ensures.fits c.in_default.not-Wants l.1
+      (rw (c.in-Ok.ensures.before, ap config_of c.self.view_is, ap config_of c.in-Ok.ensures.ok) at s) in
+      rw c.set_document_problem.ensures.failed (
+        fails_as out c.set_document_problem.new.self _ c.set_document_problem.ensures.error
+            (ap (λ (d : Config). d.fault) c.set_document_problem.ensures.kept) o,
+        λ i. absurd cc,
+      );
+}
