@@ -1,7 +1,7 @@
 -- the tokens of a text of brackets, commas and letters
 use Rattle.std.specs.Prelude.{◌≡◌, ◌≢◌, ℕ, ◌+◌, ◌==◌, cond, List, [], ◌∷◌, drop, Option, Some, None, Ok, Err, codes}
 use Rattle.std.specs.Char.{is_ascii_alphabetic}
-use Rattle.unsafe_libyaml.specs.Fault.{Answer, Fault, memory_fault, scanner_fault}
+use Rattle.unsafe_libyaml.specs.Fault.{SourceResult, Fault, memory_fault, scanner_fault}
 use Rattle.unsafe_libyaml.specs.RowNotation.{SCALAR, STREAM, place}
 use Rattle.unsafe_libyaml.specs.Source.{Coming, coming}
 use Rattle.unsafe_libyaml.specs.Tokens.{Content, Token, FlowEntry, FlowSequenceEnd, FlowSequenceStart, StreamEnd}
@@ -35,6 +35,6 @@ letters_coming text None None = all_tokens text
 letters_coming text (Some n) None = letters_from n (drop n text)
 
 -- the list's next token; or its error, and where a token is left a failed allocation's, for good
-abbrev pub LettersGive : Coming → Answer → Coming → Type 0
+abbrev pub LettersGive : Coming → SourceResult → Coming → Type 0
 LettersGive s (Ok token) t = (s.tokens ≡ token ∷ t.tokens) × (t.fault ≡ s.fault)
 LettersGive s (Err f) t = (t ≡ coming [] f) × (s.tokens ≡ [] → f ≡ s.fault) × (s.tokens ≢ [] → f ≡ memory_fault)

@@ -53,9 +53,9 @@ abbrev pub source_fault : yaml_source_fault_t → Fault
 source_fault f = fault_of f.prefix
 
 -- a source's result: a token or an error
-abbrev pub Answer : Type 0
-Answer = Result yaml_token_t Fault
+abbrev pub SourceResult : Type 0
+SourceResult = Result yaml_token_t Fault
 
-abbrev pub answer_of : Result yaml_token_t yaml_source_fault_t → Answer
+abbrev pub answer_of : Result yaml_token_t yaml_source_fault_t → SourceResult
 answer_of (Ok t) = Ok t
 answer_of (Err f) = Err (source_fault f)

@@ -2,7 +2,7 @@
 use Rattle.std.specs.Prelude.{◌≡◌, ◌<◌, ◌≤◌, ℕ, ◌+◌, Option, Some, None, Ok, Err, negsuc, codes}
 use Rattle.libyaml_types.specs.declared.mark.yaml_mark_t.{yaml_mark_t}
 use Rattle.libyaml_types.specs.declared.enums.yaml_error_type_t.TheVariants.{YAML_READER_ERROR}
-use Rattle.libyaml_types.specs.Fault.{Fault, Answer, no_fault}
+use Rattle.libyaml_types.specs.Fault.{Fault, SourceResult, no_fault}
 
 -- a source: its scanner, how many tokens it has given and how many it may give, where the last of them ends, and
 -- the error that it keeps
@@ -24,15 +24,15 @@ too_many_tokens given end = record no_fault {
 }
 
 -- how many tokens a result is, where the last token ends after it, and which error it is
-abbrev pub tokens_in_answer : Answer → ℕ
+abbrev pub tokens_in_answer : SourceResult → ℕ
 tokens_in_answer (Ok token) = 1
 tokens_in_answer (Err fault) = 0
 
-abbrev pub end_after : yaml_mark_t → Answer → yaml_mark_t
+abbrev pub end_after : yaml_mark_t → SourceResult → yaml_mark_t
 end_after end (Ok token) = token.end_mark
 end_after end (Err fault) = end
 
-abbrev pub fault_in_answer : Answer → Option Fault
+abbrev pub fault_in_answer : SourceResult → Option Fault
 fault_in_answer (Ok token) = None
 fault_in_answer (Err fault) = Some fault
 
@@ -41,7 +41,7 @@ abbrev pub Asks : {S : Type 0} → Scanned S → Type 0
 Asks s = (s.fault ≡ None) × (s.given < s.max_tokens)
 
 -- what a call returns, and where that leaves the source
-pub record ScannerGives {S : Type 0} (scans : S → Answer → S → Type 0) (s : Scanned S) (answer : Answer) (t : Scanned S)
+pub record ScannerGives {S : Type 0} (scans : S → SourceResult → S → Type 0) (s : Scanned S) (answer : SourceResult) (t : Scanned S)
     : Type 0 where
   pub asked : Asks s → scans s.scanner answer t.scanner
   pub not_asked : ¬ Asks s → t.scanner ≡ s.scanner

@@ -3,10 +3,10 @@ use Rattle.std.specs.Prelude.{◌≡◌, List, [], ◌∷◌, Option, Some, None
 use Rattle.libyaml_types.specs.declared.enums.yaml_error_type_t.TheVariants.{YAML_READER_ERROR}
 use Rattle.libyaml_types.specs.declared.token.yaml_token_t.{yaml_token_t}
 use Rattle.libyaml_types.specs.declared.fault.yaml_source_fault_t.{yaml_source_fault_t}
-use Rattle.libyaml_types.specs.Fault.{Fault, Answer, source_fault, no_fault}
+use Rattle.libyaml_types.specs.Fault.{Fault, SourceResult, source_fault, no_fault}
 
 -- the result of a call that puts its token into a slot
-abbrev pub answer_in : Result (Unit {0}) yaml_source_fault_t → yaml_token_t → Answer
+abbrev pub answer_in : Result (Unit {0}) yaml_source_fault_t → yaml_token_t → SourceResult
 answer_in (Ok u) token = Ok token
 answer_in (Err fault) token = Err (source_fault fault)
 
@@ -20,13 +20,13 @@ coming ts f = record { tokens = ts; fault = f }
 
 -- The next token of the list, then its error; or an error by which the source may have failed early, which then ends
 -- the list.
-abbrev pub FollowsList : (Fault → Type 0) → List yaml_token_t → Fault → Answer → Option Coming → Type 0
+abbrev pub FollowsList : (Fault → Type 0) → List yaml_token_t → Fault → SourceResult → Option Coming → Type 0
 FollowsList MayBreak [] f (Ok t) after = ⊥
 FollowsList MayBreak [] f (Err e) after = ((e ≡ f) ⊎ MayBreak e) × (after ≡ Some (coming [] e))
 FollowsList MayBreak (t ∷ ts) f (Ok u) after = (u ≡ t) × (after ≡ Some (coming ts f))
 FollowsList MayBreak (t ∷ ts) f (Err e) after = MayBreak e × (after ≡ Some (coming [] e))
 
-abbrev pub Follows : (Fault → Type 0) → Option Coming → Answer → Option Coming → Type 0
+abbrev pub Follows : (Fault → Type 0) → Option Coming → SourceResult → Option Coming → Type 0
 Follows MayBreak None answer after = Unit {0}
 Follows MayBreak (Some c) answer after = FollowsList MayBreak c.tokens c.fault answer after
 
@@ -39,7 +39,7 @@ no_more_tokens = record no_fault {
 }
 
 -- the result of a list with no break
-abbrev pub list_answer : List yaml_token_t → Fault → Answer
+abbrev pub list_answer : List yaml_token_t → Fault → SourceResult
 list_answer [] f = Err f
 list_answer (t ∷ ts) f = Ok t
 

@@ -1,5 +1,5 @@
 //! The trait of a scanner.
-ghost use Rattle.libyaml_types.specs.Fault.{Answer, answer_of};
+ghost use Rattle.libyaml_types.specs.Fault.{SourceResult, answer_of};
 
 use crate::{yaml_source_fault_t, yaml_token_t};
 
@@ -7,7 +7,7 @@ use crate::{yaml_source_fault_t, yaml_token_t};
 pub trait yaml_scanner_t {
     /// What a call may do: the scanner before it, its result, and the scanner after it. An implementation
     /// that leaves this out says nothing of its tokens.
-    ghost scans: { Self → Answer → Self → Type 0 } = { λ _ _ _. Unit {0} };
+    ghost scans: { Self → SourceResult → Self → Type 0 } = { λ _ _ _. Unit {0} };
 
     /// Returns the next token. The source does not call it again after an error.
     ///

@@ -1,7 +1,7 @@
 //! The trait of a source of tokens.
 ghost use Rattle.std.specs.Prelude.{◌≡◌, ℕ, ◌+◌, Option, Ok, Err};
 ghost use Rattle.libyaml_types.specs.declared.token.yaml_token_t.{yaml_token_t};
-ghost use Rattle.libyaml_types.specs.Fault.{Fault, Answer, answer_of};
+ghost use Rattle.libyaml_types.specs.Fault.{Fault, SourceResult, answer_of};
 ghost use Rattle.libyaml_types.specs.Source.{Coming, Follows, answer_in};
 
 use crate::fault::yaml_source_fault_t;
@@ -17,7 +17,7 @@ pub trait yaml_token_source_t {
 
     /// What a call may do: the source before it, its result, and the source after it. This is the contract of
     /// `next_token`.
-    ghost gives: { Self → Answer → Self → Type 0 };
+    ghost gives: { Self → SourceResult → Self → Type 0 };
 
     /// The tokens to come and the error after them, or `None` if the source does not know them in advance.
     ghost known: { Self → Option Coming };
@@ -62,10 +62,10 @@ pub trait yaml_token_source_t {
     /// A proof that each result agrees with `known`: it is the next token of that list, or the error of the
     /// list if no token is left, or an error of `may_break`, after which no token is left. If `known` is
     /// `None` there is nothing to prove: `λ s t answer h. tt`.
-    ghost follows: { (s t : Self) (answer : Answer) → gives s answer t
+    ghost follows: { (s t : Self) (answer : SourceResult) → gives s answer t
         → Follows (may_break t) (known s) answer (known t) };
 
     /// A proof that after an error each later call returns that error again.
-    ghost repeats: { (s t u : Self) (fault : Fault) (answer : Answer) → gives s (Err fault) t
+    ghost repeats: { (s t u : Self) (fault : Fault) (answer : SourceResult) → gives s (Err fault) t
         → gives t answer u → answer ≡ Err fault };
 }

@@ -1,7 +1,7 @@
 -- All documents of a source are together at most twice as large as their events, and at most eight for each token.
 use Rattle.std.proofs.Common.{◌≤◌, ◌*◌, arith, List, [], ◌∷◌, length, length-append, ap, sym, ◌∙◌, subst}
 use Rattle.std.proofs.lemmas.List.{append-nil}
-use Rattle.libyaml_types.specs.Fault.{Answer, no_fault}
+use Rattle.libyaml_types.specs.Fault.{SourceResult, no_fault}
 use Rattle.libyaml_grammar.specs.runs.Runs.{IsRun}
 use Rattle.libyaml_grammar.specs.grammar.Events.{Event}
 use Rattle.libyaml_grammar.specs.grammar.Tokens.{Token}
@@ -26,7 +26,7 @@ few asked taken begins =
     let i = ap length all ∙ length-append taken rest in
     omega arith
 
-pub loads_linear : {S : Type 0} (gives : S → Answer → S → Type 0) (source : S) (all : yaml_documents_t) → GathersLoads gives source all
+pub loads_linear : {S : Type 0} (gives : S → SourceResult → S → Type 0) (source : S) (all : yaml_documents_t) → GathersLoads gives source all
     → (g : GathersLoads gives source all) × (documents_size all.documents.items ≤ 2 * length g.taken)
     × (documents_size all.documents.items ≤ 8 * length g.asked)
 loads_linear gives source all g =

@@ -1,13 +1,13 @@
 -- Two lists of documents that the contract of a whole load allows are one.
 use Rattle.std.proofs.Common.{◌≡◌, ◌⊎◌, inl, inr, List, Option, Some, None, refl, sym, ap, ◌∙◌, subst}
 use Rattle.libyaml_documents.specs.Documents.{Document}
-use Rattle.libyaml_types.specs.Fault.{Answer, fault_of}
+use Rattle.libyaml_types.specs.Fault.{SourceResult, fault_of}
 use Rattle.libyaml_types.specs.declared.fault.yaml_parser_t_prefix.{yaml_parser_t_prefix}
 use Rattle.libyaml_grammar.specs.grammar.Events.{Event}
 use Rattle.libyaml_grammar.specs.partial.DeterminedEvents.{Begins}
 use Rattle.libyaml_grammar.specs.runs.Runs.{Ending}
 use Rattle.libyaml_events.specs.sources.Determined.{OneBegins}
-use Rattle.libyaml_events.specs.sources.History.{answers}
+use Rattle.libyaml_events.specs.sources.History.{source_results}
 use Rattle.libyaml_graphs.proofs.exported.LoadLists.{last_same, same_loads}
 use Rattle.libyaml_events.proofs.exported.RunStops.{RunStop, begins_stopped, ended_stop, one_run_by_answers, taken_comparable}
 use Rattle.libyaml_graphs.specs.loads.Loads.{last_load, loads}
@@ -21,30 +21,30 @@ loads_same : (c d : List Document) (x y : Ending) → as_whole_loads c x ≡ as_
 loads_same c d x y e = let s = same_loads c d (last_load x) (last_load y) e in (s.0, last_same x y s.1)
 
 -- what a list of loads says of itself: it stopped as a run does, or by a composer error
-data LoadStop (a : List Answer) (taken : List Event) (all : yaml_documents_t) : Type 0 where
+data LoadStop (a : List SourceResult) (taken : List Event) (all : yaml_documents_t) : Type 0 where
   as_run : RunStop a taken (ending_of all.fault) → LoadStop a taken all
   composer : ComposerError taken all → LoadStop a taken all
 
-load_stop : {S : Type 0} (gives : S → Answer → S → Type 0) (source : S) (all : yaml_documents_t)
+load_stop : {S : Type 0} (gives : S → SourceResult → S → Type 0) (source : S) (all : yaml_documents_t)
     (g : GathersLoads gives source all) (o : Option yaml_parser_t_prefix)
-    → all.fault ≡ o → LoadStop (answers g.asked g.last) g.taken all
+    → all.fault ≡ o → LoadStop (source_results g.asked g.last) g.taken all
 load_stop gives source all g None e
-    = as_run (subst (λ (z : Option yaml_parser_t_prefix). RunStop (answers g.asked g.last) g.taken (ending_of z)) (sym e)
+    = as_run (subst (λ (z : Option yaml_parser_t_prefix). RunStop (source_results g.asked g.last) g.taken (ending_of z)) (sym e)
     (ended_stop g.asked g.last g.taken g.tokens.needed_last (g.whole e)))
 load_stop gives source all g (Some f) e = go (g.stopped f e)
   where
     go : StoppedBy g.asked g.last g.taken (fault_of f) ⊎ ComposerError g.taken all
-        → LoadStop (answers g.asked g.last) g.taken all
+        → LoadStop (source_results g.asked g.last) g.taken all
     go (inl h) = as_run (subst
-        (λ (z : Option yaml_parser_t_prefix). RunStop (answers g.asked g.last) g.taken (ending_of z)) (sym e)
+        (λ (z : Option yaml_parser_t_prefix). RunStop (source_results g.asked g.last) g.taken (ending_of z)) (sym e)
         (failed_stop g.asked g.last g.taken (fault_of f) h))
     go (inr h) = composer h
 
-turned : (a b : List Answer) → OneBegins a b → OneBegins b a
+turned : (a b : List SourceResult) → OneBegins a b → OneBegins b a
 turned a b (inl h) = inr h
 turned a b (inr h) = inl h
 
-module _ {S : Type 0} (gives : S → Answer → S → Type 0) (source : S) where
+module _ {S : Type 0} (gives : S → SourceResult → S → Type 0) (source : S) where
   abbrev AreOne : yaml_documents_t → yaml_documents_t → Type 0
   AreOne a b = (a.documents.items ≡ b.documents.items) × (ending_of a.fault ≡ ending_of b.fault)
 
@@ -64,8 +64,8 @@ module _ {S : Type 0} (gives : S → Answer → S → Type 0) (source : S) where
   one_documents_proof a b g h =
       λ o. go o (load_stop gives source a g a.fault refl) (load_stop gives source b h b.fault refl)
     where
-      go : OneBegins (answers g.asked g.last) (answers h.asked h.last) → LoadStop (answers g.asked g.last) g.taken a
-          → LoadStop (answers h.asked h.last) h.taken b → AreOne a b
+      go : OneBegins (source_results g.asked g.last) (source_results h.asked h.last) → LoadStop (source_results g.asked g.last) g.taken a
+          → LoadStop (source_results h.asked h.last) h.taken b → AreOne a b
       go o (as_run s) (as_run t) =
           let w = one_run_by_answers g.taken h.taken (ending_of a.fault) (ending_of b.fault)
           (record {
@@ -87,13 +87,13 @@ module _ {S : Type 0} (gives : S → Answer → S → Type 0) (source : S) where
           ∙ (ap (loads h.taken) w.2 ∙ sym h.are_loads)))
       go o (composer e) (as_run t)
           = by_composer a b g h e
-          (begins_stopped g.asked g.last (answers h.asked h.last) g.taken h.taken (ending_of b.fault)
+          (begins_stopped g.asked g.last (source_results h.asked h.last) g.taken h.taken (ending_of b.fault)
           g.tokens.needed g.begins_run t o)
       go o (as_run s) (composer e)
           = turned_one a b (by_composer b a h g e
-          (begins_stopped h.asked h.last (answers g.asked g.last) h.taken g.taken (ending_of a.fault)
+          (begins_stopped h.asked h.last (source_results g.asked g.last) h.taken g.taken (ending_of a.fault)
           h.tokens.needed h.begins_run s
-          (turned (answers g.asked g.last) (answers h.asked h.last) o)))
+          (turned (source_results g.asked g.last) (source_results h.asked h.last) o)))
       go o (composer e) (composer f)
           = both (taken_comparable g.asked h.asked g.last h.last g.taken h.taken g.begins_run h.begins_run o)
         where

@@ -9,7 +9,7 @@ use Rattle.libyaml_grammar.specs.grammar.Events.{Event, events}
 use Rattle.libyaml_types.specs.Fault.{Fault, memory_fault}
 use Rattle.libyaml_types.specs.Fault as faults
 use Rattle.libyaml_events.proofs.exported.CallsInTurn.{both_calls}
-use Rattle.libyaml_events.specs.sources.History.{answers, between_documents, has_failed, kept_fault, new_parser}
+use Rattle.libyaml_events.specs.sources.History.{source_results, between_documents, has_failed, kept_fault, new_parser}
 use Rattle.libyaml_grammar.specs.partial.DeterminedEvents.{Begins}
 use Rattle.libyaml_grammar.specs.grammar.Nesting.{IsNested}
 use Rattle.libyaml_grammar.specs.grammar.Order.{in_order}
@@ -285,7 +285,7 @@ loads_to g source all w l f a h tells = subst (LoadsTo g source all) (sym h.all)
     go None i = told_so Ends (ap ending_of i) (tells.whole (w.whole i))
     go (Some p) i = ⊎_elim (λ s. ⊎_elim (told_so (Fails (faults.fault_of p)) (ap ending_of i))
         (λ b. let (rest, k) = w.are_first begins.0 h.ending in
-        whole_loads.broken_off (answers w.asked w.last) w.tokens.stands (faults.fault_of p) w.tokens.gave b
+        whole_loads.broken_off (source_results w.asked w.last) w.tokens.stands (faults.fault_of p) w.tokens.gave b
         (ap ending_of i) rest (ap (λ (l : List Event). loads l h.ending) begins.1 ∙ k))
         (tells.stopped (faults.fault_of p) s))
         (λ c. whole_loads.whole (sym (c begins.0 h.ending) ∙ ap (λ (l : List Event). loads l h.ending) (sym begins.1)))

@@ -11,8 +11,8 @@ use Rattle.libyaml_grammar.specs.grammar.Events.{Event, events}
 use Rattle.libyaml_grammar.specs.partial.DeterminedEvents.{Begins}
 use Rattle.libyaml_grammar.specs.grammar.Order.{in_order}
 use Rattle.libyaml_grammar.specs.grammar.Trees.{Stream, tokens}
-use Rattle.libyaml_types.specs.Fault.{Fault, Answer, fault_of}
-use Rattle.libyaml_events.specs.sources.History.{ForHistory, History, is_over, answers, kept_fault, new_parser}
+use Rattle.libyaml_types.specs.Fault.{Fault, SourceResult, fault_of}
+use Rattle.libyaml_events.specs.sources.History.{ForHistory, History, is_over, source_results, kept_fault, new_parser}
 use Rattle.libyaml_events.specs.sources.Needs.{EachNeeded}
 use Rattle.libyaml_events.specs.sources.Parsing.{CarriesOn, Cause, FailsBy, HasFailed, IsWhole, StopsShort}
 use Rattle.libyaml_events.specs.sources.Parsing as parsing
@@ -30,16 +30,16 @@ use Rattle.unsafe_libyaml.specs.WholeRun.{Asked, Gathers, RunsTo, StoppedBy, who
 use Rattle.unsafe_libyaml.specs.declared.parse_all.yaml_run_t.{yaml_run_t}
 
 -- what a parser over this source gave since it was made
-abbrev pub GaveSoFar : {S : Type 0} → (gives : S → Answer → S → Type 0) → (source : S) → (p : Parser S)
+abbrev pub GaveSoFar : {S : Type 0} → (gives : S → SourceResult → S → Type 0) → (source : S) → (p : Parser S)
     → (given : List Event) → Type 0
 GaveSoFar gives source p given = CarriedOn gives (new_parser source) p [] [] given
 
-pub gave_none : {S : Type 0} (gives : S → Answer → S → Type 0) (source : S) (p : Parser S) → p ≡ new_parser source
+pub gave_none : {S : Type 0} (gives : S → SourceResult → S → Type 0) (source : S) (p : Parser S) → p ≡ new_parser source
     → History p [] []
     → GaveSoFar gives source p []
 gave_none gives source p is h = subst (λ q. CarriedOn gives q p [] [] []) is (no_call gives p p p [] [] h)
 
-pub gave_more : {S : Type 0} (gives : S → Answer → S → Type 0) (source : S) (old new : Parser S)
+pub gave_more : {S : Type 0} (gives : S → SourceResult → S → Type 0) (source : S) (old new : Parser S)
     (given : List Event) (e : Event)
     → (k : GaveSoFar gives source old given) → CarriesOn gives old e new k.more given
     → GaveSoFar gives source new (given ++ e ∷ [])
@@ -53,15 +53,15 @@ the_same : (p q : yaml_parser_t_prefix) → ◌≡◌ {A = Option yaml_parser_t_
 the_same p q h = cc
 
 -- nothing that was asked for was not needed
-no_answer : (front : List Token) (x : Answer) (following : List Answer)
-    → ◌≡◌ {A = List Answer} [] (answers front (x ∷ following)) → ⊥
+no_answer : (front : List Token) (x : SourceResult) (following : List SourceResult)
+    → ◌≡◌ {A = List SourceResult} [] (source_results front (x ∷ following)) → ⊥
 no_answer [] x following h = cc
 no_answer (t ∷ l) x following h = cc
 
 pub none_needed : (asked : List Token) (given : List Event) → EachNeeded asked [] given
 none_needed asked given front x following h = absurd (no_answer front x following h)
 
-stopped_by : (c : Config) (asked : List Token) (given : List Event) (more : List Answer) (f : Fault)
+stopped_by : (c : Config) (asked : List Token) (given : List Event) (more : List SourceResult) (f : Fault)
     → Cause c asked given more f
     → f.error ≢ YAML_MEMORY_ERROR → StoppedBy asked more given f
 stopped_by c asked given more f (parsing.of_memory l a b d e) other = absurd (other (ap (λ (g : Fault). g.error) e))
@@ -69,7 +69,7 @@ stopped_by c asked given more f (parsing.of_grammar l a b) other = of_grammar l 
 stopped_by c asked given more f (parsing.of_source l a b d) other = of_source l a b d
 
 -- what a source was asked for, and until a call failed
-module _ {S : Type 0} {gives : S → Answer → S → Type 0} {source : S} {p : Parser S} {given : List Event}
+module _ {S : Type 0} {gives : S → SourceResult → S → Type 0} {source : S} {p : Parser S} {given : List Event}
     (k : GaveSoFar gives source p given) where
   abbrev pub asked_all : Asked gives source k.more [] given
   asked_all = record { stands = p.source; gave = k.gave; needed = k.needed; needed_last = none_needed k.more given }
@@ -84,7 +84,7 @@ module _ {S : Type 0} {gives : S → Answer → S → Type 0} {source : S} {p : 
   }
 
 -- the error of a call that failed, which is not out of memory
-pub stopped_so : {S : Type 0} {gives : S → Answer → S → Type 0} {old new : Parser S} {asked : List Token}
+pub stopped_so : {S : Type 0} {gives : S → SourceResult → S → Type 0} {old new : Parser S} {asked : List Token}
     {given : List Event} (p f : yaml_parser_t_prefix)
     → ◌≡◌ {A = Option yaml_parser_t_prefix} (Some p) (Some f) → fault_of p ≡ kept_fault new → p.error ≢ YAML_MEMORY_ERROR
     → (fails : FailsBy gives old new asked given) → StoppedBy asked fails.more given (fault_of f)
@@ -94,7 +94,7 @@ stopped_so {S} {gives} {old} {new} {asked} {given} p f is kept other fails =
     (λ m. other (ap (λ (q : Fault). q.error) kept ∙ m)))
 
 -- over every source
-module _ {S : Type 0} (gives : S → Answer → S → Type 0) (source : S) (p : Parser S) (run : yaml_run_t)
+module _ {S : Type 0} (gives : S → SourceResult → S → Type 0) (source : S) (p : Parser S) (run : yaml_run_t)
     (k : GaveSoFar gives source p run.events.items) where
   pub gathers_all : is_over p ≡ true → run.fault ≡ None → Gathers gives source run
   gathers_all over no_fault = record {
@@ -126,7 +126,7 @@ module _ {S : Type 0} (gives : S → Answer → S → Type 0) (source : S) (p : 
       }
 
 -- what the tokens that were asked for tell of a run
-pub record Tells {S : Type 0} (MayBreak : S → Fault → Type 0) (stands : S) (asked : List Token) (last : List Answer)
+pub record Tells {S : Type 0} (MayBreak : S → Fault → Type 0) (stands : S) (asked : List Token) (last : List SourceResult)
     (given e : List Event) (x : Ending)
     : Type 0 where
   pub whole : IsWhole asked given → (given ≡ e) × (Ends ≡ x)
@@ -135,17 +135,17 @@ pub record Tells {S : Type 0} (MayBreak : S → Fault → Type 0) (stands : S) (
 
 -- over a source that knows its tokens
 module _ {S : Type 0} (g : Ghosts S)
-    (follows : (s t : S) (a : Answer) → g.gives s a t → Follows (g.may_break t) (g.known s) a (g.known t))
+    (follows : (s t : S) (a : SourceResult) → g.gives s a t → Follows (g.may_break t) (g.known s) a (g.known t))
     (source : S) (l : List Token) (f : Fault) (e : List Event) (x : Ending) (is_run : IsRun l f e x)
-    (k : g.known source ≡ Some (coming l f)) (asked : List Token) (last : List Answer) (given : List Event)
+    (k : g.known source ≡ Some (coming l f)) (asked : List Token) (last : List SourceResult) (given : List Event)
     (a : Asked g.gives source asked last given) where
   stopped_run : (w : Fault) → StoppedBy asked last given w → ((given ≡ e) × (Fails w ≡ x)) ⊎ g.may_break a.stands w
   stopped_run w by = go by
     where
-      gave_as : (b : List Token) (r : List Answer) → last ≡ answers b r
-          → Gave g.gives source (answers (asked ++ b) r) a.stands
-      gave_as b r i = subst (λ (y : List Answer). Gave g.gives source y a.stands)
-          (ap (answers asked) i ∙ answers_both asked b r) a.gave
+      gave_as : (b : List Token) (r : List SourceResult) → last ≡ source_results b r
+          → Gave g.gives source (source_results (asked ++ b) r) a.stands
+      gave_as b r i = subst (λ (y : List SourceResult). Gave g.gives source y a.stands)
+          (ap (source_results asked) i ∙ answers_both asked b r) a.gave
 
       go : StoppedBy asked last given w → ((given ≡ e) × (Fails w ≡ x)) ⊎ g.may_break a.stands w
       go (of_grammar b i h) = inl (failed_known g follows [] source a.stands l f k e x is_run (asked ++ b)
@@ -172,7 +172,7 @@ runs_to g source run w e x tells = go run.fault refl
     go : (o : Option yaml_parser_t_prefix) → run.fault ≡ o → RunsTo g source run e x
     go None i = whole_so Ends (ap ending_of i) (tells.whole (w.whole i))
     go (Some p) i = ⊎_elim (whole_so (Fails (fault_of p)) (ap ending_of i))
-        (λ b. broken_off (answers w.asked w.last) w.tokens.stands (fault_of p) w.tokens.gave b (ap ending_of i)
+        (λ b. broken_off (source_results w.asked w.last) w.tokens.stands (fault_of p) w.tokens.gave b (ap ending_of i)
         (tells.begins w.begins_run))
         (tells.stopped (fault_of p) (w.stopped p i))
 

@@ -2,7 +2,7 @@
 use Rattle.std.specs.Prelude.{◌≡◌, ◌⊎◌, ◌++◌, ◌∷◌, List, [], None, Some, map, Ok}
 use Rattle.libyaml_documents.specs.Documents.{Document}
 use Rattle.libyaml_grammar.specs.partial.DeterminedEvents.{BeginsEach}
-use Rattle.libyaml_types.specs.Fault.{Answer, Fault, fault_of}
+use Rattle.libyaml_types.specs.Fault.{SourceResult, Fault, fault_of}
 use Rattle.libyaml_grammar.specs.runs.Runs.{Ending, Fails}
 use Rattle.libyaml_grammar.specs.grammar.Events.{Event}
 use Rattle.libyaml_grammar.specs.grammar.Nesting.{NestsSoFar}
@@ -24,7 +24,7 @@ as_whole_loads documents ending = map (λ (d : Document). Ok d) documents ++ las
 -- it then stood, and the documents are a prefix. A list never does.
 pub data LoadsTo {S : Type 0} (g : Ghosts S) (source : S) (all : yaml_documents_t) (loads : List Load) : Type 0 where
   whole : as_whole_loads all.documents.items (ending_of all.fault) ≡ loads → LoadsTo g source all loads
-  broken_off : (given : List Answer) (s : S) (f : Fault) → Gave g.gives source given s → g.may_break s f
+  broken_off : (given : List SourceResult) (s : S) (f : Fault) → Gave g.gives source given s → g.may_break s f
       → ending_of all.fault ≡ Fails f
       → (rest : List Load) → loads ≡ map (λ (d : Document). Ok d) all.documents.items ++ rest
       → LoadsTo g source all loads
@@ -38,9 +38,9 @@ ComposerError taken all = (rest : List Event) (x : Ending)
 -- events, and the documents are the first loads of them, whatever comes after. The events begin those of each valid
 -- list that begins with the tokens, and nest; without an error they are a whole tree's, and so are the tokens; and an
 -- error is the parser's, or a composer error of these events.
-pub record GathersLoads {S : Type 0} (gives : S → Answer → S → Type 0) (source : S) (all : yaml_documents_t) : Type 0 where
+pub record GathersLoads {S : Type 0} (gives : S → SourceResult → S → Type 0) (source : S) (all : yaml_documents_t) : Type 0 where
   pub asked : List Token
-  pub last : List Answer
+  pub last : List SourceResult
   pub taken : List Event
   pub tokens : Asked gives source asked last taken
   pub begins : BeginsEach asked taken

@@ -1,7 +1,7 @@
 -- Two outcomes that the contract of a parse allows are one.
 use Rattle.std.proofs.Common.{◌≡◌, ◌⊎◌, inl, inr, List, [], ◌∷◌, ◌++◌, Ok, Err, true, false, refl, sym, ap, ◌∙◌, subst, append_assoc, append-nil}
 use Rattle.libyaml_types.specs.declared.enums.yaml_error_type_t.{yaml_error_type_t}
-use Rattle.libyaml_types.specs.Fault.{Answer, Fault, no_fault, memory_fault}
+use Rattle.libyaml_types.specs.Fault.{SourceResult, Fault, no_fault, memory_fault}
 use Rattle.libyaml_types.specs.declared.source.yaml_token_source_t.{Ghosts}
 use Rattle.libyaml_grammar.specs.grammar.Tokens.{Anchor, Content, Token}
 use Rattle.libyaml_grammar.specs.grammar.Trees.{tokens}
@@ -16,7 +16,7 @@ use Rattle.libyaml_events.specs.machine.Config.{Parser}
 use Rattle.libyaml_events.specs.parsers.Stages.{stage_of, takes_no_memory}
 use Rattle.libyaml_events.specs.sources.Calls.{EventOrError, Gave, MeetsRefusal}
 use Rattle.libyaml_events.specs.sources.Determined.{AnswersOneWay, OneBegins, OneByAnswers, CarriesOnOrFails, RunsOut, Alike, OneOutcome, alike, first_runs_out, second_runs_out, results_of}
-use Rattle.libyaml_events.specs.sources.History.{History, answers, is_over, kept_fault}
+use Rattle.libyaml_events.specs.sources.History.{History, source_results, is_over, kept_fault}
 use Rattle.libyaml_events.specs.sources.Needs.{EachNeeded, NeedsMore, for_next_event, amid_properties, HasWaited, at_once, by_last}
 use Rattle.libyaml_events.specs.sources.Parsing.{CarriesOn, Cause, FailsBy, HasFailed, of_memory, of_grammar, of_source}
 use Rattle.libyaml_events.specs.sources.ParsesNext.{ParsesNext}
@@ -25,64 +25,64 @@ pub use Rattle.libyaml_events.proofs.pushes.Moments.{prefix_same, ran_once}
 -- lists
 
 -- tokens as results, and then further results
-pub answers_then : (l : List Token) (r : List Answer) → answers l [] ++ r ≡ answers l r
+pub answers_then : (l : List Token) (r : List SourceResult) → source_results l [] ++ r ≡ source_results l r
 answers_then [] r = refl
-answers_then (t ∷ l) r = ap (λ (a : List Answer). Ok t ∷ a) (answers_then l r)
+answers_then (t ∷ l) r = ap (λ (a : List SourceResult). Ok t ∷ a) (answers_then l r)
 
-pub same_tokens : (l m : List Token) → answers l [] ≡ answers m [] → l ≡ m
+pub same_tokens : (l m : List Token) → source_results l [] ≡ source_results m [] → l ≡ m
 same_tokens [] [] e = refl
-same_tokens [] (u ∷ m) e = absurd (not_cons (Ok u) (answers m []) e)
-same_tokens (t ∷ l) [] e = absurd (not_cons (Ok t) (answers l []) (sym e))
+same_tokens [] (u ∷ m) e = absurd (not_cons (Ok u) (source_results m []) e)
+same_tokens (t ∷ l) [] e = absurd (not_cons (Ok t) (source_results l []) (sym e))
 same_tokens (t ∷ l) (u ∷ m) e =
-    let x = ok_same t u (head_same (Ok t) (Ok u) (answers l []) (answers m []) e) in
-    let y = same_tokens l m (tail_same (Ok t) (Ok u) (answers l []) (answers m []) e) in
+    let x = ok_same t u (head_same (Ok t) (Ok u) (source_results l []) (source_results m []) e) in
+    let y = same_tokens l m (tail_same (Ok t) (Ok u) (source_results l []) (source_results m []) e) in
     ap (λ (z : Token). z ∷ l) x ∙ ap (λ (z : List Token). u ∷ z) y
 
 -- tokens alone are not tokens and then an error
-pub not_faulted : (l m : List Token) (f : Fault) → answers l [] ≡ answers m (Err f ∷ []) → ⊥
+pub not_faulted : (l m : List Token) (f : Fault) → source_results l [] ≡ source_results m (Err f ∷ []) → ⊥
 not_faulted [] [] f e = not_cons (Err f) [] e
-not_faulted [] (u ∷ m) f e = not_cons (Ok u) (answers m (Err f ∷ [])) e
-not_faulted (t ∷ l) [] f e = ok_not_err t f (head_same (Ok t) (Err f) (answers l []) [] e)
-not_faulted (t ∷ l) (u ∷ m) f e = not_faulted l m f (tail_same (Ok t) (Ok u) (answers l []) (answers m (Err f ∷ [])) e)
+not_faulted [] (u ∷ m) f e = not_cons (Ok u) (source_results m (Err f ∷ [])) e
+not_faulted (t ∷ l) [] f e = ok_not_err t f (head_same (Ok t) (Err f) (source_results l []) [] e)
+not_faulted (t ∷ l) (u ∷ m) f e = not_faulted l m f (tail_same (Ok t) (Ok u) (source_results l []) (source_results m (Err f ∷ [])) e)
 
-pub same_ends : (l m : List Token) (f g : Fault) → answers l (Err f ∷ []) ≡ answers m (Err g ∷ []) → f ≡ g
+pub same_ends : (l m : List Token) (f g : Fault) → source_results l (Err f ∷ []) ≡ source_results m (Err g ∷ []) → f ≡ g
 same_ends [] [] f g e = err_same f g (head_same (Err f) (Err g) [] [] e)
-same_ends [] (u ∷ m) f g e = absurd (ok_not_err u f (sym (head_same (Err f) (Ok u) [] (answers m (Err g ∷ [])) e)))
-same_ends (t ∷ l) [] f g e = absurd (ok_not_err t g (head_same (Ok t) (Err g) (answers l (Err f ∷ [])) [] e))
+same_ends [] (u ∷ m) f g e = absurd (ok_not_err u f (sym (head_same (Err f) (Ok u) [] (source_results m (Err g ∷ [])) e)))
+same_ends (t ∷ l) [] f g e = absurd (ok_not_err t g (head_same (Ok t) (Err g) (source_results l (Err f ∷ [])) [] e))
 same_ends (t ∷ l) (u ∷ m) f g e =
-    same_ends l m f g (tail_same (Ok t) (Ok u) (answers l (Err f ∷ [])) (answers m (Err g ∷ [])) e)
+    same_ends l m f g (tail_same (Ok t) (Ok u) (source_results l (Err f ∷ [])) (source_results m (Err g ∷ [])) e)
 
 -- nothing comes after an error
-pub ends_there : (l m : List Token) (f : Fault) (x : Answer) (rest : List Answer)
-    → answers m [] ≡ answers l (Err f ∷ []) ++ x ∷ rest → ⊥
+pub ends_there : (l m : List Token) (f : Fault) (x : SourceResult) (rest : List SourceResult)
+    → source_results m [] ≡ source_results l (Err f ∷ []) ++ x ∷ rest → ⊥
 ends_there [] [] f x rest e = not_cons (Err f) (x ∷ rest) e
-ends_there [] (u ∷ m) f x rest e = ok_not_err u f (head_same (Ok u) (Err f) (answers m []) (x ∷ rest) e)
-ends_there (t ∷ l) [] f x rest e = not_cons (Ok t) (answers l (Err f ∷ []) ++ x ∷ rest) e
+ends_there [] (u ∷ m) f x rest e = ok_not_err u f (head_same (Ok u) (Err f) (source_results m []) (x ∷ rest) e)
+ends_there (t ∷ l) [] f x rest e = not_cons (Ok t) (source_results l (Err f ∷ []) ++ x ∷ rest) e
 ends_there (t ∷ l) (u ∷ m) f x rest e
-    = ends_there l m f x rest (tail_same (Ok u) (Ok t) (answers m []) (answers l (Err f ∷ []) ++ x ∷ rest) e)
+    = ends_there l m f x rest (tail_same (Ok u) (Ok t) (source_results m []) (source_results l (Err f ∷ []) ++ x ∷ rest) e)
 
-pub ends_here : (l m : List Token) (f g : Fault) (x : Answer) (rest : List Answer)
-    → answers m (Err g ∷ []) ≡ answers l (Err f ∷ []) ++ x ∷ rest → ⊥
+pub ends_here : (l m : List Token) (f g : Fault) (x : SourceResult) (rest : List SourceResult)
+    → source_results m (Err g ∷ []) ≡ source_results l (Err f ∷ []) ++ x ∷ rest → ⊥
 ends_here [] [] f g x rest e = not_cons x rest (tail_same (Err g) (Err f) [] (x ∷ rest) e)
-ends_here [] (u ∷ m) f g x rest e = ok_not_err u f (head_same (Ok u) (Err f) (answers m (Err g ∷ [])) (x ∷ rest) e)
-ends_here (t ∷ l) [] f g x rest e = ok_not_err t g (sym (head_same (Err g) (Ok t) [] (answers l (Err f ∷ []) ++ x ∷ rest) e))
+ends_here [] (u ∷ m) f g x rest e = ok_not_err u f (head_same (Ok u) (Err f) (source_results m (Err g ∷ [])) (x ∷ rest) e)
+ends_here (t ∷ l) [] f g x rest e = ok_not_err t g (sym (head_same (Err g) (Ok t) [] (source_results l (Err f ∷ []) ++ x ∷ rest) e))
 ends_here (t ∷ l) (u ∷ m) f g x rest e
-    = ends_here l m f g x rest (tail_same (Ok u) (Ok t) (answers m (Err g ∷ [])) (answers l (Err f ∷ []) ++ x ∷ rest) e)
+    = ends_here l m f g x rest (tail_same (Ok u) (Ok t) (source_results m (Err g ∷ [])) (source_results l (Err f ∷ []) ++ x ∷ rest) e)
 
 -- two lists of results, of which one begins the other
-pub data Compared (l m : List Answer) : Type 0 where
+pub data Compared (l m : List SourceResult) : Type 0 where
   same : l ≡ m → Compared l m
-  first_longer : (x : Answer) (rest : List Answer) → l ≡ m ++ x ∷ rest → Compared l m
-  second_longer : (x : Answer) (rest : List Answer) → m ≡ l ++ x ∷ rest → Compared l m
+  first_longer : (x : SourceResult) (rest : List SourceResult) → l ≡ m ++ x ∷ rest → Compared l m
+  second_longer : (x : SourceResult) (rest : List SourceResult) → m ≡ l ++ x ∷ rest → Compared l m
 
-pub compared : (l m : List Answer) → OneBegins l m → Compared l m
+pub compared : (l m : List SourceResult) → OneBegins l m → Compared l m
 compared l m (inl ([], e)) = same (sym (e ∙ append-nil l))
 compared l m (inl (x ∷ rest, e)) = second_longer x rest e
 compared l m (inr ([], e)) = same (e ∙ append-nil m)
 compared l m (inr (x ∷ rest, e)) = first_longer x rest e
 
 -- a source that returns in one way
-pub one_source_proof : {S : Type 0} (gives : S → Answer → S → Type 0) (s t u : S) (a b : List Answer)
+pub one_source_proof : {S : Type 0} (gives : S → SourceResult → S → Type 0) (s t u : S) (a b : List SourceResult)
     → AnswersOneWay gives s → Gave gives s a t
     → Gave gives s b u → OneBegins a b × (a ≡ b → t ≡ u)
 one_source_proof gives s t u [] [] one g h = (inl ([], refl), λ e. g ∙ sym h)
@@ -95,8 +95,8 @@ one_source_proof {S} gives s t u (x ∷ a) (y ∷ b) one (v, i, g) (w, j, h) =
     (go e.0 z.0, λ k. z.1 (tail_same x y a b k))
   where
     go : x ≡ y → OneBegins a b → OneBegins (x ∷ a) (y ∷ b)
-    go e (inl (rest, f)) = inl (rest, ap (λ (z : Answer). z ∷ b) (sym e) ∙ ap (λ (z : List Answer). x ∷ z) f)
-    go e (inr (rest, f)) = inr (rest, ap (λ (z : Answer). z ∷ a) e ∙ ap (λ (z : List Answer). y ∷ z) f)
+    go e (inl (rest, f)) = inl (rest, ap (λ (z : SourceResult). z ∷ b) (sym e) ∙ ap (λ (z : List SourceResult). x ∷ z) f)
+    go e (inr (rest, f)) = inr (rest, ap (λ (z : SourceResult). z ∷ a) e ∙ ap (λ (z : List SourceResult). y ∷ z) f)
 
 -- events
 
@@ -187,22 +187,22 @@ failed_needs_no_more l given other g h (amid_properties before token following c
 
 -- where a call in which no allocation failed stopped: at the end of tokens after which none is needed, or at the
 -- source's error
-data Stopped (asked : List Token) (given : List Event) (more : List Answer) : Type 0 where
-  at_token : (l : List Token) → more ≡ answers l [] → (NeedsMore (asked ++ l) given → ⊥) → Stopped asked given more
-  at_fault : (l : List Token) (f : Fault) → more ≡ answers l (Err f ∷ []) → Stopped asked given more
+data Stopped (asked : List Token) (given : List Event) (more : List SourceResult) : Type 0 where
+  at_token : (l : List Token) → more ≡ source_results l [] → (NeedsMore (asked ++ l) given → ⊥) → Stopped asked given more
+  at_fault : (l : List Token) (f : Fault) → more ≡ source_results l (Err f ∷ []) → Stopped asked given more
 
 -- no other such call asks for more
-not_further : (asked : List Token) (given : List Event) (a b : List Answer) → Stopped asked given a
+not_further : (asked : List Token) (given : List Event) (a b : List SourceResult) → Stopped asked given a
     → Stopped asked given b → EachNeeded asked b given
-    → (x : Answer) (rest : List Answer) → b ≡ a ++ x ∷ rest → ⊥
+    → (x : SourceResult) (rest : List SourceResult) → b ≡ a ++ x ∷ rest → ⊥
 not_further asked given a b (at_token l e n) s needed x rest h
-    = n (needed l x rest (h ∙ (ap (λ (z : List Answer). z ++ x ∷ rest) e ∙ answers_then l (x ∷ rest)))).1
+    = n (needed l x rest (h ∙ (ap (λ (z : List SourceResult). z ++ x ∷ rest) e ∙ answers_then l (x ∷ rest)))).1
 not_further asked given a b (at_fault l f e) (at_token m g n) needed x rest h
-    = ends_there l m f x rest (sym g ∙ (h ∙ ap (λ (z : List Answer). z ++ x ∷ rest) e))
+    = ends_there l m f x rest (sym g ∙ (h ∙ ap (λ (z : List SourceResult). z ++ x ∷ rest) e))
 not_further asked given a b (at_fault l f e) (at_fault m g k) needed x rest h
-    = ends_here l m f g x rest (sym k ∙ (h ∙ ap (λ (z : List Answer). z ++ x ∷ rest) e))
+    = ends_here l m f g x rest (sym k ∙ (h ∙ ap (λ (z : List SourceResult). z ++ x ∷ rest) e))
 
-same_answers : (asked : List Token) (given : List Event) (a b : List Answer) → OneBegins a b
+same_answers : (asked : List Token) (given : List Event) (a b : List SourceResult) → OneBegins a b
     → EachNeeded asked a given → EachNeeded asked b given
     → Stopped asked given a → Stopped asked given b → a ≡ b
 same_answers asked given a b one m n v w = go (compared a b one)
@@ -239,7 +239,7 @@ module _ {S : Type 0} (g : Ghosts S) where
 
   carried_stops : (old new : Parser S) (e : Event) (r : EventOrError) (asked : List Token) (given : List Event)
       → Next old r new
-      → (h : CarriesOn g.gives old e new asked given) → Stopped asked given (answers h.more [])
+      → (h : CarriesOn g.gives old e new asked given) → Stopped asked given (source_results h.more [])
   carried_stops old new e r asked given n h
       = at_token h.more refl (determined_needs_no_more (asked ++ h.more) given e
       (n.begins (asked ++ h.more) (given ++ e ∷ []) h.history) (n.begins_run (asked ++ h.more) (given ++ e ∷ []) h.history))
@@ -248,10 +248,10 @@ module _ {S : Type 0} (g : Ghosts S) where
   both_give : (old p q : Parser S) (e f : Event) (asked : List Token) (given : List Event) → Next old (Ok e) p
       → Next old (Ok f) q
       → (v : CarriesOn g.gives old e p asked given) → (h : CarriesOn g.gives old f q asked given)
-      → OneBegins (answers v.more []) (answers h.more [])
-      → OneOutcome g.gives old asked given (answers v.more []) (answers h.more []) (Ok e) p (Ok f) q
+      → OneBegins (source_results v.more []) (source_results h.more [])
+      → OneOutcome g.gives old asked given (source_results v.more []) (source_results h.more []) (Ok e) p (Ok f) q
   both_give old p q e f asked given n o v h one =
-      let w = same_answers asked given (answers v.more []) (answers h.more []) one v.needed h.needed
+      let w = same_answers asked given (source_results v.more []) (source_results h.more []) one v.needed h.needed
       (carried_stops old p e (Ok e) asked given n v) (carried_stops old q f (Ok f) asked given o h) in
       let m : v.more ≡ h.more = same_tokens v.more h.more w in
       let (es, x, run) = some_run_proof (asked ++ v.more) no_fault in
@@ -267,22 +267,22 @@ module _ {S : Type 0} (g : Ghosts S) where
       alike w (record { result = ap Ok same_event; bound = n.bound ∙ sym o.bound; after_event = k; after_error = tt })
 
   runs_out : (old new : Parser S) (x : yaml_error_type_t) (asked : List Token) (given : List Event) → Next old (Err x) new
-      → (h : FailsBy g.gives old new asked given) (l : List Token) → h.more ≡ answers l []
+      → (h : FailsBy g.gives old new asked given) (l : List Token) → h.more ≡ source_results l []
       → takes_no_memory (stage_of given) (asked ++ l) ≡ false
       → MeetsRefusal old.config h.more → kept_fault new ≡ memory_fault → RunsOut g.gives old (Err x) new asked given
   runs_out old new x asked given n h l e take meets f
       = record {
         more = l;
-        gave = subst (λ (z : List Answer). Gave g.gives old.source z new.source) e h.gave;
-        needed = subst (λ (z : List Answer). EachNeeded asked z given) e h.needed;
+        gave = subst (λ (z : List SourceResult). Gave g.gives old.source z new.source) e h.gave;
+        needed = subst (λ (z : List SourceResult). EachNeeded asked z given) e h.needed;
         may_take = take;
-        meets = subst (λ (z : List Answer). MeetsRefusal old.config z) e meets;
+        meets = subst (λ (z : List SourceResult). MeetsRefusal old.config z) e meets;
         error = ap Err (n.kept.0 ∙ ap (λ (z : Fault). z.error) f);
         fault = f;
       }
 
-  grammar_stops : (asked : List Token) (given : List Event) (more : List Answer) (f : Fault) (l : List Token)
-      → more ≡ answers l [] → HasFailed (asked ++ l) given f
+  grammar_stops : (asked : List Token) (given : List Event) (more : List SourceResult) (f : Fault) (l : List Token)
+      → more ≡ source_results l [] → HasFailed (asked ++ l) given f
       → Stopped asked given more
   grammar_stops asked given more f l i j = at_token l i (failed_needs_no_more (asked ++ l) given given f j)
 
@@ -290,11 +290,11 @@ module _ {S : Type 0} (g : Ghosts S) where
   gives_and_fails : (old p q : Parser S) (e : Event) (x : yaml_error_type_t) (asked : List Token)
       (given : List Event) → Next old (Ok e) p
       → Next old (Err x) q → (v : CarriesOn g.gives old e p asked given) → (h : FailsBy g.gives old q asked given)
-      → OneBegins (answers v.more []) h.more → RunsOut g.gives old (Err x) q asked given
+      → OneBegins (source_results v.more []) h.more → RunsOut g.gives old (Err x) q asked given
   gives_and_fails old p q e x asked given n o v h one = go h.cause
     where
-      alike_there : Stopped asked given h.more → answers v.more [] ≡ h.more
-      alike_there s = same_answers asked given (answers v.more []) h.more one v.needed h.needed
+      alike_there : Stopped asked given h.more → source_results v.more [] ≡ h.more
+      alike_there s = same_answers asked given (source_results v.more []) h.more one v.needed h.needed
           (carried_stops old p e (Ok e) asked given n v) s
 
       go : Cause old.config asked given h.more (kept_fault q) → RunsOut g.gives old (Err x) q asked given
@@ -358,7 +358,7 @@ module _ {S : Type 0} (g : Ghosts S) where
           let w = alike_there (at_fault l (kept_fault p) i) (at_fault m (kept_fault q) j) in
           alike w (failed_alike old p q x y n o (same_ends l m (kept_fault p) (kept_fault q) (sym i ∙ (w ∙ j))))
 
-  turned : (a b : List Answer) → OneBegins a b → OneBegins b a
+  turned : (a b : List SourceResult) → OneBegins a b → OneBegins b a
   turned a b (inl h) = inr h
   turned a b (inr h) = inl h
 
@@ -369,7 +369,7 @@ module _ {S : Type 0} (g : Ghosts S) where
   one_outcome_proof old p q (Ok e) (Err y) asked given n o a b one =
       second_runs_out (gives_and_fails old p q e y asked given n o a b one)
   one_outcome_proof old p q (Err x) (Ok f) asked given n o a b one
-      = first_runs_out (gives_and_fails old q p f x asked given o n b a (turned a.more (answers b.more []) one))
+      = first_runs_out (gives_and_fails old q p f x asked given o n b a (turned a.more (source_results b.more []) one))
   one_outcome_proof old p q (Err x) (Err y) asked given n o a b one = both_fail old p q x y asked given n o a b one
 
   -- the outcome that the contract says
@@ -399,7 +399,7 @@ module _ {S : Type 0} (g : Ghosts S) where
       go (results_of g.gives old asked given r p a) (results_of g.gives old asked given s q b) z.1
       (one_outcome_proof old p q r s asked given n o a b z.0)
     where
-      go : (a b : List Answer) → (a ≡ b → p.source ≡ q.source) → OneOutcome g.gives old asked given a b r p s q
+      go : (a b : List SourceResult) → (a ≡ b → p.source ≡ q.source) → OneOutcome g.gives old asked given a b r p s q
           → (RunsOut g.gives old r p asked given ⊎ RunsOut g.gives old s q asked given)
           ⊎ (Alike r p s q × (p.source ≡ q.source))
       go a b k (alike e f) = inr (f, k e)

@@ -1,7 +1,7 @@
 -- Where runs stop, and that by the same results they are one.
 use Rattle.std.proofs.Common.{◌≡◌, ◌⊎◌, inl, inr, List, [], ◌∷◌, ◌++◌, Ok, Err, true, false, refl, sym, ap, ◌∙◌, subst, append-nil}
 use Rattle.std.proofs.lemmas.Bool.{both_ways}
-use Rattle.libyaml_types.specs.Fault.{Answer, Fault, no_fault}
+use Rattle.libyaml_types.specs.Fault.{SourceResult, Fault, no_fault}
 use Rattle.libyaml_grammar.specs.grammar.Tokens.{Token}
 use Rattle.libyaml_grammar.specs.grammar.Trees.{tokens}
 use Rattle.libyaml_grammar.specs.grammar.Events.{Event}
@@ -11,7 +11,7 @@ use Rattle.libyaml_grammar.specs.runs.Runs.{Ending, Ends, Fails, IsRun}
 use Rattle.libyaml_grammar.proofs.exported.StreamEnds.{valid_list_has_end}
 use Rattle.libyaml_grammar.proofs.exported.Running.{one_run_proof, some_run_proof, valid_list_run, amid_run, begin_run}
 use Rattle.libyaml_events.specs.sources.Determined.{BeginsEachRun, OneBegins}
-use Rattle.libyaml_events.specs.sources.History.{answers}
+use Rattle.libyaml_events.specs.sources.History.{source_results}
 use Rattle.libyaml_events.specs.sources.Needs.{EachNeeded, EachWasNeeded, NeedsMore}
 use Rattle.libyaml_events.specs.sources.Parsing.{HasFailed, IsWhole, StopsShort, after_viable_prefix, amid_properties}
 use Rattle.libyaml_grammar.proofs.exported.Injectivity.{head_same, tail_same, not_cons}
@@ -19,11 +19,11 @@ use Rattle.libyaml_events.proofs.exported.OneOutcome.{answers_then, same_tokens,
 
 -- Where a run stopped: at the end of tokens after which none is needed, whatever was given, or at the source's
 -- error. Its events and its ending are those of the tokens' run.
-pub data RunStop (a : List Answer) (given : List Event) (x : Ending) : Type 0 where
-  at_token : (l : List Token) → a ≡ answers l [] → ((g : List Event) → has_end l ≡ false → NeedsMore l g → ⊥)
+pub data RunStop (a : List SourceResult) (given : List Event) (x : Ending) : Type 0 where
+  at_token : (l : List Token) → a ≡ source_results l [] → ((g : List Event) → has_end l ≡ false → NeedsMore l g → ⊥)
       → ((f : Fault) → IsRun l f given x)
       → RunStop a given x
-  at_fault : (l : List Token) (f : Fault) → a ≡ answers l (Err f ∷ []) → IsRun l f given x → RunStop a given x
+  at_fault : (l : List Token) (f : Fault) → a ≡ source_results l (Err f ∷ []) → IsRun l f given x → RunStop a given x
 
 -- the tokens of a whole tree have their end
 pub whole_ends : (asked : List Token) (given : List Event) → IsWhole asked given → has_end asked ≡ true
@@ -37,54 +37,54 @@ short_run l given f (after_viable_prefix b h s) = begin_run l given f b h s
 short_run l given f (amid_properties before token following c a i b g)
     = rw (← a) at (rw (← g) at (amid_run before token following c f i b))
 
-pub answers_both : (l : List Token) (m : List Token) (r : List Answer) → answers l (answers m r) ≡ answers (l ++ m) r
+pub answers_both : (l : List Token) (m : List Token) (r : List SourceResult) → source_results l (source_results m r) ≡ source_results (l ++ m) r
 answers_both [] m r = refl
-answers_both (t ∷ l) m r = ap (λ (z : List Answer). Ok t ∷ z) (answers_both l m r)
+answers_both (t ∷ l) m r = ap (λ (z : List SourceResult). Ok t ∷ z) (answers_both l m r)
 
 -- no result is wanted after a whole tree
-pub nothing_last : (asked : List Token) (last : List Answer) (given : List Event) → IsWhole asked given
+pub nothing_last : (asked : List Token) (last : List SourceResult) (given : List Event) → IsWhole asked given
     → EachNeeded asked last given → last ≡ []
 nothing_last asked [] given w n = refl
 nothing_last asked (x ∷ last) given w n
     = absurd (both_ways (has_end asked) (ap has_end (sym (append-nil asked)) ∙ (n [] x last refl).0) (whole_ends asked given w))
 
-pub ended_stop : (asked : List Token) (last : List Answer) (given : List Event) → EachNeeded asked last given
+pub ended_stop : (asked : List Token) (last : List SourceResult) (given : List Event) → EachNeeded asked last given
     → IsWhole asked given
-    → RunStop (answers asked last) given Ends
+    → RunStop (source_results asked last) given Ends
 ended_stop asked last given n w
-    = at_token asked (ap (answers asked) (nothing_last asked last given w n))
+    = at_token asked (ap (source_results asked) (nothing_last asked last given w n))
     (λ g h k. both_ways (has_end asked) h (whole_ends asked given w))
     (λ f. subst (λ (z : List Token). IsRun z f given Ends) (append-nil asked) (whole_run asked given [] f w))
 
-pub grammar_stop : (asked : List Token) (last : List Answer) (given : List Event) (f : Fault) (l : List Token)
-    → last ≡ answers l [] → HasFailed (asked ++ l) given f
-    → RunStop (answers asked last) given (Fails f)
+pub grammar_stop : (asked : List Token) (last : List SourceResult) (given : List Event) (f : Fault) (l : List Token)
+    → last ≡ source_results l [] → HasFailed (asked ++ l) given f
+    → RunStop (source_results asked last) given (Fails f)
 grammar_stop asked last given f l e h
-    = at_token (asked ++ l) (ap (answers asked) e ∙ answers_both asked l [])
+    = at_token (asked ++ l) (ap (source_results asked) e ∙ answers_both asked l [])
     (λ g i n. failed_needs_no_more (asked ++ l) given g f h n)
     (faulty_run (asked ++ l) given f h)
 
-pub source_stop : (asked : List Token) (last : List Answer) (given : List Event) (f : Fault) (l : List Token)
-    → last ≡ answers l (Err f ∷ [])
-    → StopsShort (asked ++ l) given → RunStop (answers asked last) given (Fails f)
+pub source_stop : (asked : List Token) (last : List SourceResult) (given : List Event) (f : Fault) (l : List Token)
+    → last ≡ source_results l (Err f ∷ [])
+    → StopsShort (asked ++ l) given → RunStop (source_results asked last) given (Fails f)
 source_stop asked last given f l e h
-    = at_fault (asked ++ l) f (ap (answers asked) e ∙ answers_both asked l (Err f ∷ [])) (short_run (asked ++ l) given f h)
+    = at_fault (asked ++ l) f (ap (source_results asked) e ∙ answers_both asked l (Err f ∷ [])) (short_run (asked ++ l) given f h)
 
 -- a further result that was asked for, among the tokens or after them
-data Further (l asked : List Token) (last : List Answer) (x : Answer) (rest : List Answer) : Type 0 where
+data Further (l asked : List Token) (last : List SourceResult) (x : SourceResult) (rest : List SourceResult) : Type 0 where
   among : (t : Token) (following : List Token) → asked ≡ l ++ t ∷ following → Further l asked last x rest
-  after : (front : List Token) → l ≡ asked ++ front → last ≡ answers front (x ∷ rest) → Further l asked last x rest
+  after : (front : List Token) → l ≡ asked ++ front → last ≡ source_results front (x ∷ rest) → Further l asked last x rest
 
-further : (l asked : List Token) (last : List Answer) (x : Answer) (rest : List Answer)
-    → answers asked last ≡ answers l (x ∷ rest)
+further : (l asked : List Token) (last : List SourceResult) (x : SourceResult) (rest : List SourceResult)
+    → source_results asked last ≡ source_results l (x ∷ rest)
     → Further l asked last x rest
 further l [] last x rest e = after l refl e
 further [] (u ∷ asked) last x rest e = among u asked refl
 further (t ∷ l) (u ∷ asked) last x rest e
-    = go (token_same (head_same (Ok u) (Ok t) (answers asked last) (answers l (x ∷ rest)) e))
-    (further l asked last x rest (tail_same (Ok u) (Ok t) (answers asked last) (answers l (x ∷ rest)) e))
+    = go (token_same (head_same (Ok u) (Ok t) (source_results asked last) (source_results l (x ∷ rest)) e))
+    (further l asked last x rest (tail_same (Ok u) (Ok t) (source_results asked last) (source_results l (x ∷ rest)) e))
   where
-    token_same : ◌≡◌ {A = Answer} (Ok u) (Ok t) → u ≡ t
+    token_same : ◌≡◌ {A = SourceResult} (Ok u) (Ok t) → u ≡ t
     token_same h = cc
 
     go : u ≡ t → Further l asked last x rest → Further (t ∷ l) (u ∷ asked) last x rest
@@ -92,9 +92,9 @@ further (t ∷ l) (u ∷ asked) last x rest e
     go h (after front i j) = after front (ap (λ (z : Token). z ∷ l) (sym h) ∙ ap (λ (z : List Token). u ∷ z) i) j
 
 -- it was needed
-further_needed : (l asked : List Token) (last : List Answer) (given : List Event) (x : Answer) (rest : List Answer)
+further_needed : (l asked : List Token) (last : List SourceResult) (given : List Event) (x : SourceResult) (rest : List SourceResult)
     → EachWasNeeded [] asked [] given
-    → EachNeeded asked last given → answers asked last ≡ answers l (x ∷ rest)
+    → EachNeeded asked last given → source_results asked last ≡ source_results l (x ∷ rest)
     → (g : List Event) × ((has_end l ≡ false) × NeedsMore l g)
 further_needed l asked last given x rest each then e = go (further l asked last x rest e)
   where
@@ -105,23 +105,23 @@ further_needed l asked last given x rest each then e = go (further l asked last 
         (given, (ap has_end i ∙ w.0, subst (λ (z : List Token). NeedsMore z given) (sym i) w.1))
 
 -- no run asks for more than another
-not_further : (a b : List Answer) (c d : List Event) (x y : Ending) (asked : List Token) (last : List Answer)
-    (given : List Event) → b ≡ answers asked last
+not_further : (a b : List SourceResult) (c d : List Event) (x y : Ending) (asked : List Token) (last : List SourceResult)
+    (given : List Event) → b ≡ source_results asked last
     → EachWasNeeded [] asked [] given → EachNeeded asked last given → RunStop a c x → RunStop b d y
-    → (z : Answer) (rest : List Answer)
+    → (z : SourceResult) (rest : List SourceResult)
     → b ≡ a ++ z ∷ rest → ⊥
 not_further a b c d x y asked last given h each then (at_token l e n r) s z rest f =
-    let i : answers asked last ≡ answers l (z ∷ rest) = sym h
-    ∙ (f ∙ (ap (λ (k : List Answer). k ++ z ∷ rest) e ∙ answers_then l (z ∷ rest))) in
+    let i : source_results asked last ≡ source_results l (z ∷ rest) = sym h
+    ∙ (f ∙ (ap (λ (k : List SourceResult). k ++ z ∷ rest) e ∙ answers_then l (z ∷ rest))) in
     let w = further_needed l asked last given z rest each then i in
     n w.0 w.1.0 w.1.1
 not_further a b c d x y asked last given h each then (at_fault l g e r) (at_token m i n s) z rest f
-    = ends_there l m g z rest (sym i ∙ (f ∙ ap (λ (k : List Answer). k ++ z ∷ rest) e))
+    = ends_there l m g z rest (sym i ∙ (f ∙ ap (λ (k : List SourceResult). k ++ z ∷ rest) e))
 not_further a b c d x y asked last given h each then (at_fault l g e r) (at_fault m j i s) z rest f
-    = ends_here l m g j z rest (sym i ∙ (f ∙ ap (λ (k : List Answer). k ++ z ∷ rest) e))
+    = ends_here l m g j z rest (sym i ∙ (f ∙ ap (λ (k : List SourceResult). k ++ z ∷ rest) e))
 
 -- the runs after the same results
-same_runs : (a : List Answer) (c d : List Event) (x y : Ending) → RunStop a c x → RunStop a d y → (c ≡ d) × (x ≡ y)
+same_runs : (a : List SourceResult) (c d : List Event) (x y : Ending) → RunStop a c x → RunStop a d y → (c ≡ d) × (x ≡ y)
 same_runs a c d x y (at_token l e n r) (at_token m f k s) =
     one_run_proof l no_fault c d x y (r no_fault)
     (rw (same_tokens m l (sym f ∙ e)) at (s no_fault))
@@ -131,48 +131,48 @@ same_runs a c d x y (at_fault l g e r) (at_fault m h f s) =
     one_run_proof l g c d x y r
     (rw (same_ends m l h g (sym f ∙ e)) at (rw (same_fronts m l h g (sym f ∙ e)) at s))
   where
-    same_fronts : (m l : List Token) (h g : Fault) → answers m (Err h ∷ []) ≡ answers l (Err g ∷ []) → m ≡ l
+    same_fronts : (m l : List Token) (h g : Fault) → source_results m (Err h ∷ []) ≡ source_results l (Err g ∷ []) → m ≡ l
     same_fronts [] [] h g i = refl
-    same_fronts [] (u ∷ l) h g i = absurd (not (head_same (Err h) (Ok u) [] (answers l (Err g ∷ [])) i))
+    same_fronts [] (u ∷ l) h g i = absurd (not (head_same (Err h) (Ok u) [] (source_results l (Err g ∷ [])) i))
       where
-        not : ◌≡◌ {A = Answer} (Err h) (Ok u) → ⊥
+        not : ◌≡◌ {A = SourceResult} (Err h) (Ok u) → ⊥
         not j = cc
-    same_fronts (t ∷ m) [] h g i = absurd (not (head_same (Ok t) (Err g) (answers m (Err h ∷ [])) [] i))
+    same_fronts (t ∷ m) [] h g i = absurd (not (head_same (Ok t) (Err g) (source_results m (Err h ∷ [])) [] i))
       where
-        not : ◌≡◌ {A = Answer} (Ok t) (Err g) → ⊥
+        not : ◌≡◌ {A = SourceResult} (Ok t) (Err g) → ⊥
         not j = cc
     same_fronts (t ∷ m) (u ∷ l) h g i
         = ap (λ (z : Token). z ∷ m)
-        (token_same (head_same (Ok t) (Ok u) (answers m (Err h ∷ [])) (answers l (Err g ∷ [])) i))
+        (token_same (head_same (Ok t) (Ok u) (source_results m (Err h ∷ [])) (source_results l (Err g ∷ [])) i))
         ∙ ap (λ (z : List Token). u ∷ z)
-        (same_fronts m l h g (tail_same (Ok t) (Ok u) (answers m (Err h ∷ [])) (answers l (Err g ∷ [])) i))
+        (same_fronts m l h g (tail_same (Ok t) (Ok u) (source_results m (Err h ∷ [])) (source_results l (Err g ∷ [])) i))
       where
-        token_same : ◌≡◌ {A = Answer} (Ok t) (Ok u) → t ≡ u
+        token_same : ◌≡◌ {A = SourceResult} (Ok t) (Ok u) → t ≡ u
         token_same j = cc
 
 -- two runs that were asked for, each of them stopped: by the same results they are one
 pub record AskedRun (given : List Event) (x : Ending) : Type 0 where
   pub asked : List Token
-  pub last : List Answer
+  pub last : List SourceResult
   pub needed : EachWasNeeded [] asked [] given
   pub needed_last : EachNeeded asked last given
-  pub stop : RunStop (answers asked last) given x
+  pub stop : RunStop (source_results asked last) given x
 
 pub one_run_by_answers : (c d : List Event) (x y : Ending) (a : AskedRun c x)
-    (b : AskedRun d y) → OneBegins (answers a.asked a.last) (answers b.asked b.last)
-    → (answers a.asked a.last ≡ answers b.asked b.last) × (c ≡ d) × (x ≡ y)
-one_run_by_answers c d x y a b one = go (compared (answers a.asked a.last) (answers b.asked b.last) one)
+    (b : AskedRun d y) → OneBegins (source_results a.asked a.last) (source_results b.asked b.last)
+    → (source_results a.asked a.last ≡ source_results b.asked b.last) × (c ≡ d) × (x ≡ y)
+one_run_by_answers c d x y a b one = go (compared (source_results a.asked a.last) (source_results b.asked b.last) one)
   where
-    go : Compared (answers a.asked a.last) (answers b.asked b.last)
-        → (answers a.asked a.last ≡ answers b.asked b.last) × (c ≡ d) × (x ≡ y)
-    go (same e) = let s = same_runs (answers a.asked a.last) c d x y a.stop
-        (subst (λ (z : List Answer). RunStop z d y) (sym e) b.stop) in (e, s.0, s.1)
+    go : Compared (source_results a.asked a.last) (source_results b.asked b.last)
+        → (source_results a.asked a.last ≡ source_results b.asked b.last) × (c ≡ d) × (x ≡ y)
+    go (same e) = let s = same_runs (source_results a.asked a.last) c d x y a.stop
+        (subst (λ (z : List SourceResult). RunStop z d y) (sym e) b.stop) in (e, s.0, s.1)
     go (first_longer z rest e)
-        = absurd (not_further (answers b.asked b.last) (answers a.asked a.last) d c y x a.asked a.last c refl
+        = absurd (not_further (source_results b.asked b.last) (source_results a.asked a.last) d c y x a.asked a.last c refl
         a.needed a.needed_last
         b.stop a.stop z rest e)
     go (second_longer z rest e)
-        = absurd (not_further (answers a.asked a.last) (answers b.asked b.last) c d x y b.asked b.last d refl
+        = absurd (not_further (source_results a.asked a.last) (source_results b.asked b.last) c d x y b.asked b.last d refl
         b.needed b.needed_last
         a.stop b.stop z rest e)
 
@@ -190,30 +190,30 @@ comparable (x ∷ a) (y ∷ b) (z ∷ e) h k
     go f (inr g) = inr (g.0, ap (λ (w : Event). w ∷ a) f ∙ ap (λ (w : List Event). y ∷ w) g.1)
 
 -- the tokens that are asked for begin those of the longer list
-pub token_prefix : (a b : List Token) (r s : List Answer) → OneBegins (answers a r) (answers b s)
+pub token_prefix : (a b : List Token) (r s : List SourceResult) → OneBegins (source_results a r) (source_results b s)
     → ((rest : List Token) × (b ≡ a ++ rest)) ⊎ ((rest : List Token) × (a ≡ b ++ rest))
 token_prefix [] b r s o = inl (b, refl)
 token_prefix (t ∷ a) [] r s o = inr (t ∷ a, refl)
 token_prefix (t ∷ a) (u ∷ b) r s o = go (heads o) (token_prefix a b r s (tails o))
   where
-    token_same : ◌≡◌ {A = Answer} (Ok t) (Ok u) → t ≡ u
+    token_same : ◌≡◌ {A = SourceResult} (Ok t) (Ok u) → t ≡ u
     token_same h = cc
 
-    heads : OneBegins (Ok t ∷ answers a r) (Ok u ∷ answers b s) → t ≡ u
-    heads (inl (rest, e)) = token_same (sym (head_same (Ok u) (Ok t) (answers b s) (answers a r ++ rest) e))
-    heads (inr (rest, e)) = token_same (head_same (Ok t) (Ok u) (answers a r) (answers b s ++ rest) e)
+    heads : OneBegins (Ok t ∷ source_results a r) (Ok u ∷ source_results b s) → t ≡ u
+    heads (inl (rest, e)) = token_same (sym (head_same (Ok u) (Ok t) (source_results b s) (source_results a r ++ rest) e))
+    heads (inr (rest, e)) = token_same (head_same (Ok t) (Ok u) (source_results a r) (source_results b s ++ rest) e)
 
-    tails : OneBegins (Ok t ∷ answers a r) (Ok u ∷ answers b s) → OneBegins (answers a r) (answers b s)
-    tails (inl (rest, e)) = inl (rest, tail_same (Ok u) (Ok t) (answers b s) (answers a r ++ rest) e)
-    tails (inr (rest, e)) = inr (rest, tail_same (Ok t) (Ok u) (answers a r) (answers b s ++ rest) e)
+    tails : OneBegins (Ok t ∷ source_results a r) (Ok u ∷ source_results b s) → OneBegins (source_results a r) (source_results b s)
+    tails (inl (rest, e)) = inl (rest, tail_same (Ok u) (Ok t) (source_results b s) (source_results a r ++ rest) e)
+    tails (inr (rest, e)) = inr (rest, tail_same (Ok t) (Ok u) (source_results a r) (source_results b s ++ rest) e)
 
     go : t ≡ u → ((rest : List Token) × (b ≡ a ++ rest)) ⊎ ((rest : List Token) × (a ≡ b ++ rest))
         → ((rest : List Token) × (u ∷ b ≡ (t ∷ a) ++ rest)) ⊎ ((rest : List Token) × (t ∷ a ≡ (u ∷ b) ++ rest))
     go h (inl (rest, e)) = inl (rest, ap (λ (z : Token). z ∷ b) (sym h) ∙ ap (λ (z : List Token). t ∷ z) e)
     go h (inr (rest, e)) = inr (rest, ap (λ (z : Token). z ∷ a) h ∙ ap (λ (z : List Token). u ∷ z) e)
 
-pub taken_comparable : (a b : List Token) (r s : List Answer) (c d : List Event) → BeginsEachRun a c
-    → BeginsEachRun b d → OneBegins (answers a r) (answers b s)
+pub taken_comparable : (a b : List Token) (r s : List SourceResult) (c d : List Event) → BeginsEachRun a c
+    → BeginsEachRun b d → OneBegins (source_results a r) (source_results b s)
     → Begins c d ⊎ Begins d c
 taken_comparable a b r s c d m n o = go (token_prefix a b r s o)
   where
@@ -228,29 +228,29 @@ taken_comparable a b r s c d m n o = go (token_prefix a b r s o)
         (n rest no_fault es x (subst (λ (z : List Token). IsRun z no_fault es x) e run))
 
 -- no token was given where the other's source failed
-pub not_past_fault : (l : List Token) (t : Token) (rest : List Token) (r s : List Answer) (f : Fault)
-    → OneBegins (answers (l ++ t ∷ rest) r) (answers l (Err f ∷ s)) → ⊥
+pub not_past_fault : (l : List Token) (t : Token) (rest : List Token) (r s : List SourceResult) (f : Fault)
+    → OneBegins (source_results (l ++ t ∷ rest) r) (source_results l (Err f ∷ s)) → ⊥
 not_past_fault [] t rest r s f o = go o
   where
-    no : ◌≡◌ {A = Answer} (Ok t) (Err f) → ⊥
+    no : ◌≡◌ {A = SourceResult} (Ok t) (Err f) → ⊥
     no h = cc
 
-    go : OneBegins (answers (t ∷ rest) r) (Err f ∷ s) → ⊥
-    go (inl (k, e)) = no (sym (head_same (Err f) (Ok t) s (answers rest r ++ k) e))
-    go (inr (k, e)) = no (head_same (Ok t) (Err f) (answers rest r) (s ++ k) e)
+    go : OneBegins (source_results (t ∷ rest) r) (Err f ∷ s) → ⊥
+    go (inl (k, e)) = no (sym (head_same (Err f) (Ok t) s (source_results rest r ++ k) e))
+    go (inr (k, e)) = no (head_same (Ok t) (Err f) (source_results rest r) (s ++ k) e)
 not_past_fault (u ∷ l) t rest r s f o = not_past_fault l t rest r s f (go o)
   where
-    go : OneBegins (Ok u ∷ answers (l ++ t ∷ rest) r) (Ok u ∷ answers l (Err f ∷ s))
-        → OneBegins (answers (l ++ t ∷ rest) r) (answers l (Err f ∷ s))
-    go (inl (k, e)) = inl (k, tail_same (Ok u) (Ok u) (answers l (Err f ∷ s)) (answers (l ++ t ∷ rest) r ++ k) e)
-    go (inr (k, e)) = inr (k, tail_same (Ok u) (Ok u) (answers (l ++ t ∷ rest) r) (answers l (Err f ∷ s) ++ k) e)
+    go : OneBegins (Ok u ∷ source_results (l ++ t ∷ rest) r) (Ok u ∷ source_results l (Err f ∷ s))
+        → OneBegins (source_results (l ++ t ∷ rest) r) (source_results l (Err f ∷ s))
+    go (inl (k, e)) = inl (k, tail_same (Ok u) (Ok u) (source_results l (Err f ∷ s)) (source_results (l ++ t ∷ rest) r ++ k) e)
+    go (inr (k, e)) = inr (k, tail_same (Ok u) (Ok u) (source_results (l ++ t ∷ rest) r) (source_results l (Err f ∷ s) ++ k) e)
 
 -- where one stopped as a run does, the events that another took begin its events
-pub begins_stopped : (asked : List Token) (last b : List Answer) (taken d : List Event) (x : Ending)
+pub begins_stopped : (asked : List Token) (last b : List SourceResult) (taken d : List Event) (x : Ending)
     → EachWasNeeded [] asked [] taken → BeginsEachRun asked taken
-    → RunStop b d x → OneBegins (answers asked last) b → Begins taken d
+    → RunStop b d x → OneBegins (source_results asked last) b → Begins taken d
 begins_stopped asked last b taken d x each runs (at_token l e n r) one
-    = go (token_prefix asked l last [] (subst (OneBegins (answers asked last)) e one))
+    = go (token_prefix asked l last [] (subst (OneBegins (source_results asked last)) e one))
   where
     go : ((rest : List Token) × (l ≡ asked ++ rest)) ⊎ ((rest : List Token) × (asked ≡ l ++ rest)) → Begins taken d
     go (inl (rest, i)) = runs rest no_fault d x (rw i at (r no_fault))
@@ -258,11 +258,11 @@ begins_stopped asked last b taken d x each runs (at_token l e n r) one
         (rw (← (append-nil asked ∙ i ∙ append-nil l)) at (r no_fault))
     go (inr (t ∷ rest, i)) = let w = each l t rest i in absurd (n w.before w.running w.needs)
 begins_stopped asked last b taken d x each runs (at_fault l f e r) one
-    = go (token_prefix asked l last (Err f ∷ []) (subst (OneBegins (answers asked last)) e one))
+    = go (token_prefix asked l last (Err f ∷ []) (subst (OneBegins (source_results asked last)) e one))
   where
     go : ((rest : List Token) × (l ≡ asked ++ rest)) ⊎ ((rest : List Token) × (asked ≡ l ++ rest)) → Begins taken d
     go (inl (rest, i)) = runs rest f d x (rw i at r)
     go (inr ([], i)) = runs [] f d x (rw (← (append-nil asked ∙ i ∙ append-nil l)) at r)
     go (inr (t ∷ rest, i))
         = absurd (not_past_fault l t rest last [] f
-        (rw i at (subst (OneBegins (answers asked last)) e one)))
+        (rw i at (subst (OneBegins (source_results asked last)) e one)))

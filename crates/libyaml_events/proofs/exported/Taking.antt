@@ -1,6 +1,6 @@
 -- Events taken in turn: none, those of one call after those of others, and the event of a call.
 use Rattle.std.proofs.Common.{◌++◌, ◌∷◌, List, [], refl, sym, ap, ◌∙◌, append_assoc}
-use Rattle.libyaml_types.specs.Fault.{Answer}
+use Rattle.libyaml_types.specs.Fault.{SourceResult}
 use Rattle.libyaml_types.specs.Source.{Follows}
 use Rattle.libyaml_types.specs.declared.source.yaml_token_source_t.{Ghosts}
 use Rattle.libyaml_grammar.specs.grammar.Events.{Event}
@@ -33,7 +33,7 @@ module _ {S : Type 0} (g : Ghosts S) where
         };
   }
 
-  pub took_one : ((s t : S) (a : Answer) → g.gives s a t → Follows (g.may_break t) (g.known s) a (g.known t))
+  pub took_one : ((s t : S) (a : SourceResult) → g.gives s a t → Follows (g.may_break t) (g.known s) a (g.known t))
       → (old new : Parser S) (e : Event) → ForHistory old (CarriesOn g.gives old e new) → Took g old new (e ∷ [])
   took_one follows old new e carried = record {
     history = λ asked given h. one_call g.gives old old new asked given e (carried asked given h);

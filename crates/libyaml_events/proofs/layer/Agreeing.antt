@@ -3,7 +3,7 @@ use Rattle.std.proofs.Common.{◌≡◌, ◌∙◌, Bool, Option, Some, None, Ok
 use Rattle.libyaml_types.specs.declared.token.yaml_token_t.{yaml_token_t}
 use Rattle.libyaml_automaton.specs.Numbers.{next_of}
 use Rattle.libyaml_automaton.specs.Purposes.{IsAt}
-use Rattle.libyaml_types.specs.Fault.{Answer}
+use Rattle.libyaml_types.specs.Fault.{SourceResult}
 use Rattle.libyaml_types.specs.declared.enums.yaml_error_type_t.{yaml_error_type_t}
 use Rattle.libyaml_events.specs.declared.lookahead.Lookahead.{Lookahead}
 use Rattle.libyaml_events.specs.declared.pending.Pending.{Pending}
@@ -17,7 +17,7 @@ pub without_lookahead : (l : Lookahead) (c : Config) → l.stays ≡ false → c
 without_lookahead l c s n
     = ap (λ (b : Bool). let x : Config = record c { lookahead = token_if b l.token } in x) s ∙ taken_same c n
 
-fetched_at : {S : Type 0} (gives : S → Answer → S → Type 0) (o : Option yaml_token_t) (old now : Parser S)
+fetched_at : {S : Type 0} (gives : S → SourceResult → S → Type 0) (o : Option yaml_token_t) (old now : Parser S)
     (t : yaml_token_t) (p : Pending)
     → FetchesFrom gives o old (Ok t) now → InStep p old.config → InStep p now.config
 fetched_at gives (Some u) old now t p h a
@@ -25,12 +25,12 @@ fetched_at gives (Some u) old now t p h a
 fetched_at gives None old now t p h a
     = subst (λ y. IsAt (next_of p.reading.next) y) (sym (ap (λ (c : Config). c.state) h.1)) a
 
-pub fetched_agrees : {S : Type 0} (gives : S → Answer → S → Type 0) (p : Pending) (old now : Parser S) (t : yaml_token_t)
+pub fetched_agrees : {S : Type 0} (gives : S → SourceResult → S → Type 0) (p : Pending) (old now : Parser S) (t : yaml_token_t)
     → Fetches gives old (Ok t) now → InStep p old.config → InStep p now.config
 fetched_agrees gives p old now t h a = fetched_at gives old.config.lookahead old now t p h a
 
 -- so it can be taken
-pub fetched_ready : {S : Type 0} (gives : S → Answer → S → Type 0) (p : Pending) (old now : Parser S) (t : yaml_token_t)
+pub fetched_ready : {S : Type 0} (gives : S → SourceResult → S → Type 0) (p : Pending) (old now : Parser S) (t : yaml_token_t)
     → Fetches gives old (Ok t) now → InStep p old.config → Ready p now.config
 fetched_ready gives p old now t h a = record {
   none = none old.config.lookahead h;
@@ -42,7 +42,7 @@ fetched_ready gives p old now t h a = record {
     none None f = ap (λ (c : Config). c.lookahead) f.1
 
 -- an error of the source is kept
-pub fetched_fault : {S : Type 0} (gives : S → Answer → S → Type 0) (old now : Parser S) (x : yaml_error_type_t)
+pub fetched_fault : {S : Type 0} (gives : S → SourceResult → S → Type 0) (old now : Parser S) (x : yaml_error_type_t)
     → Fetches gives old (Err x) now → x ≡ now.config.fault.error
 fetched_fault gives old now x h = by old.config.lookahead h
   where
@@ -50,7 +50,7 @@ fetched_fault gives old now x h = by old.config.lookahead h
     by (Some u) f = let never : Err x ≡ Ok u = f.0 in cc
     by None f = f.2
 
-pub kept_fault : {S : Type 0} (gives : S → Answer → S → Type 0) (old now : Parser S) (x : yaml_error_type_t)
+pub kept_fault : {S : Type 0} (gives : S → SourceResult → S → Type 0) (old now : Parser S) (x : yaml_error_type_t)
     → Fetches gives old (Err x) now → is_fault x ≡ true
     → (x ≡ now.config.fault.error) × (ended_or_failed now.config ≡ true)
 kept_fault gives old now x h f = let e = fetched_fault gives old now x h in (e, rw (← e, f) refl)

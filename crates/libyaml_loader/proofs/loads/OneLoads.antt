@@ -1,7 +1,7 @@
 -- Two outcomes that the contract of a load allows are one.
 use Rattle.std.proofs.Common.{◌≡◌, ◌⊎◌, inl, inr, List, [], ◌∷◌, ◌++◌, None, Ok, Err, IfOk, IfErr, false, refl, sym, ap, ◌∙◌, subst, append_assoc, append-nil}
 use Rattle.libyaml_documents.specs.Documents.{empty_document}
-use Rattle.libyaml_types.specs.Fault.{Answer, Fault, no_fault}
+use Rattle.libyaml_types.specs.Fault.{SourceResult, Fault, no_fault}
 use Rattle.libyaml_types.specs.declared.source.yaml_token_source_t.{Ghosts}
 use Rattle.libyaml_grammar.specs.grammar.Tokens.{Token}
 use Rattle.libyaml_grammar.specs.grammar.Events.{Event}
@@ -11,7 +11,7 @@ use Rattle.libyaml_events.specs.machine.Config.{Parser}
 use Rattle.libyaml_events.specs.sources.Calls.{Gave, MeetsRefusal}
 use Rattle.libyaml_events.specs.sources.CallsInTurn.{CarriedOn}
 use Rattle.libyaml_events.specs.sources.Determined.{AnswersOneWay, OneBegins}
-use Rattle.libyaml_events.specs.sources.History.{History, answers, kept_fault}
+use Rattle.libyaml_events.specs.sources.History.{History, source_results, kept_fault}
 use Rattle.libyaml_events.specs.sources.Needs.{EachNeeded}
 use Rattle.libyaml_events.specs.sources.Parsing.{Cause, FailsBy, of_memory, of_grammar, of_source}
 use Rattle.libyaml_events.proofs.exported.CallsInTurn.{gave_then}
@@ -24,17 +24,17 @@ use Rattle.libyaml_loader.specs.loads.Loading.{DocumentOrError, LoadsFrom, at_en
 use Rattle.libyaml_loader.specs.loads.OneLoad.{LoadRunsOut, in_parser, in_loader, LoadsAlike, OneLoad, alike, first_runs_out, second_runs_out, OneLoadByAnswers, LoadOutcome, results_in, load_results_of}
 
 -- both after the same tokens
-more_after : (l : List Token) (x y : List Answer) → answers l (x ++ y) ≡ answers l x ++ y
+more_after : (l : List Token) (x y : List SourceResult) → source_results l (x ++ y) ≡ source_results l x ++ y
 more_after [] x y = refl
-more_after (t ∷ l) x y = ap (λ (z : List Answer). Ok t ∷ z) (more_after l x y)
+more_after (t ∷ l) x y = ap (λ (z : List SourceResult). Ok t ∷ z) (more_after l x y)
 
-both_after : (l : List Token) (x y : List Answer) → OneBegins x y → OneBegins (answers l x) (answers l y)
-both_after l x y (inl h) = inl (h.0, ap (answers l) h.1 ∙ more_after l x h.0)
-both_after l x y (inr h) = inr (h.0, ap (answers l) h.1 ∙ more_after l y h.0)
+both_after : (l : List Token) (x y : List SourceResult) → OneBegins x y → OneBegins (source_results l x) (source_results l y)
+both_after l x y (inl h) = inl (h.0, ap (source_results l) h.1 ∙ more_after l x h.0)
+both_after l x y (inr h) = inr (h.0, ap (source_results l) h.1 ∙ more_after l y h.0)
 
-same_after : (l : List Token) (x y : List Answer) → answers l x ≡ answers l y → x ≡ y
+same_after : (l : List Token) (x y : List SourceResult) → source_results l x ≡ source_results l y → x ≡ y
 same_after [] x y e = e
-same_after (t ∷ l) x y e = same_after l x y (tail_same (Ok t) (Ok t) (answers l x) (answers l y) e)
+same_after (t ∷ l) x y e = same_after l x y (tail_same (Ok t) (Ok t) (source_results l x) (source_results l y) e)
 
 -- a list is empty or has a last event
 last_of : (t : List Event) → (t ≡ []) ⊎ ((u : List Event) × (e : Event) × (t ≡ u ++ e ∷ []))
@@ -46,11 +46,11 @@ last_of (x ∷ t) = go (last_of t)
     go (inl e) = inr ([], x, ap (λ (v : List Event). x ∷ v) e)
     go (inr (u, y, e)) = inr (x ∷ u, y, ap (λ (v : List Event). x ∷ v) e)
 
-absolute : (asked m n : List Token) (x y : List Answer) → OneBegins (answers m x) (answers n y)
-    → OneBegins (answers (asked ++ m) x) (answers (asked ++ n) y)
+absolute : (asked m n : List Token) (x y : List SourceResult) → OneBegins (source_results m x) (source_results n y)
+    → OneBegins (source_results (asked ++ m) x) (source_results (asked ++ n) y)
 absolute asked m n x y o
-    = rw (answers_both asked m x) at (subst (OneBegins (answers asked (answers m x))) (answers_both asked n y)
-    (both_after asked (answers m x) (answers n y) o))
+    = rw (answers_both asked m x) at (subst (OneBegins (source_results asked (source_results m x))) (answers_both asked n y)
+    (both_after asked (source_results m x) (source_results n y) o))
 
 after_given : (given a b : List Event) → Begins (given ++ a) (given ++ b) → Begins a b
 after_given given a b h = (h.0, prefix_same given b (a ++ h.0) (h.1 ∙ append_assoc given a h.0))
@@ -81,18 +81,18 @@ module _ {S : Type 0} (g : Ghosts S) (load : List Event → Ending → Load) (le
   StoppedSo (Fails f) mid r new = (r ≡ Err f.error) × (kept_fault new ≡ f)
 
   -- how an outcome came: the events that were taken decide it, or the parser stopped, or memory ran out
-  data Came (a : List Answer) (r : DocumentOrError) (new : Parser S) : Type 0 where
-    decided : (more : List Token) (taken : List Event) (mid : Parser S) (z : Load) → a ≡ answers more []
+  data Came (a : List SourceResult) (r : DocumentOrError) (new : Parser S) : Type 0 where
+    decided : (more : List Token) (taken : List Event) (mid : Parser S) (z : Load) → a ≡ source_results more []
         → History mid (asked ++ more) (given ++ taken)
         → ((rest : List Event) (x : Ending) → load (taken ++ rest) x ≡ z) → Decided z mid taken r new → Came a r new
-    stopped : (more : List Token) (last : List Answer) (taken : List Event) (mid : Parser S) (x : Ending)
-        → a ≡ answers more last
+    stopped : (more : List Token) (last : List SourceResult) (taken : List Event) (mid : Parser S) (x : Ending)
+        → a ≡ source_results more last
         → History mid (asked ++ more) (given ++ taken) → EachNeeded (asked ++ more) last (given ++ taken)
-        → RunStop (answers (asked ++ more) last) (given ++ taken) x → ((y : Ending) → load taken y ≡ last_load y)
+        → RunStop (source_results (asked ++ more) last) (given ++ taken) x → ((y : Ending) → load taken y ≡ last_load y)
         → StoppedSo x mid r new → Came a r new
     out : LoadRunsOut g.gives load old r new asked given → Came a r new
 
-  record CameBy (a : List Answer) (r : DocumentOrError) (new : Parser S) : Type 0 where
+  record CameBy (a : List SourceResult) (r : DocumentOrError) (new : Parser S) : Type 0 where
     gave : Gave g.gives old.source a new.source
     came : Came a r new
 
@@ -126,14 +126,14 @@ module _ {S : Type 0} (g : Ghosts S) (load : List Event → Ending → Load) (le
       go : (c : CarriedOn g.gives old parser asked given taken)
           (h : FailsBy g.gives parser new (asked ++ c.more) (given ++ taken))
           → Cause parser.config (asked ++ c.more) (given ++ taken) h.more (kept_fault new)
-          → Came (answers c.more h.more) (Err x) new
+          → Came (source_results c.more h.more) (Err x) new
       go c h (of_memory m e take meets f)
           = out (in_parser (ap Err (k ∙ ap (λ (z : Fault). z.error) f)) taken parser c (record {
             more = m;
-            gave = subst (λ (z : List Answer). Gave g.gives parser.source z new.source) e h.gave;
-            needed = subst (λ (z : List Answer). EachNeeded (asked ++ c.more) z (given ++ taken)) e h.needed;
+            gave = subst (λ (z : List SourceResult). Gave g.gives parser.source z new.source) e h.gave;
+            needed = subst (λ (z : List SourceResult). EachNeeded (asked ++ c.more) z (given ++ taken)) e h.needed;
             may_take = take;
-            meets = subst (λ (z : List Answer). MeetsRefusal parser.config z) e meets;
+            meets = subst (λ (z : List SourceResult). MeetsRefusal parser.config z) e meets;
             error = refl;
             fault = f;
           }))
@@ -148,7 +148,7 @@ module _ {S : Type 0} (g : Ghosts S) (load : List Event → Ending → Load) (le
       let n = kept (asked ++ c.more) (given ++ (before ++ e ∷ [])) c.history in
       let v : kept_fault new ≡ f = ap (λ (p : Parser S). p.config.fault) n in
       record {
-        gave = subst (λ (p : Parser S). Gave g.gives old.source (answers c.more []) p.source) (sym n) c.gave;
+        gave = subst (λ (p : Parser S). Gave g.gives old.source (source_results c.more []) p.source) (sym n) c.gave;
         came = decided c.more (before ++ e ∷ []) parser (Err f) refl c.history l (
           ap Err (k ∙ ap (λ (z : Fault). z.error) v),
           v,
@@ -159,14 +159,14 @@ module _ {S : Type 0} (g : Ghosts S) (load : List Event → Ending → Load) (le
       let c = took.history asked given history in
       let n = kept (asked ++ c.more) (given ++ (before ++ e ∷ [])) c.history in
       record {
-        gave = subst (λ (p : Parser S). Gave g.gives old.source (answers c.more []) p.source) (sym n) c.gave;
+        gave = subst (λ (p : Parser S). Gave g.gives old.source (source_results c.more []) p.source) (sym n) c.gave;
         came = out (in_loader (ap Err (k ∙ ap (λ (p : Parser S). p.config.fault.error) n)) before e parser c grows n);
       }
 
   -- two parsers that gave the same events, over tokens of one list
   same_kept : (p q : Parser S) (m n : List Token) (w h : List Event) → History p (asked ++ m) w
       → History q (asked ++ n) h → w ≡ h
-      → (r s : List Answer) → OneBegins (answers (asked ++ m) r) (answers (asked ++ n) s)
+      → (r s : List SourceResult) → OneBegins (source_results (asked ++ m) r) (source_results (asked ++ n) s)
       → (p.config ≡ q.config) × (asked ++ m ≡ asked ++ n)
   same_kept p q m n w h i j e r s o = go (token_prefix (asked ++ m) (asked ++ n) r s o)
     where
@@ -255,27 +255,27 @@ module _ {S : Type 0} (g : Ghosts S) (load : List Event → Ending → Load) (le
       }
 
   -- what is decided by its events is no run that stopped
-  not_both : (m n : List Token) (a b : List Event) (mid : Parser S) (r s : List Answer) (z : Load) (x : Ending)
+  not_both : (m n : List Token) (a b : List Event) (mid : Parser S) (r s : List SourceResult) (z : Load) (x : Ending)
       → History mid (asked ++ m) (given ++ a)
       → ((rest : List Event) (y : Ending) → load (a ++ rest) y ≡ z)
-      → RunStop (answers (asked ++ n) s) (given ++ b) x → ((y : Ending) → load b y ≡ last_load y)
-      → OneBegins (answers (asked ++ m) r) (answers (asked ++ n) s) → ⊥
+      → RunStop (source_results (asked ++ n) s) (given ++ b) x → ((y : Ending) → load b y ≡ last_load y)
+      → OneBegins (source_results (asked ++ m) r) (source_results (asked ++ n) s) → ⊥
   not_both m n a b mid r s z x i l stop last o =
-      let w = after_given given a b (begins_stopped (asked ++ m) r (answers (asked ++ n) s) (given ++ a) (given ++ b) x
+      let w = after_given given a b (begins_stopped (asked ++ m) r (source_results (asked ++ n) s) (given ++ a) (given ++ b) x
       (histories.needed mid (asked ++ m) (given ++ a) i) (histories.begins_each_run mid (asked ++ m) (given ++ a) i) stop o) in
       not_last z (λ y. sym (l w.0 y) ∙ (ap (λ (v : List Event). load v y) (sym w.1) ∙ last y))
 
-  turned : (a b : List Answer) → OneBegins a b → OneBegins b a
+  turned : (a b : List SourceResult) → OneBegins a b → OneBegins b a
   turned a b (inl h) = inr h
   turned a b (inr h) = inl h
 
-  after_asked : (a b : List Answer) (m n : List Token) (u v : List Answer) → a ≡ answers m u → b ≡ answers n v
+  after_asked : (a b : List SourceResult) (m n : List Token) (u v : List SourceResult) → a ≡ source_results m u → b ≡ source_results n v
       → OneBegins a b
-      → OneBegins (answers (asked ++ m) u) (answers (asked ++ n) v)
+      → OneBegins (source_results (asked ++ m) u) (source_results (asked ++ n) v)
   after_asked a b m n u v e f o
-      = absolute asked m n u v (subst (λ (z : List Answer). OneBegins z (answers n v)) e (subst (OneBegins a) f o))
+      = absolute asked m n u v (subst (λ (z : List SourceResult). OneBegins z (source_results n v)) e (subst (OneBegins a) f o))
 
-  one_of : (a b : List Answer) (r s : DocumentOrError) (p q : Parser S) → p.max_entries ≡ q.max_entries
+  one_of : (a b : List SourceResult) (r s : DocumentOrError) (p q : Parser S) → p.max_entries ≡ q.max_entries
       → OneBegins a b → Came a r p → Came b s q → OneLoad g.gives load old asked given a b r p s q
   one_of a b r s p q same o (out h) k = first_runs_out h
   one_of a b r s p q same o h (out k) = second_runs_out k
@@ -287,7 +287,7 @@ module _ {S : Type 0} (g : Ghosts S) (load : List Event → Ending → Load) (le
       let d = within c in
       let v = same_taken r s p q mid other t u z y (same_load d) d l k gs h in
       let kept = same_kept mid other m n (given ++ t) (given ++ u) i j (ap (λ (x : List Event). given ++ x) v) [] [] w in
-      alike (e ∙ (ap (λ (x : List Token). answers x []) (prefix_same asked m n kept.1) ∙ sym f))
+      alike (e ∙ (ap (λ (x : List Token). source_results x []) (prefix_same asked m n kept.1) ∙ sym f))
       (both_decided r s p q mid other t u z y (same_load d) kept.0 same gs h)
     where
       within : Begins (given ++ t) (given ++ u) ⊎ Begins (given ++ u) (given ++ t) → Begins t u ⊎ Begins u t
@@ -305,7 +305,7 @@ module _ {S : Type 0} (g : Ghosts S) (load : List Event → Ending → Load) (le
       = absurd (not_both m n t u mid [] v z y i l stop last (after_asked a b m n [] v e f o))
   one_of a b r s p q same o (stopped n v u other y f j needed stop last h) (decided m t mid z e i l w)
       = absurd (not_both m n t u mid [] v z y i l stop last
-      (turned (answers (asked ++ n) v) (answers (asked ++ m) []) (after_asked a b n m v [] f e o)))
+      (turned (source_results (asked ++ n) v) (source_results (asked ++ m) []) (after_asked a b n m v [] f e o)))
   one_of a b r s p q same o (stopped m u t mid x e i needed stop last gs) (stopped n v w other y f j wanted halt end h) =
       let c = after_asked a b m n u v e f o in
       let d = one_run_by_answers (given ++ t) (given ++ w) x y
@@ -326,9 +326,9 @@ module _ {S : Type 0} (g : Ghosts S) (load : List Event → Ending → Load) (le
         stop = halt;
       }) c in
       let k = same_kept mid other m n (given ++ t) (given ++ w) i j d.1 u v c in
-      let l : answers (asked ++ m) u ≡ answers (asked ++ m) v = d.0 ∙ ap (λ (z : List Token). answers z v) (sym k.1) in
-      alike (e ∙ (ap (answers m) (same_after (asked ++ m) u v l)
-      ∙ (ap (λ (z : List Token). answers z v) (prefix_same asked m n k.1) ∙ sym f)))
+      let l : source_results (asked ++ m) u ≡ source_results (asked ++ m) v = d.0 ∙ ap (λ (z : List Token). source_results z v) (sym k.1) in
+      alike (e ∙ (ap (source_results m) (same_after (asked ++ m) u v l)
+      ∙ (ap (λ (z : List Token). source_results z v) (prefix_same asked m n k.1) ∙ sym f)))
       (both_stopped r s p q mid other x y d.2 k.0 gs h same)
 
   abbrev Of : DocumentOrError → Parser S → Type 0
@@ -356,7 +356,7 @@ module _ {S : Type 0} (g : Ghosts S) (load : List Event → Ending → Load) (le
         (load_results_of history b) way x.first_gave x.second_gave in
         go (load_results_of history a) (load_results_of history b) w.1 (x.one w.0)
       where
-        go : (k l : List Answer) → (k ≡ l → p.source ≡ q.source) → OneLoad g.gives load old asked given k l r p s q
+        go : (k l : List SourceResult) → (k ≡ l → p.source ≡ q.source) → OneLoad g.gives load old asked given k l r p s q
             → (LoadRunsOut g.gives load old r p asked given ⊎ LoadRunsOut g.gives load old s q asked given)
             ⊎ (LoadsAlike r p s q × (p.source ≡ q.source))
         go k l same (alike e h) = inr (h, same e)

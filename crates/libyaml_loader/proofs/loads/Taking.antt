@@ -10,7 +10,7 @@ use Rattle.libyaml_events.specs.sources.Calls.{EventOrError}
 use Rattle.libyaml_events.specs.sources.CallsInTurn.{CarriedOn, Took}
 use Rattle.libyaml_events.specs.machine.Config.{Parser}
 use Rattle.libyaml_grammar.specs.grammar.Events.{Event}
-use Rattle.libyaml_types.specs.Fault.{Answer}
+use Rattle.libyaml_types.specs.Fault.{SourceResult}
 use Rattle.libyaml_events.specs.sources.History.{History, between_documents, has_failed, is_over}
 use Rattle.libyaml_events.specs.sources.ParsesNext.{ParsesNext}
 use Rattle.libyaml_events.specs.sources.Parsing.{CarriesOn}
@@ -40,7 +40,7 @@ module _ {S : Type 0} (g : Ghosts S) where
         → (events ≡ []) × (ending ≡ Ends)
     pub stands : (asked : List Token) (given : List Event) → History old asked given → HasEnded new
 
-  module _ (follows : (s t : S) (a : Answer) → g.gives s a t → Follows (g.may_break t) (g.known s) a (g.known t))
+  module _ (follows : (s t : S) (a : SourceResult) → g.gives s a t → Follows (g.may_break t) (g.known s) a (g.known t))
       (old new : Parser S) (r : EventOrError) where
     -- the clauses of a call
     abbrev pub Called : Type 0

@@ -1,6 +1,6 @@
 -- A loop over the documents of a parser (docs/DEFINITIONS.md, "Loads of a parser").
 use Rattle.std.specs.Prelude.{◌≡◌, ◌≢◌, ◌≤◌, ◌<◌, ◌⊎◌, ◌*◌, ◌++◌, ◌∷◌, ℕ, List, [], All, length, map, Option, None, Some, Result, Ok, Err, IfOk, IfErr, true, false}
-use Rattle.libyaml_types.specs.Fault.{Answer, Fault, fault_of, memory_fault}
+use Rattle.libyaml_types.specs.Fault.{SourceResult, Fault, fault_of, memory_fault}
 use Rattle.libyaml_types.specs.declared.fault.yaml_parser_t_prefix.{yaml_parser_t_prefix}
 use Rattle.libyaml_types.specs.declared.source.yaml_token_source_t.{Ghosts}
 use Rattle.libyaml_grammar.specs.runs.Runs.{Ending, Ends, Fails}
@@ -58,7 +58,7 @@ pub data LoopYields {S : Type 0} (g : Ghosts S) : Parser S → List Document →
 
 -- From the one parser to the other loads returned these documents, each with a root: the history went on by the events
 -- that they took, whose loads they are, whatever follows them.
-pub record LoadedInTurn {S : Type 0} (gives : S → Answer → S → Type 0) (n : ℕ) (old new : Parser S)
+pub record LoadedInTurn {S : Type 0} (gives : S → SourceResult → S → Type 0) (n : ℕ) (old new : Parser S)
     (documents : List Document) (asked : List Token) (given : List Event) : Type 0 where
   pub taken : List Event
   pub carried : CarriedOn gives old new asked given taken

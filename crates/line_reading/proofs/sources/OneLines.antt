@@ -4,7 +4,7 @@ use Rattle.std.proofs.lemmas.Bool.{cases_lt}
 use Rattle.std.specs.Io.KnownBytes.{Consumes}
 use Rattle.std.specs.List.{onto_first, slice_split}
 use Rattle.libyaml_types.specs.declared.token.yaml_token_t.{yaml_token_t}
-use Rattle.libyaml_types.specs.Fault.{Answer, Fault}
+use Rattle.libyaml_types.specs.Fault.{SourceResult, Fault}
 use Rattle.line_reading.specs.declared.line_problem.LineProblem.TheVariants.{BadTokenLine, LineTooLong, TooManyTokens}
 use Rattle.line_reading.specs.sources.LineFault.{line_fault}
 use Rattle.line_reading.specs.sources.LineLaws.{HasPieces, has_pieces, lines_of_more}
@@ -35,25 +35,25 @@ consumed_none (Some []) taken h = refl
 consumed_none (Some (b ∷ bs)) [] h = cc
 consumed_none (Some (b ∷ bs)) (c ∷ taken) h = cc
 
-ok_no_err : (t : yaml_token_t) (f : Fault) → ◌≡◌ {A = Answer} (Ok t) (Err f) → ⊥
+ok_no_err : (t : yaml_token_t) (f : Fault) → ◌≡◌ {A = SourceResult} (Ok t) (Err f) → ⊥
 ok_no_err t f e = cc
 
 module _ {R : Type 0} (remaining : R → Option (List ℕ)) where
   -- what a result leaves of known bytes, where n tokens were given
-  record Leaves (bytes : List ℕ) (n : ℕ) (answer : Answer) (after : Option (List ℕ)) : Type 0 where
+  record Leaves (bytes : List ℕ) (n : ℕ) (answer : SourceResult) (after : Option (List ℕ)) : Type 0 where
     token : (t : yaml_token_t) → answer ≡ Ok t → after ≡ Some (after_line bytes)
     bad_line : answer ≡ Err (line_fault BadTokenLine n) → after ≡ Some (after_line bytes)
     too_long : answer ≡ Err (line_fault LineTooLong n) → after ≡ Some (drop (longest_line + 1) bytes)
     none : bytes ≡ [] → after ≡ Some []
 
   -- a result of the first line leaves one thing
-  left_by_token : (bytes : List ℕ) (n : ℕ) (o : Option yaml_token_t) (a b : Answer) (x y : Option (List ℕ))
+  left_by_token : (bytes : List ℕ) (n : ℕ) (o : Option yaml_token_t) (a b : SourceResult) (x y : Option (List ℕ))
       → token_or_fault o n ≡ a → a ≡ b
       → Leaves bytes n a x → Leaves bytes n b y → x ≡ y
   left_by_token bytes n (Some t) a b x y e i h k = h.token t (sym e) ∙ sym (k.token t (sym (e ∙ i)))
   left_by_token bytes n None a b x y e i h k = h.bad_line (sym e) ∙ sym (k.bad_line (sym (e ∙ i)))
 
-  left_by_line : (bytes line : List ℕ) (n : ℕ) (a b : Answer) (x y : Option (List ℕ)) (is_long : Bool)
+  left_by_line : (bytes line : List ℕ) (n : ℕ) (a b : SourceResult) (x y : Option (List ℕ)) (is_long : Bool)
       → nat_lt longest_line (length line) ≡ is_long
       → line_answer n line ≡ a → a ≡ b → Leaves bytes n a x → Leaves bytes n b y → x ≡ y
   left_by_line bytes line n a b x y true l e i h k =
@@ -65,7 +65,7 @@ module _ {R : Type 0} (remaining : R → Option (List ℕ)) where
       sym (ap (λ (c : Bool). cond c (Err (line_fault LineTooLong n)) (token_or_fault (token_of_line line) n)) l) ∙ e in
       left_by_token bytes n (token_of_line line) a b x y short i h k
 
-  left_by : (bytes : List ℕ) (n : ℕ) (ls : List (List ℕ)) (a b : Answer) (x y : Option (List ℕ)) → lines bytes ≡ ls
+  left_by : (bytes : List ℕ) (n : ℕ) (ls : List (List ℕ)) (a b : SourceResult) (x y : Option (List ℕ)) → lines bytes ≡ ls
       → first_answer n ls ≡ a → a ≡ b
       → Leaves bytes n a x → Leaves bytes n b y → x ≡ y
   left_by bytes n [] a b x y l e i h k = h.none (no_byte bytes l) ∙ sym (k.none (no_byte bytes l))
@@ -73,17 +73,17 @@ module _ {R : Type 0} (remaining : R → Option (List ℕ)) where
       (nat_lt longest_line (length line)) refl e i h k
 
   -- what was said of a result
-  data Came (s : LineSource R) (bytes : List ℕ) (answer : Answer) : Type 0 where
+  data Came (s : LineSource R) (bytes : List ℕ) (answer : SourceResult) : Type 0 where
     of_line : first_answer s.given (lines bytes) ≡ answer → Came s bytes answer
     broke : LineBreaksOff s answer → Came s bytes answer
 
-  came : (s : LineSource R) (bytes : List ℕ) (answer : Answer) (after : Option (List ℕ))
+  came : (s : LineSource R) (bytes : List ℕ) (answer : SourceResult) (after : Option (List ℕ))
       → KnownAnswer bytes s.given answer after → Came s bytes answer
   came s bytes (Ok t) after h = of_line h.0
   came s bytes (Err f) after (inl h) = of_line h
   came s bytes (Err f) after (inr h) = broke (record { fault = f; result = refl; breaks_off = h })
 
-  after_token : (s : LineSource R) (bytes : List ℕ) (answer : Answer) (after : Option (List ℕ))
+  after_token : (s : LineSource R) (bytes : List ℕ) (answer : SourceResult) (after : Option (List ℕ))
       → KnownAnswer bytes s.given answer after
       → (t : yaml_token_t) → answer ≡ Ok t → after ≡ Some (after_line bytes)
   after_token s bytes (Ok u) after h t e = h.1
@@ -99,7 +99,7 @@ module _ {R : Type 0} (remaining : R → Option (List ℕ)) where
   known_within n None after bytes e h = cc
   known_within n (Some x) after bytes e h = let same : x ≡ bytes = cc in h.1 ∙ ap (λ (y : List ℕ). Some (drop n y)) same
 
-  leaves : (s t : LineSource R) (bytes : List ℕ) (answer : Answer) → remaining s.reader ≡ Some bytes
+  leaves : (s t : LineSource R) (bytes : List ℕ) (answer : SourceResult) → remaining s.reader ≡ Some bytes
       → s.fault ≡ None → LineOutcome remaining s answer t
       → KnownAnswer bytes s.given answer (remaining t.reader) → Leaves bytes s.given answer (remaining t.reader)
   leaves s t bytes answer known running o k = record {
@@ -111,24 +111,24 @@ module _ {R : Type 0} (remaining : R → Option (List ℕ)) where
         (subst (λ (b : Option (List ℕ)). Consumes b (remaining t.reader) o.takes.0) (known ∙ ap Some e) o.takes.2);
   }
 
-  gives_next : (s : LineSource R) (answer : Answer) (t : LineSource R) → s.fault ≡ None → Gives remaining s answer t
+  gives_next : (s : LineSource R) (answer : SourceResult) (t : LineSource R) → s.fault ≡ None → Gives remaining s answer t
       → GivesNext remaining s answer t
   gives_next s answer t running h = subst (λ (f : Option Fault). GivesBy f remaining s answer t) running h
 
-  known_answer : (s : LineSource R) (answer : Answer) (t : LineSource R) (bytes : List ℕ) → remaining s.reader ≡ Some bytes
+  known_answer : (s : LineSource R) (answer : SourceResult) (t : LineSource R) (bytes : List ℕ) → remaining s.reader ≡ Some bytes
       → LineAnswer (remaining s.reader) s.given answer (remaining t.reader)
       → KnownAnswer bytes s.given answer (remaining t.reader)
   known_answer s answer t bytes known h =
       subst (λ (b : Option (List ℕ)). LineAnswer b s.given answer (remaining t.reader)) known h
 
-  module _ (s u : LineSource R) (a b : Answer) (t v : LineSource R) (bytes : List ℕ)
+  module _ (s u : LineSource R) (a b : SourceResult) (t v : LineSource R) (bytes : List ℕ)
       (known : remaining s.reader ≡ Some bytes)
       (same : SourcesAlike remaining s u) (first : LineOutcome remaining s a t) (second : LineOutcome remaining u b v) where
     left_alike : a ≡ b → remaining t.reader ≡ remaining v.reader → GivesNext remaining s a t
         → GivesNext remaining u b v → SourcesAlike remaining t v
     left_alike e r h k = record {
       given = h.given ∙ (ap (λ (n : ℕ). n + answer_tokens a) same.given
-          ∙ (ap (λ (x : Answer). u.given + answer_tokens x) e ∙ sym k.given));
+          ∙ (ap (λ (x : SourceResult). u.given + answer_tokens x) e ∙ sym k.given));
       max_tokens = h.max_tokens ∙ (same.max_tokens ∙ sym k.max_tokens);
       fault = h.fault ∙ (ap answer_fault e ∙ sym k.fault);
       bytes = r;

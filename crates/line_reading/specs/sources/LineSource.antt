@@ -1,6 +1,6 @@
 -- A source of token lines (docs/DEFINITIONS.md, "Lines").
 use Rattle.std.specs.Prelude.{◌≡◌, ◌<◌, ◌≤◌, ℕ, ◌+◌, List, [], Option, Some, None, Ok, Err, option_map}
-use Rattle.libyaml_types.specs.Fault.{Fault, Answer}
+use Rattle.libyaml_types.specs.Fault.{Fault, SourceResult}
 use Rattle.libyaml_types.specs.Source.{Coming, coming}
 use Rattle.line_reading.specs.declared.line_problem.LineProblem.{LineProblem}
 use Rattle.line_reading.specs.declared.line_problem.LineProblem.TheVariants.{TooManyTokens}
@@ -25,16 +25,16 @@ source_at reader given max_tokens problem = record {
 }
 
 -- how many tokens, and which error, a result is
-abbrev pub answer_tokens : Answer → ℕ
+abbrev pub answer_tokens : SourceResult → ℕ
 answer_tokens (Ok token) = 1
 answer_tokens (Err fault) = 0
 
-abbrev pub answer_fault : Answer → Option Fault
+abbrev pub answer_fault : SourceResult → Option Fault
 answer_fault (Ok token) = None
 answer_fault (Err fault) = Some fault
 
 -- what a source that keeps no error returns, and where that leaves it
-pub record GivesNext {R : Type 0} (remaining : R → Option (List ℕ)) (s : LineSource R) (answer : Answer)
+pub record GivesNext {R : Type 0} (remaining : R → Option (List ℕ)) (s : LineSource R) (answer : SourceResult)
     (t : LineSource R) : Type 0 where
   pub below : s.given < s.max_tokens → LineAnswer (remaining s.reader) s.given answer (remaining t.reader)
   pub at_bound : s.max_tokens ≤ s.given → answer ≡ Err (line_fault TooManyTokens s.given)
@@ -44,11 +44,11 @@ pub record GivesNext {R : Type 0} (remaining : R → Option (List ℕ)) (s : Lin
   pub fault : t.fault ≡ answer_fault answer
 
 -- a kept error is given again, and nothing changes
-abbrev pub GivesBy : {R : Type 0} → Option Fault → (R → Option (List ℕ)) → LineSource R → Answer → LineSource R → Type 0
+abbrev pub GivesBy : {R : Type 0} → Option Fault → (R → Option (List ℕ)) → LineSource R → SourceResult → LineSource R → Type 0
 GivesBy None remaining s answer t = GivesNext remaining s answer t
 GivesBy (Some fault) remaining s answer t = (answer ≡ Err fault) × (t ≡ s)
 
-abbrev pub Gives : {R : Type 0} → (R → Option (List ℕ)) → LineSource R → Answer → LineSource R → Type 0
+abbrev pub Gives : {R : Type 0} → (R → Option (List ℕ)) → LineSource R → SourceResult → LineSource R → Type 0
 Gives remaining s answer t = GivesBy s.fault remaining s answer t
 
 -- the tokens to come of a reader's bytes

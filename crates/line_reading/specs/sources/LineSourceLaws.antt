@@ -2,7 +2,7 @@
 use Rattle.std.proofs.Common.{◌≡◌, ◌<◌, ◌≤◌, ℕ, ◌+◌, ◌-◌, List, [], ◌∷◌, Option, Some, None, Ok, Err, refl, ap, sym, ◌∙◌, subst, arith, inl, inr}
 use Rattle.std.proofs.lemmas.Bool.{lt-ltb, le-ltb, cases_lt}
 use Rattle.libyaml_types.specs.declared.token.yaml_token_t.{yaml_token_t}
-use Rattle.libyaml_types.specs.Fault.{Fault, Answer}
+use Rattle.libyaml_types.specs.Fault.{Fault, SourceResult}
 use Rattle.libyaml_types.specs.Source.{Coming, coming, Follows, FollowsList}
 use Rattle.line_reading.specs.declared.line_problem.LineProblem.TheVariants.{TooManyTokens, NoMoreTokens}
 use Rattle.line_reading.specs.sources.LineFault.{line_fault}
@@ -26,7 +26,7 @@ pub source_falls : {R : Type 0} (remaining : R → Option (List ℕ)) (s t : Lin
     → s.max_tokens - s.given ≡ t.max_tokens - t.given + 1
 source_falls remaining s t token h = falls_by remaining s t token s.fault h
 
-repeats_by : {R : Type 0} (remaining : R → Option (List ℕ)) (t u : LineSource R) (fault : Fault) (answer : Answer)
+repeats_by : {R : Type 0} (remaining : R → Option (List ℕ)) (t u : LineSource R) (fault : Fault) (answer : SourceResult)
     (kept : Option Fault) → kept ≡ Some fault
     → GivesBy kept remaining t answer u → answer ≡ Err fault
 repeats_by remaining t u fault answer None e k = cc
@@ -39,7 +39,7 @@ kept_by remaining s t fault None e h = h.fault
 kept_by remaining s t fault (Some f) e h = ap (λ x. x.fault) h.1 ∙ sym e ∙ (cc (h.0))
 
 pub source_repeats : {R : Type 0} (remaining : R → Option (List ℕ)) (s t u : LineSource R) (fault : Fault)
-    (answer : Answer) → Gives remaining s (Err fault) t
+    (answer : SourceResult) → Gives remaining s (Err fault) t
     → Gives remaining t answer u → answer ≡ Err fault
 source_repeats remaining s t u fault answer h k = repeats_by remaining t u fault answer t.fault
     (kept_by remaining s t fault s.fault refl h) k
@@ -92,12 +92,12 @@ known_read : {R : Type 0} (remaining : R → Option (List ℕ)) (t : LineSource 
 known_read remaining t n max bytes f r g m = (λ i. known_by (f i) (r i) (g i) (m i))
 
 follows_kept : {R : Type 0} (MayBreak : Fault → Type 0) (remaining : R → Option (List ℕ)) (t : LineSource R)
-    (fault : Fault) (answer : Answer)
+    (fault : Fault) (answer : SourceResult)
     → answer ≡ Err fault → t.fault ≡ Some fault → Follows MayBreak (Some (coming [] fault)) answer (known_of remaining t)
 follows_kept MayBreak remaining t fault answer a e = rw a (inl refl, known_kept remaining t fault e)
 
 follows_bound : {R : Type 0} (MayBreak : Fault → Type 0) (remaining : R
-    → Option (List ℕ)) (t : LineSource R) (n max : ℕ) (before : Option (List ℕ)) (answer : Answer) → max ≤ n
+    → Option (List ℕ)) (t : LineSource R) (n max : ℕ) (before : Option (List ℕ)) (answer : SourceResult) → max ≤ n
     → answer ≡ Err (line_fault TooManyTokens n)
     → t.fault ≡ answer_fault answer → Follows MayBreak (coming_of before n max) answer (known_of remaining t)
 follows_bound MayBreak remaining t n max None answer h a f = tt
@@ -106,7 +106,7 @@ follows_bound MayBreak remaining t n max (Some bytes) answer h a f =
     (follows_kept MayBreak remaining t (line_fault TooManyTokens n) answer a (f ∙ ap answer_fault a))
 
 follows_below : {R : Type 0} (remaining : R → Option (List ℕ)) (t : LineSource R) (n max : ℕ)
-    (before : Option (List ℕ)) (answer : Answer) → n < max
+    (before : Option (List ℕ)) (answer : SourceResult) → n < max
     → LineAnswer before n answer (remaining t.reader) → t.given ≡ n + answer_tokens answer → t.max_tokens ≡ max
     → t.fault ≡ answer_fault answer
     → Follows (BreaksOff t) (coming_of before n max) answer (known_of remaining t)
@@ -120,7 +120,7 @@ follows_below remaining t n max (Some bytes) (Err fault) h (inr a) g m f =
     let same : n ≡ t.given = omega (arith, g) in
     break_off (BreaksOff t) _ _ fault _ (subst (λ k. BreaksOffAt k fault) same a) (known_kept remaining t fault f)
 
-follows_by : {R : Type 0} (remaining : R → Option (List ℕ)) (s t : LineSource R) (answer : Answer)
+follows_by : {R : Type 0} (remaining : R → Option (List ℕ)) (s t : LineSource R) (answer : SourceResult)
     (kept : Option Fault) → kept ≡ s.fault
     → GivesBy kept remaining s answer t
     → Follows (BreaksOff t) (known_by kept (remaining s.reader) s.given s.max_tokens) answer (known_of remaining t)
@@ -134,7 +134,7 @@ follows_by remaining s t answer None e h =
           (h.at_bound bound) h.fault
     ]
 
-pub source_follows : {R : Type 0} (remaining : R → Option (List ℕ)) (s t : LineSource R) (answer : Answer)
+pub source_follows : {R : Type 0} (remaining : R → Option (List ℕ)) (s t : LineSource R) (answer : SourceResult)
     → Gives remaining s answer t
     → Follows (BreaksOff t) (known_of remaining s) answer (known_of remaining t)
 source_follows remaining s t answer h = follows_by remaining s t answer s.fault refl h

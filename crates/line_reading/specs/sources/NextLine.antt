@@ -2,7 +2,7 @@
 use Rattle.std.specs.Prelude.{◌≡◌, ◌<◌, ◌≤◌, ◌⊎◌, ◌+◌, ℕ, List, [], ◌∷◌, drop, length, Option, Some, None, Result, Ok, Err, IfOk}
 use Rattle.std.specs.Io.KnownBytes.{Consumes}
 use Rattle.libyaml_types.specs.declared.token.yaml_token_t.{yaml_token_t}
-use Rattle.libyaml_types.specs.Fault.{Fault, Answer}
+use Rattle.libyaml_types.specs.Fault.{Fault, SourceResult}
 use Rattle.line_reading.specs.declared.line_problem.LineProblem.{LineProblem}
 use Rattle.line_reading.specs.declared.line_problem.LineProblem.TheVariants.{Memory, ReadFailed, LineTooLong, BadTokenLine, TooManyTokens, NoMoreTokens}
 use Rattle.line_reading.specs.tokens.Prefixes.{before_byte}
@@ -47,7 +47,7 @@ TakesNoLine None problem = Unit {0}
 TakesNoLine (Some bytes) problem = HasNoLine bytes problem
 
 -- what the first of some lines gives
-abbrev pub first_answer : ℕ → List (List ℕ) → Answer
+abbrev pub first_answer : ℕ → List (List ℕ) → SourceResult
 first_answer n [] = Err (line_fault NoMoreTokens n)
 first_answer n (line ∷ more) = line_answer n line
 
@@ -60,16 +60,16 @@ abbrev pub IsFaultAt : ℕ → Fault → Type 0
 IsFaultAt n fault = (problem : LineProblem) × (fault ≡ line_fault problem n)
 
 -- a result over a reader whose bytes are known: of its first line, or an error by which a source fails early
-abbrev pub KnownAnswer : List ℕ → ℕ → Answer → Option (List ℕ) → Type 0
+abbrev pub KnownAnswer : List ℕ → ℕ → SourceResult → Option (List ℕ) → Type 0
 KnownAnswer bytes n (Ok token) after = (first_answer n (lines bytes) ≡ Ok token) × (after ≡ Some (after_line bytes))
 KnownAnswer bytes n (Err fault) after = (first_answer n (lines bytes) ≡ Err fault) ⊎ BreaksOffAt n fault
 
 -- a result over a reader whose bytes are not known
-abbrev pub UnknownAnswer : ℕ → Answer → Type 0
+abbrev pub UnknownAnswer : ℕ → SourceResult → Type 0
 UnknownAnswer n (Ok token) = Unit {0}
 UnknownAnswer n (Err fault) = IsFaultAt n fault
 
-abbrev pub LineAnswer : Option (List ℕ) → ℕ → Answer → Option (List ℕ) → Type 0
+abbrev pub LineAnswer : Option (List ℕ) → ℕ → SourceResult → Option (List ℕ) → Type 0
 LineAnswer None n answer after = UnknownAnswer n answer
 LineAnswer (Some bytes) n answer after = KnownAnswer bytes n answer after
 
@@ -78,7 +78,7 @@ abbrev pub IsReadProblem : LineProblem → Type 0
 IsReadProblem problem = (problem ≡ Memory) ⊎ (problem ≡ ReadFailed)
 
 -- what a result is of a source that has given n tokens
-abbrev pub line_answer_in : ℕ → Result (Unit {0}) LineProblem → yaml_token_t → Answer
+abbrev pub line_answer_in : ℕ → Result (Unit {0}) LineProblem → yaml_token_t → SourceResult
 line_answer_in n (Ok done) token = Ok token
 line_answer_in n (Err problem) token = Err (line_fault problem n)
 

@@ -2,7 +2,7 @@
 use Rattle.std.specs.Prelude.{ℕ, ◌+◌, ◌==◌, List, [], ◌∷◌, length, Option, Some, None, Ok, Err, nat_lt, if◌then◌else◌}
 use Rattle.std.specs.List.{slice_split}
 use Rattle.libyaml_types.specs.declared.token.yaml_token_t.{yaml_token_t}
-use Rattle.libyaml_types.specs.Fault.{Answer}
+use Rattle.libyaml_types.specs.Fault.{SourceResult}
 use Rattle.libyaml_types.specs.Source.{Coming, coming}
 use Rattle.line_reading.specs.declared.line_problem.LineProblem.TheVariants.{LineTooLong, BadTokenLine, TooManyTokens, NoMoreTokens}
 use Rattle.line_reading.specs.sources.LineFault.{line_fault}
@@ -32,16 +32,16 @@ after_line [] = []
 after_line (b ∷ bs) = if b == 10 then bs else after_line bs
 
 -- a line's token, or its error where n tokens were given before it
-abbrev pub token_or_fault : Option yaml_token_t → ℕ → Answer
+abbrev pub token_or_fault : Option yaml_token_t → ℕ → SourceResult
 token_or_fault (Some token) n = Ok token
 token_or_fault None n = Err (line_fault BadTokenLine n)
 
-abbrev pub line_answer : ℕ → List ℕ → Answer
+abbrev pub line_answer : ℕ → List ℕ → SourceResult
 line_answer n line = if nat_lt longest_line (length line) then Err (line_fault LineTooLong n) else token_or_fault
     (token_of_line line) n
 
 -- a result, and what comes after it: nothing after an error
-abbrev pub coming_after : Answer → Coming → Coming
+abbrev pub coming_after : SourceResult → Coming → Coming
 coming_after (Ok token) behind = coming (token ∷ behind.tokens) behind.fault
 coming_after (Err fault) behind = coming [] fault
 

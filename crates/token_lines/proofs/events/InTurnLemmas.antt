@@ -9,11 +9,11 @@ use Rattle.libyaml_types.specs.declared.event.yaml_event_t.{yaml_event_t}
 use Rattle.libyaml_types.specs.declared.token.yaml_token_t.{yaml_token_t}
 use Rattle.libyaml_events.specs.machine.Config.{Parser}
 use Rattle.libyaml_events.specs.sources.History.{History, is_over, is_stream_end}
-use Rattle.libyaml_types.specs.Fault.{Answer, Fault}
+use Rattle.libyaml_types.specs.Fault.{SourceResult, Fault}
 use Rattle.libyaml_events.proofs.exported.CallsInTurn.{both_calls, no_call, one_call}
 use Rattle.token_lines.specs.events.InTurn.{AllWritten, CallSays, WrittenInTurn, gave_event, failed}
 
-module _ {S : Type 0} (text : yaml_event_t → List ℕ) (gives : S → Answer → S → Type 0) where
+module _ {S : Type 0} (text : yaml_event_t → List ℕ) (gives : S → SourceResult → S → Type 0) where
   pub none_yet : (p : Parser S) (x : Option (List ℕ)) (asked : List yaml_token_t) (given : List yaml_event_t)
       → History p asked given → is_over p ≡ false
       → AllWritten text gives p p x x asked given

@@ -6,7 +6,7 @@ use Rattle.libyaml_types.specs.declared.event.yaml_event_t.{yaml_event_t}
 use Rattle.libyaml_types.specs.declared.token.yaml_token_t.{yaml_token_t}
 use Rattle.libyaml_events.specs.machine.Config.{Parser}
 use Rattle.libyaml_types.specs.declared.fault.yaml_parser_t_prefix.{yaml_parser_t_prefix}
-use Rattle.libyaml_types.specs.Fault.{Answer, Fault, fault_of}
+use Rattle.libyaml_types.specs.Fault.{SourceResult, Fault, fault_of}
 use Rattle.line_writing.specs.EventText.{event_line}
 use Rattle.line_writing.specs.FaultText.{fault_text}
 use Rattle.token_lines.specs.declared.run.run_end_t.{run_end_t}
@@ -41,7 +41,7 @@ fault_after (Faulted told) f kept b c d done wrote
     )
 fault_after OutputFailed f kept b c d done wrote = tt
 
-module _ {S : Type 0} (gives : S → Answer → S → Type 0) where
+module _ {S : Type 0} (gives : S → SourceResult → S → Type 0) where
   -- the last line was written
   pub ends_by : (end : run_end_t) (p q : Parser S) (b c d : Option (List ℕ)) (asked : List yaml_token_t)
       (given : List yaml_event_t) → (end ≡ Ended)

@@ -15,7 +15,7 @@ use Rattle.libyaml_events.proofs.exported.CallsInTurn.{both_calls, one_call}
 use Rattle.libyaml_events.proofs.exported.KnownTokens.{fails_after, further, nothing_after_end}
 use Rattle.libyaml_grammar.specs.runs.Runs.{Ending, Ends, Fails}
 use Rattle.libyaml_types.specs.declared.fault.yaml_parser_t_prefix.{yaml_parser_t_prefix}
-use Rattle.libyaml_types.specs.Fault.{Answer, Fault, fault_of}
+use Rattle.libyaml_types.specs.Fault.{SourceResult, Fault, fault_of}
 use Rattle.libyaml_types.specs.Source.{Follows}
 use Rattle.libyaml_types.specs.declared.source.yaml_token_source_t.{Ghosts}
 use Rattle.line_writing.specs.EventText.{event_line}
@@ -47,7 +47,7 @@ module _ {S : Type 0} (old new : Parser S) (r : EventOrError) (e : yaml_event_t)
   running_by false h is an_event ended = h
 
 module _ {S : Type 0} (g : Ghosts S)
-    (follows : (s t : S) (a : Answer) → g.gives s a t → Follows (g.may_break t) (g.known s) a (g.known t)) where
+    (follows : (s t : S) (a : SourceResult) → g.gives s a t → Follows (g.may_break t) (g.known s) a (g.known t)) where
   -- a run that was to come, of which the lines of some events were written, and then a last step was made
   module _ (first p q : Parser S) (a b c d : Option (List ℕ)) (all : List yaml_event_t) (ending : Ending)
       (r : RunToCome g.known first all ending)

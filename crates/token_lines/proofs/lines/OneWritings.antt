@@ -7,7 +7,7 @@ use Rattle.libyaml_types.specs.declared.event.yaml_event_t.{yaml_event_t}
 use Rattle.libyaml_types.specs.declared.token.yaml_token_t.{yaml_token_t}
 use Rattle.libyaml_events.specs.machine.Config.{Parser}
 use Rattle.libyaml_events.specs.sources.Determined.{OneBegins}
-use Rattle.libyaml_events.specs.sources.History.{answers, kept_fault}
+use Rattle.libyaml_events.specs.sources.History.{source_results, kept_fault}
 use Rattle.libyaml_events.specs.sources.Needs.{EachNeeded, EachWasNeeded}
 use Rattle.libyaml_events.specs.sources.Parsing.{CarriesOn, Cause, FailsBy, of_grammar, of_memory, of_source}
 use Rattle.libyaml_events.proofs.exported.CallsInTurn.{both_calls, one_call}
@@ -15,7 +15,7 @@ use Rattle.libyaml_events.proofs.exported.OneOutcome.{prefix_same}
 use Rattle.libyaml_events.proofs.exported.RunStops.{RunStop, answers_both, ended_stop, grammar_stop, one_run_by_answers, source_stop}
 use Rattle.libyaml_events.proofs.exported.Histories as histories
 use Rattle.libyaml_grammar.specs.runs.Runs.{Ending, Ends, Fails}
-use Rattle.libyaml_types.specs.Fault.{Answer, memory_fault}
+use Rattle.libyaml_types.specs.Fault.{SourceResult, memory_fault}
 use Rattle.libyaml_types.specs.declared.fault.yaml_parser_t_prefix.{yaml_parser_t_prefix}
 use Rattle.line_writing.specs.EventText.{event_line}
 use Rattle.line_writing.specs.FaultText.{fault_text}
@@ -33,19 +33,19 @@ use Rattle.token_lines.proofs.events.InTurnLemmas.{texts_more}
 use Rattle.token_lines.proofs.lines.OneOutputs.{same_bytes}
 
 -- results that begin one another, after the same tokens
-more_after : (l : List yaml_token_t) (x y : List Answer) → answers l (x ++ y) ≡ answers l x ++ y
+more_after : (l : List yaml_token_t) (x y : List SourceResult) → source_results l (x ++ y) ≡ source_results l x ++ y
 more_after [] x y = refl
-more_after (t ∷ l) x y = ap (λ (z : List Answer). Ok t ∷ z) (more_after l x y)
+more_after (t ∷ l) x y = ap (λ (z : List SourceResult). Ok t ∷ z) (more_after l x y)
 
-both_after : (l : List yaml_token_t) (x y : List Answer) → OneBegins x y → OneBegins (answers l x) (answers l y)
-both_after l x y (inl h) = inl (h.0, ap (answers l) h.1 ∙ more_after l x h.0)
-both_after l x y (inr h) = inr (h.0, ap (answers l) h.1 ∙ more_after l y h.0)
+both_after : (l : List yaml_token_t) (x y : List SourceResult) → OneBegins x y → OneBegins (source_results l x) (source_results l y)
+both_after l x y (inl h) = inl (h.0, ap (source_results l) h.1 ∙ more_after l x h.0)
+both_after l x y (inr h) = inr (h.0, ap (source_results l) h.1 ∙ more_after l y h.0)
 
-pub after_asked : (asked m n : List yaml_token_t) (x y : List Answer) → OneBegins (answers m x) (answers n y)
-    → OneBegins (answers (asked ++ m) x) (answers (asked ++ n) y)
+pub after_asked : (asked m n : List yaml_token_t) (x y : List SourceResult) → OneBegins (source_results m x) (source_results n y)
+    → OneBegins (source_results (asked ++ m) x) (source_results (asked ++ n) y)
 after_asked asked m n x y o
-    = rw (answers_both asked m x) at (subst (OneBegins (answers asked (answers m x))) (answers_both asked n y)
-    (both_after asked (answers m x) (answers n y) o))
+    = rw (answers_both asked m x) at (subst (OneBegins (source_results asked (source_results m x))) (answers_both asked n y)
+    (both_after asked (source_results m x) (source_results n y) o))
 
 pub nothing_needed : (l : List yaml_token_t) (g : List yaml_event_t) → EachNeeded l [] g
 nothing_needed l g [] x later e = absurd cc
@@ -55,15 +55,15 @@ nothing_needed l g (t ∷ front) x later e = absurd cc
 abbrev pub Wrote : Ending → Outcome → (lines : List (List ℕ)) → (before after : Option (List ℕ)) → Type 0
 Wrote x o lines before after = (o ≡ outcome_by (Some x)) × Appends before after (run_bytes lines x)
 
-module _ {S W : Type 0} (gives : S → Answer → S → Type 0) (contents : W → Option (List ℕ))
+module _ {S W : Type 0} (gives : S → SourceResult → S → Type 0) (contents : W → Option (List ℕ))
     (old : Parser S)
     (before : Option (List ℕ))
     (asked : List yaml_token_t) (given : List yaml_event_t) where
   -- how an outcome came: the parser stopped; or memory ran out, or the output failed
-  data Came (o : Outcome) (after : Option (List ℕ)) (a : List Answer) : Type 0 where
-    stopped : (m : List yaml_token_t) (u : List Answer) (e : List yaml_event_t) (x : Ending) → a ≡ answers m u
+  data Came (o : Outcome) (after : Option (List ℕ)) (a : List SourceResult) : Type 0 where
+    stopped : (m : List yaml_token_t) (u : List SourceResult) (e : List yaml_event_t) (x : Ending) → a ≡ source_results m u
         → EachWasNeeded [] (asked ++ m) [] (given ++ e)
-        → EachNeeded (asked ++ m) u (given ++ e) → RunStop (answers (asked ++ m) u) (given ++ e) x
+        → EachNeeded (asked ++ m) u (given ++ e) → RunStop (source_results (asked ++ m) u) (given ++ e) x
         → Wrote x o (event_lines e) before after → Came o after a
     broke : BrokeOff BreaksOffByNone o before after → Came o after a
     unknown : o ≡ outcome.OutputFailed → Came o after a
@@ -73,7 +73,7 @@ module _ {S W : Type 0} (gives : S → Answer → S → Type 0) (contents : W �
     ended : (o : LastCall gives contents Ended old last before after asked given) (e : yaml_event_t)
         → (c : CarriesOn gives o.parser e last (asked ++ o.earlier.carried.more) (given ++ o.earlier.events))
         → WroteForEvent Ended e (contents o.writer) after
-        → Came outcome.Ended after (answers o.earlier.carried.more (answers c.more []))
+        → Came outcome.Ended after (source_results o.earlier.carried.more (source_results c.more []))
     ended o e c w =
         let so_far = o.earlier.carried in
         let all = o.earlier.events ++ e ∷ [] in
@@ -94,8 +94,8 @@ module _ {S W : Type 0} (gives : S → Answer → S → Type 0) (contents : W �
     at_stop : (told : yaml_parser_t_prefix) (o : LastCall gives contents (Faulted told) old last before after asked given)
         → (h : FailsBy gives o.parser last (asked ++ o.earlier.carried.more) (given ++ o.earlier.events))
         → Appends (contents o.writer) after (fault_text (kept_fault last))
-        → RunStop (answers (asked ++ o.earlier.carried.more) h.more) (given ++ o.earlier.events) (Fails (kept_fault last))
-        → Came outcome.Faulted after (answers o.earlier.carried.more h.more)
+        → RunStop (source_results (asked ++ o.earlier.carried.more) h.more) (given ++ o.earlier.events) (Fails (kept_fault last))
+        → Came outcome.Faulted after (source_results o.earlier.carried.more h.more)
     at_stop told o h w stop =
         let k = o.earlier.carried in
         stopped k.more h.more o.earlier.events (Fails (kept_fault last)) refl
@@ -109,7 +109,7 @@ module _ {S W : Type 0} (gives : S → Answer → S → Type 0) (contents : W �
         → (h : FailsBy gives o.parser last (asked ++ o.earlier.carried.more) (given ++ o.earlier.events))
         → Appends (contents o.writer) after (fault_text (kept_fault last))
         → Cause o.parser.config (asked ++ o.earlier.carried.more) (given ++ o.earlier.events) h.more (kept_fault last)
-        → Came outcome.Faulted after (answers o.earlier.carried.more h.more)
+        → Came outcome.Faulted after (source_results o.earlier.carried.more h.more)
     by_fault told o h w (of_memory l e take meets f) = broke (record {
       faulted = refl;
       fault = kept_fault last;
@@ -130,7 +130,7 @@ module _ {S W : Type 0} (gives : S → Answer → S → Type 0) (contents : W �
         go : (k : CallSays gives (λ e. WroteForEvent Ended e (contents o.writer) after)
             (λ f. WroteFault Ended f (contents o.writer) after) o.parser last
             (asked ++ o.earlier.carried.more) (given ++ o.earlier.events))
-            → Came outcome.Ended after (answers o.earlier.carried.more (results_in_call k))
+            → Came outcome.Ended after (source_results o.earlier.carried.more (results_in_call k))
         go (gave_event e c w) = ended o e c w
         go (failed h w) = absurd w
     came (Faulted told) o = go o.call
@@ -138,7 +138,7 @@ module _ {S W : Type 0} (gives : S → Answer → S → Type 0) (contents : W �
         go : (k : CallSays gives (λ e. WroteForEvent (Faulted told) e (contents o.writer) after)
             (λ f. WroteFault (Faulted told) f (contents o.writer) after) o.parser last
             (asked ++ o.earlier.carried.more) (given ++ o.earlier.events))
-            → Came outcome.Faulted after (answers o.earlier.carried.more (results_in_call k))
+            → Came outcome.Faulted after (source_results o.earlier.carried.more (results_in_call k))
         go (gave_event e c w) = broke (record {
           faulted = refl;
           fault = memory_fault;
@@ -159,7 +159,7 @@ both_wrote x y o u d e written after later i j g h = (
   same_bytes written after later (run_bytes d x) (run_bytes e y) (ap₂ run_bytes j i) g.1 h.1,
 )
 
-pub one_writing_proof : {S W : Type 0} (gives : S → Answer → S → Type 0) (contents : W → Option (List ℕ))
+pub one_writing_proof : {S W : Type 0} (gives : S → SourceResult → S → Type 0) (contents : W → Option (List ℕ))
     → (old p q : Parser S) (first second : run_end_t)
     (written : List ℕ) (after later : Option (List ℕ)) (asked : List yaml_token_t) (given : List yaml_event_t)
     → (a : LastCall gives contents first old p (Some written) after asked given)
@@ -171,7 +171,7 @@ one_writing_proof {S} gives contents old p q first second written after later as
     (came gives contents old (Some written) asked given p after first a)
     (came gives contents old (Some written) asked given q later second b)
   where
-    go : (k l : List Answer) → OneBegins k l → Came gives contents old (Some written) asked given
+    go : (k l : List SourceResult) → OneBegins k l → Came gives contents old (Some written) asked given
         (outcome_of first) after k
         → Came gives contents old (Some written) asked given (outcome_of second) later l
         → OneOutput BreaksOffByNone BreaksOffByNone (outcome_of first) (outcome_of second) (Some written) after
@@ -182,7 +182,7 @@ one_writing_proof {S} gives contents old p q first second written after later as
     go k l o x (unknown e) = output_failed (inr e)
     go k l o (stopped m u d x e each then stop w) (stopped n v c y f other also halt z) =
         let both = after_asked asked m n u v
-        (subst (λ (i : List Answer). OneBegins i (answers n v)) e (subst (OneBegins k) f o)) in
+        (subst (λ (i : List SourceResult). OneBegins i (source_results n v)) e (subst (OneBegins k) f o)) in
         let r = one_run_by_answers (given ++ d) (given ++ c) x y
         (record { asked = asked ++ m; last = u; needed = each; needed_last = then; stop = stop })
         (record { asked = asked ++ n; last = v; needed = other; needed_last = also; stop = halt }) both in

@@ -2,7 +2,7 @@
 use Rattle.std.proofs.Common.{◌≤◌, ◌*◌, arith, ℕ, List, [], length, ap, sym, ◌∙◌}
 use Rattle.std.proofs.lemmas.List.{append-nil}
 use Rattle.libyaml_types.specs.declared.event.yaml_event_t.{yaml_event_t}
-use Rattle.libyaml_types.specs.Fault.{Answer}
+use Rattle.libyaml_types.specs.Fault.{SourceResult}
 use Rattle.libyaml_documents.specs.Documents.{Document}
 use Rattle.libyaml_events.specs.machine.Config.{Parser}
 use Rattle.libyaml_events.proofs.exported.Histories as histories
@@ -12,7 +12,7 @@ use Rattle.libyaml_graphs.specs.loads.Linear.{documents_size}
 use Rattle.libyaml_graphs.proofs.exported.RunLoads.{first_linear}
 use Rattle.libyaml_loader.specs.loads.LoadsInTurn.{LoadedInTurn}
 
-pub loaded_linear : {S : Type 0} (gives : S → Answer → S → Type 0) (n : ℕ)
+pub loaded_linear : {S : Type 0} (gives : S → SourceResult → S → Type 0) (n : ℕ)
     → (first p : Parser S) (documents : List Document) → (a : LoadedInTurn gives n first p documents [] [])
     → documents_size documents ≤ 8 * length a.carried.more
 loaded_linear gives n first p documents a =

@@ -15,7 +15,7 @@ use Rattle.libyaml_events.specs.sources.RunToCome.{RestOfRun, RunToCome}
 use Rattle.libyaml_events.proofs.exported.KnownTokens.{further}
 use Rattle.libyaml_grammar.proofs.exported.NestingSoFar.{run_nests_so_far}
 use Rattle.libyaml_grammar.specs.runs.Runs.{Ending, Ends, Fails}
-use Rattle.libyaml_types.specs.Fault.{Answer, Fault, memory_fault}
+use Rattle.libyaml_types.specs.Fault.{SourceResult, Fault, memory_fault}
 use Rattle.libyaml_types.specs.Source.{Follows}
 use Rattle.libyaml_types.specs.declared.source.yaml_token_source_t.{Ghosts}
 use Rattle.libyaml_graphs.specs.loads.Bounds.{bounded_loads, next_bounded}
@@ -68,7 +68,7 @@ ending_of [] l = refl
 ending_of (d ∷ ds) l = ending_of ds l
 
 module _ {S W : Type 0} (g : Ghosts S)
-    (follows : (s t : S) (a : Answer) → g.gives s a t → Follows (g.may_break t) (g.known s) a (g.known t))
+    (follows : (s t : S) (a : SourceResult) → g.gives s a t → Follows (g.may_break t) (g.known s) a (g.known t))
     (contents : W → Option (List ℕ)) (n : ℕ) (first last : Parser S) (before after : Option (List ℕ))
     (events : List yaml_event_t) (ending : Ending) (run : RunToCome g.known first events ending) (result : run_end_t)
     (l : LastLoad g contents n result first last before after run.asked run.given) where

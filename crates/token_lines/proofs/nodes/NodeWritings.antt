@@ -10,7 +10,7 @@ use Rattle.libyaml_documents.specs.Documents.{Document, empty_document}
 use Rattle.libyaml_events.specs.machine.Config.{Parser}
 use Rattle.libyaml_events.specs.sources.CallsInTurn.{CarriedOn}
 use Rattle.libyaml_events.specs.sources.Determined.{BeginsEachRun, OneBegins}
-use Rattle.libyaml_events.specs.sources.History.{answers, kept_fault}
+use Rattle.libyaml_events.specs.sources.History.{source_results, kept_fault}
 use Rattle.libyaml_events.specs.sources.Needs.{EachNeeded, EachWasNeeded}
 use Rattle.libyaml_events.specs.sources.Parsing.{Cause, FailsBy, of_grammar, of_memory, of_source}
 use Rattle.libyaml_events.proofs.exported.CallsInTurn.{both_calls}
@@ -27,7 +27,7 @@ use Rattle.libyaml_graphs.proofs.exported.Roots.{fault_of, last_of, roots_follow
 use Rattle.libyaml_graphs.proofs.exported.LoadLists.{last_same, roots_after, same_loads}
 use Rattle.libyaml_loader.specs.loads.Loading.{DocumentOrError, LoadsFrom, at_end, by_loader, by_memory, by_parser, whole}
 use Rattle.libyaml_loader.specs.loads.OneLoad.{results_in}
-use Rattle.libyaml_types.specs.Fault.{Answer, Fault, memory_fault, no_fault}
+use Rattle.libyaml_types.specs.Fault.{SourceResult, Fault, memory_fault, no_fault}
 use Rattle.libyaml_types.specs.declared.fault.yaml_parser_t_prefix.{yaml_parser_t_prefix}
 use Rattle.libyaml_types.specs.declared.source.yaml_token_source_t.{Ghosts}
 use Rattle.line_writing.specs.DocumentText.{document_lines}
@@ -45,7 +45,7 @@ use Rattle.token_lines.proofs.lines.OneWritings.{Wrote, after_asked, both_wrote,
 after_given : (given a b : List yaml_event_t) → Begins (given ++ a) (given ++ b) → Begins a b
 after_given given a b h = (h.0, prefix_same given b (a ++ h.0) (h.1 ∙ append_assoc given a h.0))
 
-turned : (a b : List Answer) → OneBegins a b → OneBegins b a
+turned : (a b : List SourceResult) → OneBegins a b → OneBegins b a
 turned a b (inl h) = inr h
 turned a b (inr h) = inl h
 
@@ -53,13 +53,13 @@ module _ {S W : Type 0} (g : Ghosts S) (contents : W → Option (List ℕ)) (n :
     (before : Option (List ℕ)) (asked : List yaml_token_t) (given : List yaml_event_t) where
   -- how an outcome came: the parser stopped, or the last event has a composer error; or memory ran out, or the
   -- output failed
-  data Came (o : Outcome) (after : Option (List ℕ)) (a : List Answer) : Type 0 where
-    stopped : (m : List yaml_token_t) (u : List Answer) (e : List yaml_event_t) (d : List Document) (x : Ending)
-        → a ≡ answers m u
+  data Came (o : Outcome) (after : Option (List ℕ)) (a : List SourceResult) : Type 0 where
+    stopped : (m : List yaml_token_t) (u : List SourceResult) (e : List yaml_event_t) (d : List Document) (x : Ending)
+        → a ≡ source_results m u
         → EachWasNeeded [] (asked ++ m) [] (given ++ e) → EachNeeded (asked ++ m) u (given ++ e)
-        → RunStop (answers (asked ++ m) u) (given ++ e) x
+        → RunStop (source_results (asked ++ m) u) (given ++ e) x
         → bounded_loads n e x ≡ map Ok d ++ last_load x ∷ [] → Wrote x o (flat_map document_lines d) before after → Came o after a
-    composer : (m : List yaml_token_t) (e : List yaml_event_t) (d : List Document) (f : Fault) → a ≡ answers m []
+    composer : (m : List yaml_token_t) (e : List yaml_event_t) (d : List Document) (f : Fault) → a ≡ source_results m []
         → EachWasNeeded [] (asked ++ m) [] (given ++ e)
         → BeginsEachRun (asked ++ m) (given ++ e)
         → ((rest : List yaml_event_t) (x : Ending) → bounded_loads n (e ++ rest) x ≡ map Ok d
@@ -124,8 +124,8 @@ module _ {S W : Type 0} (g : Ghosts S) (contents : W → Option (List ℕ)) (n :
     abbrev FromHere : (end : run_end_t) → Of end → DocumentOrError → Type 0
     FromHere end o r = LoadsFrom g (next_bounded n) left_over o.parser r last
 
-    abbrev results : (end : run_end_t) (o : Of end) (r : DocumentOrError) → FromHere end o r → List Answer
-    results end o r l = answers (so_far end o).more
+    abbrev results : (end : run_end_t) (o : Of end) (r : DocumentOrError) → FromHere end o r → List SourceResult
+    results end o r l = source_results (so_far end o).more
         (results_in g (next_bounded n) left_over o.parser last (asked_there end o)
         (given_there end o) (so_far end o).history r l)
 
@@ -167,9 +167,9 @@ module _ {S W : Type 0} (g : Ghosts S) (contents : W → Option (List ℕ)) (n :
         → Appends (contents o.writer) after (fault_text (kept_fault last))
         → (h : FailsBy g.gives parser last (asked_there (Faulted told) o ++ c.more)
         (given_there (Faulted told) o ++ taken))
-        → RunStop (answers (asked_there (Faulted told) o ++ c.more) h.more) (given_there (Faulted told) o ++ taken)
+        → RunStop (source_results (asked_there (Faulted told) o ++ c.more) h.more) (given_there (Faulted told) o ++ taken)
         (Fails (kept_fault last))
-        → Came outcome.Faulted after (answers (so_far (Faulted told) o).more (answers c.more h.more))
+        → Came outcome.Faulted after (source_results (so_far (Faulted told) o).more (source_results c.more h.more))
     at_stop told o parser taken c load w h stop =
         let before = so_far (Faulted told) o in
         let k = further (Faulted told) o parser taken c in
@@ -179,7 +179,7 @@ module _ {S W : Type 0} (g : Ghosts S) (contents : W → Option (List ℕ)) (n :
         (histories.needed parser (asked ++ k.more) (given ++ (first ++ taken)) k.history)
         (moved (λ (l : List yaml_token_t) (v : List yaml_event_t). EachNeeded l h.more v) before.more c.more
         first taken h.needed)
-        (moved (λ (l : List yaml_token_t) (v : List yaml_event_t). RunStop (answers l h.more) v x)
+        (moved (λ (l : List yaml_token_t) (v : List yaml_event_t). RunStop (source_results l h.more) v x)
         before.more c.more first taken stop)
         (all_loads (Faulted told) o taken x (Err (kept_fault last)) (fault_of taken x n (kept_fault last) (load x)))
         (refl, faulted told o (kept_fault last) w)
@@ -192,7 +192,7 @@ module _ {S W : Type 0} (g : Ghosts S) (contents : W → Option (List ℕ)) (n :
         (given_there (Faulted told) o ++ taken))
         → Cause parser.config (asked_there (Faulted told) o ++ c.more) (given_there (Faulted told) o ++ taken)
         h.more (kept_fault last)
-        → Came outcome.Faulted after (answers (so_far (Faulted told) o).more (answers c.more h.more))
+        → Came outcome.Faulted after (source_results (so_far (Faulted told) o).more (source_results c.more h.more))
     by_cause told o parser taken c load w h (of_memory l e take meets f) = broke (record {
       faulted = refl;
       fault = kept_fault last;
@@ -259,12 +259,12 @@ one_writing_of_nodes_proof {S} g contents n old p q first second written
     (came g contents n old (Some written) asked given p after first a)
     (came g contents n old (Some written) asked given q later second b)
   where
-    after_both : (k l : List Answer) (m i : List yaml_token_t) (u v : List Answer) → k ≡ answers m u
-        → l ≡ answers i v → OneBegins k l
-        → OneBegins (answers (asked ++ m) u) (answers (asked ++ i) v)
+    after_both : (k l : List SourceResult) (m i : List yaml_token_t) (u v : List SourceResult) → k ≡ source_results m u
+        → l ≡ source_results i v → OneBegins k l
+        → OneBegins (source_results (asked ++ m) u) (source_results (asked ++ i) v)
     after_both k l m i u v e f o =
         after_asked asked m i u v
-        (subst (λ (j : List Answer). OneBegins j (answers i v)) e (subst (OneBegins k) f o))
+        (subst (λ (j : List SourceResult). OneBegins j (source_results i v)) e (subst (OneBegins k) f o))
 
     -- a composer error is one of all longer lists of events
     by_composer : (d c : List Document) (f : Fault) (y : Ending) (e t : List yaml_event_t)
@@ -292,7 +292,7 @@ one_writing_of_nodes_proof {S} g contents n old p q first second written
         (flat_map document_lines d) (flat_map document_lines c) written after later s.1
         (ap (flat_map document_lines) s.0) w z in alike r.0 r.1
 
-    go : (k l : List Answer) → OneBegins k l → Came g contents n old
+    go : (k l : List SourceResult) → OneBegins k l → Came g contents n old
         (Some written) asked given (outcome_of first) after k → Came g contents n old (Some written) asked given
         (outcome_of second) later l → OneOutput BreaksOffByNone BreaksOffByNone (outcome_of first)
         (outcome_of second) (Some written) after later
@@ -310,12 +310,12 @@ one_writing_of_nodes_proof {S} g contents n old p q first second written
         ∙ (ap (bounded_loads n t) r.2 ∙ more))) in
         alike_by x y d c (s.0, r.2) w z
     go k l o (composer m e d f i each runs loads w) (stopped j v t c y h other also halt more z) =
-        let b = begins_stopped (asked ++ m) [] (answers (asked ++ j) v) (given ++ e) (given ++ t) y each runs halt
+        let b = begins_stopped (asked ++ m) [] (source_results (asked ++ j) v) (given ++ e) (given ++ t) y each runs halt
         (after_both k l m j [] v i h o) in
         alike_by (Fails f) y d c (by_composer d c f y e t loads more (after_given given e t b)) w z
     go k l o (stopped m u e d x i each then stop loads w) (composer j t c f h other runs more z) =
-        let b = begins_stopped (asked ++ j) [] (answers (asked ++ m) u) (given ++ t) (given ++ e) x other runs stop
-        (turned (answers (asked ++ m) u) (answers (asked ++ j) []) (after_both k l m j u [] i h o)) in
+        let b = begins_stopped (asked ++ j) [] (source_results (asked ++ m) u) (given ++ t) (given ++ e) x other runs stop
+        (turned (source_results (asked ++ m) u) (source_results (asked ++ j) []) (after_both k l m j u [] i h o)) in
         let s = by_composer c d f x t e more loads (after_given given t e b) in
         alike_by x (Fails f) d c (sym s.0, sym s.1) w z
     go k l o (composer m e d f i each runs loads w) (composer j t c x h other begins more z) =

@@ -5,7 +5,7 @@ use Rattle.libyaml_types.specs.declared.event.yaml_event_t.{yaml_event_t}
 use Rattle.libyaml_types.specs.declared.token.yaml_token_t.{yaml_token_t}
 use Rattle.libyaml_events.specs.machine.Config.{Parser}
 use Rattle.libyaml_events.specs.sources.History.{is_stream_end}
-use Rattle.libyaml_types.specs.Fault.{Fault, Answer, fault_of, memory_fault}
+use Rattle.libyaml_types.specs.Fault.{Fault, SourceResult, fault_of, memory_fault}
 use Rattle.line_writing.specs.EventText.{event_line}
 use Rattle.token_lines.specs.declared.run.RunStep.{RunStep}
 use Rattle.token_lines.specs.declared.run.RunStep.TheVariants.{Written, Ended, Failed, OutputFailed}
@@ -24,7 +24,7 @@ StepForFault (Failed f) kept before after = (fault_of f ≡ kept) × Keeps befor
 StepForFault _ kept before after = ⊥
 
 -- one step: its call of the parser, and what was written after it
-abbrev pub Turn : {S : Type 0} → (gives : S → Answer → S → Type 0) → RunStep → (old new : Parser S)
+abbrev pub Turn : {S : Type 0} → (gives : S → SourceResult → S → Type 0) → RunStep → (old new : Parser S)
     → (before after : Option (List ℕ)) → List yaml_token_t
     → List yaml_event_t → Type 0
 Turn gives step old new before after asked given

@@ -9,10 +9,10 @@ use Rattle.libyaml_events.specs.machine.Config.{Parser}
 use Rattle.libyaml_events.specs.sources.CallsInTurn.{CarriedOn}
 use Rattle.libyaml_events.specs.sources.History.{is_over, kept_fault}
 use Rattle.libyaml_events.specs.sources.Parsing.{CarriesOn, FailsBy}
-use Rattle.libyaml_types.specs.Fault.{Answer, Fault}
+use Rattle.libyaml_types.specs.Fault.{SourceResult, Fault}
 
 -- a call of the parser, which returned an event or failed, and what is said of that event or error
-pub data CallSays {S : Type 0} (gives : S → Answer → S → Type 0) (ForEvent : yaml_event_t → Type 0) (ForFault : Fault
+pub data CallSays {S : Type 0} (gives : S → SourceResult → S → Type 0) (ForEvent : yaml_event_t → Type 0) (ForFault : Fault
     → Type 0) (old new : Parser S) (asked : List yaml_token_t) (given : List yaml_event_t) : Type 0 where
   gave_event : (e : yaml_event_t) → CarriesOn gives old e new asked given → ForEvent e
       → CallSays gives ForEvent ForFault old new asked given
@@ -20,7 +20,7 @@ pub data CallSays {S : Type 0} (gives : S → Answer → S → Type 0) (ForEvent
 
 -- From the first parser to this one, which has not ended, the history went on by these events, and the text of each was
 -- written.
-pub record AllWritten {S : Type 0} (text : yaml_event_t → List ℕ) (gives : S → Answer → S
+pub record AllWritten {S : Type 0} (text : yaml_event_t → List ℕ) (gives : S → SourceResult → S
     → Type 0) (first parser : Parser S) (before after : Option (List ℕ)) (asked : List yaml_token_t)
     (given : List yaml_event_t) : Type 0 where
   pub events : List yaml_event_t
@@ -32,7 +32,7 @@ pub record AllWritten {S : Type 0} (text : yaml_event_t → List ℕ) (gives : S
 -- is of this call.
 pub record WrittenInTurn {S W : Type 0} (text : yaml_event_t → List ℕ)
     (ForEvent : yaml_event_t → (before after : Option (List ℕ))
-    → Type 0) (ForFault : Fault → (before after : Option (List ℕ)) → Type 0) (gives : S → Answer → S → Type 0) (contents : W
+    → Type 0) (ForFault : Fault → (before after : Option (List ℕ)) → Type 0) (gives : S → SourceResult → S → Type 0) (contents : W
     → Option (List ℕ)) (first last : Parser S) (before after : Option (List ℕ)) (asked : List yaml_token_t)
     (given : List yaml_event_t) : Type 0 where
   pub parser : Parser S

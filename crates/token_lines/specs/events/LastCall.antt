@@ -4,7 +4,7 @@ use Rattle.std.specs.Io.KnownBytes.{Appends, Keeps}
 use Rattle.libyaml_types.specs.declared.event.yaml_event_t.{yaml_event_t}
 use Rattle.libyaml_types.specs.declared.token.yaml_token_t.{yaml_token_t}
 use Rattle.libyaml_events.specs.machine.Config.{Parser}
-use Rattle.libyaml_types.specs.Fault.{Answer, fault_of, memory_fault}
+use Rattle.libyaml_types.specs.Fault.{SourceResult, fault_of, memory_fault}
 use Rattle.libyaml_events.specs.sources.History.{History, is_stream_end}
 use Rattle.token_lines.specs.declared.run.Outcome.{Outcome}
 use Rattle.token_lines.specs.declared.run.run_end_t.{run_end_t}
@@ -24,7 +24,7 @@ WroteForEvent (Faulted f) e before after = (fault_of f ≡ memory_fault) × Appe
 WroteForEvent OutputFailed e before after = Unit {0}
 
 -- the last call of a run, and what was written after it: the text of the error, where the call failed
-abbrev pub Closes : {S : Type 0} → (gives : S → Answer → S → Type 0) → run_end_t → (old new : Parser S)
+abbrev pub Closes : {S : Type 0} → (gives : S → SourceResult → S → Type 0) → run_end_t → (old new : Parser S)
     → (before after : Option (List ℕ)) → List yaml_token_t
     → List yaml_event_t → Type 0
 Closes gives end old new before after asked given
@@ -32,7 +32,7 @@ Closes gives end old new before after asked given
 
 -- At the last call of the parser the writer held the line of each event that was given before, and what was written since
 -- is of this call.
-abbrev pub LastCall : {S W : Type 0} → (gives : S → Answer → S → Type 0) → (contents : W → Option (List ℕ))
+abbrev pub LastCall : {S W : Type 0} → (gives : S → SourceResult → S → Type 0) → (contents : W → Option (List ℕ))
     → run_end_t → (first last : Parser S)
     → (before after : Option (List ℕ)) → List yaml_token_t → List yaml_event_t → Type 0
 LastCall gives contents end first last before after asked given

@@ -7,7 +7,7 @@ use Rattle.libyaml_types.specs.declared.event.yaml_event_t.{yaml_event_t}
 use Rattle.libyaml_types.specs.declared.token.yaml_token_t.{yaml_token_t}
 use Rattle.libyaml_documents.specs.Documents.{Document}
 use Rattle.libyaml_events.specs.machine.Config.{Parser}
-use Rattle.libyaml_types.specs.Fault.{Answer, Fault, fault_of, memory_fault}
+use Rattle.libyaml_types.specs.Fault.{SourceResult, Fault, fault_of, memory_fault}
 use Rattle.libyaml_events.specs.sources.History.{kept_fault}
 use Rattle.libyaml_types.specs.declared.source.yaml_token_source_t.{Ghosts}
 use Rattle.libyaml_graphs.specs.loads.Bounds.{next_bounded}
@@ -43,7 +43,7 @@ WroteForLoad OutputFailed (Ok d) kept before after = Unit {0}
 WroteForLoad end (Err x) kept before after = WroteFault end kept before after
 
 -- From the first parser to this one loads returned these documents, and the text of each was written.
-pub record AllLoaded {S : Type 0} (gives : S → Answer → S
+pub record AllLoaded {S : Type 0} (gives : S → SourceResult → S
     → Type 0) (n : ℕ) (first parser : Parser S) (before after : Option (List ℕ)) (asked : List yaml_token_t)
     (given : List yaml_event_t) : Type 0 where
   pub documents : List Document
