@@ -6,7 +6,7 @@ ghost use Rattle.libyaml_events.specs.machine.Outcomes.{wanted};
 ghost use Rattle.libyaml_events.specs.machine.Config.{ended_or_failed, is_fault};
 ghost use Rattle.libyaml_events.specs.machine.StepsOnto.{StepsOnto};
 ghost use Rattle.libyaml_events.specs.automaton.View.{InStep, Ready};
-ghost use Rattle.libyaml_events.specs.sources.Pushed.{new_push_parser, standing, ForPushed, Pushed, fault_in};
+ghost use Rattle.libyaml_events.specs.sources.Pushed.{new_push_parser, push_parser_at, ForPushed, Pushed, fault_in};
 ghost use Rattle.libyaml_events.specs.sources.Pushed.{RemembersPushes};
 ghost use Rattle.libyaml_events.specs.sources.Pushes.{Pushes, Takes};
 
@@ -32,18 +32,18 @@ impl Model for yaml_push_parser_t {
     ghost use Rattle.libyaml_events.specs.machine.Outcomes.{wanted};
     ghost use Rattle.libyaml_events.specs.machine.Config.{handles_code, ended_or_failed};
     ghost use Rattle.libyaml_events.specs.automaton.View.{InStep};
-    ghost use Rattle.libyaml_events.specs.sources.Pushed.{PushParser, RemembersPushes, standing};
+    ghost use Rattle.libyaml_events.specs.sources.Pushed.{PushParser, RemembersPushes, push_parser_at};
 
     ghost Value = { PushParser };
 
     ghost coded = { Prim.hlevel (codes, handles_code) };
 
-    ghost view = { λ p. standing (wanted p.pending) p.token_parser };
+    ghost view = { λ p. push_parser_at (wanted p.pending) p.token_parser };
 
     // no token is held between two pushes
     ghost invariant = { λ p. (p.token_parser.lookahead ≡ None)
         × (ended_or_failed p.token_parser ≡ false → InStep p.pending p.token_parser)
-        × RemembersPushes (standing (wanted p.pending) p.token_parser) };
+        × RemembersPushes (push_parser_at (wanted p.pending) p.token_parser) };
 }
 
 impl yaml_push_parser_t {
@@ -128,8 +128,8 @@ impl TokenParser {
             × (is_fault self.new.fault.error ≡ true)) }
         ensures no_lookahead { self.new.lookahead ≡ None }
         ensures takes { Takes (vec_capacity events.old ≤ vec_len events.new)
-            (standing (wanted pending.old) self.old) token.old events.old.items result
-            (standing (wanted pending.new) self.new) events.new.items }
+            (push_parser_at (wanted pending.old) self.old) token.old events.old.items result
+            (push_parser_at (wanted pending.new) self.new) events.new.items }
         ensures agrees { IfOk result (λ _. ended_or_failed self.new ≡ false → InStep pending.new self.new) }
     {
         loop {

@@ -4,7 +4,7 @@ use Rattle.std.proofs.Common.{◌≡◌, ℕ, ◌++◌, List, [], ◌∷◌, Opt
 use Rattle.std.specs.Cmp.Lexicographic.{nat_list_eq_equiv, nat_list_cmp_total}
 use Rattle.std.specs.FinMap.{get, insert, get-from_entries}
 use Rattle.libyaml_events.specs.machine.Machine as parser_machine
-use Rattle.libyaml_events.specs.machine.Machine.{put, machine, or_default, resolve, seen, with_prefix}
+use Rattle.libyaml_events.specs.machine.Machine.{put, step_at, or_default, resolve, seen, with_prefix}
 use Rattle.libyaml_grammar.specs.partial.PartialFaults.{directive_fault}
 use Rattle.libyaml_grammar.specs.grammar.Tokens.{HandleDeclared, Mark, Marks, TagDirective, TagName, Token, VersionAsked, VersionDirective, tok}
 use Rattle.libyaml_grammar.specs.grammar.Trees.{Directives, directive, no_directives, tag_directive, version}
@@ -133,7 +133,7 @@ version_there (directive ds (tag_directive d m)) e = version_there ds e
 
 pub version_after : (s : Mark) (ds : Directives) (c : Config) (v : VersionAsked) (m : Marks)
     (f : Config → Token → List Event × End) (r : List Event)
-    → after (machine (after_directives s ds) c (tok (VersionDirective v) m) (VersionDirective v)) f r
+    → after (step_at (after_directives s ds) c (tok (VersionDirective v) m) (VersionDirective v)) f r
     ≡ (
       r,
       directive_ends (keeps_order ds no_directives (VersionDirective v)) ds (VersionDirective v) m
@@ -142,7 +142,7 @@ pub version_after : (s : Mark) (ds : Directives) (c : Config) (v : VersionAsked)
 version_after s ds c v m f r = go (no_version ds) refl (is_accepted v.major v.minor) refl
   where
     go : (n : Bool) → no_version ds ≡ n → (u : Bool) → is_accepted v.major v.minor ≡ u
-        → after (machine (after_directives s ds) c (tok (VersionDirective v) m) (VersionDirective v)) f r
+        → after (step_at (after_directives s ds) c (tok (VersionDirective v) m) (VersionDirective v)) f r
         ≡ (
           r,
           directive_ends (keeps_order ds no_directives (VersionDirective v)) ds (VersionDirective v) m
@@ -163,7 +163,7 @@ directives_then (directive ds (tag_directive d m)) r = directives_then ds (decla
 pub tag_after : (s : Mark) (ds : Directives) (c : Config) (d : HandleDeclared) (m : Marks)
     (f : Config → Token → List Event × End) (r : List Event)
     → c.handles ≡ handles_of ds
-    → after (machine (after_directives s ds) c (tok (TagDirective d) m) (TagDirective d)) f r
+    → after (step_at (after_directives s ds) c (tok (TagDirective d) m) (TagDirective d)) f r
     ≡ (
       r,
       directive_ends (keeps_order ds no_directives (TagDirective d)) ds (TagDirective d) m

@@ -3,7 +3,7 @@ use Rattle.std.proofs.Common.{◌≡◌, ℕ, suc, List, [], ◌∷◌, Option, 
 use Rattle.std.proofs.lemmas.Bool.{and_parts}
 use Rattle.libyaml_events.specs.machine.Machine.{Progressed, content_after, content_resolved, put, seen, with_texts}
 use Rattle.libyaml_events.specs.machine.Want.{Given, AtState, no_texts}
-use Rattle.libyaml_events.specs.machine.Config.{config_of as without_texts, Config, staying, no_handles, popped, taken}
+use Rattle.libyaml_events.specs.machine.Config.{config_of as without_texts, Config, staying, no_handles, popped, without_lookahead}
 use Rattle.libyaml_automaton.specs.Automaton as automaton
 use Rattle.libyaml_types.specs.Types.{token_type}
 use Rattle.libyaml_grammar.specs.partial.PartialTrees.{declared, open_collection, BlockPlace, Open, PartPlace, Place, block, entry, explicit_root, flow_entry, flow_key, flow_value, implicit_root, indentless_entry, part_place, root, slot}
@@ -65,7 +65,7 @@ flow_waits (flow_value (open_collection p o sequence m is) k y v) x = refl
 flow_waits _ x = refl
 
 popped_flow : (p : Place) (x : FlowNode) (k : Content) (m : Marks)
-    → taken (staying (tok k m) (popped (node_config p))) ≡ config_of (fill_flow p x)
+    → without_lookahead (staying (tok k m) (popped (node_config p))) ≡ config_of (fill_flow p x)
 popped_flow p x k m = let e = flow_waits p x in cc
 
 item_follows : (n : ℕ) (c : BlockPlace) (o : Option Properties) (s : Marks) (is : BlockItems) (k : Content)

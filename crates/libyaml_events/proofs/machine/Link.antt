@@ -11,8 +11,8 @@ use Rattle.libyaml_grammar.specs.grammar.Events.{Event, directive_start, first_d
 use Rattle.libyaml_grammar.specs.partial.PartialFaults.{directive_fault, fault}
 use Rattle.libyaml_grammar.proofs.exported.Positions.{Position, between, done, due, flow_after, flow_due, flow_keyed, headed, in_indentless, in_mapping, in_sequence, unopened}
 use Rattle.libyaml_grammar.proofs.exported.Reading.{Step, bad, goes, keeps_order, over, pending, step}
-use Rattle.libyaml_events.specs.machine.Config.{Config, Handles, no_handles, taken}
-use Rattle.libyaml_events.specs.machine.Machine.{Progressed, machine}
+use Rattle.libyaml_events.specs.machine.Config.{Config, Handles, no_handles, without_lookahead}
+use Rattle.libyaml_events.specs.machine.Machine.{Progressed, step_at}
 use Rattle.libyaml_events.specs.machine.Want.{Want, Texts, no_texts, AtState, Given, Wants}
 use Rattle.libyaml_automaton.specs.Automaton.{AfterDirective, AfterProperties, AfterBlockEntry, AfterIndentlessEntry, AfterKey, AfterValue, AfterFlowSequenceValue, AfterFlowMappingKey, AfterFlowMappingValue}
 use Rattle.libyaml_automaton.specs.Automaton as automaton
@@ -292,7 +292,7 @@ emit e (es, x) = (e ∷ es, x)
 
 abbrev pub keeps_on : Config → Option Token → (Config → Token → List Event × End) → List Event → List Event × End
 keeps_on c None f r = (r, waits AtState c)
-keeps_on c (Some t) f r = f (taken c) t
+keeps_on c (Some t) f r = f (without_lookahead c) t
 
 abbrev pub after : Progressed → (Config → Token → List Event × End) → List Event → List Event × End
 after (Err x) f r = (r, fails x)
@@ -302,7 +302,7 @@ after (Ok (Given e, c)) f r = emit e (keeps_on c c.lookahead f r)
 abbrev pub spends : ℕ → Want → Config → Content → Marks → List Event → List Event × End
 spends zero w c k m r = (r, stuck)
 spends (suc n) w c k m r =
-    after (machine w c (tok k m) k) (λ (d : Config) (t : Token). spends n AtState d t.content (marks_of t) r) r
+    after (step_at w c (tok k m) k) (λ (d : Config) (t : Token). spends n AtState d t.content (marks_of t) r) r
 
 -- what the grammar says of it
 abbrev pub directive_ends : Bool → Directives → Content → Marks → End → End

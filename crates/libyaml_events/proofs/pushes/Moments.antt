@@ -6,7 +6,7 @@ use Rattle.libyaml_grammar.proofs.exported.Injectivity.{head_same, not_cons, tai
 use Rattle.libyaml_events.specs.machine.Config.{Config}
 use Rattle.libyaml_events.specs.machine.Machine.{Progressed, step}
 use Rattle.libyaml_events.specs.machine.Want.{Want, Given, Wants}
-use Rattle.libyaml_events.specs.sources.Pushed.{Pushed, PushParser, standing}
+use Rattle.libyaml_events.specs.sources.Pushed.{Pushed, PushParser, push_parser_at}
 use Rattle.libyaml_events.specs.sources.Trace.{Moment, Next, Reached, StepLeads, Trace, after_event, amid, goes_on, here}
 
 pub prefix_same : {A : Type 0} (a l m : List A) → a ++ l ≡ a ++ m → l ≡ m
@@ -97,7 +97,7 @@ no_event_more {g} {h} (goes_on {b = x} n u) e =
 
 -- a further moment that wants a token comes of a further token alone
 no_token_more : {w v : Want} {c d : Config} {l m : List Token} {g h : List Event}
-    → Trace (amid w c None l g) (amid v d None m h) → l ≡ m → (standing w c ≡ standing v d) × (g ≡ h)
+    → Trace (amid w c None l g) (amid v d None m h) → l ≡ m → (push_parser_at w c ≡ push_parser_at v d) × (g ≡ h)
 no_token_more here e = (refl, refl)
 no_token_more {l} {g} (goes_on (i, (t, n)) u) e =
     let k = further u in

@@ -7,7 +7,7 @@ use Rattle.libyaml_types.specs.declared.enums.yaml_parser_state_t.TheVariants.{Y
 use Rattle.libyaml_types.specs.Fault.{memory_fault}
 use Rattle.libyaml_grammar.specs.grammar.Tokens.{Token}
 use Rattle.libyaml_grammar.specs.grammar.Events.{Event}
-use Rattle.libyaml_events.specs.machine.Config.{Config, taken, token_if, ended_or_failed}
+use Rattle.libyaml_events.specs.machine.Config.{Config, without_lookahead, token_if, ended_or_failed}
 use Rattle.libyaml_events.specs.machine.Growth.{may_grow}
 use Rattle.libyaml_events.specs.machine.Machine.{Progressed, step}
 use Rattle.libyaml_events.specs.machine.Steps.{FailsAs, Steps}
@@ -15,7 +15,7 @@ use Rattle.libyaml_events.specs.machine.StepsOnto.{FailsOnto, by_list, by_step}
 use Rattle.libyaml_events.specs.machine.Want.{Want, AtState, Given, Wants}
 use Rattle.libyaml_events.specs.parsers.EventsLeft.{held_rank, rank}
 use Rattle.libyaml_events.specs.parsers.Left.{without_stacks}
-use Rattle.libyaml_events.specs.sources.Pushed.{Fed, standing}
+use Rattle.libyaml_events.specs.sources.Pushed.{Fed, push_parser_at}
 use Rattle.libyaml_events.proofs.pushes.Steps.{gives_on, takes, wants}
 use Rattle.libyaml_events.specs.sources.Pushes.{Stops, Takes, by_grammar, by_memory, for_event, for_step}
 use Rattle.libyaml_events.proofs.calls.CallLemmas.{begun_alive, taken_same}
@@ -68,7 +68,7 @@ module _ (Full : Type 0) (w0 : Want) (c0 : Config) (t : Token) (before : List Ev
     (k : Taking w0 c0 t before w old u now) where
   -- a further token is wanted
   pub wants_next : (w' : Want) (new : Config) → Steps (step w old u) old (Ok (Wants w')) new
-      → Takes Full (standing w0 c0) t before (Ok tt) (standing w' new) now
+      → Takes Full (push_parser_at w0 c0) t before (Ok tt) (push_parser_at w' new) now
   wants_next w' new h = record {
     added = k.added;
     appended = k.appended;
@@ -80,7 +80,7 @@ module _ (Full : Type 0) (w0 : Want) (c0 : Config) (t : Token) (before : List Ev
   -- the step failed
   pub fails : (x : yaml_error_type_t) (w' : Want) (new : Config) → Steps (step w old u) old (Err x) new
       → (x ≡ YAML_MEMORY_ERROR → may_grow w old u.content ≡ true)
-      → Takes Full (standing w0 c0) t before (Err x) (standing w' (without_stacks new)) now
+      → Takes Full (push_parser_at w0 c0) t before (Err x) (push_parser_at w' (without_stacks new)) now
   fails x w' new h grows = record {
     added = k.added;
     appended = k.appended;
@@ -102,7 +102,7 @@ module _ (Full : Type 0) (w0 : Want) (c0 : Config) (t : Token) (before : List Ev
   -- an event is given that finds no room
   pub no_room : (e : Event) (mid : Config) → Steps (step w old u) old (Ok (Given e)) mid
       → (w' : Want) (d : Config) → d.fault ≡ memory_fault
-      → Full → Takes Full (standing w0 c0) t before (Err YAML_MEMORY_ERROR) (standing w' d) now
+      → Full → Takes Full (push_parser_at w0 c0) t before (Err YAML_MEMORY_ERROR) (push_parser_at w' d) now
   no_room e mid h w' d i full = record {
     added = k.added;
     appended = k.appended;
@@ -113,11 +113,11 @@ module _ (Full : Type 0) (w0 : Want) (c0 : Config) (t : Token) (before : List Ev
   -- a step failed that appends its event
   pub fails_onto : (Room : Type 0) → (Room → Full)
       → (x : yaml_error_type_t) (w' : Want) (new : Config) (more : List Event) → FailsOnto Room w old u x new
-      → more ≡ now → Takes Full (standing w0 c0) t before (Err x) (standing w' (without_stacks new)) more
+      → more ≡ now → Takes Full (push_parser_at w0 c0) t before (Err x) (push_parser_at w' (without_stacks new)) more
   fails_onto Room full x w' new more f m =
       rw (← m) at (by f)
     where
-      by : FailsOnto Room w old u x new → Takes Full (standing w0 c0) t before (Err x) (standing w' (without_stacks new)) now
+      by : FailsOnto Room w old u x new → Takes Full (push_parser_at w0 c0) t before (Err x) (push_parser_at w' (without_stacks new)) now
       by (by_step h grows) = fails x w' new h grows
       by (by_list e mid h i j room) =
           rw (← i) at (no_room e mid h w' (without_stacks new) j (full room))
@@ -129,9 +129,9 @@ module _ (Full : Type 0) (w0 : Want) (c0 : Config) (t : Token) (before : List Ev
     all_added = m ∙ (ap (λ (x : List Event). x ++ e ∷ []) k.appended ∙ append_assoc before k.added (e ∷ []))
 
     pub given_fed : (o : Option Token) → mid.lookahead ≡ o → (l : List Token) (g : List Event) → Fed w0 c0 None l g
-        → Fed AtState (taken mid) o (l ++ t ∷ []) (g ++ (k.added ++ e ∷ []))
+        → Fed AtState (without_lookahead mid) o (l ++ t ∷ []) (g ++ (k.added ++ e ∷ []))
     given_fed o i l g f = rw i at
-        (subst (Fed AtState (taken mid) mid.lookahead (l ++ t ∷ [])) (append_assoc g k.added (e ∷ []))
+        (subst (Fed AtState (without_lookahead mid) mid.lookahead (l ++ t ∷ [])) (append_assoc g k.added (e ∷ []))
         (gives_on w old u (k.fed l g f) e mid h))
 
     given_few : (l : List Token) (g : List Event) → Fed w0 c0 None l g → length (k.added ++ e ∷ []) ≤ 4
@@ -146,11 +146,11 @@ module _ (Full : Type 0) (w0 : Want) (c0 : Config) (t : Token) (before : List Ev
         by (has_ended i m) = absurd (both_ways (ended_or_failed c0) k.begun i)
 
     -- and the token stays
-    pub goes_on : (v : Token) → mid.lookahead ≡ Some v → ended_or_failed (taken mid) ≡ false
-        → Taking w0 c0 t before AtState (taken mid) v more
+    pub goes_on : (v : Token) → mid.lookahead ≡ Some v → ended_or_failed (without_lookahead mid) ≡ false
+        → Taking w0 c0 t before AtState (without_lookahead mid) v more
     goes_on v i r = record {
       begun = k.begun;
-      alive = begun_alive (taken mid) r;
+      alive = begun_alive (without_lookahead mid) r;
       none = refl;
       added = k.added ++ e ∷ [];
       appended = all_added;
@@ -160,8 +160,8 @@ module _ (Full : Type 0) (w0 : Want) (c0 : Config) (t : Token) (before : List Ev
 
     -- or none is held, or the stream has ended
     pub is_done : (held : Bool) (v : Token) → mid.lookahead ≡ token_if held v
-        → (held ≡ true → ended_or_failed (taken mid) ≡ true)
-        → Takes Full (standing w0 c0) t before (Ok tt) (standing AtState (taken mid)) more
+        → (held ≡ true → ended_or_failed (without_lookahead mid) ≡ true)
+        → Takes Full (push_parser_at w0 c0) t before (Ok tt) (push_parser_at AtState (without_lookahead mid)) more
     is_done false v i r = record {
       added = k.added ++ e ∷ [];
       appended = all_added;
@@ -173,7 +173,7 @@ module _ (Full : Type 0) (w0 : Want) (c0 : Config) (t : Token) (before : List Ev
       appended = all_added;
       at_most_four = given_few;
       ends_so = λ l g f.
-          let b : InHand AtState (taken mid) v (l ++ t ∷ []) (g ++ (k.added ++ e ∷ [])) =
+          let b : InHand AtState (without_lookahead mid) v (l ++ t ∷ []) (g ++ (k.added ++ e ∷ [])) =
           fed_to (given_fed (Some v) i l g f) in
-          absurd (both_ways (ended_or_failed (taken mid)) (running (taken mid) b.good.1 b.alive) (r refl));
+          absurd (both_ways (ended_or_failed (without_lookahead mid)) (running (without_lookahead mid) b.good.1 b.alive) (r refl));
     }

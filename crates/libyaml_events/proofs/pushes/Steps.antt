@@ -2,7 +2,7 @@
 use Rattle.std.proofs.Common.{◌≡◌, ◌++◌, ◌∷◌, List, [], Some, None, Ok, false, refl, sym, subst}
 use Rattle.libyaml_grammar.specs.grammar.Tokens.{Token}
 use Rattle.libyaml_grammar.specs.grammar.Events.{Event}
-use Rattle.libyaml_events.specs.machine.Config.{Config, ended_or_failed, start, taken}
+use Rattle.libyaml_events.specs.machine.Config.{Config, ended_or_failed, start, without_lookahead}
 use Rattle.libyaml_events.specs.machine.Machine.{Progressed, step}
 use Rattle.libyaml_events.specs.machine.Want.{Want, AtState, Given, Wants}
 use Rattle.libyaml_events.specs.sources.Pushed.{Fed}
@@ -28,5 +28,5 @@ module _ (w : Want) (c : Config) (t : Token) {l : List Token} {g : List Event} (
 
   -- the token stays in hand, or a further one is wanted
   pub gives_on : (e : Event) (d : Config) → step w c t ≡ Ok (Given e, d)
-      → Fed AtState (taken d) d.lookahead l (g ++ e ∷ [])
+      → Fed AtState (without_lookahead d) d.lookahead l (g ++ e ∷ [])
   gives_on e d i = and_then (gives e d i) refl

@@ -85,8 +85,8 @@ token_if false t = None
 abbrev pub with_lookahead : Lookahead → Config → Config
 with_lookahead l c = record c { lookahead = token_if l.stays l.token }
 
-abbrev pub taken : Config → Config
-taken c = record c { lookahead = None }
+abbrev pub without_lookahead : Config → Config
+without_lookahead c = record c { lookahead = None }
 
 abbrev pub pushed : yaml_parser_state_t → Config → Config
 pushed state c = record c { states = state ∷ c.states }

@@ -213,9 +213,9 @@ with_texts h c t k (automaton.AsksHandle start has_version x)
 with_texts h c t k (automaton.AsksContent p r x) = content_after h.tag p r x h c t k
 with_texts h c t k s = put h None None c t k s
 
-abbrev pub machine : Want → Config → yaml_token_t → unnamed_yaml_token_t_data → Progressed
-machine w c t k = with_texts w.texts c t k (automaton.step w.next (config_of c) (seen t k) (token_type k))
+abbrev pub step_at : Want → Config → yaml_token_t → unnamed_yaml_token_t_data → Progressed
+step_at w c t k = with_texts w.texts c t k (automaton.step w.next (config_of c) (seen t k) (token_type k))
 
 -- a step by a token
 abbrev pub step : Want → Config → yaml_token_t → Progressed
-step w c t = machine w c t t.content
+step w c t = step_at w c t t.content

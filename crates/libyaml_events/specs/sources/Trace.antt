@@ -2,7 +2,7 @@
 use Rattle.std.specs.Prelude.{◌≡◌, ◌++◌, ◌∷◌, List, [], Option, Some, None, Ok, Err, false}
 use Rattle.libyaml_grammar.specs.grammar.Tokens.{Token}
 use Rattle.libyaml_grammar.specs.grammar.Events.{Event}
-use Rattle.libyaml_events.specs.machine.Config.{Config, taken, start, ended_or_failed}
+use Rattle.libyaml_events.specs.machine.Config.{Config, without_lookahead, start, ended_or_failed}
 use Rattle.libyaml_events.specs.machine.Machine.{Progressed, step}
 use Rattle.libyaml_events.specs.machine.Want.{Want, AtState, Given, Wants}
 
@@ -19,7 +19,7 @@ StepLeads (Ok (Given e, c)) l g m = m ≡ after_event c l (g ++ e ∷ [])
 
 -- The second moment is a next one of the first. A token that stays after an event is in hand again.
 abbrev pub Next : Moment → Moment → Type 0
-Next (after_event c l g) m = m ≡ amid AtState (taken c) c.lookahead l g
+Next (after_event c l g) m = m ≡ amid AtState (without_lookahead c) c.lookahead l g
 Next (amid w c None l g) m = (ended_or_failed c ≡ false) × ((t : Token) × (m ≡ amid w c (Some t) (l ++ t ∷ []) g))
 Next (amid w c (Some t) l g) m = StepLeads (step w c t) l g m
 

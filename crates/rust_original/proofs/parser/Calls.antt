@@ -7,7 +7,7 @@ use Rattle.libyaml_types.specs.Events.{empty_event}
 use Rattle.libyaml_types.specs.Fault.{Fault}
 use Rattle.libyaml_grammar.specs.grammar.ValidLists.{is_end}
 use Rattle.libyaml_grammar.specs.grammar.Tokens.{Mark, Token}
-use Rattle.libyaml_events.specs.machine.Config.{Config, Handles, is_end_state, taken}
+use Rattle.libyaml_events.specs.machine.Config.{Config, Handles, is_end_state, without_lookahead}
 use Rattle.libyaml_events.specs.machine.Want.{AtState}
 use Rattle.rust_original.specs.parser.Parser.{Mends, OK, ParserResult, OriginalParser, yaml_parser_state_machine}
 use Rattle.rust_original.specs.parser.Runs.{as_here, call}
@@ -140,10 +140,10 @@ begun_call m q h k
 
 -- a call of both
 pub call_same : (f : Fault) (q : OriginalParser) (d : Config) (l : List Token) → SamePlace f q d l → is_end_state d.state ≡ false
-    → Matches f (call as_here q) (feed f AtState (taken d) (tokens_of d.lookahead l))
-call_same f q d l s e = subst (λ (o : ParserResult). Matches f o (feed f AtState (taken d) (tokens_of d.lookahead l)))
+    → Matches f (call as_here q) (feed f AtState (without_lookahead d) (tokens_of d.lookahead l))
+call_same f q d l s e = subst (λ (o : ParserResult). Matches f o (feed f AtState (without_lookahead d) (tokens_of d.lookahead l)))
     (sym (begun_call as_here q (ap (λ (p : OriginalParser). p.stream_end_produced) s.is ∙ (flagged s.fits ∙ e))
     (ap (λ (p : OriginalParser). is_end_state p.state) s.is ∙ (both_end s.fits ∙ e))))
     (subst (λ (p : OriginalParser). Matches f (yaml_parser_state_machine as_here p.state p)
-    (feed f AtState (taken d) (tokens_of d.lookahead l))) (sym s.is)
+    (feed f AtState (without_lookahead d) (tokens_of d.lookahead l))) (sym s.is)
     (called f d.fault d.states s.fits e))

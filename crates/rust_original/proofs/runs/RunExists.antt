@@ -11,7 +11,7 @@ use Rattle.libyaml_grammar.specs.runs.Runs.{Ending, Ends, Fails, IsRun}
 use Rattle.libyaml_grammar.specs.grammar.Events.{Event, event}
 use Rattle.libyaml_grammar.specs.grammar.Nesting.{NestsSoFar}
 use Rattle.libyaml_grammar.specs.grammar.Tokens.{Content, Mark, Scalar, StreamEnd, Token}
-use Rattle.libyaml_events.specs.machine.Config.{Config, Handles, ended_or_failed, is_end_state, is_fault, start, taken}
+use Rattle.libyaml_events.specs.machine.Config.{Config, Handles, ended_or_failed, is_end_state, is_fault, start, without_lookahead}
 use Rattle.libyaml_events.specs.machine.Machine.{step}
 use Rattle.libyaml_events.specs.machine.Want.{AtState, Given}
 use Rattle.libyaml_events.specs.sources.History.{is_stream_end}
@@ -40,9 +40,9 @@ abbrev empty_at : Mark → Event
 empty_at n = event (scalar_event_with None None [] true false YAML_PLAIN_SCALAR_STYLE) n n
 
 empty_step : (n : Mark) (c : Config) → c.state ≡ st.YAML_PARSE_FLOW_SEQUENCE_ENTRY_MAPPING_KEY_STATE
-    → step AtState (taken c) (empty_token n) ≡ Ok (Given (empty_at n), after_pair_key c)
+    → step AtState (without_lookahead c) (empty_token n) ≡ Ok (Given (empty_at n), after_pair_key c)
 empty_step n c i = subst (λ (s : yaml_parser_state_t).
-    step AtState (taken (record c { state = s })) (empty_token n) ≡ Ok (Given (empty_at n), after_pair_key c)) (sym i) refl
+    step AtState (without_lookahead (record c { state = s })) (empty_token n) ≡ Ok (Given (empty_at n), after_pair_key c)) (sym i) refl
 
 not_both : {b : Bool} → b ≡ false → b ≡ true → ⊥
 not_both e h = no (sym e ∙ h)
@@ -92,7 +92,7 @@ module _ (f : Fault) (m : Mends) (b : Bool)
   -- it stands beside our machine, which was handed l and gave g, with no more tokens than there are
   record Along (q : OriginalParser) (d : Config) (rest l : List Token) (g : List Event) : Type 0 where
     stands : SamePlace f q d rest
-    fed : Fed AtState (taken d) d.lookahead l g
+    fed : Fed AtState (without_lookahead d) d.lookahead l g
     few : length l + length rest ≤ most
 
   pub record HasRun (q : OriginalParser) (all : List Token) (g : List Event) : Type 0 where
@@ -130,8 +130,8 @@ module _ (f : Fault) (m : Mends) (b : Bool)
       → (b ≡ false → all ≡ l ++ rest) → 4 * most < suc n + length g → Next n → HasRun q all g
   after_event n q p e d rest l all g i a ends_so same less next = go p.stream_end_produced refl
     where
-      none : (o : Option Token) → Fed AtState (taken d) o l (g ++ e ∷ []) → ended_or_failed d ≡ true
-          → Fed AtState (taken d) None l (g ++ e ∷ [])
+      none : (o : Option Token) → Fed AtState (without_lookahead d) o l (g ++ e ∷ []) → ended_or_failed d ≡ true
+          → Fed AtState (without_lookahead d) None l (g ++ e ∷ [])
       none None h j = h
       none (Some u) h j = absurd (not_both (hand_runs h) j)
 
@@ -206,9 +206,9 @@ module _ (f : Fault) (m : Mends) (b : Bool)
       let none = fresh_none d.state d.lookahead fits.2 a.stands.fresh in
       let tokens : tokens_of d.lookahead rest ≡ t ∷ k = sym fits.4 ∙ (sym (ap (λ (p : OriginalParser). p.tokens) a.stands.is) ∙ e) in
       let left : rest ≡ t ∷ k = ap (λ (o : Option Token). tokens_of o rest) (sym none) ∙ tokens in
-      let hand : Fed AtState (taken d) (Some (empty_token t.end_mark)) (l ++ empty_token t.end_mark ∷ []) g
-      = push_lemmas.takes AtState (taken d) l g (empty_token t.end_mark)
-      (subst (λ (o : Option Token). Fed AtState (taken d) o l g) none a.fed) begun in
+      let hand : Fed AtState (without_lookahead d) (Some (empty_token t.end_mark)) (l ++ empty_token t.end_mark ∷ []) g
+      = push_lemmas.takes AtState (without_lookahead d) l g (empty_token t.end_mark)
+      (subst (λ (o : Option Token). Fed AtState (without_lookahead d) o l g) none a.fed) begun in
       let led = empty_step t.end_mark d fits.2 in
       let one : length (l ++ empty_token t.end_mark ∷ []) ≡ length l + 1 = length-append l (empty_token t.end_mark ∷ []) in
       let gone : length rest ≡ suc (length k) = ap length left in
@@ -233,7 +233,7 @@ module _ (f : Fault) (m : Mends) (b : Bool)
           fits = inside tt fits.0 fits.1;
           fresh = tt;
         };
-        fed = push_lemmas.gives_on AtState (taken d) (empty_token t.end_mark) hand (empty_at t.end_mark) (after_pair_key d) led;
+        fed = push_lemmas.gives_on AtState (without_lookahead d) (empty_token t.end_mark) hand (empty_at t.end_mark) (after_pair_key d) led;
         few = omega arith;
       })
       (gives_end hand (empty_at t.end_mark) (after_pair_key d) led) (λ j. absurd (not_both j may)) less next

@@ -11,7 +11,7 @@ use Rattle.libyaml_grammar.specs.grammar.Tokens.{Content, DocumentEnd, DocumentS
 use Rattle.libyaml_automaton.specs.Config.{top_mark}
 use Rattle.libyaml_automaton.specs.declared.difference.Difference.{Difference}
 use Rattle.libyaml_automaton.specs.declared.difference.Difference.TheVariants.{Nowhere}
-use Rattle.libyaml_events.specs.machine.Config.{Config, Handles, config_of, is_end_state, no_handles, taken}
+use Rattle.libyaml_events.specs.machine.Config.{Config, Handles, config_of, is_end_state, no_handles, without_lookahead}
 use Rattle.libyaml_events.specs.machine.Machine.{Progressed, seen, step}
 use Rattle.libyaml_events.specs.machine.Want.{AtState, Given, Want, Wants}
 use Rattle.rust_original.specs.parser.Differences.{Differs, bare_document, after_entry, after_start, call_here, call_there, pair_key, value_first}
@@ -358,6 +358,6 @@ module _ (f : Fault) (x : Fault) (ss : List yaml_parser_state_t) where
 
 -- a call, where the parsers stand to one another
 pub call_found : (f : Fault) (q : OriginalParser) (d : Config) (l : List Token) → SamePlace f q d l
-    → is_end_state d.state ≡ false → Found (judged AtState (taken d) (tokens_of d.lookahead l)) q
-call_found f q d l s e = subst (λ (p : OriginalParser). Found (judged AtState (taken d) (tokens_of d.lookahead l)) p)
+    → is_end_state d.state ≡ false → Found (judged AtState (without_lookahead d) (tokens_of d.lookahead l)) q
+call_found f q d l s e = subst (λ (p : OriginalParser). Found (judged AtState (without_lookahead d) (tokens_of d.lookahead l)) p)
     (sym s.is) (found f d.fault d.states s.fits e)

@@ -7,7 +7,7 @@ use Rattle.libyaml_grammar.specs.grammar.Tokens.{Mark, Token}
 use Rattle.libyaml_automaton.specs.Config.{top_mark}
 use Rattle.libyaml_automaton.specs.declared.difference.Difference.{Difference}
 use Rattle.libyaml_automaton.specs.declared.difference.Difference.TheVariants.{Nowhere, PairKey, ValueFirst, BareDocument}
-use Rattle.libyaml_events.specs.machine.Config.{Config, is_end_state, start, taken}
+use Rattle.libyaml_events.specs.machine.Config.{Config, is_end_state, start, without_lookahead}
 use Rattle.libyaml_events.specs.machine.Machine.{Progressed, step}
 use Rattle.libyaml_events.specs.machine.Want.{AtState, Given, Want, Wants}
 use Rattle.rust_original.specs.parser.Differences.{Reaches, by_call, call_here, call_there, here}
@@ -33,7 +33,7 @@ module _ (f : Fault) where
     stops : {k : Difference} {m n : Mark} → judged w c l ≡ met k m n → Call w c l [] (Stopped k m n)
     gives : {e : Event} {d : Config} {r : List Token} {later : List Event} {x : StrictEnding} → judged w c l ≡ none
         → feed f w c l ≡ given e d r → is_end_state d.state ≡ false
-        → StrictFrom f AtState (taken d) (to_come d.lookahead r) later x → Call w c l (e ∷ later) x
+        → StrictFrom f AtState (without_lookahead d) (to_come d.lookahead r) later x → Call w c l (e ∷ later) x
     at_end : {e : Event} {d : Config} {r : List Token} → judged w c l ≡ none → feed f w c l ≡ given e d r
         → is_end_state d.state ≡ true → Call w c l (e ∷ []) (Over Ends)
     has_fault : {g : Fault} → judged w c l ≡ none → feed f w c l ≡ stopped g → Call w c l [] (Over (Fails g))
@@ -87,8 +87,8 @@ module _ (f : Fault) where
 
   -- a call that gives an event
   same_call : (q : OriginalParser) (d : Config) (l : List Token) → SamePlace f q d l → is_end_state d.state ≡ false
-      → judged AtState (taken d) (tokens_of d.lookahead l) ≡ none → (e : Event) (x : Config) (r : List Token)
-      → feed f AtState (taken d) (tokens_of d.lookahead l) ≡ given e x r → Same q e x r
+      → judged AtState (without_lookahead d) (tokens_of d.lookahead l) ≡ none → (e : Event) (x : Config) (r : List Token)
+      → feed f AtState (without_lookahead d) (tokens_of d.lookahead l) ≡ given e x r → Same q e x r
   same_call q d l s n j e x r i
       = go (call_here q) refl (subst (λ (h : HereCall). Matches f (call_here q) h) i (call_same f q d l s n))
     where
@@ -105,8 +105,8 @@ module _ (f : Fault) where
       go (FAIL g) k w = absurd w
 
   failed_call : (q : OriginalParser) (d : Config) (l : List Token) → SamePlace f q d l → is_end_state d.state ≡ false
-      → judged AtState (taken d) (tokens_of d.lookahead l) ≡ none → (g : Fault)
-      → feed f AtState (taken d) (tokens_of d.lookahead l) ≡ stopped g
+      → judged AtState (without_lookahead d) (tokens_of d.lookahead l) ≡ none → (g : Fault)
+      → feed f AtState (without_lookahead d) (tokens_of d.lookahead l) ≡ stopped g
       → (call_there q ≡ FAIL g) × (call_here q ≡ FAIL g)
   failed_call q d l s n j g i
       = go (call_here q) refl (subst (λ (h : HereCall). Matches f (call_here q) h) i (call_same f q d l s n))
@@ -131,7 +131,7 @@ module _ (f : Fault) where
   }
 
   follows : (e : List Event) (x : StrictEnding) (q : OriginalParser) (d : Config) (l : List Token) → SamePlace f q d l
-      → is_end_state d.state ≡ false → Call AtState (taken d) (tokens_of d.lookahead l) e x → Result q e x
+      → is_end_state d.state ≡ false → Call AtState (without_lookahead d) (tokens_of d.lookahead l) e x → Result q e x
   follows [] x q d l s n (stops {k} {m} {n = o} j) =
       let h = subst (λ (y : Judged). Found y q) j (call_found f q d l s n) in
       record { before = q; reached = here; differs = h.0; there = h.1 }
@@ -149,14 +149,14 @@ module _ (f : Fault) where
   Any w c l = (e : List Event) × (x : StrictEnding) × StrictFrom f w c l e x
 
   any_call : (l : List Token) (w : Want) (c : Config) → ((e : Event) (d : Config) (r : List Token)
-      → feed f w c l ≡ given e d r → is_end_state d.state ≡ false → Any AtState (taken d) (to_come d.lookahead r))
+      → feed f w c l ≡ given e d r → is_end_state d.state ≡ false → Any AtState (without_lookahead d) (to_come d.lookahead r))
       → Any w c l
   any_call [] w c more = ([], Over (Fails f), strict.source_fails)
   any_call (t ∷ l) w c more = go (differs_by w c t) refl (λ v d h. any_call l v d h)
     where
       Later : Type 0
       Later = (v : Want) (d : Config) → ((e : Event) (d' : Config) (r : List Token)
-          → feed f v d l ≡ given e d' r → is_end_state d'.state ≡ false → Any AtState (taken d') (to_come d'.lookahead r))
+          → feed f v d l ≡ given e d' r → is_end_state d'.state ≡ false → Any AtState (without_lookahead d') (to_come d'.lookahead r))
           → Any v d l
 
       following : (e : Event) (d : Config) → differs_by w c t ≡ Nowhere → step w c t ≡ Ok (Given e, d) → (b : Bool)
@@ -182,7 +182,7 @@ module _ (f : Fault) where
       go BareDocument i ih = apart BareDocument i (λ h. cc)
 
   matched : (q : OriginalParser) (d : Config) (l : List Token) → SamePlace f q d l → is_end_state d.state ≡ false
-      → (h : HereCall) → feed f AtState (taken d) (tokens_of d.lookahead l) ≡ h → (o : ParserResult) → call_here q ≡ o
+      → (h : HereCall) → feed f AtState (without_lookahead d) (tokens_of d.lookahead l) ≡ h → (o : ParserResult) → call_here q ≡ o
       → Matches f o h
   matched q d l s n h i o j = subst (λ (o : ParserResult). Matches f o h) j
       (subst (λ (h : HereCall). Matches f (call_here q) h) i (call_same f q d l s n))
@@ -196,18 +196,18 @@ module _ (f : Fault) where
   stands_on p e c r a w = w.1
 
   any : {q : OriginalParser} {e : List Event} {x : Ending} → Runs as_here q e x → (d : Config) (l : List Token)
-      → SamePlace f q d l → is_end_state d.state ≡ false → Any AtState (taken d) (to_come d.lookahead l)
-  any {q} (ends {e = a} {q = p} i j) d l s n = any_call (tokens_of d.lookahead l) AtState (taken d)
+      → SamePlace f q d l → is_end_state d.state ≡ false → Any AtState (without_lookahead d) (to_come d.lookahead l)
+  any {q} (ends {e = a} {q = p} i j) d l s n = any_call (tokens_of d.lookahead l) AtState (without_lookahead d)
       (λ e c r h k. absurd (not_ended p e c r a (matched q d l s n (given e c r) h (OK a p) i) k j))
-  any {q} (goes_on {e = a} {q = p} i j rest) d l s n = any_call (tokens_of d.lookahead l) AtState (taken d)
+  any {q} (goes_on {e = a} {q = p} i j rest) d l s n = any_call (tokens_of d.lookahead l) AtState (without_lookahead d)
       (λ e c r h k. any rest c r (stands_on p e c r a (matched q d l s n (given e c r) h (OK a p) i)) k)
-  any {q} (fails {f = g} i) d l s n = any_call (tokens_of d.lookahead l) AtState (taken d)
+  any {q} (fails {f = g} i) d l s n = any_call (tokens_of d.lookahead l) AtState (without_lookahead d)
       (λ e c r h k. absurd (matched q d l s n (given e c r) h (FAIL g) i))
 
   -- and no other
   abbrev Behind : Event → Config → List Token → Bool → List Event → StrictEnding → Type 0
   Behind a d l true e x = (e ≡ a ∷ []) × (x ≡ Over Ends)
-  Behind a d l false e x = (later : List Event) × (e ≡ a ∷ later) × StrictFrom f AtState (taken d) (to_come d.lookahead l) later x
+  Behind a d l false e x = (later : List Event) × (e ≡ a ∷ later) × StrictFrom f AtState (without_lookahead d) (to_come d.lookahead l) later x
 
   abbrev Led : List Token → Progressed → List Event → StrictEnding → Type 0
   Led l (Err g) e x = (e ≡ []) × (x ≡ Over (Fails g))

@@ -11,7 +11,7 @@ use Rattle.libyaml_automaton.specs.Config.{top_mark}
 use Rattle.libyaml_automaton.specs.declared.difference.Difference.{Difference}
 use Rattle.libyaml_automaton.specs.declared.difference.Difference.TheVariants.{Nowhere, PairKey, ValueFirst, BareDocument}
 use Rattle.libyaml_automaton.specs.Differing.{differs}
-use Rattle.libyaml_events.specs.machine.Config.{Config, is_end_state, start, taken}
+use Rattle.libyaml_events.specs.machine.Config.{Config, is_end_state, start, without_lookahead}
 use Rattle.libyaml_events.specs.machine.Machine.{step}
 use Rattle.libyaml_events.specs.machine.Want.{AtState, Given, Want, Wants}
 use Rattle.rust_original.specs.parser.Differences.{Differs, Reaches, call_here, call_there}
@@ -43,7 +43,7 @@ pub data StrictFrom (f : Fault) : Want → Config → List Token → List Event 
       → StrictFrom f w c (t ∷ l) e x
   gives : {w : Want} {c d : Config} {t : Token} {l : List Token} {e : Event} {later : List Event} {x : StrictEnding}
       → differs_by w c t ≡ Nowhere → step w c t ≡ Ok (Given e, d) → is_end_state d.state ≡ false
-      → StrictFrom f AtState (taken d) (to_come d.lookahead l) later x → StrictFrom f w c (t ∷ l) (e ∷ later) x
+      → StrictFrom f AtState (without_lookahead d) (to_come d.lookahead l) later x → StrictFrom f w c (t ∷ l) (e ∷ later) x
   ends : {w : Want} {c d : Config} {t : Token} {l : List Token} {e : Event} → differs_by w c t ≡ Nowhere
       → step w c t ≡ Ok (Given e, d) → is_end_state d.state ≡ true → StrictFrom f w c (t ∷ l) (e ∷ []) (Over Ends)
   fails : {w : Want} {c : Config} {t : Token} {l : List Token} {g : Fault} → differs_by w c t ≡ Nowhere

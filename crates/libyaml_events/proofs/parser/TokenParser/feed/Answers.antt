@@ -1,7 +1,7 @@
 use Rattle.std.proofs.Common.{◌≤◌, Ok, true, false, ap, arith, refl, rules, subst, sym}
 use Rattle.std.specs.Vec.{vec_capacity, vec_len}
 use Rattle.libyaml_events.specs.machine.Config.{Config, staying}
-use Rattle.libyaml_events.specs.sources.Pushed.{standing}
+use Rattle.libyaml_events.specs.sources.Pushed.{push_parser_at}
 use Rattle.libyaml_events.specs.sources.Pushes.{Takes}
 use Rattle.libyaml_events.proofs.calls.CallLemmas.{taken_same}
 use Rattle.libyaml_events.proofs.pushes.PushLoop.{taking_begins, wants_next, fails_onto, goes_on, is_done, step_falls}
@@ -29,8 +29,8 @@ returns-in-Given-clause-takes c =
     let s = rw c.in-Given.is at c.step_onto.ensures.steps in
     let none = c.begin_call.ensures.ready.none in
     rw c.begin_call.ensures.wanted (subst (λ (x : Config). Takes (vec_capacity c.args.events.now ≤ vec_len c.step_onto.new.events)
-    (standing (wanted c.args.pending.now) c.args.self.now)
-    c.args.token.now c.args.events.now.items (Ok tt) (standing AtState x) c.step_onto.new.events.items)
+    (push_parser_at (wanted c.args.pending.now) c.args.self.now)
+    c.args.token.now c.args.events.now.items (Ok tt) (push_parser_at AtState x) c.step_onto.new.events.items)
     (taken_same c.step_onto.new.self none)
     (is_done _ _ _ _ _ _ _ _ _ c.loop-self.invariant.1 _ c.step_onto.new.self s.1 _ s.2 false c.step_onto.new.token none
     (λ h. absurd cc)))
@@ -39,8 +39,8 @@ pub returns-then-is_over-clause-takes : goal.returns-then-is_over-clause-takes
 returns-then-is_over-clause-takes c =
     let s = rw c.in-GivenBefore.is at c.step_onto.ensures.steps in
     rw c.begin_call-in-loop-self.ensures.wanted (subst (λ (x : Config). Takes (vec_capacity c.args.events.now ≤ vec_len c.step_onto.new.events)
-    (standing (wanted c.args.pending.now) c.args.self.now) c.args.token.now c.args.events.now.items (Ok tt)
-    (standing AtState x) c.step_onto.new.events.items)
+    (push_parser_at (wanted c.args.pending.now) c.args.self.now) c.args.token.now c.args.events.now.items (Ok tt)
+    (push_parser_at AtState x) c.step_onto.new.events.items)
     (taken_same c.step_onto.new.self c.begin_call-in-loop-self.ensures.ready.none)
     (is_done _ _ _ _ _ _ _ _ _ c.loop-self.invariant.1 _ (staying c.step_onto.new.token c.step_onto.new.self) s.1 _ s.2 true
     c.step_onto.new.token refl (λ h. sym c.if-is_over.ensures)))
