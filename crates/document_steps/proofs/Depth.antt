@@ -11,7 +11,7 @@ use Rattle.libyaml_composer.specs.declared.deed.Deed.TheVariants as deed
 use Rattle.libyaml_composer.specs.declared.records.open_t.{open_t}
 use Rattle.libyaml_composer.specs.declared.records.place_t.{place_t}
 use Rattle.libyaml_composer.specs.Composing.{Composer, Told, adding, at_carrier, at_start, between_step, composer_of, collection_ended, holding_top, handing, if_placed, is_start, is_list_full, new_id, with_open_node, stack_of, composer_step, step_in, unless, within_step}
-use Rattle.libyaml_composer.specs.Held.{Held, event_fact}
+use Rattle.libyaml_composer.specs.DocumentSoFar.{DocumentSoFar, event_fact}
 use Rattle.libyaml_composer.specs.Numbers.{is_set, is_id}
 use Rattle.libyaml_composer.proofs.exported.Full.{full_starts}
 use Rattle.libyaml_composer.proofs.exported.Stacks.{depth_is}
@@ -102,7 +102,7 @@ roomy : (o : Option ℕ) (c : Composer) (room : ℕ) → Fits o c → Fits o (re
 roomy None c room h = h
 roomy (Some n) c room h = h
 
-fits : {most : ℕ} (d : composer_t) (ss : List open_t) (h : Held) (es : List Event) (ds : List Document)
+fits : {most : ℕ} (d : composer_t) (ss : List open_t) (h : DocumentSoFar) (es : List Event) (ds : List Document)
     → ComposerRun most d ss h es ds → Fits (open_from None es) (composer_of d ss)
 fits d ss _ _ _ (begins _ _ is) = ap (λ (c : Composer). c.is_within) is
 fits d' ss' h es ds (moves d _ ss _ _ _ _ run is) =

@@ -10,7 +10,7 @@ use Rattle.libyaml_composer.specs.declared.deed.Deed.TheVariants as deed
 use Rattle.libyaml_composer.specs.declared.records.open_t.{open_t}
 use Rattle.libyaml_composer.specs.declared.records.place_t.{place_t}
 use Rattle.libyaml_composer.specs.Composing.{Composer, Told, adding, at_carrier, at_start, between_step, composer_of, deed_for, deed_in, collection_ended, holding_top, handing, holding_in, if_placed, is_list_full, new_id, with_open_node, place_in, step_in, unless, within_step}
-use Rattle.libyaml_composer.specs.Held.{Held, event_fact}
+use Rattle.libyaml_composer.specs.DocumentSoFar.{DocumentSoFar, event_fact}
 use Rattle.libyaml_composer.specs.Numbers.{is_set, is_id}
 use Rattle.document_steps.specs.Places.{UnusedAreZero}
 use Rattle.document_steps.specs.RunLaws.{RunPlaces}
@@ -108,7 +108,7 @@ step_sound : (b : Bool) (k : yaml_event_type_t) (f : ℤ) (p : place_t) (c : Com
 step_sound true k f p c h = within_sound k f p c h
 step_sound false k f p c h = between_sound k p c h
 
-keys : {most : ℕ} (d : composer_t) (ss : List open_t) (h : Held) (es : List Event) (ds : List Document)
+keys : {most : ℕ} (d : composer_t) (ss : List open_t) (h : DocumentSoFar) (es : List Event) (ds : List Document)
     → ComposerRun most d ss h es ds → HaveNoKeys (composer_of d ss).stack
 keys d ss _ _ _ (begins _ _ is) = subst (λ (c : Composer). HaveNoKeys c.stack) (sym is) tt
 keys d' ss' h es ds (moves d _ ss _ _ _ _ run is) =

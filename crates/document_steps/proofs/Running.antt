@@ -19,27 +19,27 @@ use Rattle.libyaml_composer.specs.declared.deed.Deed.TheVariants as deed
 use Rattle.libyaml_composer.specs.declared.records.open_t.{open_t}
 use Rattle.libyaml_composer.specs.declared.records.place_t.{place_t}
 use Rattle.libyaml_composer.specs.Composing.{Composer, Told, between_step, composer_of, composer_step, step_in, told, within_step}
-use Rattle.libyaml_composer.specs.Held.{Held, applied, applied_part, event_fact, deed_fault, given, loader_by, nothing_held, state_in, loader_state, IsRefused}
+use Rattle.libyaml_composer.specs.DocumentSoFar.{DocumentSoFar, applied, applied_part, event_fact, deed_fault, given, loader_by, nothing_held, state_in, loader_state, IsRefused}
 use Rattle.libyaml_graphs.specs.loads.Leads.{Leads, as_loads, loads_from}
 use Rattle.document_steps.specs.Runs.{ComposeCalls, IsTaken, ComposerRun, begins, moves, takes}
-use Rattle.libyaml_composer.specs.Standing.{IsCarried, IsPart, Standing}
+use Rattle.libyaml_composer.specs.Represents.{IsCarried, IsPart, Represents}
 use Rattle.libyaml_composer.proofs.exported.Follows.{Follows, fails, follows, full, goes}
 use Rattle.libyaml_graphs.proofs.exported.Leading.{closes_there, from_none, goes_there, leads_both, leads_none, opens_there, passes_by, refused_there}
 
 -- where a caller stands after these events
-pub record Stood (most : ℕ) (c : Composer) (h : Held) (es : List Event) (ds : List Document) : Type 0 where
+pub record Stood (most : ℕ) (c : Composer) (h : DocumentSoFar) (es : List Event) (ds : List Document) : Type 0 where
   pub bound : c.most ≡ most
   pub leads : Leads most between es ds (loader_state c h)
-  pub standing : c.is_within ≡ true → (o : Opening) × Standing c h o
+  pub standing : c.is_within ≡ true → (o : Opening) × Represents c h o
 
 -- one event
-pub record Steps (c : Composer) (h : Held) (e : Event) (t : Told) : Type 0 where
+pub record Steps (c : Composer) (h : DocumentSoFar) (e : Event) (t : Told) : Type 0 where
   pub bound : t.composer.most ≡ c.most
   pub leads : Leads c.most (loader_state c h) (e ∷ []) (given t.deed e h) (loader_state t.composer (applied t.deed t.place e h))
-  pub standing : t.composer.is_within ≡ true → (o : Opening) × Standing t.composer (applied t.deed t.place e h) o
+  pub standing : t.composer.is_within ≡ true → (o : Opening) × Represents t.composer (applied t.deed t.place e h) o
 
 -- the deeds of parts
-part_applied : (d : Deed) → IsPart d → (p : place_t) (e : Event) (h : Held)
+part_applied : (d : Deed) → IsPart d → (p : place_t) (e : Event) (h : DocumentSoFar)
     → applied_part d p (part_of e) e.end_mark h ≡ applied d p e h
 part_applied deed.Passes k p e h = refl
 part_applied deed.Root k p e h = refl
@@ -49,7 +49,7 @@ part_applied deed.Value k p e h = refl
 part_applied deed.Closes k p e h = refl
 part_applied _ k p e h = absurd k
 
-part_gives : (d : Deed) → IsPart d → (e : Event) (h : Held) → [] ≡ given d e h
+part_gives : (d : Deed) → IsPart d → (e : Event) (h : DocumentSoFar) → [] ≡ given d e h
 part_gives deed.Passes k e h = refl
 part_gives deed.Root k e h = refl
 part_gives deed.Item k e h = refl
@@ -77,7 +77,7 @@ no_part deed.FullList r k = k
 no_part _ r k = r
 
 -- between documents
-module _ (c : Composer) (h : Held) (e : Event) (p : place_t) (out : c.is_within ≡ false) where
+module _ (c : Composer) (h : DocumentSoFar) (e : Event) (p : place_t) (out : c.is_within ≡ false) where
   state_out : between ≡ loader_state c h
   state_out = ap (λ (b : Bool). state_in b h.opening (loader_by c h)) (sym out)
 
@@ -112,8 +112,8 @@ module _ (c : Composer) (h : Held) (e : Event) (p : place_t) (out : c.is_within 
       go _ is = passes (ap (λ (k : unnamed_yaml_event_t_data). opening_in k e.start_mark) (sym is))
 
 -- within one
-module _ (c : Composer) (h : Held) (e : Event) (p : place_t) (inside : c.is_within ≡ true) (o : Opening)
-    (stands : Standing c h o) where
+module _ (c : Composer) (h : DocumentSoFar) (e : Event) (p : place_t) (inside : c.is_within ≡ true) (o : Opening)
+    (stands : Represents c h o) where
   state_inside : within o (loader_by c h) ≡ loader_state c h
   state_inside = ap (λ (x : Option Opening). state_in true x (loader_by c h)) (sym stands.opening)
       ∙ ap (λ (b : Bool). state_in b h.opening (loader_by c h)) (sym inside)
@@ -137,7 +137,7 @@ module _ (c : Composer) (h : Held) (e : Event) (p : place_t) (inside : c.is_with
           → Steps c h e t
       go t taken (goes part going there bound puts) =
           let same = part_applied t.deed part t.place e h in
-          let there : Standing t.composer (applied t.deed t.place e h) o
+          let there : Represents t.composer (applied t.deed t.place e h) o
           = rw same at there in
           record {
             bound = bound;
@@ -189,7 +189,7 @@ module _ (c : Composer) (h : Held) (e : Event) (p : place_t) (inside : c.is_with
       by (Some k) y = absurd (not_end e.content k y is)
 
 -- a call
-module _ (most : ℕ) (c : Composer) (h : Held) (es : List Event) (ds : List Document) (stood : Stood most c h es ds)
+module _ (most : ℕ) (c : Composer) (h : DocumentSoFar) (es : List Event) (ds : List Document) (stood : Stood most c h es ds)
     (e : Event) (p : place_t) where
   steps : IsTaken (composer_step (event_type e.content) (event_fact h e) p c).deed
       → Steps c h e (composer_step (event_type e.content) (event_fact h e) p c)
@@ -227,7 +227,7 @@ module _ (most : ℕ) (c : Composer) (h : Held) (es : List Event) (ds : List Doc
       by false out r = absurd (none e.content r)
       by true inside r = let (o, stands) = stood.standing inside in refused c h e p inside o stands r rest x
 
-pub stood : {most : ℕ} (d : composer_t) (ss : List open_t) (h : Held) (es : List Event) (ds : List Document)
+pub stood : {most : ℕ} (d : composer_t) (ss : List open_t) (h : DocumentSoFar) (es : List Event) (ds : List Document)
     → ComposerRun most d ss h es ds → Stood most (composer_of d ss) h es ds
 stood {most} d ss _ _ _ (begins _ _ is) = subst (λ (c : Composer). Stood most c nothing_held [] []) (sym is) (record {
   bound = refl;
@@ -254,14 +254,14 @@ stood {most} d' ss' h es ds (moves d _ ss _ _ _ _ run is) =
 stood {most} _ _ _ _ _ (takes d d' ss ss' h es ds a e p p' run calls taken) =
     stands_on most (composer_of d ss) h es ds (stood d ss h es ds run) e p (told a p' (composer_of d' ss')) calls taken
 
-pub all_loads : {most : ℕ} (d : composer_t) (ss : List open_t) (h : Held) (es : List Event) (ds : List Document)
+pub all_loads : {most : ℕ} (d : composer_t) (ss : List open_t) (h : DocumentSoFar) (es : List Event) (ds : List Document)
     → ComposerRun most d ss h es ds → (x : Ending) → bounded_loads most es x ≡ as_loads ds ++ last_load x ∷ []
 all_loads {most} d ss h es ds run x =
     let s = stood d ss h es ds run in
     ap (λ (l : List Event). bounded_loads most l x) (sym (append-nil es))
     ∙ (s.leads.loads [] x ∙ ap (λ (l : List Load). as_loads ds ++ l) (from_none most (loader_state (composer_of d ss) h) x))
 
-pub fault : {most : ℕ} (d d' : composer_t) (ss ss' : List open_t) (h : Held) (es : List Event) (ds : List Document) (a : Deed)
+pub fault : {most : ℕ} (d d' : composer_t) (ss ss' : List open_t) (h : DocumentSoFar) (es : List Event) (ds : List Document) (a : Deed)
     (e : Event) (p p' : place_t) → ComposerRun most d ss h es ds → ComposeCalls a d ss h e d' ss' p p' → IsRefused a
     → (rest : List Event) (x : Ending) → bounded_loads most (es ++ e ∷ rest) x ≡ as_loads ds ++ Err (deed_fault a h e) ∷ []
 fault {most} d d' ss ss' h es ds a e p p' run calls r =

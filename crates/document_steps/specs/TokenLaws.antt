@@ -20,7 +20,7 @@ use Rattle.token_steps.specs.declared.records.step_fault_t.{step_fault_t}
 use Rattle.token_steps.specs.Records.{step_fault}
 use Rattle.token_steps.specs.Runs as step_runs
 use Rattle.token_steps.specs.Runs.{StepCalls}
-use Rattle.libyaml_composer.specs.Held.{Held, IsRefused, deed_fault}
+use Rattle.libyaml_composer.specs.DocumentSoFar.{DocumentSoFar, IsRefused, deed_fault}
 use Rattle.libyaml_graphs.specs.loads.Leads.{as_loads}
 use Rattle.document_steps.specs.Runs.{ComposeCalls, ComposerRun}
 
@@ -31,7 +31,7 @@ TokensLoadAs most l source ds last = IsBoundedLoads most l source (as_loads ds +
 -- P holds of the tokens and documents of each run of both, between two tokens, where each event was handed on
 abbrev pub BetweenBoth : (ℕ → List Token → List Document → Type 0) → Type 0
 BetweenBoth P = (d : steps_t) (ss : List ℕ) (ms : List yaml_mark_t) (hs : Handles) (kept : Texts) (l : List Token)
-    (g : List Event) → step_runs.Run d ss ms hs kept None l g → (most : ℕ) (c : composer_t) (os : List open_t) (h : Held)
+    (g : List Event) → step_runs.Run d ss ms hs kept None l g → (most : ℕ) (c : composer_t) (os : List open_t) (h : DocumentSoFar)
     (ds : List Document) → ComposerRun most c os h g ds → P most l ds
 
 -- and of those that ended with an error of the parser
@@ -39,12 +39,12 @@ abbrev pub FailedTokens : (ℕ → List Token → List Document → Fault → Ty
 FailedTokens P = (d d' : steps_t) (ss ss' : List ℕ) (ms ms' : List yaml_mark_t) (hs : Handles) (kept : Texts)
     (l : List Token) (g : List Event) (t : Token) (e : step_event_t) (f : step_fault_t)
     → step_runs.Run d ss ms hs kept (Some t) l g → StepCalls 5 d ss ms hs t d' ss' ms' e f
-    → (most : ℕ) (c : composer_t) (os : List open_t) (h : Held) (ds : List Document) → ComposerRun most c os h g ds
+    → (most : ℕ) (c : composer_t) (os : List open_t) (h : DocumentSoFar) (ds : List Document) → ComposerRun most c os h g ds
     → P most l ds (fault_with (step_fault f))
 
 -- and of those that ended where the event that was given last was refused
 abbrev pub RefusedEvents : (ℕ → List Token → List Document → Fault → Type 0) → Type 0
 RefusedEvents P = (d : steps_t) (ss : List ℕ) (ms : List yaml_mark_t) (hs : Handles) (kept : Texts) (l : List Token)
     (g : List Event) (e : Event) → step_runs.Run d ss ms hs kept None l (g ++ e ∷ [])
-    → (most : ℕ) (c c' : composer_t) (os os' : List open_t) (h : Held) (ds : List Document) (a : Deed) (p p' : place_t)
+    → (most : ℕ) (c c' : composer_t) (os os' : List open_t) (h : DocumentSoFar) (ds : List Document) (a : Deed) (p p' : place_t)
     → ComposerRun most c os h g ds → ComposeCalls a c os h e c' os' p p' → IsRefused a → P most l ds (deed_fault a h e)

@@ -15,8 +15,8 @@ use Rattle.libyaml_composer.specs.declared.records.open_t.{open_t}
 use Rattle.libyaml_composer.specs.declared.records.place_t.{place_t}
 use Rattle.libyaml_composer.specs.Composing.{deed_for, deed_in, full_in, holding_top, holding_in, is_list_full, place_in}
 use Rattle.libyaml_composer.specs.Numbers.{is_set, is_id}
-use Rattle.libyaml_composer.specs.Held.{key_of, open_of, placed}
-use Rattle.libyaml_composer.specs.Standing.{FitsParent, IsAlike, IsKeyIn, IsOpenNode, IsOpenBy, Opens, TakesOneMore}
+use Rattle.libyaml_composer.specs.DocumentSoFar.{key_of, open_of, placed}
+use Rattle.libyaml_composer.specs.Represents.{FitsParent, IsAlike, IsKeyIn, IsOpenNode, IsOpenBy, Opens, TakesOneMore}
 use Rattle.libyaml_composer.proofs.Opens.{get_after, get_there, length_changed, opens_other}
 
 -- The nodes and the stack after a child, whether its parent's list was full, and what stays: each collection that is open

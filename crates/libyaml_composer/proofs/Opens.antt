@@ -4,7 +4,7 @@ use Rattle.std.proofs.lemmas.Int.{ints}
 use Rattle.libyaml_documents.specs.Nodes.{IsIdUpTo, changed_at}
 use Rattle.libyaml_documents.specs.declared.node.yaml_node_t.{yaml_node_t}
 use Rattle.libyaml_composer.specs.declared.records.open_t.{open_t}
-use Rattle.libyaml_composer.specs.Standing.{IsOpenNode, Opens}
+use Rattle.libyaml_composer.specs.Represents.{IsOpenNode, Opens}
 
 -- a node among others
 pub get_before : (f : yaml_node_t → yaml_node_t) (nodes : List yaml_node_t) (j k : ℕ) → k < j

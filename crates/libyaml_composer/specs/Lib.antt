@@ -1,4 +1,4 @@
 pub mod Numbers
 pub mod Composing
-pub mod Held
-pub mod Standing
+pub mod DocumentSoFar
+pub mod Represents

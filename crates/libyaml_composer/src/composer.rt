@@ -194,7 +194,7 @@ impl composer_t {
     /// goes.
     #[inline(always)]
     #[tactic(auto, using(crate::proofs::Tops::none_open, crate::proofs::Tops::top_below))]
-    fn hand(&self, stack: &mut [open_t], node: i32, child: i32, place: &mut place_t) -> Deed
+    fn place_child(&self, stack: &mut [open_t], node: i32, child: i32, place: &mut place_t) -> Deed
         requires within { self.now.depth ≤ length stack.old }
         ensures full { (result ≡ Deed.FullList)
             ↔ (is_list_full (most_of self.now.max_entries) (stack_of self.now.depth stack.old) ≡ true) }
@@ -255,7 +255,7 @@ impl composer_t {
         if !is_id(carrier) {
             return Deed::UndefinedAlias;
         }
-        self.hand(stack, 0, carrier, place)
+        self.place_child(stack, 0, carrier, place)
     }
 
     /// Returns why a node has no id or no anchor of its own, or `None` if it has them.
@@ -295,7 +295,7 @@ impl composer_t {
             return refusal;
         }
         let id = self.nodes as i32 + 1;
-        let deed = self.hand(stack, id, id, place);
+        let deed = self.place_child(stack, id, id, place);
         if let Deed::FullList = deed {
             return deed;
         }
@@ -332,7 +332,7 @@ impl composer_t {
             };
         }
         let id = self.nodes as i32 + 1;
-        let deed = self.hand(stack, id, id, place);
+        let deed = self.place_child(stack, id, id, place);
         if let Deed::FullList = deed {
             return deed;
         }

@@ -41,7 +41,7 @@ pub(crate) struct Closing {
 
 /// What is kept between two events.
 #[derive(Drop)]
-pub(crate) struct Composer {
+pub(crate) struct DocumentBuilder {
     /// The document that is open, if one is.
     pub ctx: loader_ctx,
     pub is_open: bool,
@@ -51,7 +51,7 @@ pub(crate) struct Composer {
     pub max_entries: u32,
 }
 
-impl Composer {
+impl DocumentBuilder {
     /// Returns a composer without an open document and without an error. Each list of a document may have
     /// `max_entries` entries.
     pub(crate) fn new(alloc: Global, max_entries: u32) -> Self
@@ -61,7 +61,7 @@ impl Composer {
         ensures bound { result.max_entries ≡ max_entries }
         ensures sound { IsSound result }
     {
-        Composer {
+        DocumentBuilder {
             ctx: loader_ctx::new(alloc, max_entries),
             is_open: false,
             fault: NO_FAULT,
@@ -102,7 +102,7 @@ impl Composer {
     /// # Errors
     ///
     /// The kind of the error that is then kept.
-    pub(crate) fn compose_all(
+    pub(crate) fn take_events(
         &mut self,
         events: &mut Vec<yaml_event_t>,
         documents: &mut Vec<yaml_document_t>,
@@ -119,13 +119,13 @@ impl Composer {
             × (is_fault self.new.fault.error ≡ true)) }
     {
         for event in events.iter_mut() {
-            self.compose_into(event, documents)?;
+            self.take_event_into(event, documents)?;
         }
         Ok(())
     }
 
     /// Composes an event, and appends the document that ends with it.
-    fn compose_into(
+    fn take_event_into(
         &mut self,
         event: &mut yaml_event_t,
         documents: &mut Vec<yaml_document_t>,
@@ -140,7 +140,7 @@ impl Composer {
             × (is_fault self.new.fault.error ≡ true)) }
         ensures capacity { vec_capacity documents.old ≤ vec_capacity documents.new }
     {
-        match self.compose(event)? {
+        match self.take_event(event)? {
             None => Ok(()),
             Some(closing) => {
                 let document = self.end(closing);
@@ -160,7 +160,7 @@ impl Composer {
     ///
     /// The kind of the error that is then kept.
     #[inline(always)]
-    pub(crate) fn compose(
+    pub(crate) fn take_event(
         &mut self,
         event: &mut yaml_event_t,
     ) -> Result<Option<Closing>, yaml_error_type_t>
@@ -174,14 +174,14 @@ impl Composer {
             ⊎ (x ≡ yaml_error_type_t.YAML_COMPOSER_ERROR)) }
     {
         if !self.is_open {
-            self.begin(event);
+            self.begin_if_start(event);
             return Ok(None);
         }
         if let Some(closing) = closing_of(&event.content, event.end_mark) {
             return Ok(Some(closing));
         }
         let mark = event.start_mark;
-        match self.ctx.compose(event) {
+        match self.ctx.add_event(event) {
             Ok(()) => Ok(None),
             Err(refusal) => Err(self.refuse(refusal, mark)),
         }
@@ -189,7 +189,7 @@ impl Composer {
 
     /// Begins a document, if the event is its start.
     #[inline(never)]
-    fn begin(&mut self, event: &mut yaml_event_t)
+    fn begin_if_start(&mut self, event: &mut yaml_event_t)
         requires none_open { self.old.is_open ≡ false }
         requires sound { IsSound self.old }
         ensures leads { Leads self.old.max_entries between (event.old ∷ []) [] (composer_state self.new) }
@@ -198,7 +198,7 @@ impl Composer {
         ensures fault { self.new.fault ≡ self.old.fault }
     {
         if let Some(opening) = opening_of(event, self.ctx.alloc) {
-            self.ctx.begin(opening.start, opening.mark);
+            self.ctx.start_document(opening.start, opening.mark);
             self.is_open = true;
         }
     }

@@ -12,8 +12,8 @@ ghost use Rattle.libyaml_graphs.specs.graphs.GraphParts.{alias_part, closing_of,
 ghost use Rattle.libyaml_graphs.specs.graphs.GraphParts.{part_of, start_part};
 ghost use Rattle.libyaml_grammar.specs.grammar.Events.{Event};
 ghost use Rattle.libyaml_composer.specs.Composing.{most_of};
-ghost use Rattle.libyaml_composer.specs.Held.{IsRefused, placed};
-ghost use Rattle.libyaml_composer.specs.Standing.{FitsParent, IsNode};
+ghost use Rattle.libyaml_composer.specs.DocumentSoFar.{IsRefused, placed};
+ghost use Rattle.libyaml_composer.specs.Represents.{FitsParent, IsNode};
 ghost use Rattle.libyaml_loader.specs.document.Context.{Composed, Decided, IsEvent, IsListed, Named, Refuses};
 ghost use Rattle.libyaml_loader.specs.document.Context.{ComposerMatches, refusal_of, with_nodes};
 ghost use Rattle.libyaml_loader.specs.document.Stack.{with_document_begun, first_composer};
@@ -67,7 +67,7 @@ impl loader_ctx {
     }
 
     /// Begins the document of this start event, without nodes.
-    pub(crate) fn begin(
+    pub(crate) fn start_document(
         &mut self,
         start: unnamed_yaml_event_t_data_document_start,
         start_mark: yaml_mark_t,
@@ -80,7 +80,7 @@ impl loader_ctx {
         } }
     {
         self.document = begin_document(self.alloc, start, start_mark);
-        self.collections.begin();
+        self.collections.enter_document();
     }
 
     /// Ends the document at `end_mark`, implicitly or explicitly, and returns it.
@@ -102,7 +102,7 @@ impl loader_ctx {
     /// `Memory` if an allocation fails or a list has `max_entries` entries already; `UndefinedAlias` if no
     /// earlier node has the alias's anchor; `RepeatedAnchor` if an earlier node has the anchor of this one.
     #[inline(always)]
-    pub(crate) fn compose(&mut self, event: &mut yaml_event_t) -> Result<(), Refusal>
+    pub(crate) fn add_event(&mut self, event: &mut yaml_event_t) -> Result<(), Refusal>
         requires stands { ComposerMatches self.old }
         requires not_end { closing_of event.old ≡ None }
         ensures ok { OnOk result (Composed self.old self.new (part_of event.old)) }
@@ -148,7 +148,7 @@ impl loader_ctx {
     {
         let mut place = NO_PLACE;
         let deed = self.decide_alias(alias.anchor.as_str(), start_mark, &mut place)?;
-        self.hand(deed, &place)
+        self.attach_child(deed, &place)
     }
 
     /// Appends a scalar to the nodes, and puts it into the innermost open collection.
@@ -176,7 +176,7 @@ impl loader_ctx {
             &mut place,
         )?;
         self.append_scalar(scalar, start_mark, end_mark)?;
-        self.hand(deed, &place)
+        self.attach_child(deed, &place)
     }
 
     /// Appends an empty sequence to the nodes, puts it into the innermost open collection, and opens it.
@@ -204,7 +204,7 @@ impl loader_ctx {
             &mut place,
         )?;
         self.append_sequence(start, start_mark, end_mark)?;
-        self.hand(deed, &place)
+        self.attach_child(deed, &place)
     }
 
     /// Appends an empty mapping to the nodes, puts it into the innermost open collection, and opens it.
@@ -232,7 +232,7 @@ impl loader_ctx {
             &mut place,
         )?;
         self.append_mapping(start, start_mark, end_mark)?;
-        self.hand(deed, &place)
+        self.attach_child(deed, &place)
     }
 
     /// Closes the innermost open collection, if there is one, and sets its node's end mark.
@@ -304,7 +304,7 @@ impl loader_ctx {
     ///
     /// # Errors
     ///
-    /// As those of `compose`.
+    /// As those of `add_event`.
     #[inline(always)]
     fn decide(
         &mut self,
@@ -320,7 +320,7 @@ impl loader_ctx {
             mark.now e → IsNode (part_of e) → Refuses self.old self.new (part_of e) mark.now r) }
     {
         let carrier = self.named(anchor, mark)?;
-        let deed = taken(self.collections.take(kind, carrier, place)?)?;
+        let deed = accepted(self.collections.take(kind, carrier, place)?)?;
         Ok(deed)
     }
 
@@ -328,7 +328,7 @@ impl loader_ctx {
     ///
     /// # Errors
     ///
-    /// As those of `compose`.
+    /// As those of `add_event`.
     #[inline(always)]
     fn decide_alias(
         &mut self,
@@ -344,7 +344,7 @@ impl loader_ctx {
     {
         let carrier = self.anchors.find(anchor);
         let kind = yaml_event_type_t::YAML_ALIAS_EVENT;
-        let deed = taken(self.collections.take(kind, id_or_none(carrier), place)?)?;
+        let deed = accepted(self.collections.take(kind, id_or_none(carrier), place)?)?;
         Ok(deed)
     }
 
@@ -354,7 +354,7 @@ impl loader_ctx {
     ///
     /// An allocation failed.
     #[inline(always)]
-    fn hand(&mut self, deed: Deed, place: &place_t) -> Result<(), Refusal>
+    fn attach_child(&mut self, deed: Deed, place: &place_t) -> Result<(), Refusal>
         requires { FitsParent deed place.now (length self.old.document.nodes) self.old.document.nodes }
         ensures handed { OnOk result (self.new ≡ record self.old {
           document = with_nodes (placed deed place.now self.old.document.nodes) self.old.document;
@@ -454,7 +454,7 @@ pub(crate) fn empty_document(alloc: Global) -> yaml_document_t
 ///
 /// The error.
 #[inline(always)]
-fn taken(deed: Deed) -> Result<Deed, Refusal>
+fn accepted(deed: Deed) -> Result<Deed, Refusal>
     ensures ok { IfOk result (λ d. (d ≡ deed) × (IsRefused deed → ⊥)) }
     ensures err { IfErr result (λ r. IsRefused deed × (r ≡ refusal_of deed)) }
 {

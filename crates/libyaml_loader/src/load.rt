@@ -18,7 +18,7 @@ ghost use Rattle.libyaml_loader.specs.loads.Loading.{HasEnded, LoadsFrom};
 ghost use Rattle.libyaml_loader.specs.loads.NextLoad.{Answers};
 ghost use Rattle.libyaml_loader.specs.pushes.Composing.{IsSound};
 
-use crate::composer::Composer;
+use crate::composer::DocumentBuilder;
 use crate::context::empty_document;
 use crate::refusal::{has_failed, keep_fault};
 use libyaml_documents::yaml_document_t;
@@ -77,7 +77,7 @@ pub fn yaml_parser_load<S: yaml_token_source_t>(
         return Err(parser.prefix().error);
     }
     parser.remembered();
-    let composer = Composer::new(parser.allocator(), bound_of(parser));
+    let composer = DocumentBuilder::new(parser.allocator(), bound_of(parser));
     let mut event = no_event();
     next_document(parser, composer, &mut event)
 }
@@ -87,7 +87,7 @@ pub fn yaml_parser_load<S: yaml_token_source_t>(
 /// libyaml: `yaml_parser_load`, `yaml_parser_load_document` and `yaml_parser_load_nodes`.
 fn next_document<S: yaml_token_source_t>(
     parser: &mut yaml_parser_t<S>,
-    mut composer: Composer,
+    mut composer: DocumentBuilder,
     event: &mut yaml_event_t,
 ) -> Result<yaml_document_t, yaml_error_type_t>
     requires none_open { composer.is_open ≡ false }
@@ -108,7 +108,7 @@ fn next_document<S: yaml_token_source_t>(
         if !is_event(event) {
             return Ok(empty_document(parser.allocator()));
         }
-        match composer.compose(event) {
+        match composer.take_event(event) {
             Ok(None) => {}
             Ok(Some(closing)) => return Ok(composer.into_document(closing)),
             Err(_) => return Err(keep_fault(parser, composer.fault)),

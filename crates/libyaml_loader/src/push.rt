@@ -7,7 +7,7 @@ ghost use Rattle.libyaml_loader.specs.pushes.Loaded.{ForLoaded, Loaded, Remember
 ghost use Rattle.libyaml_loader.specs.pushes.Loaded.{made_loader};
 ghost use Rattle.libyaml_loader.specs.pushes.PushesLoads.{PushesLoads};
 
-use crate::composer::Composer;
+use crate::composer::DocumentBuilder;
 use libyaml_documents::yaml_document_t;
 use libyaml_events::{yaml_parser_t_prefix, yaml_push_parser_t};
 use libyaml_types::{yaml_error_type_t, yaml_event_t, yaml_token_t};
@@ -18,7 +18,7 @@ use std::marker::Model;
 #[derive(Drop)]
 pub struct yaml_push_loader_t {
     parser: yaml_push_parser_t,
-    composer: Composer,
+    composer: DocumentBuilder,
     /// The events of a push. Between two pushes it is empty.
     events: Vec<yaml_event_t>,
 }
@@ -63,7 +63,7 @@ impl yaml_push_loader_t {
     {
         yaml_push_loader_t {
             parser: yaml_push_parser_t::new(alloc),
-            composer: Composer::new(alloc, n as u32),
+            composer: DocumentBuilder::new(alloc, n as u32),
             events: Vec::new(alloc),
         }
     }
@@ -88,7 +88,7 @@ impl yaml_push_loader_t {
         self.composer.kept()?;
         let mut token = token;
         let pushed = self.parser.push_from(&mut token, &mut self.events);
-        let composed = self.composer.compose_all(&mut self.events, documents);
+        let composed = self.composer.take_events(&mut self.events, documents);
         self.events.clear();
         composed?;
         if let Err(error) = pushed {

@@ -68,7 +68,7 @@ impl OpenCollections {
     }
 
     /// Begins a document.
-    pub(crate) fn begin(&mut self)
+    pub(crate) fn enter_document(&mut self)
         requires { self.old.is_within ≡ false }
         ensures { self.new ≡ with_document_begun self.old }
     {

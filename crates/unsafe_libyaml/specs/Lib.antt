@@ -90,9 +90,9 @@ pub use Rattle.libyaml_graphs.specs.loads.Loads
 pub use Rattle.libyaml_graphs.specs.loads.Leads
 pub use Rattle.libyaml_graphs.specs.graphs.GraphParts
 pub use Rattle.libyaml_composer.specs.Composing as ComposerSteps
-pub use Rattle.libyaml_composer.specs.Held as ComposerHeld
+pub use Rattle.libyaml_composer.specs.DocumentSoFar as ComposerDocumentSoFar
 pub use Rattle.libyaml_composer.specs.Numbers as ComposerNumbers
-pub use Rattle.libyaml_composer.specs.Standing as ComposerStanding
+pub use Rattle.libyaml_composer.specs.Represents as ComposerRepresents
 pub use Rattle.libyaml_loader.specs.loads.LoadGrowth
 pub use Rattle.libyaml_loader.specs.document.Ids
 pub use Rattle.libyaml_loader.specs.document.Anchors

@@ -22,13 +22,13 @@ use Rattle.libyaml_composer.specs.declared.records.open_t.{open_t}
 use Rattle.libyaml_composer.specs.declared.records.place_t.{place_t}
 use Rattle.libyaml_composer.specs.Composing.{Composer, Told, adding, at_carrier, at_start, deed_for, deed_in, collection_ended, holding_top, if_placed, is_list_full, with_open_node, place_in, told, unless, within_step}
 use Rattle.libyaml_composer.specs.Numbers.{is_set, is_id}
-use Rattle.libyaml_composer.specs.Held.{Held, anchor_in, anchored, applied_part, carrier_named, fact_by, event_fact, fault_part, IsRefused, first_mark, loader_by, nodes_made, with_made_node, open_of, placed, with_child_placed}
+use Rattle.libyaml_composer.specs.DocumentSoFar.{DocumentSoFar, anchor_in, anchored, applied_part, carrier_named, fact_by, event_fact, fault_part, IsRefused, first_mark, loader_by, nodes_made, with_made_node, open_of, placed, with_child_placed}
 use Rattle.libyaml_composer.proofs.Children.{Handing, hands_child}
 use Rattle.libyaml_composer.proofs.Opens.{get_last, length_changed, opens_more, opens_other, opens_wider}
-use Rattle.libyaml_composer.specs.Standing.{FitsParent, IsAlike, IsCarried, IsChild, IsClosed, IsNode, IsOpenNode, IsPart, PutsNode, Opens, Standing, TakesOneMore}
+use Rattle.libyaml_composer.specs.Represents.{FitsParent, IsAlike, IsCarried, IsChild, IsClosed, IsNode, IsOpenNode, IsPart, PutsNode, Opens, Represents, TakesOneMore}
 
 -- what a caller may rely on where it does this: the node comes first
-pub record Puts (d : Deed) (p : place_t) (q : Option Part) (h : Held) (s : List open_t) : Type 0 where
+pub record Puts (d : Deed) (p : place_t) (q : Option Part) (h : DocumentSoFar) (s : List open_t) : Type 0 where
   pub fits : FitsParent d p (length (with_made_node (is_id p.node) p.node q h).nodes) (with_made_node (is_id p.node) p.node q h).nodes
   pub takes : TakesOneMore d (map open_of s) (with_made_node (is_id p.node) p.node q h).nodes
   pub node : PutsNode d → is_id p.node ≡ true → p.node ≡ pos (suc (length h.nodes))
@@ -39,10 +39,10 @@ pub record Puts (d : Deed) (p : place_t) (q : Option Part) (h : Held) (s : List 
   pub numbered : IsNode q → p.node ≡ pos (suc (length h.nodes))
 
 -- r is what the machine makes of a part, and t what the call does with it
-pub data Follows (most : ℕ) (o : Opening) (h : Held) (s : List open_t) (q : Option Part) (start end : Mark) (r : Loading) (t : Told)
+pub data Follows (most : ℕ) (o : Opening) (h : DocumentSoFar) (s : List open_t) (q : Option Part) (start end : Mark) (r : Loading) (t : Told)
     : Type 0 where
   goes : IsPart t.deed → r ≡ going (loader_by t.composer (applied_part t.deed t.place q end h))
-      → Standing t.composer (applied_part t.deed t.place q end h) o → t.composer.most ≡ most
+      → Represents t.composer (applied_part t.deed t.place q end h) o → t.composer.most ≡ most
       → Puts t.deed t.place q h s → Follows most o h s q start end r t
   fails : IsRefused t.deed → r ≡ failed (fault_part t.deed h q start) → Follows most o h s q start end r t
   full : t.deed ≡ deed.FullStack → Follows most o h s q start end r t
@@ -75,7 +75,7 @@ child_open (o ∷ s) k = go (is_set o.is_mapping) (is_id o.key) k
     go true false k = k
     go true true k = k
 
-child_applied : (s : List open_t) (p : place_t) (q : Option Part) (m : Mark) (h : Held)
+child_applied : (s : List open_t) (p : place_t) (q : Option Part) (m : Mark) (h : DocumentSoFar)
     → applied_part (deed_for s) p q m h ≡ with_child_placed (deed_for s) p q h
 child_applied [] p q m h = refl
 child_applied (o ∷ s) p q m h = go (is_set o.is_mapping) (is_id o.key)
@@ -123,7 +123,7 @@ carried_more n xs (Some a) m h q =
     go false x h = h
 
 -- a node, by the three tests
-follows_node : (most : ℕ) (o : Opening) (h : Held) (s : List open_t) (q : Option Part) (start end : Mark) (p : place_t) (c : Composer)
+follows_node : (most : ℕ) (o : Opening) (h : DocumentSoFar) (s : List open_t) (q : Option Part) (start end : Mark) (p : place_t) (c : Composer)
     (first anchor list : Bool) (r : Loading) (t : Told)
     → (anchor ≡ true → r ≡ failed (fault_part deed.RepeatedAnchor h q start))
     → (anchor ≡ false → (k : Loader) × (r ≡ going k))
@@ -145,7 +145,7 @@ same_loading : (a b : List yaml_node_t) (s t : List OpenNode) (xs : Anchors) →
 same_loading a b s t xs e g = ap (λ (l : List yaml_node_t). going (record { nodes = l; stack = s; anchors = xs })) e
     ∙ ap (λ (u : List OpenNode). going (record { nodes = b; stack = u; anchors = xs })) g
 
-module _ (most room : ℕ) (o : Opening) (s : List open_t) (h : Held) (opening : h.opening ≡ Some o)
+module _ (most room : ℕ) (o : Opening) (s : List open_t) (h : DocumentSoFar) (opening : h.opening ≡ Some o)
     (opens : Opens (length h.nodes) h.nodes (length h.nodes) s)
     (carried : (a : List ℕ) → IsCarried (length h.nodes) (get h.anchors a))
     (p : place_t) where
@@ -172,7 +172,7 @@ module _ (most room : ℕ) (o : Opening) (s : List open_t) (h : Held) (opening :
   grown x = omega (arith, length-append h.nodes (x ∷ []))
 
   -- what a caller holds after a node
-  abbrev after : Option (List ℕ) → yaml_node_t → Held
+  abbrev after : Option (List ℕ) → yaml_node_t → DocumentSoFar
   after a x = record h {
     nodes = placed (deed_for s) (place_in id id s) (h.nodes ++ x ∷ []);
     anchors = anchored a (suc (length h.nodes)) x.start_mark h.anchors;
@@ -223,7 +223,7 @@ module _ (most room : ℕ) (o : Opening) (s : List open_t) (h : Held) (opening :
 
     stands : (c : Composer) → c.is_within ≡ true → c.nodes ≡ suc (length h.nodes)
         → carrier_named h.anchors a ≡ None
-        → Opens (suc (length h.nodes)) (after a x).nodes (suc (length h.nodes)) c.stack → Standing c (after a x) o
+        → Opens (suc (length h.nodes)) (after a x).nodes (suc (length h.nodes)) c.stack → Represents c (after a x) o
     stands c within nodes none there = record {
       is_within = within;
       opening = opening;
@@ -268,9 +268,9 @@ module _ (most room : ℕ) (o : Opening) (s : List open_t) (h : Held) (opening :
         (follows_node most o h s as_leaf x.start_mark end p here _ _ _ (node_made []) (adding here) (repeats [] as_leaf refl)
         (λ e. (_, goes_on a x [] (none_carries e)))
         (λ e. goes (part_deed s)
-        (subst (λ (k : Held). (node_made []) ≡ going (loader_by (adding here).composer k))
+        (subst (λ (k : DocumentSoFar). (node_made []) ≡ going (loader_by (adding here).composer k))
         (sym (child_applied s (place_in id id s) as_leaf end h)) (goes_on a x [] (none_carries e)))
-        (subst (λ (k : Held). Standing (adding here).composer k o) (sym (child_applied s (place_in id id s) as_leaf end h))
+        (subst (λ (k : DocumentSoFar). Represents (adding here).composer k o) (sym (child_applied s (place_in id id s) as_leaf end h))
         (stands (adding here).composer refl refl (none_carries e)
         (opens_wider _ _ _ (length h.nodes) _ (holding_top id s) (omega arith) (omega arith) (more x).opens)))
         refl (puts as_leaf refl tt tt)))
@@ -304,9 +304,9 @@ module _ (most room : ℕ) (o : Opening) (s : List open_t) (h : Held) (opening :
               → Follows most o h s as_start x.start_mark end (node_made (opened_node ∷ [])) (unless b deed.FullStack p here (with_open_node m id (adding here)))
           by true e = full refl
           by false e = goes (part_deed s)
-              (subst (λ (k : Held). (node_made (opened_node ∷ [])) ≡ going (loader_by (with_open_node m id (adding here)).composer k))
+              (subst (λ (k : DocumentSoFar). (node_made (opened_node ∷ [])) ≡ going (loader_by (with_open_node m id (adding here)).composer k))
               (sym (child_applied s (place_in id id s) as_start end h)) (goes_on a x (opened_node ∷ []) (none_carries e)))
-              (subst (λ (k : Held). Standing (with_open_node m id (adding here)).composer k o)
+              (subst (λ (k : DocumentSoFar). Represents (with_open_node m id (adding here)).composer k o)
               (sym (child_applied s (place_in id id s) as_start end h))
               (stands (with_open_node m id (adding here)).composer refl refl (none_carries e) there))
               refl (puts as_start refl tt tt)
@@ -330,10 +330,10 @@ module _ (most room : ℕ) (o : Opening) (s : List open_t) (h : Held) (opening :
           (unless b deed.FullList p here aliased)
       alias_by true = fails tt refl
       alias_by false = goes (part_deed s)
-          (subst (λ (g : Held). on_alias (Some k) m (loader_by here h) ≡ going (loader_by aliased.composer g))
+          (subst (λ (g : DocumentSoFar). on_alias (Some k) m (loader_by here h) ≡ going (loader_by aliased.composer g))
           (sym (child_applied s (place_in (pos 0) (pos k.id) s) as_alias end h))
           (same_loading _ _ _ _ h.anchors (sym child.nodes_are) (sym child.stack_is)))
-          (subst (λ (g : Held). Standing aliased.composer g o)
+          (subst (λ (g : DocumentSoFar). Represents aliased.composer g o)
           (sym (child_applied s (place_in (pos 0) (pos k.id) s) as_alias end h)) (record {
             is_within = refl;
             opening = opening;
@@ -441,7 +441,7 @@ module _ (most room : ℕ) (o : Opening) (s : List open_t) (h : Held) (opening :
       go ev.MappingEnd g = ends e.start_mark e.end_mark
       go _ g = nothing
 
-pub follows : (c : Composer) (h : Held) (o : Opening) (p : place_t) → Standing c h o → (e : Event) → closing_of e ≡ None
+pub follows : (c : Composer) (h : DocumentSoFar) (o : Opening) (p : place_t) → Represents c h o → (e : Event) → closing_of e ≡ None
     → Follows c.most o h c.stack (part_of e) e.start_mark e.end_mark
     (bounded_option c.most (loader_by c h) (part_of e)) (within_step (event_type e.content) (event_fact h e) p c)
 follows c h o p stands e without = subst (λ (k : Composer). Follows c.most o h c.stack (part_of e) e.start_mark e.end_mark

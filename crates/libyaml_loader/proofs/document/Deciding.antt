@@ -21,10 +21,10 @@ use Rattle.libyaml_composer.specs.declared.records.place_t.{place_t}
 use Rattle.libyaml_types.specs.declared.enums.yaml_event_type_t.{yaml_event_type_t}
 use Rattle.libyaml_types.specs.declared.enums.yaml_event_type_t.TheVariants as event_kinds
 use Rattle.libyaml_composer.specs.Composing.{Composer, Told, adding, at_carrier, between_step, deed_for, deed_in, collection_ended, handing, if_placed, is_list_full, new_id, with_open_node, composer_step, step_in, told, unless, within_step}
-use Rattle.libyaml_composer.specs.Held as held
-use Rattle.libyaml_composer.specs.Held.{Held, IsRefused, anchor_in, anchored, anchored_by, applied_part, event_fact, fault_part, open_of, with_made_node}
+use Rattle.libyaml_composer.specs.DocumentSoFar as so_far
+use Rattle.libyaml_composer.specs.DocumentSoFar.{DocumentSoFar, IsRefused, anchor_in, anchored, anchored_by, applied_part, event_fact, fault_part, open_of, with_made_node}
 use Rattle.libyaml_composer.specs.Numbers.{is_set, is_id}
-use Rattle.libyaml_composer.specs.Standing.{IsNode, IsPart, PutsNode, Standing, TakesOneMore}
+use Rattle.libyaml_composer.specs.Represents.{IsNode, IsPart, PutsNode, Represents, TakesOneMore}
 use Rattle.libyaml_composer.proofs.exported.Follows.{Follows, Puts, fails, follows, full, goes}
 use Rattle.libyaml_loader.specs.declared.context.loader_ctx.{loader_ctx}
 use Rattle.libyaml_graphs.specs.graphs.ComposerFaults.{repeated_anchor}
@@ -66,11 +66,11 @@ listed_put deed.Item l = tt
 listed_put deed.Value l = tt
 listed_put _ l = absurd l
 
-alias_nodes : (b : Bool) (i : ℤ) (a : List ℕ) (m : Mark) (h : Held) → (with_made_node b i (Some (alias_part a m)) h).nodes ≡ h.nodes
+alias_nodes : (b : Bool) (i : ℤ) (a : List ℕ) (m : Mark) (h : DocumentSoFar) → (with_made_node b i (Some (alias_part a m)) h).nodes ≡ h.nodes
 alias_nodes false i a m h = refl
 alias_nodes true i a m h = append-nil h.nodes
 
-module _ (n : ℕ) (l : Loader) (h : Held) (same : h.nodes ≡ l.nodes) (s : List open_t) (stack : l.stack ≡ map open_of s)
+module _ (n : ℕ) (l : Loader) (h : DocumentSoFar) (same : h.nodes ≡ l.nodes) (s : List open_t) (stack : l.stack ≡ map open_of s)
     (d : Deed) (p : place_t) where
   listed : (q : Option Part) (k : Loader) → bounded_option n l q ≡ going k → IsListed d → Puts d p q h s
       → load_may_grow l q ≡ true
@@ -128,14 +128,14 @@ module _ (old : loader_ctx) (new : Composer) (e : Event) (stands : ComposerMatch
       collections : ctx.collections ≡ new
       collections = ap (λ (c : loader_ctx). c.collections) is
 
-      stands_in : (h : Held) → Standing new h (opening_of_document old.document)
-          → Standing ctx.collections h (opening_of_document old.document)
-      stands_in h = subst (λ (c : Composer). Standing c h (opening_of_document old.document)) (sym collections)
+      stands_in : (h : DocumentSoFar) → Represents new h (opening_of_document old.document)
+          → Represents ctx.collections h (opening_of_document old.document)
+      stands_in h = subst (λ (c : Composer). Represents c h (opening_of_document old.document)) (sym collections)
 
       go : AsTold (told d p new) → Decided old ctx (part_of e) e.end_mark d p
       go (goes part leads there bound puts) = record {
         part = part;
-        goes = leads ∙ ap (λ (c : Composer). going (held.loader_by c (applied_part d p (part_of e) e.end_mark (held_of old)))) (sym collections);
+        goes = leads ∙ ap (λ (c : Composer). going (so_far.loader_by c (applied_part d p (part_of e) e.end_mark (held_of old)))) (sym collections);
         stands = stands_in _ there;
         bound = ap (λ (c : Composer). c.most) collections ∙ bound;
         context = is ∙ ap (λ (c : Composer). record old {
@@ -172,12 +172,12 @@ module _ (old : loader_ctx) (new : Composer) (e : Event) (stands : ComposerMatch
 
   -- the error, where the first mark is that of the node that carries the event's anchor
   pub refused_at : (ctx : loader_ctx) → IsRefused d → (d ≡ deed.RepeatedAnchor
-      → ctx.first_mark ≡ held.first_mark (held.carrier_named old.anchors (anchor_in (part_of e))) e.start_mark)
+      → ctx.first_mark ≡ so_far.first_mark (so_far.carrier_named old.anchors (anchor_in (part_of e))) e.start_mark)
       → Refuses old ctx (part_of e) e.start_mark (refusal_of d)
   refused_at ctx is first = inr (refused_so is ∙ ap failed (go d is first))
     where
       go : (d : Deed) → IsRefused d → (d ≡ deed.RepeatedAnchor
-          → ctx.first_mark ≡ held.first_mark (held.carrier_named old.anchors (anchor_in (part_of e))) e.start_mark)
+          → ctx.first_mark ≡ so_far.first_mark (so_far.carrier_named old.anchors (anchor_in (part_of e))) e.start_mark)
           → fault_part d (held_of old) (part_of e) e.start_mark ≡ fault_by (refusal_of d) ctx.first_mark e.start_mark
       go deed.UndefinedAlias is first = refl
       go deed.RepeatedAnchor is first = ap (λ (m : Mark). repeated_anchor m e.start_mark) (sym (first refl))
@@ -276,7 +276,7 @@ module _ (old named : loader_ctx) (a : Option (List ℕ)) (m : Mark) (e : Event)
   tells_so : told d p new ≡ composer_step (event_type e.content) (event_fact (held_of old) e) before (roomy room old.collections)
   tells_so = tells
       ∙ (ap (λ (i : ℤ). composer_step (event_type e.content) i before (roomy room named.collections))
-      (at.carrier ∙ ap (λ (x : Option (List ℕ)). pos (id_or (held.carrier_named old.anchors x))) anchor)
+      (at.carrier ∙ ap (λ (x : Option (List ℕ)). pos (id_or (so_far.carrier_named old.anchors x))) anchor)
       ∙ ap (λ (c : loader_ctx). composer_step (event_type e.content) (event_fact (held_of old) e) before (roomy room c.collections)) at.context)
 
   anchors : anchored a (suc (length old.document.nodes)) m old.anchors
@@ -298,5 +298,5 @@ module _ (old named : loader_ctx) (a : Option (List ℕ)) (m : Mark) (e : Event)
   node_refused refused = subst (λ (x : Mark). Refuses old (record named { collections = new }) (part_of e) x (refusal_of d)) is.mark_is
       (refused_at old new e stands is.not_end room before p d tells_so (record named { collections = new }) refused
       (λ first. at.first (repeated (event_type e.content) id before (roomy room named.collections) (ap (λ (t : Told). t.deed) (sym tells) ∙ first))
-      ∙ (ap (λ (x : Option (List ℕ)). held.first_mark (held.carrier_named old.anchors x) m) anchor
-      ∙ ap (held.first_mark (held.carrier_named old.anchors (anchor_in (part_of e)))) (sym is.mark_is))))
+      ∙ (ap (λ (x : Option (List ℕ)). so_far.first_mark (so_far.carrier_named old.anchors x) m) anchor
+      ∙ ap (so_far.first_mark (so_far.carrier_named old.anchors (anchor_in (part_of e)))) (sym is.mark_is))))

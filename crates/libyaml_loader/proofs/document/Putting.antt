@@ -10,10 +10,10 @@ use Rattle.libyaml_graphs.specs.machine.Loader.{going}
 use Rattle.libyaml_composer.specs.declared.deed.Deed.{Deed}
 use Rattle.libyaml_composer.specs.declared.deed.Deed.TheVariants as deed
 use Rattle.libyaml_composer.specs.declared.records.place_t.{place_t}
-use Rattle.libyaml_composer.specs.Held as held
-use Rattle.libyaml_composer.specs.Held.{Held, anchored_by, applied_part, nodes_made, natural, placed, with_child_placed, with_made_node}
+use Rattle.libyaml_composer.specs.DocumentSoFar as so_far
+use Rattle.libyaml_composer.specs.DocumentSoFar.{DocumentSoFar, anchored_by, applied_part, nodes_made, natural, placed, with_child_placed, with_made_node}
 use Rattle.libyaml_composer.specs.Numbers.{is_id}
-use Rattle.libyaml_composer.specs.Standing.{FitsParent, IsChild, IsNode, PutsNode, Standing}
+use Rattle.libyaml_composer.specs.Represents.{FitsParent, IsChild, IsNode, PutsNode, Represents}
 use Rattle.libyaml_loader.specs.declared.context.loader_ctx.{loader_ctx}
 use Rattle.libyaml_loader.specs.document.Context.{Composed, Decided, ComposerMatches, IsEvent, held_of, opening_of_document, with_nodes}
 
@@ -31,7 +31,7 @@ pub is_event : (k : unnamed_yaml_event_t_data) (m n : yaml_mark_t) {a : Option (
     → closing_in k n ≡ None → IsEvent (event_type k) a m (event k m n)
 is_event k m n named without = record { kind_is = refl; anchor_is = named; mark_is = refl; not_end = without }
 
-child_applied : (d : Deed) → PutsNode d → (p : place_t) (q : Option Part) (m : yaml_mark_t) (h : Held)
+child_applied : (d : Deed) → PutsNode d → (p : place_t) (q : Option Part) (m : yaml_mark_t) (h : DocumentSoFar)
     → with_child_placed d p q h ≡ applied_part d p q m h
 child_applied deed.Root k p q m h = refl
 child_applied deed.Item k p q m h = refl
@@ -59,11 +59,11 @@ module _ (old mid : loader_ctx) (q : Option Part) (end : yaml_mark_t) (d : Deed)
   done nodes same new is = subst (λ (x : loader_ctx). Composed old x q × ComposerMatches x)
       (sym (is ∙ ap (λ (x : loader_ctx). record x { document = with_nodes nodes x.document }) at.context)) (
         record {
-          goes = at.goes ∙ ap (λ (h : Held). going (held.loader_by mid.collections h)) (sym same);
+          goes = at.goes ∙ ap (λ (h : DocumentSoFar). going (so_far.loader_by mid.collections h)) (sym same);
           document = refl;
           bound = at.bound;
         },
-        subst (λ (h : Held). Standing mid.collections h (opening_of_document old.document)) (sym same) at.stands,
+        subst (λ (h : DocumentSoFar). Represents mid.collections h (opening_of_document old.document)) (sym same) at.stands,
       )
 
   with_it : IsNode q → with_made_node true p.node q (held_of old) ≡ with_made_node (is_id p.node) p.node q (held_of old)
@@ -71,7 +71,7 @@ module _ (old mid : loader_ctx) (q : Option Part) (end : yaml_mark_t) (d : Deed)
 
   pub node_fits : IsNode q → FitsParent d p (length (mid.document.nodes ++ nodes_made q)) (mid.document.nodes ++ nodes_made q)
   node_fits n = subst (λ (x : loader_ctx). FitsParent d p (length (x.document.nodes ++ nodes_made q)) (x.document.nodes ++ nodes_made q))
-      (sym at.context) (subst (λ (h : Held). FitsParent d p (length h.nodes) h.nodes) (sym (with_it n)) at.fits)
+      (sym at.context) (subst (λ (h : DocumentSoFar). FitsParent d p (length h.nodes) h.nodes) (sym (with_it n)) at.fits)
 
   pub node_done : IsNode q → (new : loader_ctx)
       → new ≡ record mid { document = with_nodes (placed d p (mid.document.nodes ++ nodes_made q)) mid.document }
@@ -82,7 +82,7 @@ module _ (old mid : loader_ctx) (q : Option Part) (end : yaml_mark_t) (d : Deed)
         nodes = placed d p (old.document.nodes ++ nodes_made q);
         anchors = anchored_by i q old.anchors;
       }) (sym (ap natural (at.numbered n)))
-      ∙ (ap (λ (h : Held). held.held_with_nodes (placed d p h.nodes) h) (with_it n) ∙ child_applied d (at.put (node_child q n)) p q end (held_of old)))
+      ∙ (ap (λ (h : DocumentSoFar). so_far.held_with_nodes (placed d p h.nodes) h) (with_it n) ∙ child_applied d (at.put (node_child q n)) p q end (held_of old)))
       new
       (is ∙ ap (λ (x : loader_ctx). record mid {
         document = with_nodes (placed d p (x.document.nodes ++ nodes_made q)) mid.document;
@@ -100,20 +100,20 @@ module _ (old mid : loader_ctx) (q : Option Part) (end : yaml_mark_t) (d : Deed)
         (is ∙ ap (λ (c : loader_ctx). record c { document = with_nodes (placed d p c.document.nodes) c.document }) added)
 
 -- an alias adds no node
-alias_held : (b : Bool) (i : ℤ) (a : List ℕ) (m : yaml_mark_t) (h : Held) → with_made_node b i (Some (alias_part a m)) h ≡ h
+alias_held : (b : Bool) (i : ℤ) (a : List ℕ) (m : yaml_mark_t) (h : DocumentSoFar) → with_made_node b i (Some (alias_part a m)) h ≡ h
 alias_held false i a m h = refl
-alias_held true i a m h = ap (λ (l : List yaml_node_t). held.held_with_nodes l h) (append-nil h.nodes)
+alias_held true i a m h = ap (λ (l : List yaml_node_t). so_far.held_with_nodes l h) (append-nil h.nodes)
 
 module _ (old mid : loader_ctx) (a : List ℕ) (m end : yaml_mark_t) (d : Deed) (p : place_t)
     (at : Decided old mid (Some (alias_part a m)) end d p) where
   pub alias_fits : FitsParent d p (length mid.document.nodes) mid.document.nodes
   alias_fits = subst (λ (x : loader_ctx). FitsParent d p (length x.document.nodes) x.document.nodes) (sym at.context)
-      (subst (λ (h : Held). FitsParent d p (length h.nodes) h.nodes) (alias_held (is_id p.node) p.node a m (held_of old)) at.fits)
+      (subst (λ (h : DocumentSoFar). FitsParent d p (length h.nodes) h.nodes) (alias_held (is_id p.node) p.node a m (held_of old)) at.fits)
 
   pub alias_done : (new : loader_ctx) → new ≡ record mid { document = with_nodes (placed d p mid.document.nodes) mid.document }
       → Composed old new (Some (alias_part a m)) × ComposerMatches new
   alias_done new is = done old mid (Some (alias_part a m)) end d p at (placed d p old.document.nodes)
-      (ap (λ (h : Held). held.held_with_nodes (placed d p h.nodes) h) (sym (alias_held (is_id p.node) p.node a m (held_of old)))
+      (ap (λ (h : DocumentSoFar). so_far.held_with_nodes (placed d p h.nodes) h) (sym (alias_held (is_id p.node) p.node a m (held_of old)))
       ∙ child_applied d (at.put tt) p (Some (alias_part a m)) end (held_of old))
       new
       (is ∙ ap (λ (x : loader_ctx). record mid { document = with_nodes (placed d p x.document.nodes) mid.document }) at.context)

@@ -5,14 +5,14 @@ use Rattle.libyaml_documents.specs.Documents.{Document}
 use Rattle.libyaml_grammar.specs.grammar.Events.{Event}
 use Rattle.libyaml_graphs.specs.machine.Loader.{State}
 use Rattle.libyaml_types.specs.Fault.{Fault, fault_of}
-use Rattle.libyaml_loader.specs.declared.composer.Composer.{Composer}
+use Rattle.libyaml_loader.specs.declared.composer.DocumentBuilder.{DocumentBuilder}
 use Rattle.libyaml_loader.specs.pushes.Composing.{Composes, IsSound, RefusesEvent, RefusesOneOf, by_loads, by_memory, composer_state}
 use Rattle.libyaml_graphs.specs.loads.Leads.{Leads}
 use Rattle.libyaml_loader.specs.pushes.LoadMemory.{NeedsMemoryAt, for_document, for_node}
 use Rattle.libyaml_graphs.proofs.exported.Leading.{leads_both}
 
 -- of some events the first were composed, and these are left
-pub record InTurn (old : Composer) (events : List Event) (before : List Document) (now : Composer)
+pub record InTurn (old : DocumentBuilder) (events : List Event) (before : List Document) (now : DocumentBuilder)
     (left : List Event) (after : List Document) : Type 0 where
   pub composed : List Event
   pub all : events ≡ composed ++ left
@@ -39,7 +39,7 @@ pub refuses_more : (Full More : Type 0) (n : ℕ) (here : State) (e : Event) (g 
 refuses_more Full More n here e g f (by_loads h) = by_loads h
 refuses_more Full More n here e g f (by_memory is h) = by_memory is (needs_more Full More here e f h)
 
-module _ (old now new : Composer) (events : List Event) (before docs after : List Document) (e : Event) (left : List Event)
+module _ (old now new : DocumentBuilder) (events : List Event) (before docs after : List Document) (e : Event) (left : List Event)
     (turn : InTurn old events before now (e ∷ left) docs) (Full : Type 0) where
   all_added : (more : List Document) → after ≡ docs ++ more → after ≡ before ++ (turn.added ++ more)
   all_added more h = h ∙ (ap (λ (l : List Document). l ++ more) turn.appended ∙ append_assoc before turn.added more)

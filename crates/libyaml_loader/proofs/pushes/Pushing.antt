@@ -29,7 +29,7 @@ use Rattle.libyaml_loader.specs.pushes.Composing.{Composes, RefusesEvent, Refuse
 use Rattle.libyaml_graphs.specs.loads.Leads.{Leads, as_loads, loads_from}
 use Rattle.libyaml_loader.specs.pushes.Loaded.{ForLoaded, Loaded, PushLoader, RemembersLoads, loader_has_stopped, loader_keeps_fault, standing_loader}
 use Rattle.libyaml_loader.specs.pushes.PushesLoads.{AreThen, BeginsEachLoads, PushesLoads, StopsLoading, by_memory, by_tokens, in_loader, in_parser}
-use Rattle.libyaml_loader.specs.declared.composer.Composer.{Composer}
+use Rattle.libyaml_loader.specs.declared.composer.DocumentBuilder.{DocumentBuilder}
 use Rattle.libyaml_graphs.proofs.exported.Leading.{from_none, leads_both}
 
 -- the loads of a run whose events are these
@@ -151,7 +151,7 @@ parser_stops Full Room n tokens given added documents here f leads (pushes.by_me
 
 -- the loader keeps no error, and its parser was handed a token; the events that came were composed
 module _ (Full Room : Type 0) (p q : PushParser) (t : Token) (given : List Event) (r : Done)
-    (pushes_so : Pushes Room p t [] r q given) (old new : Composer)
+    (pushes_so : Pushes Room p t [] r q given) (old new : DocumentBuilder)
     (before after : List Document) (s : Done) (composes : Composes Full old given before s new after)
     (none_given : given ≡ [] → (new ≡ old) × (after ≡ before) × (s ≡ Ok tt)) (bound : new.max_entries ≡ old.max_entries)
     (kept_so : IfErr s (λ x. (x ≡ new.fault.error) × (is_fault new.fault.error ≡ true)))
@@ -205,7 +205,7 @@ module _ (Full Room : Type 0) (p q : PushParser) (t : Token) (given : List Event
         let k = pushes_so.stopped (ended h) in
         let n = none_given k.1 in (
           ap (λ (x : PushParser). standing_loader x (composer_state new) (fault_of new.fault) new.max_entries) k.0
-              ∙ ap (λ (x : Composer). standing_loader p (composer_state x) (fault_of x.fault) x.max_entries) n.0,
+              ∙ ap (λ (x : DocumentBuilder). standing_loader p (composer_state x) (fault_of x.fault) x.max_entries) n.0,
           n.1,
           sym faultless,
         );
@@ -331,7 +331,7 @@ on_ok P (Ok u) h is = h
 on_ok P (Err x) h is = absurd cc
 
 -- the parser's error is kept
-pub kept_fault : (q : PushParser) (k : Composer) (n : ℕ) (f : Fault) → k.is_open ≡ false → fault_of k.fault ≡ f
+pub kept_fault : (q : PushParser) (k : DocumentBuilder) (n : ℕ) (f : Fault) → k.is_open ≡ false → fault_of k.fault ≡ f
     → k.max_entries ≡ n
     → standing_loader q between f n ≡ standing_loader q (composer_state k) (fault_of k.fault) k.max_entries
 kept_fault q k n f none fault bound = sym

@@ -5,8 +5,8 @@ use Rattle.std.specs.Cmp.Lexicographic.{nat_list_cmp_total}
 use Rattle.std.specs.FinMap.{get, get-from_entries}
 use Rattle.libyaml_composer.specs.declared.records.open_t.{open_t}
 use Rattle.libyaml_composer.specs.Composing.{Composer}
-use Rattle.libyaml_composer.specs.Held.{open_of}
-use Rattle.libyaml_composer.specs.Standing.{IsCarried, Opens}
+use Rattle.libyaml_composer.specs.DocumentSoFar.{open_of}
+use Rattle.libyaml_composer.specs.Represents.{IsCarried, Opens}
 use Rattle.libyaml_loader.specs.document.Stack.{with_document_begun}
 use Rattle.libyaml_types.specs.declared.enums.yaml_error_type_t.{yaml_error_type_t}
 use Rattle.libyaml_documents.specs.Documents.{Document}
@@ -17,7 +17,7 @@ use Rattle.libyaml_graphs.specs.graphs.GraphParts as parts
 use Rattle.libyaml_graphs.specs.graphs.GraphParts.{closing_of, opening_of, part_of}
 use Rattle.libyaml_graphs.specs.machine.Loader as loader
 use Rattle.libyaml_graphs.specs.machine.Loader.{Loader, between, bounded_option, failed, fresh, no_anchors, within}
-use Rattle.libyaml_loader.specs.declared.composer.Composer as builder
+use Rattle.libyaml_loader.specs.declared.composer.DocumentBuilder as builder
 use Rattle.libyaml_loader.specs.declared.context.loader_ctx.{loader_ctx}
 use Rattle.libyaml_loader.specs.declared.refusal.Refusal.{Refusal}
 use Rattle.libyaml_loader.specs.declared.refusal.Refusal.TheVariants.{Memory}
@@ -68,7 +68,7 @@ module _ (old c : loader_ctx) (o : parts.Opening) (anchors : old.anchors ≡ no_
   }
 
 -- an event adds to it, or is refused
-module _ (old : builder.Composer) (new : loader_ctx) (e : Event) (sound : IsSound old) (is_open : old.is_open ≡ true) where
+module _ (old : builder.DocumentBuilder) (new : loader_ctx) (e : Event) (sound : IsSound old) (is_open : old.is_open ≡ true) where
   pub refused : (r : Refusal) (f : Fault) → closing_of e ≡ None → Refuses old.ctx new (part_of e) e.start_mark r
       → f ≡ fault_by r new.first_mark e.start_mark → RefusesEvent ⊥ old.max_entries (composer_state old) e f
   refused r f no_end h fault =
@@ -84,7 +84,7 @@ module _ (old : builder.Composer) (new : loader_ctx) (e : Event) (sound : IsSoun
           (ap (λ (n : ℕ). bounded_option n (loader_of old.ctx) (part_of e)) (sym sound.bound) ∙ (w ∙ ap failed (sym fault))))
 
 -- What an event did, where a list takes the documents that end.
-module _ (Full : Type 0) (old mid : builder.Composer) (e : Event) (before : List Document)
+module _ (Full : Type 0) (old mid : builder.DocumentBuilder) (e : Event) (before : List Document)
     (r : Result (Option Closing) yaml_error_type_t) (h : ComposesEvent old e r mid) where
   refused_first : (f : Fault) → RefusesEvent Full old.max_entries (composer_state old) e f
       → RefusesOneOf Full old.max_entries (composer_state old) (e ∷ []) [] f
@@ -99,7 +99,7 @@ module _ (Full : Type 0) (old mid : builder.Composer) (e : Event) (before : List
   }
 
   -- the document ended, and the list had no room for it
-  pub into_full : (new : builder.Composer) (c : Closing) (z : yaml_error_type_t) → r ≡ Ok (Some c)
+  pub into_full : (new : builder.DocumentBuilder) (c : Closing) (z : yaml_error_type_t) → r ≡ Ok (Some c)
       → fault_of new.fault ≡ memory_fault → Full → Composes Full old (e ∷ []) before (Err z) new before
   into_full new c z is fault full =
       let ends : (old.is_open ≡ true) × (closing_of e ≡ Some (closing_by c)) × (mid ≡ old) = rw is at h in

@@ -14,9 +14,9 @@ use Rattle.libyaml_graphs.specs.graphs.GraphParts.{Opening, Part, closing_of}
 use Rattle.libyaml_composer.specs.declared.deed.Deed.{Deed}
 use Rattle.libyaml_composer.specs.declared.deed.Deed.TheVariants as deed
 use Rattle.libyaml_composer.specs.declared.records.place_t.{place_t}
-use Rattle.libyaml_composer.specs.Held as held
-use Rattle.libyaml_composer.specs.Held.{Held, anchored, anchored_by, applied_part, carrier_named, first_mark, with_made_node}
-use Rattle.libyaml_composer.specs.Standing.{FitsParent, IsChild, IsClosed, IsNode, IsPart, PutsNode, Standing}
+use Rattle.libyaml_composer.specs.DocumentSoFar as so_far
+use Rattle.libyaml_composer.specs.DocumentSoFar.{DocumentSoFar, anchored, anchored_by, applied_part, carrier_named, first_mark, with_made_node}
+use Rattle.libyaml_composer.specs.Represents.{FitsParent, IsChild, IsClosed, IsNode, IsPart, PutsNode, Represents}
 use Rattle.libyaml_composer.specs.Numbers.{is_id}
 use Rattle.libyaml_loader.specs.declared.context.loader_ctx.{loader_ctx}
 use Rattle.libyaml_loader.specs.declared.refusal.Refusal.{Refusal}
@@ -37,7 +37,7 @@ opening_of_document d = record {
 }
 
 -- what the loader holds of it, and what its machine sees
-abbrev pub held_of : loader_ctx → Held
+abbrev pub held_of : loader_ctx → DocumentSoFar
 held_of c = record {
   opening = Some (opening_of_document c.document);
   nodes = c.document.nodes;
@@ -45,10 +45,10 @@ held_of c = record {
 }
 
 abbrev pub loader_of : loader_ctx → Loader
-loader_of c = held.loader_by c.collections (held_of c)
+loader_of c = so_far.loader_by c.collections (held_of c)
 
 abbrev pub ComposerMatches : loader_ctx → Type 0
-ComposerMatches c = Standing c.collections (held_of c) (opening_of_document c.document)
+ComposerMatches c = Represents c.collections (held_of c) (opening_of_document c.document)
 
 abbrev pub with_nodes : List yaml_node_t → Document → Document
 with_nodes nodes d = record d { nodes = nodes }
@@ -88,8 +88,8 @@ refusal_of _ = Memory
 pub record Decided (old new : loader_ctx) (q : Option Part) (end : yaml_mark_t) (d : Deed) (p : place_t) : Type 0 where
   pub part : IsPart d
   pub goes : bounded_option old.collections.most (loader_of old) q
-      ≡ going (held.loader_by new.collections (applied_part d p q end (held_of old)))
-  pub stands : Standing new.collections (applied_part d p q end (held_of old)) (opening_of_document old.document)
+      ≡ going (so_far.loader_by new.collections (applied_part d p q end (held_of old)))
+  pub stands : Represents new.collections (applied_part d p q end (held_of old)) (opening_of_document old.document)
   pub bound : new.collections.most ≡ old.collections.most
   pub context : new ≡ record old {
     collections = new.collections;

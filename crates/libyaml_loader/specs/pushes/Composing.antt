@@ -10,7 +10,7 @@ use Rattle.libyaml_graphs.specs.loads.Loads.{document}
 use Rattle.libyaml_graphs.specs.machine.Loader.{State, between, no_anchors, within}
 use Rattle.libyaml_types.specs.Fault.{Fault, fault_of, memory_fault}
 use Rattle.libyaml_loader.specs.declared.composer.Closing.{Closing}
-use Rattle.libyaml_loader.specs.declared.composer.Composer.{Composer}
+use Rattle.libyaml_loader.specs.declared.composer.DocumentBuilder.{DocumentBuilder}
 use Rattle.libyaml_loader.specs.declared.composer.Opening.{Opening}
 use Rattle.libyaml_loader.specs.declared.context.loader_ctx.{loader_ctx}
 use Rattle.libyaml_loader.specs.document.Context.{ComposerMatches, loader_of, opening_of_document}
@@ -28,7 +28,7 @@ abbrev pub state_by : (is_open : Bool) → loader_ctx → State
 state_by false c = between
 state_by true c = within (opening_of_document c.document) (loader_of c)
 
-abbrev pub composer_state : Composer → State
+abbrev pub composer_state : DocumentBuilder → State
 composer_state c = state_by c.is_open c.ctx
 
 -- the document that was open, ended so
@@ -36,7 +36,7 @@ abbrev pub ended_by : parts.Closing → loader_ctx → Document
 ended_by c x = document (opening_of_document x.document) x.document.nodes c
 
 -- the document that is open is sound, or nothing is left of the one before; the bound is the composer's
-pub record IsSound (c : Composer) : Type 0 where
+pub record IsSound (c : DocumentBuilder) : Type 0 where
   pub stands : c.is_open ≡ true → ComposerMatches c.ctx
   pub fresh : c.is_open ≡ false → (c.ctx.collections.is_within ≡ false) × (c.ctx.anchors ≡ no_anchors)
   pub bound : c.ctx.collections.most ≡ c.max_entries
@@ -49,7 +49,7 @@ pub data RefusesEvent (Full : Type 0) (n : ℕ) (here : State) (e : Event) (f : 
 
 -- What one event did: it ended no document; or it ends the one that is open, and nothing is done yet; or it was
 -- refused, and the error is kept.
-abbrev pub ComposesEvent : (old : Composer) → Event → Result (Option Closing) yaml_error_type_t → (new : Composer) → Type 0
+abbrev pub ComposesEvent : (old : DocumentBuilder) → Event → Result (Option Closing) yaml_error_type_t → (new : DocumentBuilder) → Type 0
 ComposesEvent old e (Ok None) new = Leads old.max_entries (composer_state old) (e ∷ []) [] (composer_state new)
 ComposesEvent old e (Ok (Some c)) new = (old.is_open ≡ true) × (closing_of e ≡ Some (closing_by c)) × (new ≡ old)
 ComposesEvent old e (Err x) new = RefusesEvent ⊥ old.max_entries (composer_state old) e (fault_of new.fault)
@@ -67,13 +67,13 @@ pub record RefusesOneOf (Full : Type 0) (n : ℕ) (old : State) (events : List E
 
 -- what became of events, where these documents were added
 abbrev pub ComposedSo : (Full : Type 0) → ℕ → State → List Event → List Document → Result (Unit {0}) yaml_error_type_t
-    → Composer → Type 0
+    → DocumentBuilder → Type 0
 ComposedSo Full n old events added (Ok u) new = Leads n old events added (composer_state new)
 ComposedSo Full n old events added (Err x) new = RefusesOneOf Full n old events added (fault_of new.fault)
 
 -- Events were composed, and the documents that ended were appended.
-pub record Composes (Full : Type 0) (old : Composer) (events : List Event) (before : List Document)
-    (r : Result (Unit {0}) yaml_error_type_t) (new : Composer)
+pub record Composes (Full : Type 0) (old : DocumentBuilder) (events : List Event) (before : List Document)
+    (r : Result (Unit {0}) yaml_error_type_t) (new : DocumentBuilder)
     (after : List Document) : Type 0 where
   pub added : List Document
   pub appended : after ≡ before ++ added

@@ -9,7 +9,7 @@ use Rattle.libyaml_types.specs.Fault.{fault_of}
 use Rattle.libyaml_graphs.specs.graphs.GraphParts.{closing_of}
 use Rattle.libyaml_graphs.specs.loads.Bounds.{next_bounded}
 use Rattle.libyaml_graphs.specs.loads.Loads.{left_over}
-use Rattle.libyaml_loader.specs.declared.composer.Composer.{Composer}
+use Rattle.libyaml_loader.specs.declared.composer.DocumentBuilder.{DocumentBuilder}
 use Rattle.libyaml_loader.specs.document.Context.{loader_of, opening_of_document}
 use Rattle.libyaml_events.specs.sources.CallsInTurn.{Took}
 use Rattle.libyaml_loader.specs.loads.Loading.{DocumentOrError, LoadsFrom}
@@ -57,8 +57,8 @@ loop-composer-init g c =
       λ ended. refl,
     )
 
-pub compose-requires : goal.compose-requires
-compose-requires g c = record { sound = c.loop-composer.invariant.1 }
+pub take_event-requires : goal.take_event-requires
+take_event-requires g c = record { sound = c.loop-composer.invariant.1 }
 
 pub loop-composer-smaller : goal.loop-composer-smaller
 loop-composer-smaller g c = (came g (goal.at.loop-composer-smaller g c).After-yaml_parser_parse_into _
@@ -71,12 +71,12 @@ loop-composer-preserved g c =
     c.in_ok-yaml_parser_parse_into.was (sym c.is_event.ensures ∙ c.if-not-is_event.false) in
     let i = c.loop-composer.invariant in (
       way_more g.S.yaml_token_source_t c.args.composer.max_entries c.args.parser.now c.loop-composer.parser
-          (composer_state c.loop-composer.composer) i.0 call.new.parser (composer_state c.compose.new.self) call.new.event
+          (composer_state c.loop-composer.composer) i.0 call.new.parser (composer_state c.take_event.new.self) call.new.event
           k.took
           (rw i.2 at (rw c.in-Ok-None.field-0-is at c.in-Ok-None.ensures.composes))
           call.ensures.bound,
-      c.compose.ensures.sound,
-      c.compose.ensures.bound ∙ i.2,
+      c.take_event.ensures.sound,
+      c.take_event.ensures.bound ∙ i.2,
       (let low = i.3 in let fell = k.fell in omega (arith, low, fell)),
       λ ended. absurd (has_not_ended c.args.parser.now c.loop-composer.parser i.4 k.runs ended),
     )
@@ -130,11 +130,11 @@ returns-in-Ok-Some-clause-loads g c =
     c.in_ok-yaml_parser_parse_into.was (sym c.is_event.ensures ∙ c.if-not-is_event.false) in
     let x = c.loop-composer.composer in
     let ends : (x.is_open ≡ true) × (closing_of call.new.event ≡ Some (closing_by c.in-Ok-Some.closing))
-    × (c.compose.new.self ≡ x) = rw c.in-Ok-Some.field-0-is at c.in-Ok-Some.ensures.composes in
+    × (c.take_event.new.self ≡ x) = rw c.in-Ok-Some.field-0-is at c.in-Ok-Some.ensures.composes in
     way_ends t c.args.composer.max_entries c.args.parser.now c.loop-composer.parser
     (composer_state x) c.loop-composer.invariant.0 call.new.parser call.new.event (opening_of_document x.ctx.document) (loader_of x.ctx)
     (closing_by c.in-Ok-Some.closing) c.into_document.result k.took (ap (λ (b : Bool). state_by b x.ctx) ends.0) ends.1
-    (c.into_document.ensures ∙ ap (λ (y : Composer). ended_by (closing_by c.in-Ok-Some.closing) y.ctx) ends.2)
+    (c.into_document.ensures ∙ ap (λ (y : DocumentBuilder). ended_by (closing_by c.in-Ok-Some.closing) y.ctx) ends.2)
     (after_close t g.met.S.yaml_token_source_t.follows c.loop-composer.parser call.new.parser
     (event_result call.result call.new.event)
     call.ensures call.new.event
@@ -161,7 +161,7 @@ returns-in-Err-clause-loads g c =
     let n = c.args.composer.max_entries in
     way_refused g.S.yaml_token_source_t n c.args.parser.now c.loop-composer.parser
     (composer_state c.loop-composer.composer) c.loop-composer.invariant.0 call.new.parser c.keep_fault.new.parser
-    call.new.event (fault_of c.compose.new.self.fault) k.took
+    call.new.event (fault_of c.take_event.new.self.fault) k.took
     (rw c.loop-composer.invariant.2 at c.in-Err.ensures.composes) c.keep_fault.ensures.kept
 
 pub returns-in-Err-clause-ended : goal.returns-in-Err-clause-ended

@@ -9,11 +9,11 @@ use Rattle.libyaml_composer.proofs.composer.composer_t.start.Goals as goal
 pub returns-clause-tells : goal.returns-clause-tells
 returns-clause-tells c =
     let n = c.in_default-deed.not-FullList in
-    let h = c.hand-deed.ensures.handed n in
+    let h = c.place_child-deed.ensures.handed n in
     let k = composer_of c.args.self.now c.args.stack.now in
     let new = with_open_node c.args.is_mapping (new_id k) (adding k) in
     let is_over = nat_le k.room (length k.stack) in
-    let f = false_from_ne_true (is_list_full k.most k.stack) (λ e. n (c.hand-deed.ensures.full.1 e)) in
+    let f = false_from_ne_true (is_list_full k.most k.stack) (λ e. n (c.place_child-deed.ensures.full.1 e)) in
     let g = sym c.is_stack_full.ensures.full ∙ c.if-is_stack_full.false in
     let free = rw (to_z-of_z w32 c.args.carrier c.ranges.carrier) at c.refusal.ensures.none c.in_default.is
     c.args.place.now (unless (is_list_full k.most k.stack) deed.FullList c.args.place.now k
@@ -22,8 +22,8 @@ returns-clause-tells c =
 
 pub returns-clause-undone : goal.returns-clause-undone
 returns-clause-undone c = λ u. absurd (is_done _ (stack_of c.args.self.now.depth c.args.stack.now)
-    (c.hand-deed.ensures.handed c.in_default-deed.not-FullList).0 u)
+    (c.place_child-deed.ensures.handed c.in_default-deed.not-FullList).0 u)
 
 pub returns-clause-good : goal.returns-clause-good
 returns-clause-good c = is_good _ (stack_of c.args.self.now.depth c.args.stack.now)
-    (c.hand-deed.ensures.handed c.in_default-deed.not-FullList).0
+    (c.place_child-deed.ensures.handed c.in_default-deed.not-FullList).0

@@ -4,7 +4,7 @@ use mir.Val.{SFits}
 use Rattle.libyaml_types.specs.declared.event.unnamed_yaml_event_t_data.TheVariants as ev
 use Rattle.libyaml_documents.specs.Documents.{Document}
 use Rattle.libyaml_composer.specs.declared.deed.Deed.TheVariants as deed
-use Rattle.libyaml_composer.specs.Standing.{Standing}
+use Rattle.libyaml_composer.specs.Represents.{Represents}
 use Rattle.libyaml_loader.specs.document.Context.{opening_of_document}
 use Rattle.libyaml_loader.proofs.document.Deciding.{decided}
 use Rattle.libyaml_loader.proofs.context.loader_ctx.load_end.Goals as goal
@@ -20,7 +20,7 @@ returns-in-Closes-clause-stands c =
     (λ r. r) (λ e. cc) in
     let fits : SFits w32 c.step-deed.new.place.parent = search rules in
     let changed = rw (to_z-of_z w32 c.step-deed.new.place.parent fits) at c.set_end_mark.ensures.changed in
-    subst (λ (x : Document). Standing c.step-deed.new.self (record {
+    subst (λ (x : Document). Represents c.step-deed.new.self (record {
       opening = Some (opening_of_document x);
       nodes = x.nodes;
       anchors = c.args.self.now.anchors;

@@ -8,19 +8,19 @@ returns-in_err-deed-clause-err c =
     let anchor : c.args.alias.now.anchor ≡ c.as_str.result.now = search rules in
     rw (e, anchor) c.in_err-deed.ensures.err
 
-pub hand-requires : goal.hand-requires
-hand-requires c = alias_fits _ _ _ _ _ _ _ c.in_ok-deed.ensures.ok
+pub attach_child-requires : goal.attach_child-requires
+attach_child-requires c = alias_fits _ _ _ _ _ _ _ c.in_ok-deed.ensures.ok
 
 pub returns-clause-ok : goal.returns-clause-ok
 returns-clause-ok c =
     let anchor : c.args.alias.now.anchor ≡ c.as_str.result.now = search rules in
-    rw anchor (on_ok c.hand.result _ _ (λ is. (alias_done _ _ _ _ _ _ _ c.in_ok-deed.ensures.ok c.hand.new.self is).0) c.hand.ensures.handed)
+    rw anchor (on_ok c.attach_child.result _ _ (λ is. (alias_done _ _ _ _ _ _ _ c.in_ok-deed.ensures.ok c.attach_child.new.self is).0) c.attach_child.ensures.handed)
 
 pub returns-clause-stands : goal.returns-clause-stands
 returns-clause-stands c =
-    on_ok c.hand.result _ _ (λ is. (alias_done _ _ _ _ _ _ _ c.in_ok-deed.ensures.ok c.hand.new.self is).1) c.hand.ensures.handed
+    on_ok c.attach_child.result _ _ (λ is. (alias_done _ _ _ _ _ _ _ c.in_ok-deed.ensures.ok c.attach_child.new.self is).1) c.attach_child.ensures.handed
 
 pub returns-clause-err : goal.returns-clause-err
 returns-clause-err c =
     let anchor : c.args.alias.now.anchor ≡ c.as_str.result.now = search rules in
-    rw anchor (if_err c.hand.result _ _ (λ r h. inl (h.0, c.in_ok-deed.ensures.ok.grows (inr h.1))) c.hand.ensures.err)
+    rw anchor (if_err c.attach_child.result _ _ (λ r h. inl (h.0, c.in_ok-deed.ensures.ok.grows (inr h.1))) c.attach_child.ensures.err)

@@ -8,19 +8,19 @@ returns-in_err-deed-clause-err c =
     let e : c.from_residual.result ≡ Err c.in_err-deed.field-0.0 = search rules in
     rw e (c.in_err-deed.ensures.err _ (is_event (ev.SequenceStart c.args.start.now) c.args.start_mark.now c.args.end_mark.now (search rules) refl) tt)
 
-pub hand-requires : goal.hand-requires
-hand-requires c =
+pub attach_child-requires : goal.attach_child-requires
+attach_child-requires c =
     let at = c.in_ok-deed.ensures.ok _ (is_event (ev.SequenceStart c.args.start.now) c.args.start_mark.now c.args.end_mark.now (search rules) refl) tt in
     added_fits _ _ _ _ _ _ at tt c.append_sequence.new.self (search rules)
 
 pub returns-clause-ok : goal.returns-clause-ok
 returns-clause-ok c =
     let at = c.in_ok-deed.ensures.ok _ (is_event (ev.SequenceStart c.args.start.now) c.args.start_mark.now c.args.end_mark.now (search rules) refl) tt in
-    on_ok c.hand.result _ _ (λ is. (added_done _ _ _ _ _ _ at tt c.append_sequence.new.self (search rules) c.hand.new.self is).0)
-    c.hand.ensures.handed
+    on_ok c.attach_child.result _ _ (λ is. (added_done _ _ _ _ _ _ at tt c.append_sequence.new.self (search rules) c.attach_child.new.self is).0)
+    c.attach_child.ensures.handed
 
 pub returns-clause-stands : goal.returns-clause-stands
 returns-clause-stands c =
     let at = c.in_ok-deed.ensures.ok _ (is_event (ev.SequenceStart c.args.start.now) c.args.start_mark.now c.args.end_mark.now (search rules) refl) tt in
-    on_ok c.hand.result _ _ (λ is. (added_done _ _ _ _ _ _ at tt c.append_sequence.new.self (search rules) c.hand.new.self is).1)
-    c.hand.ensures.handed
+    on_ok c.attach_child.result _ _ (λ is. (added_done _ _ _ _ _ _ at tt c.append_sequence.new.self (search rules) c.attach_child.new.self is).1)
+    c.attach_child.ensures.handed

@@ -11,7 +11,7 @@ use Rattle.libyaml_loader.proofs.push.yaml_push_loader_t.push.Goals as goal
 pub returns-in_err-composed : goal.returns-in_err-composed
 returns-in_err-composed c =
     let pushed = c.push_from-pushed in
-    let composed = c.compose_all-composed in
+    let composed = c.take_events-composed in
     let first = c.self.inside.composer in
     let so = rw c.self.invariant.0 at pushed.ensures in
     let none : done_by (fault_of first.fault) ≡ Ok tt = sym c.kept.ensures ∙ c.in_ok-kept.was in
@@ -25,7 +25,7 @@ returns-in_err-composed c =
 pub returns-in-Err : goal.returns-in-Err
 returns-in-Err c =
     let pushed = c.push_from-pushed in
-    let composed = c.compose_all-composed in
+    let composed = c.take_events-composed in
     let first = c.self.inside.composer in
     let so = rw c.self.invariant.0 at pushed.ensures in
     let none : done_by (fault_of first.fault) ≡ Ok tt = sym c.kept.ensures ∙ c.in_ok-kept.was in
@@ -42,7 +42,7 @@ returns-in-Err c =
 pub returns : goal.returns
 returns c =
     let pushed = c.push_from-pushed in
-    let composed = c.compose_all-composed in
+    let composed = c.take_events-composed in
     let first = c.self.inside.composer in
     let so = rw c.self.invariant.0 at pushed.ensures in
     let none : done_by (fault_of first.fault) ≡ Ok tt = sym c.kept.ensures ∙ c.in_ok-kept.was in
@@ -55,7 +55,7 @@ returns c =
 pub invariant_of-self-in_default : goal.invariant_of-self-in_default
 invariant_of-self-in_default c =
     let pushed = c.push_from-pushed in
-    let composed = c.compose_all-composed in
+    let composed = c.take_events-composed in
     let first = c.self.inside.composer in
     let so = rw c.self.invariant.0 at pushed.ensures in
     let none : done_by (fault_of first.fault) ≡ Ok tt = sym c.kept.ensures ∙ c.in_ok-kept.was in

@@ -1,7 +1,7 @@
 use Rattle.std.proofs.Common.{sym, ◌∙◌}
 use Rattle.std.proofs.lemmas.Bool.{true≢false}
 use Rattle.libyaml_loader.proofs.pushes.Steps.{refused}
-use Rattle.libyaml_loader.proofs.composer.Composer.compose.Goals as goal
+use Rattle.libyaml_loader.proofs.composer.DocumentBuilder.take_event.Goals as goal
 
 pub returns-in-Ok-clause-sound : goal.returns-in-Ok-clause-sound
 returns-in-Ok-clause-sound c =
@@ -15,5 +15,5 @@ returns-in-Ok-clause-sound c =
 
 pub returns-in-Err-clause-composes : goal.returns-in-Err-clause-composes
 returns-in-Err-clause-composes c =
-    refused c.args.self.now c.compose.new.self c.args.event.now c.requires.sound c.if-not-self.false c.in-Err.refusal _
+    refused c.args.self.now c.add_event.new.self c.args.event.now c.requires.sound c.if-not-self.false c.in-Err.refusal _
     (sym c.in_default.ensures) c.in-Err.ensures.err c.refuse.ensures.fault

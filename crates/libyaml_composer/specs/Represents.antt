@@ -14,7 +14,7 @@ use Rattle.libyaml_composer.specs.declared.deed.Deed.TheVariants as deed
 use Rattle.libyaml_composer.specs.declared.records.open_t.{open_t}
 use Rattle.libyaml_composer.specs.declared.records.place_t.{place_t}
 use Rattle.libyaml_composer.specs.Composing.{Composer}
-use Rattle.libyaml_composer.specs.Held.{Held}
+use Rattle.libyaml_composer.specs.DocumentSoFar.{DocumentSoFar}
 use Rattle.libyaml_composer.specs.Numbers.{is_set, is_id}
 
 -- An open collection is a node of its kind with so many children; a mapping in which a key waits has begun one pair more
@@ -50,7 +50,7 @@ IsCarried most None = Unit {0}
 IsCarried most (Some c) = (0 < c.id) × (c.id ≤ most)
 
 -- the record is that of these nodes and anchors, within a document that began so
-pub record Standing (c : Composer) (h : Held) (o : Opening) : Type 0 where
+pub record Represents (c : Composer) (h : DocumentSoFar) (o : Opening) : Type 0 where
   pub is_within : c.is_within ≡ true
   pub opening : h.opening ≡ Some o
   pub nodes : c.nodes ≡ length h.nodes

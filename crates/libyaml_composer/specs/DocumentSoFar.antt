@@ -21,12 +21,12 @@ use Rattle.libyaml_composer.specs.Composing.{Composer}
 use Rattle.libyaml_composer.specs.Numbers.{is_id}
 
 -- the start of the document that is open, its nodes so far, and the anchored nodes among them
-pub record Held : Type 0 where
+pub record DocumentSoFar : Type 0 where
   pub opening : Option Opening
   pub nodes : List yaml_node_t
   pub anchors : Anchors
 
-abbrev pub nothing_held : Held
+abbrev pub nothing_held : DocumentSoFar
 nothing_held = record { opening = None; nodes = []; anchors = no_anchors }
 
 -- the anchor that a part names or carries
@@ -45,7 +45,7 @@ carrier_named xs (Some a) = get xs a
 abbrev pub fact_by : Anchors → Option Part → ℤ
 fact_by xs p = pos (id_or (carrier_named xs (anchor_in p)))
 
-abbrev pub event_fact : Held → Event → ℤ
+abbrev pub event_fact : DocumentSoFar → Event → ℤ
 event_fact h e = fact_by h.anchors (part_of e)
 
 -- the node that a part makes, and its anchor
@@ -72,7 +72,7 @@ natural (pos n) = n
 natural (negsuc n) = 0
 
 -- a node comes after the others, if its id says that one does
-abbrev pub with_made_node : (is_node : Bool) → ℤ → Option Part → Held → Held
+abbrev pub with_made_node : (is_node : Bool) → ℤ → Option Part → DocumentSoFar → DocumentSoFar
 with_made_node false i p h = h
 with_made_node true i p h = record h { nodes = h.nodes ++ nodes_made p; anchors = anchored_by (natural i) p h.anchors }
 
@@ -82,14 +82,14 @@ placed deed.Item p nodes = with_changed p.parent (with_item p.child) nodes
 placed deed.Value p nodes = with_changed p.parent (with_pair p.key p.child) nodes
 placed _ p nodes = nodes
 
-abbrev pub held_with_nodes : List yaml_node_t → Held → Held
+abbrev pub held_with_nodes : List yaml_node_t → DocumentSoFar → DocumentSoFar
 held_with_nodes nodes h = record h { nodes = nodes }
 
-abbrev pub with_child_placed : Deed → place_t → Option Part → Held → Held
+abbrev pub with_child_placed : Deed → place_t → Option Part → DocumentSoFar → DocumentSoFar
 with_child_placed d p q h = held_with_nodes (placed d p (with_made_node (is_id p.node) p.node q h).nodes) (with_made_node (is_id p.node) p.node q h)
 
 -- what a caller does where a call returns this deed and place, of an event with this part and this end
-abbrev pub applied_part : Deed → place_t → Option Part → (end : Mark) → Held → Held
+abbrev pub applied_part : Deed → place_t → Option Part → (end : Mark) → DocumentSoFar → DocumentSoFar
 applied_part deed.Root p q m h = with_child_placed deed.Root p q h
 applied_part deed.Item p q m h = with_child_placed deed.Item p q h
 applied_part deed.Key p q m h = with_child_placed deed.Key p q h
@@ -98,7 +98,7 @@ applied_part deed.Closes p q m h = held_with_nodes (with_changed p.parent (with_
 applied_part _ p q m h = h
 
 -- and a document begins
-abbrev pub applied : Deed → place_t → Event → Held → Held
+abbrev pub applied : Deed → place_t → Event → DocumentSoFar → DocumentSoFar
 applied deed.Begins p e h = record { opening = opening_of e; nodes = []; anchors = no_anchors }
 applied d p e h = applied_part d p (part_of e) e.end_mark h
 
@@ -108,7 +108,7 @@ ended_documents None nodes c = []
 ended_documents (Some o) nodes None = []
 ended_documents (Some o) nodes (Some c) = document o nodes c ∷ []
 
-abbrev pub given : Deed → Event → Held → List Document
+abbrev pub given : Deed → Event → DocumentSoFar → List Document
 given deed.Ends e h = ended_documents h.opening h.nodes (closing_of e)
 given _ e h = []
 
@@ -117,12 +117,12 @@ abbrev pub first_mark : Option Carrier → Mark → Mark
 first_mark None m = m
 first_mark (Some c) m = c.mark
 
-abbrev pub fault_part : Deed → Held → Option Part → Mark → Fault
+abbrev pub fault_part : Deed → DocumentSoFar → Option Part → Mark → Fault
 fault_part deed.UndefinedAlias h q m = undefined_alias m
 fault_part deed.RepeatedAnchor h q m = repeated_anchor (first_mark (carrier_named h.anchors (anchor_in q)) m) m
 fault_part _ h q m = memory_fault
 
-abbrev pub deed_fault : Deed → Held → Event → Fault
+abbrev pub deed_fault : Deed → DocumentSoFar → Event → Fault
 deed_fault d h e = fault_part d h (part_of e) e.start_mark
 
 -- the loader's machine, by what the call keeps and what its caller keeps
@@ -132,7 +132,7 @@ key_of i = if is_id i then Some i else None
 abbrev pub open_of : open_t → OpenNode
 open_of o = record { node = o.node; key = key_of o.key }
 
-abbrev pub loader_by : Composer → Held → Loader
+abbrev pub loader_by : Composer → DocumentSoFar → Loader
 loader_by c h = record { nodes = h.nodes; stack = map open_of c.stack; anchors = h.anchors }
 
 abbrev pub state_in : (is_within : Bool) → Option Opening → Loader → State
@@ -140,7 +140,7 @@ state_in false o l = between
 state_in true None l = between
 state_in true (Some o) l = within o l
 
-abbrev pub loader_state : Composer → Held → State
+abbrev pub loader_state : Composer → DocumentSoFar → State
 loader_state c h = state_in c.is_within h.opening (loader_by c h)
 
 -- the event is refused for good
