@@ -542,7 +542,7 @@ static int composer_fault(struct run *run, const pokhvizi_event_t *event, uint32
 }
 
 /* The id of the node that carries an event's anchor. */
-static int32_t carrier_of(struct run *run, const pokhvizi_event_t *event, const yaml_token_t *token)
+static int32_t anchored_node_of(struct run *run, const pokhvizi_event_t *event, const yaml_token_t *token)
 {
     const uint8_t *anchor = run->anchor.bytes;
     size_t length = run->anchor.length;
@@ -561,7 +561,7 @@ static int32_t carrier_of(struct run *run, const pokhvizi_event_t *event, const 
 /* Composes an event, and puts the lines of the document that ends with it. */
 static int compose(struct run *run, const pokhvizi_event_t *event, const yaml_token_t *token, int stays)
 {
-    int32_t fact = carrier_of(run, event, token);
+    int32_t fact = anchored_node_of(run, event, token);
     pokhvizi_place_t place;
     uint32_t deed;
 

@@ -703,7 +703,7 @@ static struct carrier *place_of(struct carrier *table, size_t room, const yaml_c
 }
 
 /* The node of the document that carries an anchor, or 0. */
-static int32_t carrier_of(yaml_parser_t *parser, const struct loading *loading, const yaml_char_t *anchor)
+static int32_t anchored_node_of(yaml_parser_t *parser, const struct loading *loading, const yaml_char_t *anchor)
 {
     if (loading->carriers_count == 0)
         return 0;
@@ -912,7 +912,7 @@ static uint32_t compose(yaml_parser_t *parser, struct loading *loading, const po
 {
     const yaml_char_t *anchor = made->has_anchor ? held->anchor :
                                 made->kind == YAML_ALIAS_EVENT ? token->data.alias.value : NULL;
-    int32_t fact = anchor == NULL ? 0 : carrier_of(parser, loading, anchor);
+    int32_t fact = anchor == NULL ? 0 : anchored_node_of(parser, loading, anchor);
     pokhvizi_place_t place;
     uint32_t deed;
     int done;

@@ -10,7 +10,7 @@ use Rattle.libyaml_composer.specs.declared.deed.Deed.{Deed}
 use Rattle.libyaml_composer.specs.declared.deed.Deed.TheVariants as deed
 use Rattle.libyaml_composer.specs.declared.records.open_t.{open_t}
 use Rattle.libyaml_composer.specs.declared.records.place_t.{place_t}
-use Rattle.libyaml_composer.specs.Composing.{Composer, Told, adding, at_carrier, at_start, between_step, composer_of, collection_ended, holding_top, handing, if_placed, is_start, is_list_full, new_id, with_open_node, stack_of, composer_step, step_in, unless, within_step}
+use Rattle.libyaml_composer.specs.Composing.{Composer, Told, adding, at_anchored_node, at_start, between_step, composer_of, collection_ended, holding_top, handing, if_placed, is_start, is_list_full, new_id, with_open_node, stack_of, composer_step, step_in, unless, within_step}
 use Rattle.libyaml_composer.specs.DocumentSoFar.{DocumentSoFar, event_fact}
 use Rattle.libyaml_composer.specs.Numbers.{is_set, is_id}
 use Rattle.libyaml_composer.proofs.exported.Full.{full_starts}
@@ -45,7 +45,7 @@ placed_few f p c t n h g = unless_few _ deed.FullList p c _ n h
 handing_few : (i j : ℤ) (c : Composer) (n : ℕ) → OpenWithAtMost n c → OpenWithAtMost n (handing i j c).composer
 handing_few i j c n h = let e = handed_length j c.stack in let l = h.1 in (h.0, omega arith)
 
-alias_few : (b : Bool) (i : ℤ) (p : place_t) (c : Composer) (n : ℕ) → OpenWithAtMost n c → OpenWithAtMost n (at_carrier b i p c).composer
+alias_few : (b : Bool) (i : ℤ) (p : place_t) (c : Composer) (n : ℕ) → OpenWithAtMost n c → OpenWithAtMost n (at_anchored_node b i p c).composer
 alias_few false i p c n h = h
 alias_few true i p c n h
     = unless_few (is_list_full c.most c.stack) deed.FullList p c _ n h (handing_few (pos 0) i c n h)

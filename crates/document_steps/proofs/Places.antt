@@ -9,7 +9,7 @@ use Rattle.libyaml_composer.specs.declared.composer.composer_t.{composer_t}
 use Rattle.libyaml_composer.specs.declared.deed.Deed.TheVariants as deed
 use Rattle.libyaml_composer.specs.declared.records.open_t.{open_t}
 use Rattle.libyaml_composer.specs.declared.records.place_t.{place_t}
-use Rattle.libyaml_composer.specs.Composing.{Composer, Told, adding, at_carrier, at_start, between_step, composer_of, deed_for, deed_in, collection_ended, holding_top, handing, holding_in, if_placed, is_list_full, new_id, with_open_node, place_in, step_in, unless, within_step}
+use Rattle.libyaml_composer.specs.Composing.{Composer, Told, adding, at_anchored_node, at_start, between_step, composer_of, deed_for, deed_in, collection_ended, holding_top, handing, holding_in, if_placed, is_list_full, new_id, with_open_node, place_in, step_in, unless, within_step}
 use Rattle.libyaml_composer.specs.DocumentSoFar.{DocumentSoFar, event_fact}
 use Rattle.libyaml_composer.specs.Numbers.{is_set, is_id}
 use Rattle.document_steps.specs.Places.{UnusedAreZero}
@@ -73,7 +73,7 @@ full_stack false p c t h g = g
 if_sound : (f : ℤ) (p : place_t) (c : Composer) (t : Told) → HaveNoKeys c.stack → IsSound t → IsSound (if_placed f p c t)
 if_sound f p c t h g = full_list _ p c _ h (repeated (is_id f) p c _ h (full_list (is_list_full c.most c.stack) p c t h g))
 
-alias_sound : (b : Bool) (i : ℤ) (p : place_t) (c : Composer) → HaveNoKeys c.stack → IsSound (at_carrier b i p c)
+alias_sound : (b : Bool) (i : ℤ) (p : place_t) (c : Composer) → HaveNoKeys c.stack → IsSound (at_anchored_node b i p c)
 alias_sound false i p c h = (tt, h)
 alias_sound true i p c h = full_list (is_list_full c.most c.stack) p c _ h (handing_sound (pos 0) i c h)
 

@@ -6,13 +6,13 @@ use Rattle.std.specs.Prelude.{bytes_eq}
 use Rattle.std.specs.Cmp.Lexicographic.{nat_list_cmp_total}
 use Rattle.std.specs.FinMap.{get, get-from_entries, insert}
 use Rattle.libyaml_grammar.proofs.exported.TextMaps.{inserted}
-use Rattle.libyaml_graphs.specs.graphs.Graphs.{Carrier, id_or}
+use Rattle.libyaml_graphs.specs.graphs.Graphs.{AnchoredNode, id_or}
 use Rattle.libyaml_graphs.specs.machine.Loader.{Anchors, no_anchors}
 use Rattle.document_steps.specs.declared.anchors.anchor_t.{anchor_t}
-use Rattle.document_steps.specs.Anchors.{AreAnchorsWithin, Tabled, bytes_of, entry_in, carrier_id, node_in}
+use Rattle.document_steps.specs.Anchors.{AreAnchorsWithin, Tabled, bytes_of, entry_in, anchored_node_id, node_in}
 
 pub none : (texts : List ℕ) → Tabled texts [] no_anchors
-none texts a = ap carrier_id (sym (get-from_entries nat_list_cmp_total [] a))
+none texts a = ap anchored_node_id (sym (get-from_entries nat_list_cmp_total [] a))
 
 abbrev node_or_none : Option ℤ → ℤ
 node_or_none None = pos 0
@@ -31,7 +31,7 @@ pub found : (texts : List ℕ) (table : List anchor_t) (xs : Anchors) (a : List 
     → node_in texts table a ≡ pos (id_or (get xs a))
 found texts table xs a t = by_entry texts table a ∙ (ap node_or_none (t a) ∙ go (get xs a))
   where
-    go : (x : Option Carrier) → node_or_none (carrier_id x) ≡ pos (id_or x)
+    go : (x : Option AnchoredNode) → node_or_none (anchored_node_id x) ≡ pos (id_or x)
     go None = refl
     go (Some c) = refl
 
@@ -63,20 +63,20 @@ more_in texts more (y ∷ ys) e q w =
     go true h = refl
     go false h = h
 
-pub adds : (texts more : List ℕ) (table : List anchor_t) (e : anchor_t) (xs : Anchors) (a : List ℕ) (c : Carrier)
+pub adds : (texts more : List ℕ) (table : List anchor_t) (e : anchor_t) (xs : Anchors) (a : List ℕ) (c : AnchoredNode)
     → Tabled texts table xs → AreAnchorsWithin texts table → get xs a ≡ None → bytes_of (texts ++ more) e ≡ a → e.node ≡ pos c.id
     → Tabled (texts ++ more) (table ++ e ∷ []) (insert xs a c)
 adds texts more table e xs a c t w new is node q =
     more_in texts more table e q w
     ∙ (ap (λ (x : Option ℤ). or_else x (cond (bytes_eq (bytes_of (texts ++ more) e) q) (Some e.node) None)) (t q)
-    ∙ (rw (is, node) (go (bytes_eq a q) refl) ∙ ap carrier_id (sym (inserted xs a c q))))
+    ∙ (rw (is, node) (go (bytes_eq a q) refl) ∙ ap anchored_node_id (sym (inserted xs a c q))))
   where
     go : (b : Bool) → bytes_eq a q ≡ b
-        → or_else (carrier_id (get xs q)) (cond b (Some (pos c.id)) None) ≡ carrier_id (cond b (Some c) (get xs q))
-    go true h = ap (λ (x : Option Carrier). or_else (carrier_id x) (Some (pos c.id)))
+        → or_else (anchored_node_id (get xs q)) (cond b (Some (pos c.id)) None) ≡ anchored_node_id (cond b (Some c) (get xs q))
+    go true h = ap (λ (x : Option AnchoredNode). or_else (anchored_node_id x) (Some (pos c.id)))
         (ap (get xs) (sym ((bytes_eq-Decides a q).0 h)) ∙ new)
     go false h = by (get xs q)
       where
-        by : (x : Option Carrier) → or_else (carrier_id x) None ≡ carrier_id x
+        by : (x : Option AnchoredNode) → or_else (anchored_node_id x) None ≡ anchored_node_id x
         by None = refl
         by (Some k) = refl

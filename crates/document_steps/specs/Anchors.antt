@@ -1,7 +1,7 @@
 -- A document's anchors, in the caller's memory.
 use Rattle.std.specs.Prelude.{◌≡◌, ◌∷◌, ◌+◌, ◌≤◌, ℕ, ℤ, pos, List, [], length, take, drop, bytes_eq, cond, Option, Some, None}
 use Rattle.std.specs.FinMap.{get}
-use Rattle.libyaml_graphs.specs.graphs.Graphs.{Carrier}
+use Rattle.libyaml_graphs.specs.graphs.Graphs.{AnchoredNode}
 use Rattle.libyaml_graphs.specs.machine.Loader.{Anchors}
 use Rattle.document_steps.specs.declared.anchors.anchor_t.{anchor_t}
 
@@ -18,13 +18,13 @@ abbrev pub entry_in : List ℕ → List anchor_t → List ℕ → Option ℤ
 entry_in texts [] a = None
 entry_in texts (e ∷ es) a = cond (bytes_eq (bytes_of texts e) a) (Some e.node) (entry_in texts es a)
 
-abbrev pub carrier_id : Option Carrier → Option ℤ
-carrier_id None = None
-carrier_id (Some c) = Some (pos c.id)
+abbrev pub anchored_node_id : Option AnchoredNode → Option ℤ
+anchored_node_id None = None
+anchored_node_id (Some c) = Some (pos c.id)
 
 -- the table has these anchored nodes
 abbrev pub Tabled : List ℕ → List anchor_t → Anchors → Type 0
-Tabled texts table xs = (a : List ℕ) → entry_in texts table a ≡ carrier_id (get xs a)
+Tabled texts table xs = (a : List ℕ) → entry_in texts table a ≡ anchored_node_id (get xs a)
 
 abbrev pub AreAnchorsWithin : List ℕ → List anchor_t → Type 0
 AreAnchorsWithin texts [] = Unit {0}

@@ -1,7 +1,7 @@
 //! What holds of a caller's run of calls. Each function does nothing when it runs: its contract is the law.
 ghost use Rattle.std.specs.Prelude.{◌≡◌, ◌++◌, ◌∷◌, ℕ, pos, List, [], None, Err, true, false};
 ghost use Rattle.std.specs.FinMap.{get, insert};
-ghost use Rattle.libyaml_graphs.specs.graphs.Graphs.{Carrier, id_or};
+ghost use Rattle.libyaml_graphs.specs.graphs.Graphs.{AnchoredNode, id_or};
 ghost use Rattle.libyaml_graphs.specs.machine.Loader.{Anchors, no_anchors};
 ghost use Rattle.document_steps.specs.declared.anchors.anchor_t.{anchor_t};
 ghost use Rattle.document_steps.specs.Anchors.{AreAnchorsWithin, Tabled, bytes_of, node_in};
@@ -51,7 +51,7 @@ pub fn tables_follow()
         → Tabled texts table anchors → node_in texts table anchor ≡ pos (id_or (get anchors anchor)) }
     ensures begins { (texts : List ℕ) → Tabled texts [] no_anchors }
     ensures adds { (texts more : List ℕ) (table : List anchor_t) (entry : anchor_t) (anchors : Anchors)
-        (anchor : List ℕ) (carrier : Carrier) → Tabled texts table anchors → AreAnchorsWithin texts table
+        (anchor : List ℕ) (carrier : AnchoredNode) → Tabled texts table anchors → AreAnchorsWithin texts table
         → get anchors anchor ≡ None → bytes_of (texts ++ more) entry ≡ anchor → entry.node ≡ pos carrier.id
         → Tabled (texts ++ more) (table ++ entry ∷ []) (insert anchors anchor carrier) }
 {}

@@ -99,9 +99,9 @@ unless true d p c t = told d p c
 unless false d p c t = t
 
 -- an alias, by whether a node carries its anchor
-abbrev pub at_carrier : Bool → ℤ → place_t → Composer → Told
-at_carrier false i p c = told deed.UndefinedAlias p c
-at_carrier true i p c = unless (is_list_full c.most c.stack) deed.FullList p c (handing (pos 0) i c)
+abbrev pub at_anchored_node : Bool → ℤ → place_t → Composer → Told
+at_anchored_node false i p c = told deed.UndefinedAlias p c
+at_anchored_node true i p c = unless (is_list_full c.most c.stack) deed.FullList p c (handing (pos 0) i c)
 
 -- A node, unless it has no id or its anchor is another's: the list of nodes first.
 abbrev pub if_free : ℤ → place_t → Composer → Told → Told
@@ -138,7 +138,7 @@ collection_ended (o ∷ s) p c = told deed.Closes (record { node = pos 0; child 
 -- an event within a document, and between documents
 abbrev pub within_step : yaml_event_type_t → ℤ → place_t → Composer → Told
 within_step event_kinds.YAML_DOCUMENT_END_EVENT f p c = told deed.Ends p (record c { is_within = false })
-within_step event_kinds.YAML_ALIAS_EVENT f p c = at_carrier (is_id f) f p c
+within_step event_kinds.YAML_ALIAS_EVENT f p c = at_anchored_node (is_id f) f p c
 within_step event_kinds.YAML_SCALAR_EVENT f p c = if_placed f p c (adding c)
 within_step event_kinds.YAML_SEQUENCE_START_EVENT f p c = at_start 0 f p c
 within_step event_kinds.YAML_MAPPING_START_EVENT f p c = at_start 1 f p c

@@ -10,7 +10,7 @@ use Rattle.libyaml_documents.specs.Nodes.{with_changed, with_item, with_pair}
 use Rattle.libyaml_documents.specs.declared.node.yaml_node_t.{yaml_node_t}
 use Rattle.libyaml_graphs.specs.graphs.ComposerFaults.{repeated_anchor, undefined_alias}
 use Rattle.libyaml_graphs.specs.graphs.GraphParts.{Closing, Opening, Part, alias_part, closing_of, end_part, leaf_part, opening_of, part_of, start_part}
-use Rattle.libyaml_graphs.specs.graphs.Graphs.{Carrier, id_or}
+use Rattle.libyaml_graphs.specs.graphs.Graphs.{AnchoredNode, id_or}
 use Rattle.libyaml_graphs.specs.loads.Loads.{document}
 use Rattle.libyaml_graphs.specs.machine.Loader.{Anchors, Loader, OpenNode, State, between, no_anchors, within}
 use Rattle.libyaml_composer.specs.declared.deed.Deed.{Deed}
@@ -37,13 +37,13 @@ anchor_in (Some (leaf_part a x)) = a
 anchor_in (Some (start_part a x)) = a
 anchor_in (Some (end_part n)) = None
 
-abbrev pub carrier_named : Anchors → Option (List ℕ) → Option Carrier
-carrier_named xs None = None
-carrier_named xs (Some a) = get xs a
+abbrev pub anchored_node_named : Anchors → Option (List ℕ) → Option AnchoredNode
+anchored_node_named xs None = None
+anchored_node_named xs (Some a) = get xs a
 
 -- the fact that a call takes with an event: the id of the node that carries its anchor, and else 0
 abbrev pub fact_by : Anchors → Option Part → ℤ
-fact_by xs p = pos (id_or (carrier_named xs (anchor_in p)))
+fact_by xs p = pos (id_or (anchored_node_named xs (anchor_in p)))
 
 abbrev pub event_fact : DocumentSoFar → Event → ℤ
 event_fact h e = fact_by h.anchors (part_of e)
@@ -113,13 +113,13 @@ given deed.Ends e h = ended_documents h.opening h.nodes (closing_of e)
 given _ e h = []
 
 -- the error of a deed that refuses an event
-abbrev pub first_mark : Option Carrier → Mark → Mark
+abbrev pub first_mark : Option AnchoredNode → Mark → Mark
 first_mark None m = m
 first_mark (Some c) m = c.mark
 
 abbrev pub fault_part : Deed → DocumentSoFar → Option Part → Mark → Fault
 fault_part deed.UndefinedAlias h q m = undefined_alias m
-fault_part deed.RepeatedAnchor h q m = repeated_anchor (first_mark (carrier_named h.anchors (anchor_in q)) m) m
+fault_part deed.RepeatedAnchor h q m = repeated_anchor (first_mark (anchored_node_named h.anchors (anchor_in q)) m) m
 fault_part _ h q m = memory_fault
 
 abbrev pub deed_fault : Deed → DocumentSoFar → Event → Fault

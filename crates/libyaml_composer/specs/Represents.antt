@@ -6,7 +6,7 @@ use Rattle.libyaml_documents.specs.Nodes.{IsIdUpTo, type_at}
 use Rattle.libyaml_documents.specs.declared.node.unnamed_yaml_node_t_data.{unnamed_yaml_node_t_data}
 use Rattle.libyaml_documents.specs.declared.node.unnamed_yaml_node_t_data.TheVariants.{Scalar, Sequence, Mapping}
 use Rattle.libyaml_documents.specs.declared.node.yaml_node_t.{yaml_node_t}
-use Rattle.libyaml_graphs.specs.graphs.Graphs.{Carrier}
+use Rattle.libyaml_graphs.specs.graphs.Graphs.{AnchoredNode}
 use Rattle.libyaml_graphs.specs.graphs.GraphParts.{Opening, Part, alias_part, end_part, leaf_part, start_part}
 use Rattle.libyaml_graphs.specs.machine.Loader.{OpenNode}
 use Rattle.libyaml_composer.specs.declared.deed.Deed.{Deed}
@@ -45,7 +45,7 @@ Opens most nodes n (o ∷ s) = (k : ℕ) × (o.node ≡ pos (suc k)) × (k < n) 
     × Opens most nodes k s
 
 -- an anchored node is one of so many nodes
-abbrev pub IsCarried : ℕ → Option Carrier → Type 0
+abbrev pub IsCarried : ℕ → Option AnchoredNode → Type 0
 IsCarried most None = Unit {0}
 IsCarried most (Some c) = (0 < c.id) × (c.id ≤ most)
 

@@ -6,7 +6,7 @@ ghost use Rattle.libyaml_composer.specs.declared.records.place_t.{place_t};
 ghost use Rattle.libyaml_composer.specs.Composing.{Told, at_start, between_step, composer_of, deed_for};
 ghost use Rattle.libyaml_composer.specs.Composing.{collection_ended, holding_top, if_free, if_placed};
 ghost use Rattle.libyaml_composer.specs.Composing.{does_nothing, is_list_full};
-ghost use Rattle.libyaml_composer.specs.Composing.{adding, at_carrier, most_of, place_in, stack_of};
+ghost use Rattle.libyaml_composer.specs.Composing.{adding, at_anchored_node, most_of, place_in, stack_of};
 ghost use Rattle.libyaml_composer.specs.Composing.{composer_step, told};
 ghost use Rattle.libyaml_composer.specs.Numbers.{is_id, event_kind};
 
@@ -244,35 +244,35 @@ impl composer_t {
 
     /// Takes an alias within a document, by the id of the node that has its anchor.
     #[inline(always)]
-    pub fn alias(&mut self, stack: &mut [open_t], carrier: i32, place: &mut place_t) -> Deed
+    pub fn alias(&mut self, stack: &mut [open_t], anchored_node: i32, place: &mut place_t) -> Deed
         requires { self.old.depth ≤ length stack.old }
         ensures tells { told result place.new (composer_of self.new stack.new)
-            ≡ at_carrier (is_id carrier) carrier place.old (composer_of self.old stack.old) }
+            ≡ at_anchored_node (is_id anchored_node) anchored_node place.old (composer_of self.old stack.old) }
         ensures kept { self.new ≡ self.old }
         ensures undone { does_nothing result ≡ true → (stack.new ≡ stack.old) × (place.new ≡ place.old) }
         ensures good { result ≡ Deed.Bad → ⊥ }
     {
-        if !is_id(carrier) {
+        if !is_id(anchored_node) {
             return Deed::UndefinedAlias;
         }
-        self.place_child(stack, 0, carrier, place)
+        self.place_child(stack, 0, anchored_node, place)
     }
 
     /// Returns why a node has no id or no anchor of its own, or `None` if it has them.
     #[inline(always)]
-    fn refusal(&self, stack: &[open_t], carrier: i32) -> Option<Deed>
+    fn refusal(&self, stack: &[open_t], anchored_node: i32) -> Option<Deed>
         requires { self.now.depth ≤ length stack.now }
         ensures some { IfSome result (λ d. (does_nothing d ≡ true) × ((d ≡ Deed.Bad → ⊥)
-            × ((p : place_t) (t : Told) → if_free carrier p (composer_of self.now stack.now) t
+            × ((p : place_t) (t : Told) → if_free anchored_node p (composer_of self.now stack.now) t
             ≡ told d p (composer_of self.now stack.now)))) }
         ensures none { result ≡ None → (p : place_t) (t : Told)
-            → if_free carrier p (composer_of self.now stack.now) t ≡ t }
+            → if_free anchored_node p (composer_of self.now stack.now) t ≡ t }
         ensures nodes { result ≡ None → self.now.nodes < 2147483647 }
     {
         if self.nodes >= self.most() {
             return Some(Deed::FullList);
         }
-        if is_id(carrier) {
+        if is_id(anchored_node) {
             return Some(Deed::RepeatedAnchor);
         }
         None
@@ -280,10 +280,10 @@ impl composer_t {
 
     /// Takes a scalar within a document.
     #[inline(always)]
-    pub fn scalar(&mut self, stack: &mut [open_t], carrier: i32, place: &mut place_t) -> Deed
+    pub fn scalar(&mut self, stack: &mut [open_t], anchored_node: i32, place: &mut place_t) -> Deed
         requires { self.old.depth ≤ length stack.old }
         ensures tells { told result place.new (composer_of self.new stack.new)
-            ≡ if_placed carrier place.old (composer_of self.old stack.old)
+            ≡ if_placed anchored_node place.old (composer_of self.old stack.old)
             (adding (composer_of self.old stack.old)) }
         ensures within { self.new.depth ≤ length stack.new }
         ensures undone { does_nothing result ≡ true → (self.new ≡ self.old) × ((stack.new ≡ stack.old)
@@ -291,7 +291,7 @@ impl composer_t {
         ensures good { result ≡ Deed.Bad → ⊥ }
         ensures bound { self.new.max_entries ≡ self.old.max_entries }
     {
-        if let Some(refusal) = self.refusal(stack, carrier) {
+        if let Some(refusal) = self.refusal(stack, anchored_node) {
             return refusal;
         }
         let id = self.nodes as i32 + 1;
@@ -309,19 +309,19 @@ impl composer_t {
         &mut self,
         stack: &mut [open_t],
         is_mapping: u32,
-        carrier: i32,
+        anchored_node: i32,
         place: &mut place_t,
     ) -> Deed
         requires { self.old.depth ≤ length stack.old }
         ensures tells { told result place.new (composer_of self.new stack.new)
-            ≡ at_start is_mapping carrier place.old (composer_of self.old stack.old) }
+            ≡ at_start is_mapping anchored_node place.old (composer_of self.old stack.old) }
         ensures within { self.new.depth ≤ length stack.new }
         ensures undone { does_nothing result ≡ true → (self.new ≡ self.old) × ((stack.new ≡ stack.old)
             × (place.new ≡ place.old)) }
         ensures good { result ≡ Deed.Bad → ⊥ }
         ensures bound { self.new.max_entries ≡ self.old.max_entries }
     {
-        if let Some(refusal) = self.refusal(stack, carrier) {
+        if let Some(refusal) = self.refusal(stack, anchored_node) {
             return refusal;
         }
         if self.is_stack_full(stack) {

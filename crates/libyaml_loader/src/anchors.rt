@@ -5,9 +5,9 @@ ghost use Rattle.std.specs.Option.{option_map};
 ghost use Rattle.std.specs.FinMap.{get, insert};
 ghost use Rattle.libyaml_graphs.specs.graphs.Graphs.{id_or};
 ghost use Rattle.libyaml_graphs.specs.machine.Loader.{no_anchors};
-ghost use Rattle.libyaml_loader.specs.document.Ids.{carrier_of};
+ghost use Rattle.libyaml_loader.specs.document.Ids.{anchored_node_of};
 
-use crate::ids::Carrier;
+use crate::ids::AnchoredNode;
 use std::alloc::{AllocError, Global};
 use std::collections::BTreeMap;
 use std::marker::Model;
@@ -17,7 +17,7 @@ use std::marker::Model;
 /// libyaml: the parser's field `aliases`.
 #[derive(Drop)]
 pub(crate) struct Anchors {
-    inner: BTreeMap<String, Carrier>,
+    inner: BTreeMap<String, AnchoredNode>,
 }
 
 impl Model for Anchors {
@@ -43,8 +43,8 @@ impl Anchors {
 
     /// Returns the anchored node of this anchor.
     #[tactic(auto, using(crate::proofs::document::AnchorLemmas::get_anchor))]
-    pub(crate) fn find(&self, anchor: &str) -> Option<Carrier>
-        ensures { option_map carrier_of result ≡ get self.now anchor.now }
+    pub(crate) fn find(&self, anchor: &str) -> Option<AnchoredNode>
+        ensures { option_map anchored_node_of result ≡ get self.now anchor.now }
     {
         self.inner.get(anchor).copied()
     }
@@ -57,25 +57,25 @@ impl Anchors {
     pub(crate) fn register(
         &mut self,
         anchor: String,
-        carrier: Carrier,
-    ) -> Result<Option<Carrier>, AllocError>
-        ensures earlier { IfOk result (λ earlier. option_map carrier_of earlier ≡
+        anchored_node: AnchoredNode,
+    ) -> Result<Option<AnchoredNode>, AllocError>
+        ensures earlier { IfOk result (λ earlier. option_map anchored_node_of earlier ≡
             get self.old (string_bytes anchor)) }
         ensures registered { OnOk result (self.new
-            ≡ insert self.old (string_bytes anchor) (carrier_of carrier)) }
+            ≡ insert self.old (string_bytes anchor) (anchored_node_of anchored_node)) }
     {
-        Ok(self.inner.insert(anchor, carrier)?)
+        Ok(self.inner.insert(anchor, anchored_node)?)
     }
 }
 
 /// Returns the id of the node that has an anchor, or 0 if none does.
 #[inline(always)]
 #[tactic(auto, using(crate::proofs::document::AnchorLemmas::magnitude_is))]
-pub(crate) fn id_or_none(carrier: Option<Carrier>) -> i32
-    ensures { result ≡ pos (id_or (option_map carrier_of carrier)) }
+pub(crate) fn id_or_none(anchored_node: Option<AnchoredNode>) -> i32
+    ensures { result ≡ pos (id_or (option_map anchored_node_of anchored_node)) }
 {
-    match carrier {
-        Some(carrier) => carrier.node,
+    match anchored_node {
+        Some(anchored_node) => anchored_node.node,
         None => 0,
     }
 }

@@ -19,7 +19,7 @@ ghost use Rattle.libyaml_loader.specs.document.Context.{ComposerMatches, refusal
 ghost use Rattle.libyaml_loader.specs.document.Stack.{with_document_begun, first_composer};
 
 use crate::anchors::{Anchors, id_or_none};
-use crate::ids::Carrier;
+use crate::ids::AnchoredNode;
 use crate::refusal::Refusal;
 use crate::stack::{NO_PLACE, OpenCollections};
 use libyaml_composer::{Deed, place_t};
@@ -289,7 +289,7 @@ impl loader_ctx {
         let node = count as i32 + 1;
         match self
             .anchors
-            .register(anchor, Carrier { node, mark: *mark })?
+            .register(anchor, AnchoredNode { node, mark: *mark })?
         {
             None => Ok(0),
             Some(first) => {
@@ -319,8 +319,8 @@ impl loader_ctx {
         ensures err { IfErr result (λ r. (e : Event) → IsEvent kind (option_map string_bytes anchor.old)
             mark.now e → IsNode (part_of e) → Refuses self.old self.new (part_of e) mark.now r) }
     {
-        let carrier = self.named(anchor, mark)?;
-        let deed = accepted(self.collections.take(kind, carrier, place)?)?;
+        let anchored_node = self.named(anchor, mark)?;
+        let deed = accepted(self.collections.take(kind, anchored_node, place)?)?;
         Ok(deed)
     }
 
@@ -342,9 +342,12 @@ impl loader_ctx {
         ensures err { IfErr result (λ r. Refuses self.old self.new (Some (alias_part anchor.now mark.now))
             mark.now r) }
     {
-        let carrier = self.anchors.find(anchor);
+        let anchored_node = self.anchors.find(anchor);
         let kind = yaml_event_type_t::YAML_ALIAS_EVENT;
-        let deed = accepted(self.collections.take(kind, id_or_none(carrier), place)?)?;
+        let deed = accepted(
+            self.collections
+                .take(kind, id_or_none(anchored_node), place)?,
+        )?;
         Ok(deed)
     }
 

@@ -65,7 +65,7 @@ static int carry(struct document *document, int32_t id)
 }
 
 /* The id of the node that has the anchor of the event at hand, or 0. */
-static int find_carrier(const struct document *document, int32_t *fact)
+static int find_anchored_node(const struct document *document, int32_t *fact)
 {
     const parser_object *parser = document->parser;
     int is_alias = parser->event.kind == YAML_ALIAS_EVENT;
@@ -201,7 +201,7 @@ static int compose_event(struct document *document)
     int32_t fact;
     int deed;
 
-    if (find_carrier(document, &fact) < 0)
+    if (find_anchored_node(document, &fact) < 0)
         return -1;
     while ((deed = ask(document, fact, &place)) == POKHVIZI_FULL_STACK)
         if (grow_stack(document) < 0)

@@ -13,16 +13,16 @@ use Rattle.libyaml_documents.specs.LoadedNodes.{mapping_loaded, scalar_loaded, s
 use Rattle.libyaml_documents.specs.Nodes.{IsIdUpTo, with_changed}
 use Rattle.libyaml_documents.specs.declared.node.yaml_node_t.{yaml_node_t}
 use Rattle.libyaml_graphs.specs.graphs.ComposerFaults.{repeated_anchor}
-use Rattle.libyaml_graphs.specs.graphs.Graphs.{Carrier, id_or}
+use Rattle.libyaml_graphs.specs.graphs.Graphs.{AnchoredNode, id_or}
 use Rattle.libyaml_graphs.specs.graphs.GraphParts.{Opening, Part, alias_part, closing_in, closing_of, end_part, leaf_part, part_in, part_of, start_part}
 use Rattle.libyaml_graphs.specs.machine.Loader.{Anchors, Loader, Loading, OpenNode, Registered, bounded_option, failed, going, if_child_fits, known, on_alias, on_node, parent_full, register, registered, unless_full}
 use Rattle.libyaml_composer.specs.declared.deed.Deed.{Deed}
 use Rattle.libyaml_composer.specs.declared.deed.Deed.TheVariants as deed
 use Rattle.libyaml_composer.specs.declared.records.open_t.{open_t}
 use Rattle.libyaml_composer.specs.declared.records.place_t.{place_t}
-use Rattle.libyaml_composer.specs.Composing.{Composer, Told, adding, at_carrier, at_start, deed_for, deed_in, collection_ended, holding_top, if_placed, is_list_full, with_open_node, place_in, told, unless, within_step}
+use Rattle.libyaml_composer.specs.Composing.{Composer, Told, adding, at_anchored_node, at_start, deed_for, deed_in, collection_ended, holding_top, if_placed, is_list_full, with_open_node, place_in, told, unless, within_step}
 use Rattle.libyaml_composer.specs.Numbers.{is_set, is_id}
-use Rattle.libyaml_composer.specs.DocumentSoFar.{DocumentSoFar, anchor_in, anchored, applied_part, carrier_named, fact_by, event_fact, fault_part, IsRefused, first_mark, loader_by, nodes_made, with_made_node, open_of, placed, with_child_placed}
+use Rattle.libyaml_composer.specs.DocumentSoFar.{DocumentSoFar, anchor_in, anchored, applied_part, anchored_node_named, fact_by, event_fact, fault_part, IsRefused, first_mark, loader_by, nodes_made, with_made_node, open_of, placed, with_child_placed}
 use Rattle.libyaml_composer.proofs.Children.{Handing, hands_child}
 use Rattle.libyaml_composer.proofs.Opens.{get_last, length_changed, opens_more, opens_other, opens_wider}
 use Rattle.libyaml_composer.specs.Represents.{FitsParent, IsAlike, IsCarried, IsChild, IsClosed, IsNode, IsOpenNode, IsPart, PutsNode, Opens, Represents, TakesOneMore}
@@ -86,7 +86,7 @@ child_applied (o ∷ s) p q m h = go (is_set o.is_mapping) (is_id o.key)
     go true true = refl
 
 -- anchors
-not_carried : (n : ℕ) (x : Option Carrier) → IsCarried n x → is_id (pos (id_or x)) ≡ false → x ≡ None
+not_carried : (n : ℕ) (x : Option AnchoredNode) → IsCarried n x → is_id (pos (id_or x)) ≡ false → x ≡ None
 not_carried n None h e = refl
 not_carried n (Some c) h e = absurd (go c.id h.0 e)
   where
@@ -94,19 +94,19 @@ not_carried n (Some c) h e = absurd (go c.id h.0 e)
     go zero h e = absurd (omega arith)
     go (suc n) h e = absurd (true≢false e)
 
-registers : (xs : Anchors) (a : Option (List ℕ)) (i : ℕ) (m : Mark) → carrier_named xs a ≡ None
+registers : (xs : Anchors) (a : Option (List ℕ)) (i : ℕ) (m : Mark) → anchored_node_named xs a ≡ None
     → register a i m xs ≡ registered (anchored a i m xs)
 registers xs None i m e = refl
-registers xs (Some a) i m e = ap (λ (x : Option Carrier). elim x
+registers xs (Some a) i m e = ap (λ (x : Option AnchoredNode). elim x
     [ Some c ↦ known c.mark | None ↦ registered (insert xs a (record { id = i; mark = m })) ]) e
 
-knows : (xs : Anchors) (a : Option (List ℕ)) (i : ℕ) (m : Mark) (c : Carrier) → carrier_named xs a ≡ Some c
+knows : (xs : Anchors) (a : Option (List ℕ)) (i : ℕ) (m : Mark) (c : AnchoredNode) → anchored_node_named xs a ≡ Some c
     → register a i m xs ≡ known c.mark
 knows xs None i m c e = absurd cc
-knows xs (Some a) i m c e = ap (λ (x : Option Carrier). elim x
+knows xs (Some a) i m c e = ap (λ (x : Option AnchoredNode). elim x
     [ Some c ↦ known c.mark | None ↦ registered (insert xs a (record { id = i; mark = m })) ]) e
 
-carried_wider : (n m : ℕ) (x : Option Carrier) → n ≤ m → IsCarried n x → IsCarried m x
+carried_wider : (n m : ℕ) (x : Option AnchoredNode) → n ≤ m → IsCarried n x → IsCarried m x
 carried_wider n m None le h = tt
 carried_wider n m (Some c) le h = (h.0, omega (arith, h.1, le))
 
@@ -117,7 +117,7 @@ carried_more n xs (Some a) m h q =
     subst (IsCarried (suc n)) (sym (get-insert nat_list_cmp_total xs a (record { id = suc n; mark = m }) q))
     (go (is_at (slice_cmp nat_cmp q) a) (get xs q) (carried_wider n (suc n) (get xs q) (omega arith) (h q)))
   where
-    go : (b : Bool) (x : Option Carrier) → IsCarried (suc n) x
+    go : (b : Bool) (x : Option AnchoredNode) → IsCarried (suc n) x
         → IsCarried (suc n) (cond b (Some (record { id = suc n; mark = m })) x)
     go true x h = (omega arith, omega arith)
     go false x h = h
@@ -182,7 +182,7 @@ module _ (most room : ℕ) (o : Opening) (s : List open_t) (h : DocumentSoFar) (
   count x = let e = (more x).count in omega (arith, e, length-append h.nodes (x ∷ []))
 
   -- the machine after it
-  goes_on : (a : Option (List ℕ)) (x : yaml_node_t) (opens : List OpenNode) → carrier_named h.anchors a ≡ None
+  goes_on : (a : Option (List ℕ)) (x : yaml_node_t) (opens : List OpenNode) → anchored_node_named h.anchors a ≡ None
       → on_node (register a (suc (length h.nodes)) x.start_mark h.anchors) x opens (loader_by here h)
       ≡ going (record {
         nodes = (after a x).nodes;
@@ -195,34 +195,34 @@ module _ (most room : ℕ) (o : Opening) (s : List open_t) (h : DocumentSoFar) (
       (ap (λ (t : List OpenNode). opens ++ t) (sym (more x).stack_is))
 
   module _ (a : Option (List ℕ)) (x : yaml_node_t) (end : Mark) where
-    none_carries : is_id (pos (id_or (carrier_named h.anchors a))) ≡ false → carrier_named h.anchors a ≡ None
+    none_carries : is_id (pos (id_or (anchored_node_named h.anchors a))) ≡ false → anchored_node_named h.anchors a ≡ None
     none_carries e = go a e
       where
-        go : (b : Option (List ℕ)) → is_id (pos (id_or (carrier_named h.anchors b))) ≡ false
-            → carrier_named h.anchors b ≡ None
+        go : (b : Option (List ℕ)) → is_id (pos (id_or (anchored_node_named h.anchors b))) ≡ false
+            → anchored_node_named h.anchors b ≡ None
         go None e = refl
         go (Some b) e = not_carried (length h.nodes) (get h.anchors b) (carried b) e
 
-    some_carries : is_id (pos (id_or (carrier_named h.anchors a))) ≡ true
-        → (c : Carrier) × (carrier_named h.anchors a ≡ Some c)
-    some_carries e = go (carrier_named h.anchors a) e
+    some_carries : is_id (pos (id_or (anchored_node_named h.anchors a))) ≡ true
+        → (c : AnchoredNode) × (anchored_node_named h.anchors a ≡ Some c)
+    some_carries e = go (anchored_node_named h.anchors a) e
       where
-        go : (k : Option Carrier) → is_id (pos (id_or k)) ≡ true → (c : Carrier) × (k ≡ Some c)
+        go : (k : Option AnchoredNode) → is_id (pos (id_or k)) ≡ true → (c : AnchoredNode) × (k ≡ Some c)
         go None e = absurd (true≢false (sym e))
         go (Some c) e = (c, refl)
 
-    repeats : (opens : List OpenNode) (q : Option Part) → carrier_named h.anchors (anchor_in q) ≡ carrier_named h.anchors a
-        → is_id (pos (id_or (carrier_named h.anchors a))) ≡ true
+    repeats : (opens : List OpenNode) (q : Option Part) → anchored_node_named h.anchors (anchor_in q) ≡ anchored_node_named h.anchors a
+        → is_id (pos (id_or (anchored_node_named h.anchors a))) ≡ true
         → on_node (register a (suc (length h.nodes)) x.start_mark h.anchors) x opens (loader_by here h)
         ≡ failed (fault_part deed.RepeatedAnchor h q x.start_mark)
     repeats opens q same e =
         let (c, is) = some_carries e in
         ap (λ (r : Registered). on_node r x opens (loader_by here h))
         (knows h.anchors a (suc (length h.nodes)) x.start_mark c is)
-        ∙ ap (λ (k : Option Carrier). failed (repeated_anchor (first_mark k x.start_mark) x.start_mark)) (sym (same ∙ is))
+        ∙ ap (λ (k : Option AnchoredNode). failed (repeated_anchor (first_mark k x.start_mark) x.start_mark)) (sym (same ∙ is))
 
     stands : (c : Composer) → c.is_within ≡ true → c.nodes ≡ suc (length h.nodes)
-        → carrier_named h.anchors a ≡ None
+        → anchored_node_named h.anchors a ≡ None
         → Opens (suc (length h.nodes)) (after a x).nodes (suc (length h.nodes)) c.stack → Represents c (after a x) o
     stands c within nodes none there = record {
       is_within = within;
@@ -300,7 +300,7 @@ module _ (most room : ℕ) (o : Opening) (s : List open_t) (h : DocumentSoFar) (
           (λ e. (_, goes_on a x (opened_node ∷ []) (none_carries e)))
           (λ e. by (nat_le room (length s)) e))
         where
-          by : (b : Bool) → is_id (pos (id_or (carrier_named h.anchors a))) ≡ false
+          by : (b : Bool) → is_id (pos (id_or (anchored_node_named h.anchors a))) ≡ false
               → Follows most o h s as_start x.start_mark end (node_made (opened_node ∷ [])) (unless b deed.FullStack p here (with_open_node m id (adding here)))
           by true e = full refl
           by false e = goes (part_deed s)
@@ -316,7 +316,7 @@ module _ (most room : ℕ) (o : Opening) (s : List open_t) (h : DocumentSoFar) (
     abbrev as_alias : Option Part
     as_alias = Some (alias_part a m)
 
-    module _ (k : Carrier) (lt : (0 < k.id) × (k.id ≤ length h.nodes)) where
+    module _ (k : AnchoredNode) (lt : (0 < k.id) × (k.id ≤ length h.nodes)) where
       abbrev aliased : Told
       aliased = told (deed_for s) (place_in (pos 0) (pos k.id) s) (record here { stack = holding_top (pos k.id) s })
 
@@ -353,19 +353,19 @@ module _ (most room : ℕ) (o : Opening) (s : List open_t) (h : DocumentSoFar) (
             numbered = λ n. absurd n;
           })
 
-    alias_of : (k : Option Carrier) → IsCarried (length h.nodes) k → Follows most o h s as_alias m end
+    alias_of : (k : Option AnchoredNode) → IsCarried (length h.nodes) k → Follows most o h s as_alias m end
         (unless_full false (if_child_fits (parent_full most (map open_of s) h.nodes) (on_alias k m (loader_by here h))))
-        (at_carrier (is_id (pos (id_or k))) (pos (id_or k)) p here)
+        (at_anchored_node (is_id (pos (id_or k))) (pos (id_or k)) p here)
     alias_of None lt = fails tt refl
     alias_of (Some k) lt = subst (λ (b : Bool). Follows most o h s as_alias m end
         (unless_full false (if_child_fits b (on_alias (Some k) m (loader_by here h))))
-        (at_carrier (is_id (pos k.id)) (pos k.id) p here)) (sym room_is)
+        (at_anchored_node (is_id (pos k.id)) (pos k.id) p here)) (sym room_is)
         (subst (λ (b : Bool). Follows most o h s as_alias m end
         (unless_full false (if_child_fits (is_list_full most s) (on_alias (Some k) m (loader_by here h))))
-        (at_carrier b (pos k.id) p here)) (sym (id_of k.id lt.0)) (alias_by k lt (is_list_full most s)))
+        (at_anchored_node b (pos k.id) p here)) (sym (id_of k.id lt.0)) (alias_by k lt (is_list_full most s)))
 
     alias : Follows most o h s as_alias m end (bounded_option most (loader_by here h) as_alias)
-        (at_carrier (is_id (fact_by h.anchors as_alias)) (fact_by h.anchors as_alias) p here)
+        (at_anchored_node (is_id (fact_by h.anchors as_alias)) (fact_by h.anchors as_alias) p here)
     alias = alias_of (get h.anchors a) (carried a)
 
   nothing_put : {q : Option Part} {t : List open_t} → (IsChild q → ⊥) → (IsNode q → ⊥) → Puts deed.Passes p q h t

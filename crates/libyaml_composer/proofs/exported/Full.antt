@@ -6,7 +6,7 @@ use Rattle.libyaml_composer.specs.declared.deed.Deed.{Deed}
 use Rattle.libyaml_composer.specs.declared.deed.Deed.TheVariants as deed
 use Rattle.libyaml_composer.specs.declared.records.open_t.{open_t}
 use Rattle.libyaml_composer.specs.declared.records.place_t.{place_t}
-use Rattle.libyaml_composer.specs.Composing.{Composer, Told, adding, at_carrier, at_start, between_step, deed_for, deed_in, collection_ended, if_placed, is_start, with_open_node, composer_step, step_in, told, unless, within_step}
+use Rattle.libyaml_composer.specs.Composing.{Composer, Told, adding, at_anchored_node, at_start, between_step, deed_for, deed_in, collection_ended, if_placed, is_start, with_open_node, composer_step, step_in, told, unless, within_step}
 use Rattle.libyaml_composer.specs.Numbers.{is_set, is_id}
 
 child_not_full : (s : List open_t) → deed_for s ≡ deed.FullStack → ⊥
@@ -36,7 +36,7 @@ start_full m f p c h = go (nat_le c.room (length c.stack)) (placed_full f p c _ 
     go true h = refl
     go false h = absurd (child_not_full c.stack h)
 
-alias_full : (b : Bool) (i : ℤ) (p : place_t) (c : Composer) → (at_carrier b i p c).deed ≡ deed.FullStack → ⊥
+alias_full : (b : Bool) (i : ℤ) (p : place_t) (c : Composer) → (at_anchored_node b i p c).deed ≡ deed.FullStack → ⊥
 alias_full false i p c h = cc
 alias_full true i p c h = child_not_full c.stack (by_test _ deed.FullList p c _ (λ e. cc) h)
 

@@ -14,8 +14,8 @@ use Rattle.libyaml_documents.specs.Nodes.{EveryIdNamesANode, IsIdUpTo, ids_of, i
 use Rattle.libyaml_documents.specs.declared.node.yaml_node_t.{yaml_node_t}
 use Rattle.libyaml_graphs.specs.graphs.ComposerFaults.{alias_fault, anchor_fault, composer_fault, heads, or_else, composer_part_fault}
 use Rattle.libyaml_graphs.specs.loads.GraphLaws.{AllHoldTheirChildren, AllLater, ChildrenAreLater, EachHoldsItsChildren, EachIsLater, HoldsItsChildren, IsLater}
-use Rattle.libyaml_graphs.specs.graphs.Graphs.{Carrier, Start, carrier, carries, collection_loaded, id_of, id_or, ids_of_all, items, nodes_of, nodes_of_all, pairs, starts_after, starts_after_all}
-use Rattle.libyaml_graphs.specs.graphs.GraphParts.{Part, alias_part, end_part, leaf_part, parts, carrier_start, start_part}
+use Rattle.libyaml_graphs.specs.graphs.Graphs.{AnchoredNode, Start, anchored_node, carries, collection_loaded, id_of, id_or, ids_of_all, items, nodes_of, nodes_of_all, pairs, starts_after, starts_after_all}
+use Rattle.libyaml_graphs.specs.graphs.GraphParts.{Part, alias_part, end_part, leaf_part, parts, anchored_node_start, start_part}
 
 one_more : (n : ℕ) → n ≤ suc n
 one_more n = le_of_lt (lt-suc_self n)
@@ -25,25 +25,25 @@ or_none None g e = (refl, e)
 or_none (Some f) g e = cc
 
 -- an alias's id is that of a node whose start stands before it
-carried : (b : Bool) (n : ℕ) (m : Mark) (o : Option Carrier) → id_or o ≤ n
+carried : (b : Bool) (n : ℕ) (m : Mark) (o : Option AnchoredNode) → id_or o ≤ n
     → id_or (elim b [ true ↦ Some (record { id = suc n; mark = m }) | false ↦ o ]) ≤ suc n
 carried true n m o h = le_refl _
 carried false n m o h = le_trans h (one_more n)
 
-carrier_before : (a : List ℕ) (es : List Start) → id_or (carrier a es) ≤ length es
-carrier_before a [] = le_refl _
-carrier_before a (s ∷ es) = carried (carries s.anchor a) (length es) s.mark (carrier a es) (carrier_before a es)
+anchored_node_before : (a : List ℕ) (es : List Start) → id_or (anchored_node a es) ≤ length es
+anchored_node_before a [] = le_refl _
+anchored_node_before a (s ∷ es) = carried (carries s.anchor a) (length es) s.mark (anchored_node a es) (anchored_node_before a es)
 
 -- and is not zero where the alias has no error
-named : (b : Bool) (n : ℕ) (i m : Mark) (o : Option Carrier) → (alias_fault o m ≡ None → 1 ≤ id_or o)
+named : (b : Bool) (n : ℕ) (i m : Mark) (o : Option AnchoredNode) → (alias_fault o m ≡ None → 1 ≤ id_or o)
     → alias_fault (elim b [ true ↦ Some (record { id = suc n; mark = i }) | false ↦ o ]) m ≡ None
     → 1 ≤ id_or (elim b [ true ↦ Some (record { id = suc n; mark = i }) | false ↦ o ])
 named true n i m o f e = suc-le-suc zero-le
 named false n i m o f e = f e
 
-carrier_id : (a : List ℕ) (es : List Start) (m : Mark) → alias_fault (carrier a es) m ≡ None → 1 ≤ id_or (carrier a es)
-carrier_id a [] m e = cc
-carrier_id a (s ∷ es) m e = named (carries s.anchor a) (length es) s.mark m (carrier a es) (carrier_id a es m) e
+anchored_node_id : (a : List ℕ) (es : List Start) (m : Mark) → alias_fault (anchored_node a es) m ≡ None → 1 ≤ id_or (anchored_node a es)
+anchored_node_id a [] m e = cc
+anchored_node_id a (s ∷ es) m e = named (carries s.anchor a) (length es) s.mark m (anchored_node a es) (anchored_node_id a es m) e
 
 mutual
   starts_grow : (v : Value) (es : List Start) → length es ≤ length (starts_after v es)
@@ -57,7 +57,7 @@ mutual
   all_starts_grow (first_value v vs) es = le_trans (starts_grow v es) (all_starts_grow vs (starts_after v es))
 
 id_up_to : (v : Value) (es : List Start) → id_of v es ≤ length (starts_after v es)
-id_up_to (alias_value a m n) es = carrier_before a.anchor es
+id_up_to (alias_value a m n) es = anchored_node_before a.anchor es
 id_up_to (scalar_value s m n) es = le_refl _
 id_up_to (collection_value k a t i s m n vs p q) es = all_starts_grow vs (record { anchor = a; mark = m } ∷ es)
 
@@ -76,8 +76,8 @@ mutual
       → (1 ≤ id_of v es)
       × (composer_fault (starts_after v es) (parts r) ≡ None)
   value_sound (alias_value a m n) es r e =
-      let h : (alias_fault (carrier a.anchor es) m ≡ None) × (composer_fault es (parts r) ≡ None) = or_none _ _ e in
-      (carrier_id a.anchor es m h.0, h.1)
+      let h : (alias_fault (anchored_node a.anchor es) m ≡ None) × (composer_fault es (parts r) ≡ None) = or_none _ _ e in
+      (anchored_node_id a.anchor es m h.0, h.1)
   value_sound (scalar_value s m n) es r e = (suc-le-suc zero-le, (or_none (anchor_fault es s.anchor m) _ e).1)
   value_sound (collection_value sequence a t i s m n vs p q) es r e
       = (
@@ -229,7 +229,7 @@ texts_hold (text_after ts d m n v i p q) h = (texts_hold ts h.0, holds_children 
 
 -- children come later than their parents
 is_later : (n : ℕ) (v : Value) (es : List Start) → n ≤ length es → IsLater n v es
-is_later n (alias_value a m k) es h = carrier_before a.anchor es
+is_later n (alias_value a m k) es h = anchored_node_before a.anchor es
 is_later n (scalar_value s m k) es h = suc-le-suc h
 is_later n (collection_value c a t i s m k vs p q) es h = suc-le-suc h
 
@@ -253,7 +253,7 @@ texts_later (text_after ts d m n v i p q) = (texts_later ts, children_later v []
 pub fault_of_heads : (P : List Part) (es : List Start) → composer_fault es P ≡ composer_fault es (heads P)
 fault_of_heads [] es = refl
 fault_of_heads (alias_part a m ∷ P) es = ap (or_else (composer_part_fault es (alias_part a m))) (fault_of_heads P es)
-fault_of_heads (leaf_part a x ∷ P) es = ap (or_else (composer_part_fault es (leaf_part a x))) (fault_of_heads P (carrier_start a x ∷ es))
+fault_of_heads (leaf_part a x ∷ P) es = ap (or_else (composer_part_fault es (leaf_part a x))) (fault_of_heads P (anchored_node_start a x ∷ es))
 fault_of_heads (start_part a x ∷ P) es = ap (or_else (composer_part_fault es (start_part a x)))
-    (fault_of_heads P (carrier_start a x ∷ es))
+    (fault_of_heads P (anchored_node_start a x ∷ es))
 fault_of_heads (end_part n ∷ P) es = fault_of_heads P es

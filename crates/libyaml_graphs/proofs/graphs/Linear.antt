@@ -10,8 +10,8 @@ use Rattle.libyaml_documents.specs.Documents.{Document, empty_document}
 use Rattle.libyaml_documents.specs.LoadedNodes.{children_of}
 use Rattle.libyaml_documents.specs.declared.node.unnamed_yaml_node_t_data.{unnamed_yaml_node_t_data}
 use Rattle.libyaml_documents.specs.declared.node.unnamed_yaml_node_t_data.TheVariants.{Scalar, Sequence, Mapping}
-use Rattle.libyaml_graphs.specs.graphs.Graphs.{Start, carrier, id_or, items, pairs}
-use Rattle.libyaml_graphs.specs.graphs.GraphParts.{Closing, Opening, Part, alias_part, children, closing_of, end_part, graph, if_outer, leaf_part, opening_of, part_in, part_of, parts, carrier_start, start_part, with_children, with_part}
+use Rattle.libyaml_graphs.specs.graphs.Graphs.{Start, anchored_node, id_or, items, pairs}
+use Rattle.libyaml_graphs.specs.graphs.GraphParts.{Closing, Opening, Part, alias_part, children, closing_of, end_part, graph, if_outer, leaf_part, opening_of, part_in, part_of, parts, anchored_node_start, start_part, with_children, with_part}
 use Rattle.libyaml_graphs.specs.loads.Linear.{documents_size, size, total_size}
 use Rattle.libyaml_graphs.specs.loads.Loads.{Begun, Load, Stop, load_answer, after_document, document, next_by, begun, begun_after, end_of_document, last_load, load_then, loads_by}
 
@@ -72,17 +72,17 @@ pub linear : (k : ℕ) (es : List Start) (l : List Part) → Bare l → size (gr
 linear k es [] b = let h = outer_none k es in omega arith
 linear k es (alias_part a m ∷ r) b =
     let ih = linear k es r b in
-    let h = outer_more k es (id_or (carrier a es)) es r (alias_part a m) (λ d. refl) in
+    let h = outer_more k es (id_or (anchored_node a es)) es r (alias_part a m) (λ d. refl) in
     omega arith
 linear k es (leaf_part a x ∷ r) b =
-    let ih = linear k (carrier_start a x ∷ es) r b.1 in
-    let h = outer_more k es (suc (length es)) (carrier_start a x ∷ es) r (leaf_part a x) (λ d. refl) in
+    let ih = linear k (anchored_node_start a x ∷ es) r b.1 in
+    let h = outer_more k es (suc (length es)) (anchored_node_start a x ∷ es) r (leaf_part a x) (λ d. refl) in
     let z = b.0 in
     omega arith
 linear k es (start_part a x ∷ r) b =
-    let ih = linear (suc k) (carrier_start a x ∷ es) r b in
-    let h = outer_start k es (suc (length es)) (carrier_start a x ∷ es) r (start_part a x) (λ d. refl) in
-    let z = held (children 0 (carrier_start a x ∷ es) r) x.content in
+    let ih = linear (suc k) (anchored_node_start a x ∷ es) r b in
+    let h = outer_start k es (suc (length es)) (anchored_node_start a x ∷ es) r (start_part a x) (λ d. refl) in
+    let z = held (children 0 (anchored_node_start a x ∷ es) r) x.content in
     omega arith
 linear zero es (end_part n ∷ r) b = let ih = linear zero es r b in omega arith
 linear (suc k) es (end_part n ∷ r) b =

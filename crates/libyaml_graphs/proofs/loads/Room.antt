@@ -9,9 +9,9 @@ use Rattle.libyaml_documents.specs.declared.node.unnamed_yaml_node_t_data.{unnam
 use Rattle.libyaml_documents.specs.declared.node.unnamed_yaml_node_t_data.TheVariants.{Scalar, Sequence, Mapping}
 use Rattle.libyaml_graphs.specs.loads.Bounds.{HasRoom, HaveRoom, StaysWithin, bounded_loads, entries, first_stop, if_above, if_wrong, list_sizes, next_bounded, one_above, pairs_begun}
 use Rattle.libyaml_graphs.specs.graphs.ComposerFaults.{composer_fault, or_else, composer_part_fault}
-use Rattle.libyaml_graphs.specs.graphs.Graphs.{Start, carrier, id_or}
+use Rattle.libyaml_graphs.specs.graphs.Graphs.{Start, anchored_node, id_or}
 use Rattle.libyaml_graphs.specs.loads.Loads.{Begun, Load, load_answer, begun, end_of_document, last_load, load_then, loads, loads_by, next_by, next_load}
-use Rattle.libyaml_graphs.specs.graphs.GraphParts.{Closing, Part, alias_part, following, children, end_part, graph, if_outer, leaf_part, parts, carrier_start, start_part}
+use Rattle.libyaml_graphs.specs.graphs.GraphParts.{Closing, Part, alias_part, following, children, end_part, graph, if_outer, leaf_part, parts, anchored_node_start, start_part}
 use Rattle.libyaml_graphs.proofs.machine.Sizes.{either_none}
 use Rattle.libyaml_graphs.proofs.graphs.Ids.{moved}
 
@@ -27,15 +27,15 @@ outer_begin d is a b h = (h.0, ap (if_outer d is) h.1 ∙ outer_append d is a h.
 
 children_begin : (f g : List Part) (d : ℕ) (es : List Start) → Begins (children d es f) (children d es (f ++ g))
 children_begin [] g d es = (children d es g, refl)
-children_begin (alias_part a m ∷ f) g d es = outer_begin d (id_or (carrier a es) ∷ []) (children d es f)
+children_begin (alias_part a m ∷ f) g d es = outer_begin d (id_or (anchored_node a es) ∷ []) (children d es f)
     (children d es (f ++ g)) (children_begin f g d es)
 children_begin (leaf_part a x ∷ f) g d es
-    = outer_begin d (suc (length es) ∷ []) (children d (carrier_start a x ∷ es) f) (children d (carrier_start a x ∷ es) (f ++ g))
-    (children_begin f g d (carrier_start a x ∷ es))
+    = outer_begin d (suc (length es) ∷ []) (children d (anchored_node_start a x ∷ es) f) (children d (anchored_node_start a x ∷ es) (f ++ g))
+    (children_begin f g d (anchored_node_start a x ∷ es))
 children_begin (start_part a x ∷ f) g d es
-    = outer_begin d (suc (length es) ∷ []) (children (suc d) (carrier_start a x ∷ es) f)
-    (children (suc d) (carrier_start a x ∷ es) (f ++ g))
-    (children_begin f g (suc d) (carrier_start a x ∷ es))
+    = outer_begin d (suc (length es) ∷ []) (children (suc d) (anchored_node_start a x ∷ es) f)
+    (children (suc d) (anchored_node_start a x ∷ es) (f ++ g))
+    (children_begin f g (suc d) (anchored_node_start a x ∷ es))
 children_begin (end_part n ∷ f) g zero es = ([], refl)
 children_begin (end_part n ∷ f) g (suc d) es = children_begin f g d es
 
@@ -62,9 +62,9 @@ prefix_shorter : (f g : List Part) (es : List Start) (n : ℕ) → one_above n (
     → one_above n (list_sizes es f) ≡ false
 prefix_shorter [] g es n h = refl
 prefix_shorter (alias_part a m ∷ f) g es n h = prefix_shorter f g es n h
-prefix_shorter (leaf_part a x ∷ f) g es n h = prefix_shorter f g (carrier_start a x ∷ es) n h
+prefix_shorter (leaf_part a x ∷ f) g es n h = prefix_shorter f g (anchored_node_start a x ∷ es) n h
 prefix_shorter (start_part a x ∷ f) g es n h =
-    let fs : List Start = carrier_start a x ∷ es in
+    let fs : List Start = anchored_node_start a x ∷ es in
     let k : (nat_lt n (entries x.content (children 0 fs (f ++ g))) ≡ false)
     × (one_above n (list_sizes fs (f ++ g)) ≡ false) = or_parts _ _ h in
     either_none _ _ (lt_down n _ _
@@ -107,8 +107,8 @@ room (p ∷ r) es F n a b =
 graph_count : (r : List Part) (es : List Start) → length (all_after es r) ≡ length es + length (graph es r)
 graph_count [] es = omega arith
 graph_count (alias_part a m ∷ r) es = graph_count r es
-graph_count (leaf_part a x ∷ r) es = graph_count r (carrier_start a x ∷ es) ∙ moved (length es) _
-graph_count (start_part a x ∷ r) es = graph_count r (carrier_start a x ∷ es) ∙ moved (length es) _
+graph_count (leaf_part a x ∷ r) es = graph_count r (anchored_node_start a x ∷ es) ∙ moved (length es) _
+graph_count (start_part a x ∷ r) es = graph_count r (anchored_node_start a x ∷ es) ∙ moved (length es) _
 graph_count (end_part n ∷ r) es = graph_count r es
 
 none_above : (n : ℕ) (ks : List ℕ) → All (λ k. k ≤ n) ks → one_above n ks ≡ false

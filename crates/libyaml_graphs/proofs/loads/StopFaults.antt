@@ -8,7 +8,7 @@ use Rattle.libyaml_grammar.specs.grammar.Events.{Event}
 use Rattle.libyaml_grammar.specs.grammar.Tokens.{Mark}
 use Rattle.libyaml_graphs.specs.graphs.ComposerFaults.{alias_fault, anchor_fault, known_fault, composer_part_fault}
 use Rattle.libyaml_graphs.specs.graphs.GraphParts.{Closing, Opening, Part, alias_part, following, end_part, graph, leaf_part, parts, start_part}
-use Rattle.libyaml_graphs.specs.graphs.Graphs.{Carrier, Start, carrier}
+use Rattle.libyaml_graphs.specs.graphs.Graphs.{AnchoredNode, Start, anchored_node}
 use Rattle.libyaml_graphs.specs.loads.Bounds.{first_stop, if_above, if_wrong, next_bounded}
 use Rattle.libyaml_graphs.specs.loads.Loads.{Begun, Load, load_answer, begun, last_load, next_by}
 
@@ -19,20 +19,20 @@ abbrev IfStops : Option Fault → Type 0
 IfStops None = Unit {0}
 IfStops (Some f) = OfLoader f
 
-of_alias : (c : Option Carrier) (m : Mark) → IfStops (alias_fault c m)
+of_alias : (c : Option AnchoredNode) (m : Mark) → IfStops (alias_fault c m)
 of_alias None m = inr refl
 of_alias (Some c) m = tt
 
-of_known : (c : Option Carrier) (m : Mark) → IfStops (known_fault c m)
+of_known : (c : Option AnchoredNode) (m : Mark) → IfStops (known_fault c m)
 of_known None m = tt
 of_known (Some c) m = inr refl
 
 of_anchor : (es : List Start) (a : Option (List ℕ)) (m : Mark) → IfStops (anchor_fault es a m)
 of_anchor es None m = tt
-of_anchor es (Some a) m = of_known (carrier a es) m
+of_anchor es (Some a) m = of_known (anchored_node a es) m
 
 of_part : (es : List Start) (p : Part) → IfStops (composer_part_fault es p)
-of_part es (alias_part a m) = of_alias (carrier a es) m
+of_part es (alias_part a m) = of_alias (anchored_node a es) m
 of_part es (leaf_part a x) = of_anchor es a x.start_mark
 of_part es (start_part a x) = of_anchor es a x.start_mark
 of_part es (end_part n) = tt

@@ -10,9 +10,9 @@ use Rattle.libyaml_documents.specs.declared.node.unnamed_yaml_node_t_data.TheVar
 use Rattle.libyaml_documents.specs.declared.node.unnamed_yaml_node_t_data_scalar.{unnamed_yaml_node_t_data_scalar}
 use Rattle.libyaml_documents.specs.declared.node.yaml_node_t.{yaml_node_t}
 use Rattle.libyaml_documents.specs.declared.pairs.yaml_node_pair_t.{yaml_node_pair_t}
-use Rattle.libyaml_graphs.specs.graphs.Graphs.{Start, carrier, id_or, items, pairs}
+use Rattle.libyaml_graphs.specs.graphs.Graphs.{Start, anchored_node, id_or, items, pairs}
 use Rattle.libyaml_graphs.specs.machine.Loader.{content_and_child, key_after_child, with_child}
-use Rattle.libyaml_graphs.specs.graphs.GraphParts.{Part, alias_part, following, children, end_in, end_part, ended, graph, leaf_part, carrier_start, start_part, with_children}
+use Rattle.libyaml_graphs.specs.graphs.GraphParts.{Part, alias_part, following, children, end_in, end_part, ended, graph, leaf_part, anchored_node_start, start_part, with_children}
 
 pub record Held : Type 0 where
   pub node : yaml_node_t
@@ -58,7 +58,7 @@ unbuilt = record { places = []; held = [] }
 
 -- one part more, where es are the starts before it
 abbrev pub build : List Start → Part → Built → Built
-build es (alias_part a m) b = record { places = b.places; held = hold_top (id_or (carrier a es)) b.places b.held }
+build es (alias_part a m) b = record { places = b.places; held = hold_top (id_or (anchored_node a es)) b.places b.held }
 build es (leaf_part a x) b =
     record { places = b.places; held = hold_top (suc (length es)) b.places (b.held ++ bare x ∷ []) }
 build es (start_part a x) b =
@@ -250,23 +250,23 @@ rested es P d h = record {
 abbrev pub held_graph : List Start → List Part → List Held
 held_graph es [] = []
 held_graph es (alias_part a m ∷ r) = held_graph es r
-held_graph es (leaf_part a x ∷ r) = bare x ∷ held_graph (carrier_start a x ∷ es) r
+held_graph es (leaf_part a x ∷ r) = bare x ∷ held_graph (anchored_node_start a x ∷ es) r
 held_graph es (start_part a x ∷ r)
     = record {
-      node = ended (children 0 (carrier_start a x ∷ es) r) (end_in 0 x.end_mark r) x;
+      node = ended (children 0 (anchored_node_start a x ∷ es) r) (end_in 0 x.end_mark r) x;
       key =
-          grown_key None x.content (children 0 (carrier_start a x ∷ es) r);
+          grown_key None x.content (children 0 (anchored_node_start a x ∷ es) r);
     }
-    ∷ held_graph (carrier_start a x ∷ es) r
+    ∷ held_graph (anchored_node_start a x ∷ es) r
 held_graph es (end_part n ∷ r) = held_graph es r
 
 pub graph_nodes : (P : List Part) (es : List Start) → nodes_in (held_graph es P) ≡ graph es P
 graph_nodes [] es = refl
 graph_nodes (alias_part a m ∷ P) es = graph_nodes P es
-graph_nodes (leaf_part a x ∷ P) es = ap (λ (l : List yaml_node_t). x ∷ l) (graph_nodes P (carrier_start a x ∷ es))
+graph_nodes (leaf_part a x ∷ P) es = ap (λ (l : List yaml_node_t). x ∷ l) (graph_nodes P (anchored_node_start a x ∷ es))
 graph_nodes (start_part a x ∷ P) es
-    = ap (λ (l : List yaml_node_t). ended (children 0 (carrier_start a x ∷ es) P) (end_in 0 x.end_mark P) x ∷ l)
-    (graph_nodes P (carrier_start a x ∷ es))
+    = ap (λ (l : List yaml_node_t). ended (children 0 (anchored_node_start a x ∷ es) P) (end_in 0 x.end_mark P) x ∷ l)
+    (graph_nodes P (anchored_node_start a x ∷ es))
 graph_nodes (end_part n ∷ P) es = graph_nodes P es
 
 -- the whole graph, from what is built so far and the rest
@@ -282,11 +282,11 @@ BeginsEmpty (end_part n) = Unit {0}
 
 leaf_finished : (a : Option (List ℕ)) (x : yaml_node_t) (es : List Start) (P : List Part) (b : Built)
     → AllHas b.places b.held
-    → finished (carrier_start a x ∷ es) P (build es (leaf_part a x) b) ≡ finished es (leaf_part a x ∷ P) b
+    → finished (anchored_node_start a x ∷ es) P (build es (leaf_part a x) b) ≡ finished es (leaf_part a x ∷ P) b
 leaf_finished a x es P b h =
-    let F : ℕ → Held → Held = rested (carrier_start a x ∷ es) P in
+    let F : ℕ → Held → Held = rested (anchored_node_start a x ∷ es) P in
     let G : ℕ → Held → Held = rested es (leaf_part a x ∷ P) in
-    let R : List Held = held_graph (carrier_start a x ∷ es) P in
+    let R : List Held = held_graph (anchored_node_start a x ∷ es) P in
     ap (λ (l : List Held). l ++ R)
     (applied_hold (suc (length es)) b.places F G (b.held ++ bare x ∷ []) (λ y. refl) (λ d y. refl)
     ∙ applied_append b.places G b.held (bare x ∷ []) h)
@@ -300,10 +300,10 @@ with_content x n k c = record {
 
 start_finished : (a : Option (List ℕ)) (x : yaml_node_t) (es : List Start) (P : List Part) (b : Built)
     → with_children [] x.content ≡ x.content
-    → AllHas b.places b.held → finished (carrier_start a x ∷ es) P (build es (start_part a x) b) ≡ finished es
+    → AllHas b.places b.held → finished (anchored_node_start a x ∷ es) P (build es (start_part a x) b) ≡ finished es
     (start_part a x ∷ P) b
 start_finished a x es P b e h =
-    let fs : List Start = carrier_start a x ∷ es in
+    let fs : List Start = anchored_node_start a x ∷ es in
     let F : ℕ → Held → Held = rested fs P in
     let G : ℕ → Held → Held = rested es (start_part a x ∷ P) in
     let R : List Held = held_graph fs P in
@@ -335,7 +335,7 @@ pub build_finished : (p : Part) (es : List Start) (P : List Part) (b : Built) �
     → finished (following p es) P (build es p b) ≡ finished es (p ∷ P) b
 build_finished (alias_part a m) es P b e h
     = ap (λ (l : List Held). l ++ held_graph es P)
-    (applied_hold (id_or (carrier a es)) b.places (rested es P) (rested es (alias_part a m ∷ P)) b.held (λ x. refl)
+    (applied_hold (id_or (anchored_node a es)) b.places (rested es P) (rested es (alias_part a m ∷ P)) b.held (λ x. refl)
     (λ d x. refl))
 build_finished (leaf_part a x) es P b e h = leaf_finished a x es P b h
 build_finished (start_part a x) es P b e h = start_finished a x es P b e h

@@ -11,9 +11,9 @@ use Rattle.libyaml_documents.specs.LoadedNodes.{with_end}
 use Rattle.libyaml_documents.specs.Nodes.{changed_at}
 use Rattle.libyaml_documents.specs.declared.node.yaml_node_t.{yaml_node_t}
 use Rattle.libyaml_graphs.specs.graphs.ComposerFaults.{alias_fault, anchor_fault, known_fault, composer_part_fault, repeated_anchor}
-use Rattle.libyaml_graphs.specs.graphs.Graphs.{Carrier, Start, carrier, carries, id_or}
+use Rattle.libyaml_graphs.specs.graphs.Graphs.{AnchoredNode, Start, anchored_node, carries, id_or}
 use Rattle.libyaml_graphs.specs.machine.Loader.{Anchors, Loader, Loading, OpenNode, Registered, closed_by, failed, going, hand, handed, key_after, known, load_part, no_anchors, on_alias, on_node, outer, register, registered, with_child}
-use Rattle.libyaml_graphs.specs.graphs.GraphParts.{Part, alias_part, following, end_part, leaf_part, carrier_start, start_part}
+use Rattle.libyaml_graphs.specs.graphs.GraphParts.{Part, alias_part, following, end_part, leaf_part, anchored_node_start, start_part}
 use Rattle.libyaml_graphs.proofs.machine.Built.{AllHas, AllOf, Built, Has, Held, all_append, all_end, all_hold, all_of, bare, below, build, change, end_at, end_top, has_last, hold, hold_top, length_end, length_hold, length_more, nodes_in, unbuilt}
 
 -- the key that waits at a place, and a stack of places with their keys
@@ -164,9 +164,9 @@ below_falls (p ∷ s) h = h.1
 pub build_stands : (p : Part) (es : List Start) (b : Built) → BuiltRight es b → BuiltRight (following p es) (build es p b)
 build_stands (alias_part a m) es b s
     = record {
-      size = length_hold (id_or (carrier a es)) b.places b.held ∙ s.size;
+      size = length_hold (id_or (anchored_node a es)) b.places b.held ∙ s.size;
       there
-          = all_hold b.places b.places (id_or (carrier a es)) b.held s.there;
+          = all_hold b.places b.places (id_or (anchored_node a es)) b.held s.there;
       falls = s.falls;
     }
 build_stands (leaf_part a x) es b s = record {
@@ -239,14 +239,14 @@ opened_stack x es b s =
 
 -- the map of anchors has the anchored nodes
 abbrev pub Agrees : List Start → Anchors → Type 0
-Agrees es xs = (a : List ℕ) → get xs a ≡ carrier a es
+Agrees es xs = (a : List ℕ) → get xs a ≡ anchored_node a es
 
 pub none_known : Agrees [] no_anchors
 none_known a = get-from_entries nat_list_cmp_total [] a
 
 -- with the anchor of a node of this id
-abbrev pub with_anchor : Option (List ℕ) → ℕ → Mark → List Start → List ℕ → Option Carrier
-with_anchor b i m es a = elim (carries b a) [ true ↦ Some (record { id = i; mark = m }) | false ↦ carrier a es ]
+abbrev pub with_anchor : Option (List ℕ) → ℕ → Mark → List Start → List ℕ → Option AnchoredNode
+with_anchor b i m es a = elim (carries b a) [ true ↦ Some (record { id = i; mark = m }) | false ↦ anchored_node a es ]
 
 abbrev Meets : Registered → (Anchors → Type 0) → Mark → Option Fault → Type 0
 Meets (known k) P m f = f ≡ Some (repeated_anchor k m)
@@ -257,20 +257,20 @@ registers : (b : Option (List ℕ)) (i : ℕ) (m : Mark) (es : List Start) (xs :
 registers None i m es xs h = (refl, h)
 registers (Some b) i m es xs h = go (get xs b) (h b)
   where
-    ends : (u : Bool) (c : Carrier) (o r : Option Carrier) → o ≡ r
+    ends : (u : Bool) (c : AnchoredNode) (o r : Option AnchoredNode) → o ≡ r
         → cond u (Some c) o ≡ elim u [ true ↦ Some c | false ↦ r ]
     ends true c o r e = refl
     ends false c o r e = e
 
-    go : (c : Option Carrier) → c ≡ carrier b es
+    go : (c : Option AnchoredNode) → c ≡ anchored_node b es
         → Meets (elim c [ Some x ↦ known x.mark | None ↦ registered (insert xs b (record { id = i; mark = m })) ])
         (λ (ys : Anchors). (a : List ℕ)
-        → get ys a ≡ with_anchor (Some b) i m es a) m (known_fault (carrier b es) m)
-    go (Some x) e = ap (λ (c : Option Carrier). known_fault c m) (sym e)
+        → get ys a ≡ with_anchor (Some b) i m es a) m (known_fault (anchored_node b es) m)
+    go (Some x) e = ap (λ (c : Option AnchoredNode). known_fault c m) (sym e)
     go None e = (
-      ap (λ (c : Option Carrier). known_fault c m) (sym e),
+      ap (λ (c : Option AnchoredNode). known_fault c m) (sym e),
       λ (a : List ℕ). inserted xs b (record { id = i; mark = m }) a
-          ∙ ends (bytes_eq b a) (record { id = i; mark = m }) (get xs a) (carrier a es) (h a),
+          ∙ ends (bytes_eq b a) (record { id = i; mark = m }) (get xs a) (anchored_node a es) (h a),
     )
 
 -- What a part does: it fails as the composer does, or the loader goes on with what is built.
@@ -279,20 +279,20 @@ Follows (failed f) w es b = w ≡ Some f
 Follows (going k) w es b = (w ≡ None) × ((ys : Anchors) × (k ≡ loader_of b ys) × Agrees es ys)
 
 alias_follows : (a : List ℕ) (m : Mark) (es : List Start) (b : Built) (xs : Anchors) → BuiltRight es b → Agrees es xs
-    → Follows (load_part (loader_of b xs) (alias_part a m)) (alias_fault (carrier a es) m) es (build es (alias_part a m) b)
+    → Follows (load_part (loader_of b xs) (alias_part a m)) (alias_fault (anchored_node a es) m) es (build es (alias_part a m) b)
 alias_follows a m es b xs s h = go (get xs a) (h a)
   where
-    go : (c : Option Carrier) → c ≡ carrier a es
-        → Follows (on_alias c m (loader_of b xs)) (alias_fault (carrier a es) m) es (build es (alias_part a m) b)
-    go None e = ap (λ (c : Option Carrier). alias_fault c m) (sym e)
+    go : (c : Option AnchoredNode) → c ≡ anchored_node a es
+        → Follows (on_alias c m (loader_of b xs)) (alias_fault (anchored_node a es) m) es (build es (alias_part a m) b)
+    go None e = ap (λ (c : Option AnchoredNode). alias_fault c m) (sym e)
     go (Some c) e = (
-      ap (λ (d : Option Carrier). alias_fault d m) (sym e),
+      ap (λ (d : Option AnchoredNode). alias_fault d m) (sym e),
       (
         xs,
         loader_same _ _ _ _ xs
-            (hand_built c.id b.places b.held ∙ ap (λ (d : Option Carrier). nodes_in (hold_top (id_or d) b.places b.held)) e)
+            (hand_built c.id b.places b.held ∙ ap (λ (d : Option AnchoredNode). nodes_in (hold_top (id_or d) b.places b.held)) e)
             (handed_built c.id b.places b.held s.falls
-            ∙ ap (λ (d : Option Carrier). stack_of b.places (hold_top (id_or d) b.places b.held)) e),
+            ∙ ap (λ (d : Option AnchoredNode). stack_of b.places (hold_top (id_or d) b.places b.held)) e),
         h,
       ),
     )
@@ -304,14 +304,14 @@ node_follows : (b : Option (List ℕ)) (x : yaml_node_t) (opens : List OpenNode)
     ≡ stack_of d.places d.held
     → Follows (on_node (register b (suc (length (nodes_in c.held))) x.start_mark xs) x opens (loader_of c xs))
     (anchor_fault es b x.start_mark)
-    (carrier_start b x ∷ es) d
+    (anchored_node_start b x ∷ es) d
 node_follows b x opens es c d xs s h nodes stack = go (register b (suc (length (nodes_in c.held))) x.start_mark xs)
     (registers b (suc (length (nodes_in c.held))) x.start_mark es xs h)
   where
     go : (g : Registered) → Meets g (λ (ys : Anchors). (a : List ℕ)
         → get ys a ≡ with_anchor b (suc (length (nodes_in c.held))) x.start_mark es a) x.start_mark
         (anchor_fault es b x.start_mark)
-        → Follows (on_node g x opens (loader_of c xs)) (anchor_fault es b x.start_mark) (carrier_start b x ∷ es) d
+        → Follows (on_node g x opens (loader_of c xs)) (anchor_fault es b x.start_mark) (anchored_node_start b x ∷ es) d
     go (known k) q = q
     go (registered ys) q = (
       q.0,

@@ -10,9 +10,9 @@ use Rattle.libyaml_documents.specs.declared.node.unnamed_yaml_node_t_data.TheVar
 use Rattle.libyaml_documents.specs.declared.node.yaml_node_t.{yaml_node_t}
 use Rattle.libyaml_documents.specs.declared.pairs.yaml_node_pair_t.{yaml_node_pair_t}
 use Rattle.libyaml_graphs.specs.loads.Bounds.{entries, list_sizes, one_above, pairs_begun}
-use Rattle.libyaml_graphs.specs.graphs.Graphs.{Start, carrier, id_or, items, pairs}
+use Rattle.libyaml_graphs.specs.graphs.Graphs.{Start, anchored_node, id_or, items, pairs}
 use Rattle.libyaml_graphs.specs.machine.Loader.{Anchors, content_full, content_and_child, key_after_child, list_full, node_full, parent_full}
-use Rattle.libyaml_graphs.specs.graphs.GraphParts.{Part, alias_part, children, end_part, leaf_part, carrier_start, start_part, with_children}
+use Rattle.libyaml_graphs.specs.graphs.GraphParts.{Part, alias_part, children, end_part, leaf_part, anchored_node_start, start_part, with_children}
 use Rattle.libyaml_graphs.proofs.machine.Built.{AllHas, BeginsEmpty, Built, Has, Held, bare, build, change, end_at, end_top, grown_key, held_graph, hold, hold_top, nodes_in, paired}
 use Rattle.libyaml_graphs.proofs.machine.Following.{key_append, key_in, loader_of, stack_of}
 
@@ -118,7 +118,7 @@ node_grows n i x b e h s = hold_grows b.places n i (b.held ++ bare x ∷ [])
 pub list_grows : (p : Part) (n : ℕ) (es : List Start) (b : Built) (xs : Anchors) → BeginsEmpty p
     → AllHas b.places b.held → one_above n (sizes b.held) ≡ false
     → one_above n (sizes (build es p b).held) ≡ list_full n (loader_of b xs) p
-list_grows (alias_part a m) n es b xs e h s = hold_grows b.places n (id_or (carrier a es)) b.held s
+list_grows (alias_part a m) n es b xs e h s = hold_grows b.places n (id_or (anchored_node a es)) b.held s
 list_grows (leaf_part a x) n es b xs e h s = node_grows n (suc (length es)) x b e h s
 list_grows (start_part a x) n es b xs e h s = node_grows n (suc (length es)) x b e h s
 list_grows (end_part m) n es b xs e h s = ended_grows b.places m n b.held s
@@ -160,12 +160,12 @@ pub graph_sizes : (P : List Part) (es : List Start) (n : ℕ) → AllBegin P
 graph_sizes [] es n e = refl
 graph_sizes (alias_part a m ∷ P) es n e = graph_sizes P es n e.1
 graph_sizes (leaf_part a x ∷ P) es n e =
-    ap (λ (i : ℕ). (nat_lt n i || (one_above n (sizes (held_graph (carrier_start a x ∷ es) P)))))
+    ap (λ (i : ℕ). (nat_lt n i || (one_above n (sizes (held_graph (anchored_node_start a x ∷ es) P)))))
     (no_entries x.content e.0)
-    ∙ (either_none _ _ (none_below n) ∙ graph_sizes P (carrier_start a x ∷ es) n e.1)
+    ∙ (either_none _ _ (none_below n) ∙ graph_sizes P (anchored_node_start a x ∷ es) n e.1)
 graph_sizes (start_part a x ∷ P) es n e =
-    ap (λ (i : ℕ). (nat_lt n i || (one_above n (sizes (held_graph (carrier_start a x ∷ es) P)))))
-    (key_left (children 0 (carrier_start a x ∷ es) P) x.content e.0)
-    ∙ ap (λ (b : Bool). (nat_lt n (entries x.content (children 0 (carrier_start a x ∷ es) P)) || b))
-    (graph_sizes P (carrier_start a x ∷ es) n e.1)
+    ap (λ (i : ℕ). (nat_lt n i || (one_above n (sizes (held_graph (anchored_node_start a x ∷ es) P)))))
+    (key_left (children 0 (anchored_node_start a x ∷ es) P) x.content e.0)
+    ∙ ap (λ (b : Bool). (nat_lt n (entries x.content (children 0 (anchored_node_start a x ∷ es) P)) || b))
+    (graph_sizes P (anchored_node_start a x ∷ es) n e.1)
 graph_sizes (end_part m ∷ P) es n e = graph_sizes P es n e.1

@@ -10,7 +10,7 @@ use Rattle.libyaml_documents.specs.LoadedNodes.{mapping_loaded, scalar_loaded, s
 use Rattle.libyaml_documents.specs.declared.node.unnamed_yaml_node_t_data.{unnamed_yaml_node_t_data}
 use Rattle.libyaml_documents.specs.declared.node.unnamed_yaml_node_t_data.TheVariants.{Scalar, Sequence, Mapping}
 use Rattle.libyaml_documents.specs.declared.node.yaml_node_t.{yaml_node_t}
-use Rattle.libyaml_graphs.specs.graphs.Graphs.{Start, carrier, id_or, items, pairs}
+use Rattle.libyaml_graphs.specs.graphs.Graphs.{Start, anchored_node, id_or, items, pairs}
 
 -- An alias and its start; a scalar; the start of a collection, whose node has no children yet and ends where its
 -- start event does; the end of one.
@@ -64,14 +64,14 @@ abbrev pub parts : List Event → List Part
 parts [] = []
 parts (e ∷ r) = elim (closing_of e) [ Some c ↦ [] | None ↦ with_part (part_of e) (parts r) ]
 
-abbrev pub carrier_start : Option (List ℕ) → yaml_node_t → Start
-carrier_start a x = record { anchor = a; mark = x.start_mark }
+abbrev pub anchored_node_start : Option (List ℕ) → yaml_node_t → Start
+anchored_node_start a x = record { anchor = a; mark = x.start_mark }
 
 -- the starts after a part
 abbrev pub following : Part → List Start → List Start
 following (alias_part a m) es = es
-following (leaf_part a x) es = carrier_start a x ∷ es
-following (start_part a x) es = carrier_start a x ∷ es
+following (leaf_part a x) es = anchored_node_start a x ∷ es
+following (start_part a x) es = anchored_node_start a x ∷ es
 following (end_part n) es = es
 
 -- The ids directly in a collection, up to its end, among the parts after its start; d collections are open in it.
@@ -81,9 +81,9 @@ if_outer (suc d) is r = r
 
 abbrev pub children : ℕ → List Start → List Part → List ℕ
 children d es [] = []
-children d es (alias_part a m ∷ r) = if_outer d (id_or (carrier a es) ∷ []) (children d es r)
-children d es (leaf_part a x ∷ r) = if_outer d (suc (length es) ∷ []) (children d (carrier_start a x ∷ es) r)
-children d es (start_part a x ∷ r) = if_outer d (suc (length es) ∷ []) (children (suc d) (carrier_start a x ∷ es) r)
+children d es (alias_part a m ∷ r) = if_outer d (id_or (anchored_node a es) ∷ []) (children d es r)
+children d es (leaf_part a x ∷ r) = if_outer d (suc (length es) ∷ []) (children d (anchored_node_start a x ∷ es) r)
+children d es (start_part a x ∷ r) = if_outer d (suc (length es) ∷ []) (children (suc d) (anchored_node_start a x ∷ es) r)
 children zero es (end_part n ∷ r) = []
 children (suc d) es (end_part n ∷ r) = children d es r
 
@@ -109,7 +109,7 @@ ended is n x = record { tag = x.tag; content = with_children is x.content; start
 abbrev pub graph : List Start → List Part → List yaml_node_t
 graph es [] = []
 graph es (alias_part a m ∷ r) = graph es r
-graph es (leaf_part a x ∷ r) = x ∷ graph (carrier_start a x ∷ es) r
-graph es (start_part a x ∷ r) = ended (children 0 (carrier_start a x ∷ es) r) (end_in 0 x.end_mark r) x ∷ graph
-    (carrier_start a x ∷ es) r
+graph es (leaf_part a x ∷ r) = x ∷ graph (anchored_node_start a x ∷ es) r
+graph es (start_part a x ∷ r) = ended (children 0 (anchored_node_start a x ∷ es) r) (end_in 0 x.end_mark r) x ∷ graph
+    (anchored_node_start a x ∷ es) r
 graph es (end_part n ∷ r) = graph es r

@@ -15,7 +15,7 @@ pub record Start : Type 0 where
   pub mark : Mark
 
 -- the node that carries an anchor: its id, and where it starts
-pub record Carrier : Type 0 where
+pub record AnchoredNode : Type 0 where
   pub id : ℕ
   pub mark : Mark
 
@@ -23,13 +23,13 @@ abbrev pub carries : Option (List ℕ) → List ℕ → Bool
 carries None a = false
 carries (Some b) a = bytes_eq b a
 
-abbrev pub carrier : List ℕ → List Start → Option Carrier
-carrier a [] = None
-carrier a (s ∷ es) = elim (carries s.anchor a)
-    [ true ↦ Some (record { id = suc (length es); mark = s.mark }) | false ↦ carrier a es ]
+abbrev pub anchored_node : List ℕ → List Start → Option AnchoredNode
+anchored_node a [] = None
+anchored_node a (s ∷ es) = elim (carries s.anchor a)
+    [ true ↦ Some (record { id = suc (length es); mark = s.mark }) | false ↦ anchored_node a es ]
 
 -- an alias that nothing carries has no id, and 0 stands for it
-abbrev pub id_or : Option Carrier → ℕ
+abbrev pub id_or : Option AnchoredNode → ℕ
 id_or None = 0
 id_or (Some c) = c.id
 
@@ -62,7 +62,7 @@ abbrev mutual
 
 -- the id of a value: that of its own node, or of the node which carries its anchor
 abbrev pub id_of : Value → List Start → ℕ
-id_of (alias_value a m n) es = id_or (carrier a.anchor es)
+id_of (alias_value a m n) es = id_or (anchored_node a.anchor es)
 id_of (scalar_value s m n) es = suc (length es)
 id_of (collection_value k a t i s m n vs p q) es = suc (length es)
 

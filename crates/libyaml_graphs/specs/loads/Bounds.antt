@@ -11,7 +11,7 @@ use Rattle.libyaml_documents.specs.declared.node.unnamed_yaml_node_t_data.TheVar
 use Rattle.libyaml_graphs.specs.graphs.ComposerFaults.{composer_fault, composer_part_fault}
 use Rattle.libyaml_graphs.specs.graphs.Graphs.{Start}
 use Rattle.libyaml_graphs.specs.loads.Loads.{AreLoads, Begun, Load, begun, loads_by, next_by}
-use Rattle.libyaml_graphs.specs.graphs.GraphParts.{Part, alias_part, following, children, end_part, graph, leaf_part, parts, carrier_start, start_part}
+use Rattle.libyaml_graphs.specs.graphs.GraphParts.{Part, alias_part, following, children, end_part, graph, leaf_part, parts, anchored_node_start, start_part}
 
 -- the pairs that children begin: one at each key, also where its value is still to come
 abbrev pub pairs_begun : List ℕ → ℕ
@@ -29,8 +29,8 @@ entries (Mapping s) is = pairs_begun is
 abbrev pub list_sizes : List Start → List Part → List ℕ
 list_sizes es [] = []
 list_sizes es (alias_part a m ∷ r) = list_sizes es r
-list_sizes es (leaf_part a x ∷ r) = list_sizes (carrier_start a x ∷ es) r
-list_sizes es (start_part a x ∷ r) = entries x.content (children 0 (carrier_start a x ∷ es) r) ∷ list_sizes (carrier_start a x ∷ es) r
+list_sizes es (leaf_part a x ∷ r) = list_sizes (anchored_node_start a x ∷ es) r
+list_sizes es (start_part a x ∷ r) = entries x.content (children 0 (anchored_node_start a x ∷ es) r) ∷ list_sizes (anchored_node_start a x ∷ es) r
 list_sizes es (end_part n ∷ r) = list_sizes es r
 
 -- one of them is more than n

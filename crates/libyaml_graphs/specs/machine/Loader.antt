@@ -15,13 +15,13 @@ use Rattle.libyaml_documents.specs.declared.node.unnamed_yaml_node_t_data.{unnam
 use Rattle.libyaml_documents.specs.declared.node.unnamed_yaml_node_t_data.TheVariants.{Scalar, Sequence, Mapping}
 use Rattle.libyaml_documents.specs.declared.node.yaml_node_t.{yaml_node_t}
 use Rattle.libyaml_graphs.specs.graphs.ComposerFaults.{repeated_anchor, undefined_alias}
-use Rattle.libyaml_graphs.specs.graphs.Graphs.{Carrier}
+use Rattle.libyaml_graphs.specs.graphs.Graphs.{AnchoredNode}
 use Rattle.libyaml_graphs.specs.loads.Loads.{Load, after_document, document, last_load, left_over}
 use Rattle.libyaml_graphs.specs.graphs.GraphParts.{Opening, Part, alias_part, closing_of, end_part, leaf_part, opening_of, part_of, start_part}
 
 -- the node that each anchor names
 abbrev pub Anchors : Type 0
-Anchors = FinMap (slice_cmp nat_cmp) Carrier
+Anchors = FinMap (slice_cmp nat_cmp) AnchoredNode
 
 abbrev pub no_anchors : Anchors
 no_anchors = from_entries []
@@ -93,7 +93,7 @@ register None i m xs = registered xs
 register (Some a) i m xs =
     elim (get xs a) [ Some c ↦ known c.mark | None ↦ registered (insert xs a (record { id = i; mark = m })) ]
 
-abbrev pub on_alias : Option Carrier → Mark → Loader → Loading
+abbrev pub on_alias : Option AnchoredNode → Mark → Loader → Loading
 on_alias None m l = failed (undefined_alias m)
 on_alias (Some c) m l = going
     (record {

@@ -94,8 +94,8 @@ abbrev pub pair : (key value : ℕ) → yaml_node_pair_t
 pair k v = record { key = pos k; value = pos v }
 
 -- composer errors: an alias at an index whose anchor no node has, and the second of two nodes with one
-abbrev pub no_carrier : ℕ → Load
-no_carrier m = Err (record {
+abbrev pub no_anchored_node : ℕ → Load
+no_anchored_node m = Err (record {
   error = YAML_COMPOSER_ERROR;
   problem = Some (codes "found undefined alias");
   problem_offset = 0;
@@ -106,8 +106,8 @@ no_carrier m = Err (record {
   context_mark = place 0;
 })
 
-abbrev pub second_carrier : (first second : ℕ) → Load
-second_carrier m n = Err (record {
+abbrev pub second_anchored_node : (first second : ℕ) → Load
+second_anchored_node m n = Err (record {
   error = YAML_COMPOSER_ERROR;
   problem = Some (codes "second occurrence");
   problem_offset = 0;
@@ -216,24 +216,24 @@ RowNestedHoldsItself = IsLoads (list (
 -- Composer errors.
 abbrev pub RowUndefinedAlias : Type 0
 RowUndefinedAlias = IsLoads (list (
-    STREAM ∷ FlowSequenceStart ∷ ALIAS (codes "b") ∷ FlowSequenceEnd ∷ StreamEnd ∷ [])) no_more (no_carrier 4 ∷ [])
+    STREAM ∷ FlowSequenceStart ∷ ALIAS (codes "b") ∷ FlowSequenceEnd ∷ StreamEnd ∷ [])) no_more (no_anchored_node 4 ∷ [])
 
 abbrev pub RowSecondAliasUndefined : Type 0
 RowSecondAliasUndefined = IsLoads (list (
     STREAM ∷ ANCHOR (codes "a") ∷ FlowSequenceStart ∷ ALIAS (codes "a") ∷ FlowEntry ∷ ALIAS (codes "b") ∷
-    FlowSequenceEnd ∷ StreamEnd ∷ [])) no_more (no_carrier 10 ∷ [])
+    FlowSequenceEnd ∷ StreamEnd ∷ [])) no_more (no_anchored_node 10 ∷ [])
 
 abbrev pub RowAnchorOfDocumentBefore : Type 0
 RowAnchorOfDocumentBefore = IsLoads (list (
     STREAM ∷ DocumentStart ∷ ANCHOR (codes "a") ∷ SCALAR (codes "x") ∷ DocumentStart ∷ ALIAS (codes "a") ∷
     StreamEnd ∷ [])) no_more (
-    loaded [] false true 2 8 (text_node (codes "x") 4 7 ∷ []) ∷ no_carrier 10 ∷ [])
+    loaded [] false true 2 8 (text_node (codes "x") 4 7 ∷ []) ∷ no_anchored_node 10 ∷ [])
 
 -- the parser's own error comes later, and is hidden
 abbrev pub RowSecondAnchor : Type 0
 RowSecondAnchor = IsLoads (list (
     STREAM ∷ FlowSequenceStart ∷ ANCHOR (codes "a") ∷ SCALAR (codes "x") ∷ FlowEntry ∷ ANCHOR (codes "a") ∷
-    ALIAS (codes "b") ∷ FlowSequenceEnd ∷ StreamEnd ∷ [])) no_more (second_carrier 4 10 ∷ [])
+    ALIAS (codes "b") ∷ FlowSequenceEnd ∷ StreamEnd ∷ [])) no_more (second_anchored_node 4 10 ∷ [])
 
 -- Runs that an error cuts off: the parser's, and the source's after a whole document and within one.
 abbrev pub RowParserFault : Type 0
@@ -250,7 +250,7 @@ RowSourceEnds = IsLoads (list (
 
 abbrev pub RowUndefinedAliasBeforeSourceEnds : Type 0
 RowUndefinedAliasBeforeSourceEnds = IsLoads (list (
-    STREAM ∷ FlowSequenceStart ∷ ALIAS (codes "b") ∷ [])) no_more (no_carrier 4 ∷ [])
+    STREAM ∷ FlowSequenceStart ∷ ALIAS (codes "b") ∷ [])) no_more (no_anchored_node 4 ∷ [])
 
 -- Bounds: five nodes are within 5, and not within 4.
 abbrev pub RowNodesInBound : Type 0
@@ -287,7 +287,7 @@ RowBoundBeforeAnchor = IsBoundedLoads 2 (list (
 abbrev pub RowAliasBeforeBound : Type 0
 RowAliasBeforeBound = IsBoundedLoads 1 (list (
     STREAM ∷ ANCHOR (codes "a") ∷ FlowSequenceStart ∷ ALIAS (codes "a") ∷ FlowEntry ∷ ALIAS (codes "b") ∷
-    FlowSequenceEnd ∷ StreamEnd ∷ [])) no_more (no_carrier 10 ∷ [])
+    FlowSequenceEnd ∷ StreamEnd ∷ [])) no_more (no_anchored_node 10 ∷ [])
 
 -- One pair is within 1, though its value comes where the list is full. The second is beyond it at its key, so that the
 -- undefined alias after it is never reached; within 2 it is.
@@ -305,4 +305,4 @@ RowKeyBeyondBound = IsBoundedLoads 1 (list (
 abbrev pub RowUndefinedAliasAfterKey : Type 0
 RowUndefinedAliasAfterKey = IsBoundedLoads 2 (list (
     STREAM ∷ ANCHOR (codes "a") ∷ FlowMappingStart ∷ Key ∷ ALIAS (codes "a") ∷ Value ∷ ALIAS (codes "a") ∷ FlowEntry ∷
-    Key ∷ ALIAS (codes "a") ∷ Value ∷ ALIAS (codes "b") ∷ FlowMappingEnd ∷ StreamEnd ∷ [])) no_more (no_carrier 22 ∷ [])
+    Key ∷ ALIAS (codes "a") ∷ Value ∷ ALIAS (codes "b") ∷ FlowMappingEnd ∷ StreamEnd ∷ [])) no_more (no_anchored_node 22 ∷ [])

@@ -11,7 +11,7 @@ use Rattle.libyaml_documents.specs.Nodes.{node_at, node_type, type_of}
 use Rattle.libyaml_documents.specs.declared.node.unnamed_yaml_node_t_data.{unnamed_yaml_node_t_data}
 use Rattle.libyaml_documents.specs.declared.node.unnamed_yaml_node_t_data.TheVariants.{Scalar, Sequence, Mapping}
 use Rattle.libyaml_documents.specs.declared.node.yaml_node_t.{yaml_node_t}
-use Rattle.libyaml_graphs.specs.graphs.Graphs.{Carrier, id_or}
+use Rattle.libyaml_graphs.specs.graphs.Graphs.{AnchoredNode, id_or}
 use Rattle.libyaml_graphs.specs.graphs.GraphParts.{Part, alias_part, closing_of, end_part, leaf_part, part_in, part_of, start_part}
 use Rattle.libyaml_graphs.specs.machine.Loader.{Anchors, Loader, OpenNode, bounded_option, failed, going, if_child_fits, on_alias, parent_full, unless_full}
 use Rattle.libyaml_composer.specs.declared.deed.Deed.{Deed}
@@ -20,7 +20,7 @@ use Rattle.libyaml_composer.specs.declared.records.open_t.{open_t}
 use Rattle.libyaml_composer.specs.declared.records.place_t.{place_t}
 use Rattle.libyaml_types.specs.declared.enums.yaml_event_type_t.{yaml_event_type_t}
 use Rattle.libyaml_types.specs.declared.enums.yaml_event_type_t.TheVariants as event_kinds
-use Rattle.libyaml_composer.specs.Composing.{Composer, Told, adding, at_carrier, between_step, deed_for, deed_in, collection_ended, handing, if_placed, is_list_full, new_id, with_open_node, composer_step, step_in, told, unless, within_step}
+use Rattle.libyaml_composer.specs.Composing.{Composer, Told, adding, at_anchored_node, between_step, deed_for, deed_in, collection_ended, handing, if_placed, is_list_full, new_id, with_open_node, composer_step, step_in, told, unless, within_step}
 use Rattle.libyaml_composer.specs.DocumentSoFar as so_far
 use Rattle.libyaml_composer.specs.DocumentSoFar.{DocumentSoFar, IsRefused, anchor_in, anchored, anchored_by, applied_part, event_fact, fault_part, open_of, with_made_node}
 use Rattle.libyaml_composer.specs.Numbers.{is_set, is_id}
@@ -80,7 +80,7 @@ module _ (n : ℕ) (l : Loader) (h : DocumentSoFar) (same : h.nodes ≡ l.nodes)
   listed (Some (start_part a x)) k g is puts = refl
   listed (Some (alias_part a m)) k g is puts = by (get l.anchors a) g
     where
-      by : (c : Option Carrier)
+      by : (c : Option AnchoredNode)
           → unless_full false (if_child_fits (parent_full n l.stack l.nodes) (on_alias c m l)) ≡ going k
           → alias_grows c l ≡ true
       by None g = absurd cc
@@ -172,12 +172,12 @@ module _ (old : loader_ctx) (new : Composer) (e : Event) (stands : ComposerMatch
 
   -- the error, where the first mark is that of the node that carries the event's anchor
   pub refused_at : (ctx : loader_ctx) → IsRefused d → (d ≡ deed.RepeatedAnchor
-      → ctx.first_mark ≡ so_far.first_mark (so_far.carrier_named old.anchors (anchor_in (part_of e))) e.start_mark)
+      → ctx.first_mark ≡ so_far.first_mark (so_far.anchored_node_named old.anchors (anchor_in (part_of e))) e.start_mark)
       → Refuses old ctx (part_of e) e.start_mark (refusal_of d)
   refused_at ctx is first = inr (refused_so is ∙ ap failed (go d is first))
     where
       go : (d : Deed) → IsRefused d → (d ≡ deed.RepeatedAnchor
-          → ctx.first_mark ≡ so_far.first_mark (so_far.carrier_named old.anchors (anchor_in (part_of e))) e.start_mark)
+          → ctx.first_mark ≡ so_far.first_mark (so_far.anchored_node_named old.anchors (anchor_in (part_of e))) e.start_mark)
           → fault_part d (held_of old) (part_of e) e.start_mark ≡ fault_by (refusal_of d) ctx.first_mark e.start_mark
       go deed.UndefinedAlias is first = refl
       go deed.RepeatedAnchor is first = ap (λ (m : Mark). repeated_anchor m e.start_mark) (sym (first refl))
@@ -232,7 +232,7 @@ start_first : (b : Bool) (m : ℕ) (p : place_t) (c : Composer)
 start_first true m p c h = cc
 start_first false m p c h = child_first c.stack h
 
-alias_first : (b : Bool) (i : ℤ) (p : place_t) (c : Composer) → (at_carrier b i p c).deed ≡ deed.RepeatedAnchor → ⊥
+alias_first : (b : Bool) (i : ℤ) (p : place_t) (c : Composer) → (at_anchored_node b i p c).deed ≡ deed.RepeatedAnchor → ⊥
 alias_first false i p c h = cc
 alias_first true i p c h = go (is_list_full c.most c.stack) h
   where
@@ -276,7 +276,7 @@ module _ (old named : loader_ctx) (a : Option (List ℕ)) (m : Mark) (e : Event)
   tells_so : told d p new ≡ composer_step (event_type e.content) (event_fact (held_of old) e) before (roomy room old.collections)
   tells_so = tells
       ∙ (ap (λ (i : ℤ). composer_step (event_type e.content) i before (roomy room named.collections))
-      (at.carrier ∙ ap (λ (x : Option (List ℕ)). pos (id_or (so_far.carrier_named old.anchors x))) anchor)
+      (at.anchored_node ∙ ap (λ (x : Option (List ℕ)). pos (id_or (so_far.anchored_node_named old.anchors x))) anchor)
       ∙ ap (λ (c : loader_ctx). composer_step (event_type e.content) (event_fact (held_of old) e) before (roomy room c.collections)) at.context)
 
   anchors : anchored a (suc (length old.document.nodes)) m old.anchors
@@ -298,5 +298,5 @@ module _ (old named : loader_ctx) (a : Option (List ℕ)) (m : Mark) (e : Event)
   node_refused refused = subst (λ (x : Mark). Refuses old (record named { collections = new }) (part_of e) x (refusal_of d)) is.mark_is
       (refused_at old new e stands is.not_end room before p d tells_so (record named { collections = new }) refused
       (λ first. at.first (repeated (event_type e.content) id before (roomy room named.collections) (ap (λ (t : Told). t.deed) (sym tells) ∙ first))
-      ∙ (ap (λ (x : Option (List ℕ)). so_far.first_mark (so_far.carrier_named old.anchors x) m) anchor
-      ∙ ap (so_far.first_mark (so_far.carrier_named old.anchors (anchor_in (part_of e)))) (sym is.mark_is))))
+      ∙ (ap (λ (x : Option (List ℕ)). so_far.first_mark (so_far.anchored_node_named old.anchors x) m) anchor
+      ∙ ap (so_far.first_mark (so_far.anchored_node_named old.anchors (anchor_in (part_of e)))) (sym is.mark_is))))

@@ -4,11 +4,11 @@ use Rattle.std.specs.FinMap.{from_entries, code}
 use Rattle.std.specs.Coded.{Coded, code_by, coded_ℕ, coded_list, coded×}
 use Rattle.libyaml_graphs.specs.graphs.Graphs as graphs
 use Rattle.libyaml_graphs.specs.machine.Loader as loader
-use Rattle.libyaml_loader.specs.declared.ids.Carrier.{Carrier}
-use Rattle.libyaml_loader.specs.document.Ids.{carrier_of}
+use Rattle.libyaml_loader.specs.declared.ids.AnchoredNode.{AnchoredNode}
+use Rattle.libyaml_loader.specs.document.Ids.{anchored_node_of}
 
 -- an anchored node is stored as the tuple of its numbers
-abbrev pub carrier_code : Coded graphs.Carrier
+abbrev pub carrier_code : Coded graphs.AnchoredNode
 carrier_code =
     code_by (ℕ × (ℕ × (ℕ × ℕ))) (coded× coded_ℕ (coded× coded_ℕ (coded× coded_ℕ coded_ℕ)))
     (λ c. (c.id, (c.mark.index, (c.mark.line, c.mark.column))))
@@ -18,9 +18,9 @@ carrier_code =
 abbrev pub anchors_code : Coded loader.Anchors
 anchors_code = code (coded_list coded_ℕ) carrier_code
 
-abbrev pub carriers_of : {Y : Type 0} → List (String Y × Carrier) → List (List ℕ × graphs.Carrier)
-carriers_of [] = []
-carriers_of (e ∷ es) = (string_bytes e.0, carrier_of e.1) ∷ carriers_of es
+abbrev pub anchored_nodes_of : {Y : Type 0} → List (String Y × AnchoredNode) → List (List ℕ × graphs.AnchoredNode)
+anchored_nodes_of [] = []
+anchored_nodes_of (e ∷ es) = (string_bytes e.0, anchored_node_of e.1) ∷ anchored_nodes_of es
 
-abbrev pub anchors_of : {Y : Type 0} → List (String Y × Carrier) → loader.Anchors
-anchors_of es = from_entries (carriers_of es)
+abbrev pub anchors_of : {Y : Type 0} → List (String Y × AnchoredNode) → loader.Anchors
+anchors_of es = from_entries (anchored_nodes_of es)

@@ -15,7 +15,7 @@ use Rattle.libyaml_composer.specs.declared.deed.Deed.{Deed}
 use Rattle.libyaml_composer.specs.declared.deed.Deed.TheVariants as deed
 use Rattle.libyaml_composer.specs.declared.records.place_t.{place_t}
 use Rattle.libyaml_composer.specs.DocumentSoFar as so_far
-use Rattle.libyaml_composer.specs.DocumentSoFar.{DocumentSoFar, anchored, anchored_by, applied_part, carrier_named, first_mark, with_made_node}
+use Rattle.libyaml_composer.specs.DocumentSoFar.{DocumentSoFar, anchored, anchored_by, applied_part, anchored_node_named, first_mark, with_made_node}
 use Rattle.libyaml_composer.specs.Represents.{FitsParent, IsChild, IsClosed, IsNode, IsPart, PutsNode, Represents}
 use Rattle.libyaml_composer.specs.Numbers.{is_id}
 use Rattle.libyaml_loader.specs.declared.context.loader_ctx.{loader_ctx}
@@ -71,12 +71,12 @@ Grows d p = (PutsNode d × (is_id p.node ≡ true)) ⊎ IsListed d
 -- The next node is named by this anchor, if there is one. The id is that of the node which carried it before; 0
 -- where none did.
 pub record Named (old new : loader_ctx) (a : Option (List ℕ)) (m : yaml_mark_t) (id : ℤ) : Type 0 where
-  pub carrier : id ≡ pos (id_or (carrier_named old.anchors a))
+  pub anchored_node : id ≡ pos (id_or (anchored_node_named old.anchors a))
   pub context : new ≡ record old {
     anchors = anchored a (suc (length old.document.nodes)) m old.anchors;
     first_mark = new.first_mark;
   }
-  pub first : is_id id ≡ true → new.first_mark ≡ first_mark (carrier_named old.anchors a) m
+  pub first : is_id id ≡ true → new.first_mark ≡ first_mark (anchored_node_named old.anchors a) m
 
 -- why a load stops where this is refused
 abbrev pub refusal_of : Deed → Refusal

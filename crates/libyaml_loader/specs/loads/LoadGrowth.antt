@@ -9,7 +9,7 @@ use Rattle.libyaml_documents.specs.declared.node.yaml_node_t.{yaml_node_t}
 use Rattle.libyaml_documents.specs.Nodes.{node_at}
 use Rattle.libyaml_grammar.specs.grammar.Events.{Event}
 use Rattle.libyaml_grammar.specs.runs.Runs.{Ending}
-use Rattle.libyaml_graphs.specs.graphs.Graphs.{Carrier}
+use Rattle.libyaml_graphs.specs.graphs.Graphs.{AnchoredNode}
 use Rattle.libyaml_graphs.specs.machine.Loader.{Loader, OpenNode, load_from, within}
 use Rattle.libyaml_graphs.specs.loads.Loads.{Load}
 use Rattle.libyaml_graphs.specs.graphs.GraphParts.{Opening, Part, alias_part, end_part, leaf_part, part_of, start_part}
@@ -30,7 +30,7 @@ abbrev pub parent_grows : List OpenNode → List yaml_node_t → Bool
 parent_grows [] nodes = false
 parent_grows (o ∷ s) nodes = node_grows o.key (node_at nodes o.node)
 
-abbrev pub alias_grows : Option Carrier → Loader → Bool
+abbrev pub alias_grows : Option AnchoredNode → Loader → Bool
 alias_grows None l = false
 alias_grows (Some c) l = parent_grows l.stack l.nodes
 

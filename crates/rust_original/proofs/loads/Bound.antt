@@ -11,7 +11,7 @@ use Rattle.libyaml_grammar.specs.grammar.Events.{event}
 use Rattle.libyaml_grammar.specs.grammar.Tokens.{Mark}
 use Rattle.libyaml_documents.specs.LoadedNodes.{mapping_loaded, scalar_loaded, sequence_loaded}
 use Rattle.libyaml_graphs.specs.graphs.GraphParts.{Part, alias_part, end_part, leaf_part, part_in, start_part}
-use Rattle.libyaml_graphs.specs.graphs.Graphs.{Carrier}
+use Rattle.libyaml_graphs.specs.graphs.Graphs.{AnchoredNode}
 use Rattle.libyaml_graphs.specs.machine.Loader.{content_full, list_full, no_anchors, node_full}
 use Rattle.libyaml_graphs.specs.machine.Loader as loader
 use Rattle.libyaml_graphs.proofs.exported.Building.{AllLess, Falls, Less, key_in, loader_of, stack_of, AllHas, Built, Has, Held, nodes_in}
@@ -163,14 +163,14 @@ module _ (n : ℕ) (x : yaml_node_t) (opens : Bool) (b : Built) (has : AllHas b.
         after ys = orig_loader.if_ok (orig_loader.yaml_parser_load_node_add n (pushed_node ys) index)
             (λ s. if opens then orig_loader.STACK_LIMIT n (length s.ctx) (OK (record s { ctx = index ∷ s.ctx })) else OK s)
 
-        registered : (o : Option Carrier) (c : List ℕ) → nat_lt (length (halves b.held)) n ≡ true
+        registered : (o : Option AnchoredNode) (c : List ℕ) → nat_lt (length (halves b.held)) n ≡ true
             → elim o [
               | Some y ↦ orig_loader.yaml_parser_set_composer_error_context (codes "found duplicate anchor; first occurrence")
                   y.mark (codes "second occurrence") x.start_mark
               | None ↦ orig_loader.if_ok
                   (orig_loader.yaml_parser_load_node_add n
                   (pushed_node
-                  (xs ++ record { anchor = c; carrier = record { id = index; mark = x.start_mark } } ∷ [])) index)
+                  (xs ++ record { anchor = c; anchored_node = record { id = index; mark = x.start_mark } } ∷ [])) index)
                   (λ s. if opens then orig_loader.STACK_LIMIT n (length s.ctx) (OK (record s { ctx = index ∷ s.ctx })) else OK s)
             ] ≡ guarded false (orig_loader.is_parent_full n (ids b.places) (halves b.held)) (elim o [
               | Some y ↦ orig_loader.yaml_parser_set_composer_error_context (codes "found duplicate anchor; first occurrence")
@@ -178,7 +178,7 @@ module _ (n : ℕ) (x : yaml_node_t) (opens : Bool) (b : Built) (has : AllHas b.
               | None ↦ OK
                   (finish_there opens
                   (pushed_node
-                  (xs ++ record { anchor = c; carrier = record { id = index; mark = x.start_mark } } ∷ [])) index)
+                  (xs ++ record { anchor = c; anchored_node = record { id = index; mark = x.start_mark } } ∷ [])) index)
             ])
         registered (Some y) c e = refl
         registered None c e = opened_there _ e
@@ -205,7 +205,7 @@ alias_limited : (n : ℕ) (a : List ℕ) (m : Mark) (xs : List yaml_alias_data_t
     (load_alias (there xs b) a m)
 alias_limited n a m xs b = go (alias_of xs a) (orig_loader.is_parent_full n (ids b.places) (halves b.held))
   where
-    go : (o : Option Carrier) (u : Bool) → elim o [
+    go : (o : Option AnchoredNode) (u : Bool) → elim o [
       | Some found ↦ if u then FAIL memory_fault else OK (orig_loader.child_added (there xs b) found.id)
       | None ↦ orig_loader.yaml_parser_set_composer_error (codes "found undefined alias") m
     ] ≡ guarded false u (elim o [

@@ -10,8 +10,8 @@ use Rattle.libyaml_grammar.specs.grammar.Events.{Event, event}
 use Rattle.libyaml_grammar.specs.grammar.Tokens.{Mark}
 use Rattle.libyaml_graphs.specs.graphs.ComposerFaults.{alias_fault, anchor_fault, known_fault, composer_part_fault}
 use Rattle.libyaml_documents.specs.LoadedNodes.{mapping_loaded, scalar_loaded, sequence_loaded}
-use Rattle.libyaml_graphs.specs.graphs.GraphParts.{Part, alias_part, following, end_part, part_in, carrier_start}
-use Rattle.libyaml_graphs.specs.graphs.Graphs.{Carrier, Start, carrier, carries, id_or}
+use Rattle.libyaml_graphs.specs.graphs.GraphParts.{Part, alias_part, following, end_part, part_in, anchored_node_start}
+use Rattle.libyaml_graphs.specs.graphs.Graphs.{AnchoredNode, Start, anchored_node, carries, id_or}
 use Rattle.libyaml_graphs.proofs.exported.Building.{Built, Held, bare, build, hold_top}
 use Rattle.rust_original.specs.loader.Loader as orig_loader
 use Rattle.rust_original.specs.loader.Loader.{FAIL, LoaderResult, OK, alias_of, yaml_alias_data_t}
@@ -26,26 +26,26 @@ abbrev pub there : List yaml_alias_data_t → Built → orig_loader.OriginalLoad
 there xs b = record { aliases = xs; nodes = halves b.held; ctx = ids b.places }
 
 abbrev pub Agrees : List Start → List yaml_alias_data_t → Type 0
-Agrees es xs = (a : List ℕ) → alias_of xs a ≡ carrier a es
+Agrees es xs = (a : List ℕ) → alias_of xs a ≡ anchored_node a es
 
 abbrev pub Follows : LoaderResult → Option Fault → List Start → Built → Type 0
 Follows (FAIL f) w es b = w ≡ Some f
 Follows (OK m) w es b = (w ≡ None) × ((xs : List yaml_alias_data_t) × (m ≡ there xs b) × Agrees es xs × AllSound b.held)
 
 -- an anchored node's id is one
-carrier_id : (a : List ℕ) (es : List Start) (c : Carrier) → carrier a es ≡ Some c → (i : ℕ) × (c.id ≡ suc i)
-carrier_id a [] c e = absurd cc
-carrier_id a (s ∷ es) c e = go (carries s.anchor a) (λ k. carrier_id a es c k) e
+anchored_node_id : (a : List ℕ) (es : List Start) (c : AnchoredNode) → anchored_node a es ≡ Some c → (i : ℕ) × (c.id ≡ suc i)
+anchored_node_id a [] c e = absurd cc
+anchored_node_id a (s ∷ es) c e = go (carries s.anchor a) (λ k. anchored_node_id a es c k) e
   where
-    same : (d : Carrier) → Some d ≡ Some c → d ≡ c
+    same : (d : AnchoredNode) → Some d ≡ Some c → d ≡ c
     same d h = cc
 
-    go : (u : Bool) → (carrier a es ≡ Some c → (i : ℕ) × (c.id ≡ suc i))
-        → ◌≡◌ {A = Option Carrier}
-        (elim u [ true ↦ Some (record { id = suc (length es); mark = s.mark }) | false ↦ carrier a es ]) (Some c)
+    go : (u : Bool) → (anchored_node a es ≡ Some c → (i : ℕ) × (c.id ≡ suc i))
+        → ◌≡◌ {A = Option AnchoredNode}
+        (elim u [ true ↦ Some (record { id = suc (length es); mark = s.mark }) | false ↦ anchored_node a es ]) (Some c)
         → (i : ℕ) × (c.id ≡ suc i)
     go true ih h
-        = (length es, sym (ap (λ (d : Carrier). d.id) (same (record { id = suc (length es); mark = s.mark }) h)))
+        = (length es, sym (ap (λ (d : AnchoredNode). d.id) (same (record { id = suc (length es); mark = s.mark }) h)))
     go false ih h = ih h
 
 halves_append : (hs : List Held) (x : yaml_node_t) → halves (hs ++ bare x ∷ []) ≡ halves hs ++ x ∷ []
@@ -89,10 +89,10 @@ node_add xs i (p ∷ s) hs h
 
 alias_follows : (a : List ℕ) (m : Mark) (es : List Start) (b : Built) (xs : List yaml_alias_data_t) → Agrees es xs
     → AllSound b.held
-    → Follows (load_alias (there xs b) a m) (alias_fault (carrier a es) m) es (build es (alias_part a m) b)
-alias_follows a m es b xs g h = go (alias_of xs a) (carrier a es) (g a) refl
+    → Follows (load_alias (there xs b) a m) (alias_fault (anchored_node a es) m) es (build es (alias_part a m) b)
+alias_follows a m es b xs g h = go (alias_of xs a) (anchored_node a es) (g a) refl
   where
-    go : (o c : Option Carrier) → o ≡ c → carrier a es ≡ c
+    go : (o c : Option AnchoredNode) → o ≡ c → anchored_node a es ≡ c
         → Follows (elim o [
           | Some found ↦ OK (orig_loader.child_added (there xs b) found.id)
           | None ↦ orig_loader.yaml_parser_set_composer_error (codes "found undefined alias") m
@@ -102,7 +102,7 @@ alias_follows a m es b xs g h = go (alias_of xs a) (carrier a es) (g a) refl
     go None (Some c) e k = absurd cc
     go (Some o) None e k = absurd cc
     go (Some o) (Some c) e k =
-        let i = carrier_id a es c k in
+        let i = anchored_node_id a es c k in
         let same : o.id ≡ suc i.0 = ap id_or e ∙ i.1 in (
           refl,
           (
@@ -115,37 +115,37 @@ alias_follows a m es b xs g h = go (alias_of xs a) (carrier a es) (g a) refl
         )
 
 -- a node put after the others
-abbrev or_else : Option Carrier → Option Carrier → Option Carrier
+abbrev or_else : Option AnchoredNode → Option AnchoredNode → Option AnchoredNode
 or_else None o = o
 or_else (Some c) o = Some c
 
-or_none : (o : Option Carrier) → or_else o None ≡ o
+or_none : (o : Option AnchoredNode) → or_else o None ≡ o
 or_none None = refl
 or_none (Some c) = refl
 
 alias_more : (xs : List yaml_alias_data_t) (d : yaml_alias_data_t) (a : List ℕ)
-    → alias_of (xs ++ d ∷ []) a ≡ or_else (alias_of xs a) (cond (bytes_eq d.anchor a) (Some d.carrier) None)
+    → alias_of (xs ++ d ∷ []) a ≡ or_else (alias_of xs a) (cond (bytes_eq d.anchor a) (Some d.anchored_node) None)
 alias_more [] d a = refl
 alias_more (e ∷ xs) d a = go (bytes_eq e.anchor a) (alias_more xs d a)
   where
     go : (u : Bool)
-        → alias_of (xs ++ d ∷ []) a ≡ or_else (alias_of xs a) (cond (bytes_eq d.anchor a) (Some d.carrier) None)
-        → cond u (Some e.carrier) (alias_of (xs ++ d ∷ []) a)
-        ≡ or_else (cond u (Some e.carrier) (alias_of xs a)) (cond (bytes_eq d.anchor a) (Some d.carrier) None)
+        → alias_of (xs ++ d ∷ []) a ≡ or_else (alias_of xs a) (cond (bytes_eq d.anchor a) (Some d.anchored_node) None)
+        → cond u (Some e.anchored_node) (alias_of (xs ++ d ∷ []) a)
+        ≡ or_else (cond u (Some e.anchored_node) (alias_of xs a)) (cond (bytes_eq d.anchor a) (Some d.anchored_node) None)
     go true ih = refl
     go false ih = ih
 
 agrees_more : (xs : List yaml_alias_data_t) (es : List Start) (b : List ℕ) (m : Mark) → Agrees es xs
     → alias_of xs b ≡ None → Agrees (record { anchor = Some b; mark = m } ∷ es)
-    (xs ++ record { anchor = b; carrier = record { id = suc (length es); mark = m } } ∷ [])
+    (xs ++ record { anchor = b; anchored_node = record { id = suc (length es); mark = m } } ∷ [])
 agrees_more xs es b m g e a
-    = alias_more xs (record { anchor = b; carrier = record { id = suc (length es); mark = m } }) a ∙ go (bytes_eq b a)
+    = alias_more xs (record { anchor = b; anchored_node = record { id = suc (length es); mark = m } }) a ∙ go (bytes_eq b a)
     refl
   where
     go : (u : Bool) → u ≡ bytes_eq b a
         → or_else (alias_of xs a) (cond u (Some (record { id = suc (length es); mark = m })) None)
-        ≡ elim u [ true ↦ Some (record { id = suc (length es); mark = m }) | false ↦ carrier a es ]
-    go true s = ap (λ (o : Option Carrier). or_else o (Some (record { id = suc (length es); mark = m })))
+        ≡ elim u [ true ↦ Some (record { id = suc (length es); mark = m }) | false ↦ anchored_node a es ]
+    go true s = ap (λ (o : Option AnchoredNode). or_else o (Some (record { id = suc (length es); mark = m })))
         (subst (λ (y : List ℕ). alias_of xs y ≡ None) (lex.same_text b a s) e)
     go false s = or_none (alias_of xs a) ∙ g a
 
@@ -203,28 +203,28 @@ module _ (x : yaml_node_t) (opens : Bool) (es : List Start) (b : Built) (size : 
       go false = top_sound (length es) b.places (b.held ++ bare x ∷ []) (sound_append b.held x h i)
 
   node_follows : (a : Option (List ℕ)) (xs : List yaml_alias_data_t) → Agrees es xs
-      → Follows (pushed (there xs b) a x opens) (anchor_fault es a x.start_mark) (carrier_start a x ∷ es)
+      → Follows (pushed (there xs b) a x opens) (anchor_fault es a x.start_mark) (anchored_node_start a x ∷ es)
       (put opens x (length es) b)
   node_follows None xs g = (refl, (xs, finished xs, g, put_sound))
-  node_follows (Some a) xs g = go (alias_of xs a) refl (carrier a es) (g a)
+  node_follows (Some a) xs g = go (alias_of xs a) refl (anchored_node a es) (g a)
     where
-      go : (o : Option Carrier) → alias_of xs a ≡ o → (c : Option Carrier) → alias_of xs a ≡ c
+      go : (o : Option AnchoredNode) → alias_of xs a ≡ o → (c : Option AnchoredNode) → alias_of xs a ≡ c
           → Follows (elim o [
             | Some y ↦ orig_loader.yaml_parser_set_composer_error_context (codes "found duplicate anchor; first occurrence")
                 y.mark (codes "second occurrence") x.start_mark
             | None ↦ OK (finish_there opens (record {
               aliases = xs ++
-                  record { anchor = a; carrier = record { id = suc (length (halves b.held)); mark = x.start_mark } } ∷
+                  record { anchor = a; anchored_node = record { id = suc (length (halves b.held)); mark = x.start_mark } } ∷
                   [];
               nodes = halves b.held ++ x ∷ [];
               ctx = ids b.places;
             }) (suc (length (halves b.held))))
-          ]) (known_fault c x.start_mark) (carrier_start (Some a) x ∷ es) (put opens x (length es) b)
-      go (Some y) e c k = ap (λ (d : Option Carrier). known_fault d x.start_mark) (sym k ∙ e)
+          ]) (known_fault c x.start_mark) (anchored_node_start (Some a) x ∷ es) (put opens x (length es) b)
+      go (Some y) e c k = ap (λ (d : Option AnchoredNode). known_fault d x.start_mark) (sym k ∙ e)
       go None e c k = (
-        ap (λ (d : Option Carrier). known_fault d x.start_mark) (sym k ∙ e),
+        ap (λ (d : Option AnchoredNode). known_fault d x.start_mark) (sym k ∙ e),
         (
-          xs ++ record { anchor = a; carrier = record { id = suc (length (halves b.held)); mark = x.start_mark } } ∷ [],
+          xs ++ record { anchor = a; anchored_node = record { id = suc (length (halves b.held)); mark = x.start_mark } } ∷ [],
           finished _,
           rw (← index_is) at (agrees_more xs es a x.start_mark g e),
           put_sound,

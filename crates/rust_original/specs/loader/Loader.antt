@@ -18,13 +18,13 @@ use Rattle.libyaml_grammar.specs.runs.Runs.{Ending, Ends, Fails}
 use Rattle.libyaml_grammar.specs.grammar.Events.{Event}
 use Rattle.libyaml_grammar.specs.grammar.Tokens.{Mark}
 use Rattle.libyaml_graphs.specs.graphs.GraphParts.{Opening}
-use Rattle.libyaml_graphs.specs.graphs.Graphs.{Carrier}
+use Rattle.libyaml_graphs.specs.graphs.Graphs.{AnchoredNode}
 use Rattle.libyaml_graphs.specs.loads.Loads.{Load, document}
 
 -- An anchor, with the id and the start of its node.
 pub record yaml_alias_data_t : Type 0 where
   pub anchor : List ℕ
-  pub carrier : Carrier
+  pub anchored_node : AnchoredNode
 
 -- The aliases in their order, the document's nodes, and the ids of the open collections, the innermost first.
 pub record OriginalLoader : Type 0 where
@@ -71,9 +71,9 @@ yaml_parser_set_composer_error_context context context_mark problem problem_mark
 -- anchors
 
 -- The first alias whose anchor strcmp finds equal.
-abbrev pub alias_of : List yaml_alias_data_t → (anchor : List ℕ) → Option Carrier
+abbrev pub alias_of : List yaml_alias_data_t → (anchor : List ℕ) → Option AnchoredNode
 alias_of [] anchor = None
-alias_of (d ∷ ds) anchor = if bytes_eq d.anchor anchor then Some d.carrier else alias_of ds anchor
+alias_of (d ∷ ds) anchor = if bytes_eq d.anchor anchor then Some d.anchored_node else alias_of ds anchor
 
 -- A node's anchor comes after the others; one that is there already is an error. `mark` is the node's start.
 abbrev pub yaml_parser_register_anchor : OriginalLoader → (index : ℕ) → (mark : Mark) → (anchor : Option (List ℕ))
@@ -84,7 +84,7 @@ yaml_parser_register_anchor l index mark (Some anchor) next = elim (alias_of l.a
       yaml_parser_set_composer_error_context (codes "found duplicate anchor; first occurrence") first.mark
       (codes "second occurrence") mark
   | None ↦ next (record l {
-    aliases = l.aliases ++ record { anchor = anchor; carrier = record { id = index; mark = mark } } ∷ [];
+    aliases = l.aliases ++ record { anchor = anchor; anchored_node = record { id = index; mark = mark } } ∷ [];
   })
 ]
 

@@ -3,7 +3,7 @@ use Rattle.std.specs.Prelude.{◌≡◌, ◌∷◌, ◌++◌, [], None, Some, tr
 use Rattle.libyaml_types.specs.declared.event.unnamed_yaml_event_t_data.TheVariants as ev
 use Rattle.libyaml_types.specs.declared.token.unnamed_yaml_token_t_data.TheVariants.{DocumentStart, FlowEntry, FlowSequenceEnd, FlowSequenceStart, StreamEnd}
 use Rattle.libyaml_grammar.specs.rows.RowNotation.{ALIAS, ANCHOR, HANDLE, SCALAR, STREAM, TAG, alias, at, declaring, flow_sequence, headed_document, list, no_document_end, nothing, scalar, stream}
-use Rattle.libyaml_graphs.specs.rows.LoadRows.{implicit, loaded, no_carrier, no_root, second_carrier}
+use Rattle.libyaml_graphs.specs.rows.LoadRows.{implicit, loaded, no_anchored_node, no_root, second_anchored_node}
 use Rattle.rust_original.specs.rows.Notation.{broken_run, ends, fails, flow_seq, row_node, parse, plain, run_to, second_handle, str, row_tagged, fails_at_undefined_handle, zero_between}
 
 abbrev pub RowAliasWithAZeroByte : Type 0
@@ -11,7 +11,7 @@ RowAliasWithAZeroByte = parse (list (STREAM ∷ ALIAS (zero_between (codes "a") 
     [])) ≡ record {
       there = run_to 4 (at 2 3 (alias (codes "a")) ∷ []);
       here = run_to 4 (at 2 3 (alias (zero_between (codes "a") (codes "b"))) ∷ []);
-      loads = no_carrier 2 ∷ [];
+      loads = no_anchored_node 2 ∷ [];
     }
 
 abbrev pub RowAnchorWithAZeroByte : Type 0
@@ -35,7 +35,7 @@ RowTwoAnchorsWithZeroBytes = parse (list (STREAM ∷ FlowSequenceStart ∷ ANCHO
           at 4 5 (scalar (Some (zero_between (codes "a") (codes "b"))) None [] true false plain) ∷
           at 8 9 (scalar (Some (zero_between (codes "a") (codes "c"))) None [] true false plain) ∷
           at 10 11 ev.SequenceEnd ∷ []);
-      loads = second_carrier 4 8 ∷ [];
+      loads = second_anchored_node 4 8 ∷ [];
     }
 
 abbrev pub RowTwoHandlesWithZeroBytes : Type 0

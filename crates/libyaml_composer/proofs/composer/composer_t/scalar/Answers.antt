@@ -12,7 +12,7 @@ returns-clause-tells c =
     let h = c.place_child-deed.ensures.handed n in
     let k = composer_of c.args.self.now c.args.stack.now in
     let f = false_from_ne_true (is_list_full k.most k.stack) (λ e. n (c.place_child-deed.ensures.full.1 e)) in
-    let free = rw (to_z-of_z w32 c.args.carrier c.ranges.carrier) at c.refusal.ensures.none c.in_default.is
+    let free = rw (to_z-of_z w32 c.args.anchored_node c.ranges.anchored_node) at c.refusal.ensures.none c.in_default.is
     c.args.place.now (unless (is_list_full k.most k.stack) deed.FullList c.args.place.now k (adding k)) in
     placed k c.args.place.now _ (adding k) f (search rules) ∙ sym free
 

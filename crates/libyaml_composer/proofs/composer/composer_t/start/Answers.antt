@@ -15,7 +15,7 @@ returns-clause-tells c =
     let is_over = nat_le k.room (length k.stack) in
     let f = false_from_ne_true (is_list_full k.most k.stack) (λ e. n (c.place_child-deed.ensures.full.1 e)) in
     let g = sym c.is_stack_full.ensures.full ∙ c.if-is_stack_full.false in
-    let free = rw (to_z-of_z w32 c.args.carrier c.ranges.carrier) at c.refusal.ensures.none c.in_default.is
+    let free = rw (to_z-of_z w32 c.args.anchored_node c.ranges.anchored_node) at c.refusal.ensures.none c.in_default.is
     c.args.place.now (unless (is_list_full k.most k.stack) deed.FullList c.args.place.now k
     (unless is_over deed.FullStack c.args.place.now k new)) in
     opened_so k is_over c.args.place.now _ new f g (search rules) ∙ sym free
