@@ -24,7 +24,7 @@ use Rattle.libyaml_automaton.specs.Numbers.{flag}
 use Rattle.libyaml_events.specs.machine.Config.{Handles, config_with}
 use Rattle.libyaml_events.specs.machine.Machine as parser_machine
 use Rattle.libyaml_events.specs.machine.Machine.{declared_by, fault_with, lookahead_after, resolve}
-use Rattle.libyaml_events.specs.machine.Want as parser_want
+use Rattle.libyaml_events.specs.machine.Want as parser
 use Rattle.libyaml_events.specs.machine.Want.{Texts}
 use Rattle.token_steps.specs.Facts.{Given, StepResult, TagRead, NoTag, StepWant, Wants, put_by_fact, without_fact, step_by_fact, tag_for, tag_if, content_by_fact, shape_with, tag_read, with_facts}
 use Rattle.token_steps.specs.Facts as facts
@@ -121,11 +121,11 @@ handles_same hs g fact _ = refl
 -- what is told, with the texts that are kept and the token's
 abbrev pub told_with : Texts → Handles → Token → unnamed_yaml_token_t_data → StepResult → parser_machine.Progressed
 told_with h hs t k (Ok (Given e, c)) = Ok (
-  parser_want.Given (event_with hs h k e),
+  parser.Given (event_with hs h k e),
   config_with c (handles_past hs e.shape) no_fault (lookahead_after e.stays t None),
 )
 told_with h hs t k (Ok (Wants v, c)) = Ok (
-  parser_want.Wants (record { next = v.next; texts = texts_kept_after h k }),
+  parser.Wants (record { next = v.next; texts = texts_kept_after h k }),
   config_with c (declared_by hs k) no_fault None,
 )
 told_with h hs t k (Err f) = Err (fault_with f)

@@ -15,7 +15,7 @@ use Rattle.libyaml_automaton.specs.declared.difference.Difference.TheVariants.{N
 use Rattle.libyaml_automaton.specs.declared.node_place.NodePlace.{NodePlace}
 use Rattle.libyaml_automaton.specs.declared.node_place.NodePlace.TheVariants as place
 use Rattle.libyaml_automaton.specs.declared.slot.Slot.{Slot}
-use Rattle.libyaml_automaton.specs.declared.slot.Slot.TheVariants as at
+use Rattle.libyaml_automaton.specs.declared.slot.Slot.TheVariants as slot
 use Rattle.libyaml_automaton.specs.Differing.{differs}
 use Rattle.libyaml_automaton.specs.Slots.{entered, is_nothing_before, left_out, slot_place, state_after}
 use Rattle.libyaml_events.specs.machine.Config.{Config, config_of}
@@ -66,9 +66,9 @@ node p x t kinds.YAML_ANCHOR_TOKEN = tt
 node p x t kinds.YAML_TAG_TOKEN = tt
 node p x t k = content p (automaton.no_properties t) x t k
 
-pub slot : (s : Slot) (m : yaml_mark_t) (x : Stacks) (t : KindAndMarks) (k : yaml_token_type_t)
+pub quiet_slot : (s : Slot) (m : yaml_mark_t) (x : Stacks) (t : KindAndMarks) (k : yaml_token_type_t)
     → QuietStep (automaton.at_slot s m x t k)
-slot s m x t k = go (is_nothing_before s k)
+quiet_slot s m x t k = go (is_nothing_before s k)
   where
     go : (b : Bool) → QuietStep (if b then automaton.process_empty_scalar m (left_out (state_after s) x)
         else automaton.parse_node (slot_place s) (entered (state_after s) x) t k)
@@ -178,7 +178,7 @@ pub at_state : (s : yaml_parser_state_t) (x : Stacks) (t : KindAndMarks) (k : ya
 at_state st.YAML_PARSE_STREAM_START_STATE x t k q = stream_start x t k
 at_state st.YAML_PARSE_IMPLICIT_DOCUMENT_START_STATE x t k q = absurd q
 at_state st.YAML_PARSE_DOCUMENT_START_STATE x t k q = next_document x t k
-at_state st.YAML_PARSE_DOCUMENT_CONTENT_STATE x t k q = slot at.Document t.start_mark x t k
+at_state st.YAML_PARSE_DOCUMENT_CONTENT_STATE x t k q = quiet_slot slot.Document t.start_mark x t k
 at_state st.YAML_PARSE_DOCUMENT_END_STATE x t k q = document_end x t k
 at_state st.YAML_PARSE_BLOCK_NODE_STATE x t k q = node place.Block x t k
 at_state st.YAML_PARSE_BLOCK_NODE_OR_INDENTLESS_SEQUENCE_STATE x t k q = node place.BlockOrIndentlessSequence x t k
@@ -189,7 +189,7 @@ at_state st.YAML_PARSE_BLOCK_MAPPING_KEY_STATE x t k q = block_key x t k
 at_state st.YAML_PARSE_BLOCK_MAPPING_VALUE_STATE x t k q = block_value x t k
 at_state st.YAML_PARSE_FLOW_SEQUENCE_FIRST_ENTRY_STATE x t k q = flow_entry x t k
 at_state st.YAML_PARSE_FLOW_SEQUENCE_ENTRY_STATE x t k q = absurd q
-at_state st.YAML_PARSE_FLOW_SEQUENCE_ENTRY_MAPPING_KEY_STATE x t k q = slot at.PairKey t.start_mark x t k
+at_state st.YAML_PARSE_FLOW_SEQUENCE_ENTRY_MAPPING_KEY_STATE x t k q = quiet_slot slot.PairKey t.start_mark x t k
 at_state st.YAML_PARSE_FLOW_SEQUENCE_ENTRY_MAPPING_VALUE_STATE x t k q = pair_value x t k
 at_state st.YAML_PARSE_FLOW_SEQUENCE_ENTRY_MAPPING_END_STATE x t k q = tt
 at_state st.YAML_PARSE_FLOW_MAPPING_FIRST_KEY_STATE x t k q = flow_key x t k
@@ -203,13 +203,13 @@ following : (p : Purpose) (x : Stacks) (t : KindAndMarks) (k : yaml_token_type_t
 following automaton.AtState x t k q = absurd q
 following (automaton.AfterDirective m b) x t k q = explicit m b x t k
 following (automaton.AfterProperties p r) x t k q = properties p r x t k
-following (automaton.AfterBlockEntry m) x t k q = slot at.BlockEntry m x t k
-following (automaton.AfterIndentlessEntry m) x t k q = slot at.IndentlessEntry m x t k
-following (automaton.AfterKey m) x t k q = slot at.BlockKey m x t k
-following (automaton.AfterValue m) x t k q = slot at.BlockValue m x t k
-following automaton.AfterFlowSequenceValue x t k q = slot at.PairValue t.start_mark x t k
-following automaton.AfterFlowMappingKey x t k q = slot at.FlowKey t.start_mark x t k
-following automaton.AfterFlowMappingValue x t k q = slot at.FlowValue t.start_mark x t k
+following (automaton.AfterBlockEntry m) x t k q = quiet_slot slot.BlockEntry m x t k
+following (automaton.AfterIndentlessEntry m) x t k q = quiet_slot slot.IndentlessEntry m x t k
+following (automaton.AfterKey m) x t k q = quiet_slot slot.BlockKey m x t k
+following (automaton.AfterValue m) x t k q = quiet_slot slot.BlockValue m x t k
+following automaton.AfterFlowSequenceValue x t k q = quiet_slot slot.PairValue t.start_mark x t k
+following automaton.AfterFlowMappingKey x t k q = quiet_slot slot.FlowKey t.start_mark x t k
+following automaton.AfterFlowMappingValue x t k q = quiet_slot slot.FlowValue t.start_mark x t k
 
 -- with texts
 put_quiet : (h : Texts) (b g : Option (List ℕ)) (c : Config) (t : Token) (k : Content) (s : Step) → QuietStep s
