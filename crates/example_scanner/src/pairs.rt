@@ -3,8 +3,7 @@
 use std::alloc::Global;
 use std::str::Lines;
 use unsafe_libyaml::{
-    YAML_PLAIN_SCALAR_STYLE, YAML_UTF8_ENCODING, ZERO_MARK, unnamed_yaml_token_t_data,
-    unnamed_yaml_token_t_data_scalar, unnamed_yaml_token_t_data_stream_start, yaml_mark_t,
+    YAML_PLAIN_SCALAR_STYLE, YAML_UTF8_ENCODING, ZERO_MARK, unnamed_yaml_token_t_data, yaml_mark_t,
     yaml_scanner_t, yaml_source_fault_t, yaml_token_t,
 };
 
@@ -44,14 +43,14 @@ impl<'a> Pairs<'a> {
         }
     }
 
-    /// Returns the content of a plain scalar, and goes on to the place after its text.
-    fn scalar(&mut self, text: &str) -> Result<unnamed_yaml_token_t_data, yaml_source_fault_t> {
-        let Ok(value) = String::from_str(self.alloc, text) else {
-            return Err(yaml_source_fault_t::out_of_memory());
-        };
+    /// Returns a plain scalar, and goes on to the place after its text.
+    fn scalar(&mut self, text: &str) -> Result<yaml_token_t, yaml_source_fault_t> {
+        let place = self.mark;
         self.advance(text.chars().count() as u64);
         let style = YAML_PLAIN_SCALAR_STYLE;
-        Ok(unnamed_yaml_token_t_data::Scalar(unnamed_yaml_token_t_data_scalar { value, style }))
+        yaml_token_t::scalar(self.alloc, text.as_bytes(), style, place, place).map_err(
+            |_| yaml_source_fault_t::out_of_memory(),
+        )
     }
 
     /// Goes on by so many characters of the line.
@@ -72,27 +71,30 @@ impl<'a> yaml_scanner_t for Pairs<'a> {
     fn scan(&mut self) -> Result<yaml_token_t, yaml_source_fault_t> {
         use unnamed_yaml_token_t_data::{BlockEnd, BlockMappingStart, Key, StreamEnd, Value};
         let place = self.mark;
-        let (content, next) = match self.next {
-            Next::StreamStart => (stream_start(), Next::MappingStart),
-            Next::MappingStart => (BlockMappingStart, Next::Line),
+        let (token, next) = match self.next {
+            Next::StreamStart => {
+                let start = yaml_token_t::stream_start(YAML_UTF8_ENCODING, place, place);
+                (start, Next::MappingStart)
+            }
+            Next::MappingStart => (at(place, BlockMappingStart), Next::Line),
             Next::Line => match self.lines.next() {
-                Some(line) => (Key, pair(line, place)?),
-                None => (BlockEnd, Next::StreamEnd),
+                Some(line) => (at(place, Key), pair(line, place)?),
+                None => (at(place, BlockEnd), Next::StreamEnd),
             },
             Next::Key(key, value) => (self.scalar(key)?, Next::Separator(value)),
             Next::Separator(value) => {
                 self.advance(1);
-                (Value, Next::Value(value))
+                (at(place, Value), Next::Value(value))
             }
             Next::Value(value) => {
-                let content = self.scalar(value)?;
+                let token = self.scalar(value)?;
                 self.advance_line();
-                (content, Next::Line)
+                (token, Next::Line)
             }
-            Next::StreamEnd => (StreamEnd, Next::StreamEnd),
+            Next::StreamEnd => (at(place, StreamEnd), Next::StreamEnd),
         };
         self.next = next;
-        Ok(yaml_token_t::new(content, place, place))
+        Ok(token)
     }
 }
 
@@ -108,8 +110,7 @@ fn pair<'a>(line: &'a str, place: yaml_mark_t) -> Result<Next<'a>, yaml_source_f
     }
 }
 
-/// Returns the content of the first token.
-fn stream_start() -> unnamed_yaml_token_t_data {
-    let encoding = YAML_UTF8_ENCODING;
-    unnamed_yaml_token_t_data::StreamStart(unnamed_yaml_token_t_data_stream_start { encoding })
+/// Returns a token without fields at this place.
+fn at(place: yaml_mark_t, content: unnamed_yaml_token_t_data) -> yaml_token_t {
+    yaml_token_t::new(content, place, place)
 }

@@ -1,18 +1,18 @@
 //! The source: what it keeps, what it says of itself, and its tokens.
 
 ghost use Rattle.std.specs.Prelude.{◌≡◌, ◌≢◌, None, Some, Err, [], IfErr, IfOk, length};
+ghost use Rattle.std.specs.Prelude.{option_map};
 ghost use Rattle.unsafe_libyaml.specs.Fault.{memory_fault, source_fault};
-ghost use Rattle.unsafe_libyaml.specs.RowNotation.{STREAM, place};
+ghost use Rattle.unsafe_libyaml.specs.RowNotation.{place};
 ghost use Rattle.unsafe_libyaml.specs.Source.{coming};
 ghost use Rattle.example_source.specs.Letters.{LettersGive, all_tokens, letter_content, letter_token_at};
 ghost use Rattle.example_source.specs.LettersLaws.{letters_fall, letters_follow, letters_repeat};
 
-use std::alloc::{AllocError, Global};
+use std::alloc::Global;
 use std::marker::Model;
 use unsafe_libyaml::{
-    YAML_PLAIN_SCALAR_STYLE, YAML_UTF8_ENCODING, unnamed_yaml_token_t_data,
-    unnamed_yaml_token_t_data_scalar, unnamed_yaml_token_t_data_stream_start, yaml_mark_t,
-    yaml_source_fault_t, yaml_token_source_t, yaml_token_t,
+    YAML_PLAIN_SCALAR_STYLE, YAML_UTF8_ENCODING, unnamed_yaml_token_t_data, yaml_mark_t,
+    yaml_refusal_t, yaml_source_fault_t, yaml_token_source_t, yaml_token_t,
 };
 
 /// The tokens of a text of brackets, commas and letters: each character is a token.
@@ -81,16 +81,17 @@ impl<'a> yaml_token_source_t for Letters<'a> {
         }
         let Some(place) = self.next else {
             self.next = Some(0);
-            return Ok(token(stream_start(), 0));
+            return Ok(yaml_token_t::stream_start(YAML_UTF8_ENCODING, mark(0), mark(0)));
         };
         let Some(character) = self.text.get(place) else {
             self.fault = Some(yaml_source_fault_t::scanner_error("text ended", mark(place)));
-            return Ok(token(unnamed_yaml_token_t_data::StreamEnd, place));
+            let end = unnamed_yaml_token_t_data::StreamEnd;
+            return Ok(yaml_token_t::new(end, mark(place), mark(place)));
         };
-        match content(self.alloc, *character) {
-            Ok(Some(content)) => {
+        match letter_token(self.alloc, *character, place) {
+            Ok(Some(token)) => {
                 self.next = Some(place + 1);
-                Ok(token(content, place))
+                Ok(token)
             }
             Ok(None) => self.end(yaml_source_fault_t::scanner_error("found no token", mark(place))),
             Err(_) => self.end(yaml_source_fault_t::out_of_memory()),
@@ -98,36 +99,31 @@ impl<'a> yaml_token_source_t for Letters<'a> {
     }
 }
 
-/// Returns the content of a character's token, or `None` for a character that is no token.
+/// Returns a character's token at its place, or `None` for a character that is no token.
 ///
 /// # Errors
 ///
 /// Out of memory, for a character that is a token.
-fn content(alloc: Global, character: u8) -> Result<Option<unnamed_yaml_token_t_data>, AllocError>
-    ensures ok { IfOk result (λ content. content ≡ letter_content character) }
+fn letter_token(
+    alloc: Global,
+    character: u8,
+    place: usize,
+) -> Result<Option<yaml_token_t>, yaml_refusal_t>
+    ensures ok { IfOk result (λ found. found ≡ option_map (letter_token_at place)
+        (letter_content character)) }
     ensures err { IfErr result (λ _. letter_content character ≢ None) }
 {
-    use unnamed_yaml_token_t_data::{FlowEntry, FlowSequenceEnd, FlowSequenceStart, Scalar};
+    use unnamed_yaml_token_t_data::{FlowEntry, FlowSequenceEnd, FlowSequenceStart};
+    let at = mark(place);
     Ok(match character {
-        b'[' => Some(FlowSequenceStart),
-        b']' => Some(FlowSequenceEnd),
-        b',' => Some(FlowEntry),
+        b'[' => Some(yaml_token_t::new(FlowSequenceStart, at, at)),
+        b']' => Some(yaml_token_t::new(FlowSequenceEnd, at, at)),
+        b',' => Some(yaml_token_t::new(FlowEntry, at, at)),
         letter if letter.is_ascii_alphabetic() => {
-            let mut value = String::new(alloc);
-            value.push(char::from(letter))?;
-            let style = YAML_PLAIN_SCALAR_STYLE;
-            Some(Scalar(unnamed_yaml_token_t_data_scalar { value, style }))
+            Some(yaml_token_t::scalar(alloc, &[letter], YAML_PLAIN_SCALAR_STYLE, at, at)?)
         }
         _ => None,
     })
-}
-
-/// Returns the content of the first token.
-fn stream_start() -> unnamed_yaml_token_t_data
-    ensures { result ≡ STREAM }
-{
-    let encoding = YAML_UTF8_ENCODING;
-    unnamed_yaml_token_t_data::StreamStart(unnamed_yaml_token_t_data_stream_start { encoding })
 }
 
 /// Returns the mark of a place in the text.
@@ -140,11 +136,4 @@ fn mark(index: usize) -> yaml_mark_t
         line: 0,
         column: index,
     }
-}
-
-/// Returns a token with both marks at its place.
-fn token(content: unnamed_yaml_token_t_data, place: usize) -> yaml_token_t
-    ensures { result ≡ letter_token_at place content }
-{
-    yaml_token_t::new(content, mark(place), mark(place))
 }

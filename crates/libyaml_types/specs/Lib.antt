@@ -3,6 +3,7 @@ pub mod Events
 pub mod Models
 pub mod Numbers
 pub mod Texts
+pub mod TokensMade
 pub mod Types
 pub mod Words
 pub mod Fault

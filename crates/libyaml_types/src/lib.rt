@@ -15,6 +15,7 @@ mod scanner;
 mod scanner_source;
 mod source;
 pub mod token;
+mod token_constructors;
 pub mod utf8;
 mod words;
 

@@ -88,7 +88,7 @@ fn push_all(
     tokens: &str,
     loader: &mut yaml_push_loader_t,
     documents: &mut Vec<yaml_document_t>,
-) -> Result<(), yaml_error_type_t> {
+) -> Result<(), yaml_parser_t_prefix> {
     let mut source = yaml_line_source_t::new(alloc, tokens.as_bytes(), MAX_TOKENS);
     for _ in 0..MAX_TOKENS {
         let Ok(token) = source.next_token() else {
@@ -103,7 +103,7 @@ fn push_all(
 fn is_told_again(
     alloc: Global,
     loader: &mut yaml_push_loader_t,
-    pushed: Result<(), yaml_error_type_t>,
+    pushed: Result<(), yaml_parser_t_prefix>,
 ) -> bool {
     let Err(error) = pushed else {
         return true;

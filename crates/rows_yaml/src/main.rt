@@ -15,6 +15,7 @@ mod enums;
 mod failing;
 mod lines;
 mod loaded;
+mod made_tokens;
 mod one_by_one;
 mod parsers;
 mod reading;
@@ -44,6 +45,7 @@ fn show_calls(rt: &(impl Files + Print + AllocGlobal), tables: &mut Tables<'_>) 
     let two = read_text(rt, "rows/redeclared_secondary_handle.tokens")?;
     show_checks(rt, tables, "enums", &enums::checks(alloc))?;
     show_checks(rt, tables, "constructors", &constructors::checks(alloc))?;
+    show_checks(rt, tables, "tokens", &made_tokens::checks(alloc))?;
     show_checks(rt, tables, "documents", &documents::checks(alloc))?;
     show_checks(
         rt,

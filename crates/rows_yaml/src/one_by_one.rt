@@ -66,39 +66,40 @@ pub fn without_fault_of_source(wanted: &str) -> &str {
 fn write_pushed(alloc: Global, tokens: &str, out: &mut Vec<u8>) -> Result<()> {
     let mut parser = yaml_push_parser_t::new(alloc);
     let mut events = Vec::new(alloc);
-    push_all(alloc, tokens, &mut parser, &mut events);
+    let pushed = push_all(alloc, tokens, &mut parser, &mut events);
     write_events(alloc, events.as_slice(), out)?;
-    write_kept(parser.prefix(), out)
+    write_kept(parser.prefix(), out)?;
+    if !is_kept(parser.prefix(), &pushed) {
+        out.extend_from_slice(b"another error than the one that is kept\n")?;
+    }
+    Ok(())
+}
+
+/// Whether the last push returned the error that is kept, or no error if none is.
+fn is_kept(kept: &yaml_parser_t_prefix, pushed: &Result<(), yaml_parser_t_prefix>) -> bool {
+    match pushed {
+        Ok(()) => kept.error == YAML_NO_ERROR,
+        Err(fault) => fault == kept,
+    }
 }
 
 /// Pushes the token of each line, also after a fault or the stream's end, where a push appends nothing.
+/// Returns what the last push did.
 fn push_all(
     alloc: Global,
     tokens: &str,
     parser: &mut yaml_push_parser_t,
     events: &mut Vec<yaml_event_t>,
-) {
+) -> Result<(), yaml_parser_t_prefix> {
     let mut source = yaml_line_source_t::new(alloc, tokens.as_bytes(), MAX_TOKENS);
+    let mut last = Ok(());
     for _ in 0..MAX_TOKENS {
-        if !push_next(&mut source, parser, events) {
+        let Ok(token) = source.next_token() else {
             break;
-        }
+        };
+        last = parser.push(token, events);
     }
-}
-
-/// Pushes the next token, and returns whether there is one.
-fn push_next<S: yaml_token_source_t>(
-    source: &mut S,
-    parser: &mut yaml_push_parser_t,
-    events: &mut Vec<yaml_event_t>,
-) -> bool {
-    match source.next_token() {
-        Ok(token) => {
-            let _ = parser.push(token, events);
-            true
-        }
-        Err(_) => false,
-    }
+    last
 }
 
 fn write_events(alloc: Global, events: &[yaml_event_t], out: &mut Vec<u8>) -> Result<()> {
