@@ -1,14 +1,15 @@
 -- The tokens of a list pushed in turn.
-use Rattle.std.proofs.Common.{◌≡◌, ◌⊎◌, inl, inr, ◌++◌, ◌∷◌, List, [], length, Bool, true, false, Ok, Err, refl, sym, ap, ◌∙◌, subst, append_assoc}
+use Rattle.std.proofs.Common.{◌≡◌, ◌⊎◌, inl, inr, ◌++◌, ◌∷◌, List, [], length, Result, Bool, true, false, Ok, Err, refl, sym, ap, ◌∙◌, subst, append_assoc}
 use Rattle.std.proofs.lemmas.List.{append-nil}
 use Rattle.std.specs.Result.{is_err}
 use Rattle.libyaml_types.specs.declared.event.yaml_event_t.{yaml_event_t}
 use Rattle.libyaml_types.specs.declared.token.yaml_token_t.{yaml_token_t}
+use Rattle.libyaml_types.specs.declared.fault.yaml_parser_t_prefix.{yaml_parser_t_prefix}
 use Rattle.libyaml_types.specs.Fault.{Fault}
 use Rattle.libyaml_grammar.specs.runs.Runs.{Ends, Fails, IsRun}
 use Rattle.libyaml_grammar.specs.grammar.ValidLists.{has_end}
 use Rattle.libyaml_events.specs.sources.Pushed.{ForPushed, Pushed, PushParser, fault_in, has_stopped, keeps_fault}
-use Rattle.libyaml_events.specs.sources.Pushes.{Done, Pushes, Stops, Takes, by_grammar, by_memory, done_if}
+use Rattle.libyaml_events.specs.sources.Pushes.{Done, Pushes, Stops, Takes, by_grammar, by_memory, done_if, done_of}
 use Rattle.example_theorems.specs.Answer.{FailsSo, GivesRun}
 
 abbrev Tokens : Type 0
@@ -16,6 +17,11 @@ Tokens = List yaml_token_t
 
 abbrev Events : Type 0
 Events = List yaml_event_t
+
+-- a push with its whole error fails if the push with the error's kind does
+pub is_err_of : (r : Result (Unit {0}) yaml_parser_t_prefix) → is_err (done_of r) ≡ is_err r
+is_err_of (Ok u) = refl
+is_err_of (Err f) = refl
 
 -- after some tokens of a list: those that were taken, and those after the stream's end
 pub record Turn (p : PushParser) (all : Tokens) (events : Events) : Type 0 where

@@ -8,7 +8,7 @@ ghost use Rattle.libyaml_events.specs.machine.StepsOnto.{StepsOnto};
 ghost use Rattle.libyaml_events.specs.automaton.View.{InStep, Ready};
 ghost use Rattle.libyaml_events.specs.sources.Pushed.{new_push_parser, push_parser_at, ForPushed, Pushed, fault_in};
 ghost use Rattle.libyaml_events.specs.sources.Pushed.{RemembersPushes};
-ghost use Rattle.libyaml_events.specs.sources.Pushes.{Pushes, Takes};
+ghost use Rattle.libyaml_events.specs.sources.Pushes.{Pushes, Takes, done_of};
 
 use crate::event_kinds::no_event;
 use crate::parser::TokenParser;
@@ -63,15 +63,16 @@ impl yaml_push_parser_t {
     ///
     /// # Errors
     ///
-    /// The kind of an error of the grammar or of an allocation that failed. The parser keeps the error for
-    /// good, and each further call returns its kind.
+    /// An error of the grammar, or out of memory if an allocation failed. The parser keeps the error for
+    /// good, and each further call returns it.
     pub fn push(
         &mut self,
         token: yaml_token_t,
         events: &mut Vec<yaml_event_t>,
-    ) -> Result<(), yaml_error_type_t>
-        ensures { Pushes (vec_capacity events.old ≤ vec_len events.new) self.old token events.old.items result
-            self.new events.new.items }
+    ) -> Result<(), yaml_parser_t_prefix>
+        ensures pushes { Pushes (vec_capacity events.old ≤ vec_len events.new) self.old token
+            events.old.items (done_of result) self.new events.new.items }
+        ensures error { IfErr result (λ f. fault_of f ≡ fault_in self.new) }
     {
         let mut token = token;
         self.push_from(&mut token, events)
@@ -84,6 +85,23 @@ impl yaml_push_parser_t {
     ///
     /// Those of `push`.
     pub fn push_from(
+        &mut self,
+        token: &mut yaml_token_t,
+        events: &mut Vec<yaml_event_t>,
+    ) -> Result<(), yaml_parser_t_prefix>
+        ensures pushes { Pushes (vec_capacity events.old ≤ vec_len events.new) self.old token.old
+            events.old.items (done_of result) self.new events.new.items }
+        ensures error { IfErr result (λ f. fault_of f ≡ fault_in self.new) }
+    {
+        match self.take_from(token, events) {
+            Ok(()) => Ok(()),
+            Err(_) => Err(*self.prefix()),
+        }
+    }
+
+    /// Takes the token in this variable, and returns the kind of an error.
+    #[inline(always)]
+    fn take_from(
         &mut self,
         token: &mut yaml_token_t,
         events: &mut Vec<yaml_event_t>,

@@ -1,7 +1,8 @@
 //! A loader that is handed its tokens.
-ghost use Rattle.std.specs.Prelude.{◌≡◌, ◌≤◌, [], pos, ◌≤ℤ◌};
+ghost use Rattle.std.specs.Prelude.{◌≡◌, ◌≤◌, [], pos, ◌≤ℤ◌, IfErr};
 ghost use Rattle.std.specs.Vec.{vec_capacity, vec_len};
 ghost use Rattle.libyaml_types.specs.Fault.{fault_of, no_fault};
+ghost use Rattle.libyaml_events.specs.sources.Pushes.{done_of};
 ghost use Rattle.libyaml_loader.specs.document.Ids.{magnitude};
 ghost use Rattle.libyaml_loader.specs.pushes.Loaded.{ForLoaded, Loaded, RemembersLoads, loader_fault};
 ghost use Rattle.libyaml_loader.specs.pushes.Loaded.{made_loader};
@@ -73,27 +74,62 @@ impl yaml_push_loader_t {
     ///
     /// # Errors
     ///
-    /// The kind of an error, which the loader keeps for good, so that each further call returns it: one of
-    /// the grammar; an alias whose anchor no node before it has, or a second node with an anchor; out of
-    /// memory, if an allocation failed or a list of the document would have more entries than it may. The
-    /// documents that ended before it are appended.
+    /// An error, which the loader keeps for good, so that each further call returns it: one of the grammar;
+    /// an alias whose anchor no node before it has, or a second node with an anchor; out of memory, if an
+    /// allocation failed or a list of the document would have more entries than it may. The documents that
+    /// ended before it are appended.
     pub fn push(
         &mut self,
         token: yaml_token_t,
         documents: &mut Vec<yaml_document_t>,
+    ) -> Result<(), yaml_parser_t_prefix>
+        ensures pushes { PushesLoads (vec_capacity documents.old ≤ vec_len documents.new) self.old token
+            documents.old.items (done_of result) self.new documents.new.items }
+        ensures error { IfErr result (λ f. fault_of f ≡ loader_fault self.new) }
+    {
+        let mut token = token;
+        self.push_from(&mut token, documents)
+    }
+
+    /// Takes a token like `push`, but from a variable: a loop can reuse one token without moving it.
+    /// Afterwards the value of `token` is unspecified.
+    ///
+    /// # Errors
+    ///
+    /// Those of `push`.
+    pub fn push_from(
+        &mut self,
+        token: &mut yaml_token_t,
+        documents: &mut Vec<yaml_document_t>,
+    ) -> Result<(), yaml_parser_t_prefix>
+        ensures pushes { PushesLoads (vec_capacity documents.old ≤ vec_len documents.new) self.old token.old
+            documents.old.items (done_of result) self.new documents.new.items }
+        ensures error { IfErr result (λ f. fault_of f ≡ loader_fault self.new) }
+    {
+        match self.take_from(token, documents) {
+            Ok(()) => Ok(()),
+            Err(_) => Err(*self.prefix()),
+        }
+    }
+
+    /// Takes the token in this variable, and returns the kind of an error.
+    #[inline(always)]
+    fn take_from(
+        &mut self,
+        token: &mut yaml_token_t,
+        documents: &mut Vec<yaml_document_t>,
     ) -> Result<(), yaml_error_type_t>
-        ensures { PushesLoads (vec_capacity documents.old ≤ vec_len documents.new) self.old token
+        ensures { PushesLoads (vec_capacity documents.old ≤ vec_len documents.new) self.old token.old
             documents.old.items result self.new documents.new.items }
     {
         self.composer.kept()?;
-        let mut token = token;
-        let pushed = self.parser.push_from(&mut token, &mut self.events);
+        let pushed = self.parser.push_from(token, &mut self.events);
         let composed = self.composer.take_events(&mut self.events, documents);
         self.events.clear();
         composed?;
-        if let Err(error) = pushed {
-            self.composer.keep(*self.parser.prefix());
-            return Err(error);
+        if let Err(fault) = pushed {
+            self.composer.keep(fault);
+            return Err(fault.error);
         }
         Ok(())
     }

@@ -1,7 +1,7 @@
 use Rattle.std.proofs.Common.{arith, ◌∷◌, [], length, rules, sym, ap, ◌∙◌, append_assoc}
 use Rattle.std.specs.Vec.Iter.{into_iter_items}
 use Rattle.libyaml_loader.specs.pushes.Loaded.{PushLoader}
-use Rattle.example_theorems.proofs.Turn.{goes_by, none_left}
+use Rattle.example_theorems.proofs.Turn.{goes_by, is_err_of, none_left}
 use Rattle.example_theorems.proofs.LoadTurn.{first_load_turn, next_load_turn, failed_load_turn, last_load_turn}
 use Rattle.example_theorems.proofs.lists.documents_of.Goals as goal
 
@@ -23,7 +23,7 @@ returns-then-is_err c source =
       c.prefix.ensures.kept,
     )
     (failed_load_turn _ _ _ _ _ c.loop-token.invariant.2 _ _ c.of_loaded.ensures.faultless _
-    (sym c.if-is_err.ensures.value) c.push.ensures _ source)
+    (is_err_of c.push.result ∙ sym c.if-is_err.ensures.value) c.push.ensures.pushes _ source)
 
 pub loop-token-preserved : goal.loop-token-preserved
 loop-token-preserved c =
@@ -31,7 +31,7 @@ loop-token-preserved c =
       goes_by _ _ _ _ c.loop-token.invariant.0 steps.0
           ∙ sym (append_assoc c.loop-token.yielded (c.in-Some.token ∷ []) (into_iter_items c.next.new.self)),
       (let a = c.loop-token.invariant.1 in let b = steps.1 in let d = ap length steps.0 in omega (arith, a, b, d)),
-      next_load_turn _ _ _ _ _ c.loop-token.invariant.2 _ _ _ (sym c.if-is_err.ensures.value) c.push.ensures,
+      next_load_turn _ _ _ _ _ c.loop-token.invariant.2 _ _ _ (is_err_of c.push.result ∙ sym c.if-is_err.ensures.value) c.push.ensures.pushes,
     )
 
 pub returns : goal.returns
