@@ -7,3 +7,4 @@ pub mod Names
 pub mod PrefixTokens
 pub mod Digits
 pub mod Repeats
+pub mod AllDigits

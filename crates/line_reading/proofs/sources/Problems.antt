@@ -18,7 +18,7 @@ known_answer : (bytes : List ℕ) (n : ℕ) (problem : LineProblem) (f : Fault) 
 known_answer bytes n Memory f after e h = inr (inl e)
 known_answer bytes n ReadFailed f after e h = inr (inr e)
 known_answer bytes n LineTooLong f after e h = inl (first_too_long n (lines bytes) h ∙ ap Err (sym e))
-known_answer bytes n BadTokenLine f after e h = absurd h
+known_answer bytes n (BadTokenLine cause) f after e h = absurd h
 known_answer bytes n TooManyTokens f after e h = absurd h
 known_answer bytes n NoMoreTokens f after e h = inl (ap (first_answer n) h ∙ ap Err (sym e))
 
