@@ -62,6 +62,26 @@ def nodes(root):
     return made
 
 
+def values(root):
+    """Returns the collections of a value, each once, with the numbers of those in it: a few aliases may stand for a tree that no
+    text has room for, or for one without end."""
+    numbers, found, made = {}, [], []
+
+    def told(it):
+        if not isinstance(it, (dict, list, tuple, set)):
+            return repr(it)
+        if id(it) not in numbers:
+            numbers[id(it)] = len(found)
+            found.append(it)
+        return numbers[id(it)]
+
+    top = told(root)
+    for it in found:  # which grows
+        parts = [(told(key), told(item)) for key, item in it.items()] if isinstance(it, dict) else [told(item) for item in it]
+        made.append((type(it), parts))
+    return top, made
+
+
 def drained(made, what):
     """Returns what comes, up to an error and with it."""
     seen = []
@@ -78,8 +98,8 @@ READINGS = {
     "events": lambda source, lib: drained(yaml.parse(source, lib.CLoader), fields),
     "nodes": lambda source, lib: drained(yaml.compose_all(source, lib.CLoader), nodes),
     "one node": lambda source, lib: drained((yaml.compose(source, lib.CBaseLoader) for _ in "1"), lambda root: root and nodes(root)),
-    "safe": lambda source, lib: drained(yaml.load_all(source, lib.CSafeLoader), repr),
-    "full": lambda source, lib: drained(yaml.load_all(source, lib.CFullLoader), repr),
+    "safe": lambda source, lib: drained(yaml.load_all(source, lib.CSafeLoader), values),
+    "full": lambda source, lib: drained(yaml.load_all(source, lib.CFullLoader), values),
 }
 
 
