@@ -17,8 +17,8 @@
  * nodes of a document, items or pairs of a node. What exceeds them is a parser error, "found too many levels", at the token that
  * opens one more, and a composer error, "found too many nodes", at the node.
  *
- * What is other than with libyaml stands in docs/DIFFERENCES.md. With POKHVIZI_STRICT=1 in the environment nothing is: where libyaml
- * has an error, so has a call, and where it loses a token, a call has an error of its own. */
+ * What is other than with libyaml stands in docs/DIFFERENCES.md. With POKHVIZI_STRICT=1 in the environment nothing is: if libyaml
+ * has an error, so has a call, and if it loses a token, a call has an error of its own. */
 #include <pokhvizi/compose.h>
 #include <pokhvizi/steps.h>
 #include <assert.h>
@@ -43,7 +43,7 @@ struct kept {
     pokhvizi_steps_t steps;
     size_t states_room, marks_room;
     uint32_t key;  /* for the hashes of anchors and handles, or 0 */
-    int strict;    /* where libyaml does something else there is an error */
+    int strict;    /* if libyaml does something else there is an error */
     uint8_t states[];
 };
 
@@ -80,7 +80,7 @@ static struct {
 } bounds;
 static const char *check_file;
 
-/* The number that a variable of the environment has, or `most` where it has none. Another text ends the process: it would run
+/* The number that a variable of the environment has, or `most` if it has none. Another text ends the process: it would run
  * without the bound that is asked for. */
 static size_t bound_of(const char *name, size_t most)
 {

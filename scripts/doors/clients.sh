@@ -21,7 +21,7 @@
 #     pyyaml_ext         PyYAML's own tests of its C form, over the extension of bindings/python
 #     cloaders           the C loaders of bindings/python and PyYAML's over YAML files of this machine, PyYAML's test data, the
 #                        test suite and broken texts, with all fields
-#     strict_c           strict parsing, preloaded, over 20,000 drawn texts: libyaml's events, nodes and errors, but where it loses
+#     strict_c           strict parsing, preloaded, over 20,000 drawn texts: libyaml's events, nodes and errors, unless it loses
 #                        a token; SEED is another draw
 #     strict_python      the same of the C loaders of bindings/python, and of PyYAML's
 #     crate              the tests of bindings/rust, and with its feature `strict` over the same texts

@@ -273,7 +273,7 @@ impl Steps {
         }
     }
 
-    /// Returns the fault of a strict parser where the original does something else with a token: the original's, or that the
+    /// Returns the fault of a strict parser if the original does something else with a token: the original's, or that the
     /// original loses the token.
     fn refuse(&self, kind: u8, at: yaml_mark_t) -> Result<(), Fault> {
         // SAFETY: the record is a steps' own.
@@ -295,7 +295,7 @@ impl Steps {
     ///
     /// # Errors
     ///
-    /// The parser's error, or no memory for a stack; with the feature `strict`, also where the original does something else.
+    /// The parser's error, or no memory for a stack; with the feature `strict`, also if the original does something else.
     #[inline]
     pub unsafe fn step(&mut self, token: &yaml_token_t, shape: &mut Shape) -> Result<Did, Fault> {
         let (kind, fact) = (token.type_ as u8, self.fact(token));

@@ -6,7 +6,7 @@
 
 The second reads files by PyYAML's CLoader, and by that of bindings/python, strict or not. PLAIN, STRICT and LOOSE are its outputs,
 or those of events.c over these files: of libyaml, of a strict parser, and of one that isn't. What is
-strict must be libyaml's, byte by byte; or, where libyaml loses a token after the KEY of a flow pair, begin so and end with the error
+strict must be libyaml's, byte by byte; or, if libyaml loses a token after the KEY of a flow pair, begin so and end with the error
 that says it. There must be texts of each kind, and the parser that isn't strict must differ at all three places.
 
 Run by clients.sh.
@@ -112,7 +112,7 @@ def compare(plain, strict, loose):
         elif here != lines:
             wrong.append(name)
         elif place is None and lines != loose.get(name):
-            wrong.append(name + ", which is read otherwise where nothing is told apart")
+            wrong.append(name + ", which is read otherwise though nothing is told apart")
         counts[place or ("refused" if lines[-1].startswith("error") else "accepted")] += 1
     lacking = [word for word, count in counts.items() if count == 0]
     if wrong or lacking:

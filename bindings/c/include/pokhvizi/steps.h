@@ -139,8 +139,8 @@ uint32_t pokhvizi_step(pokhvizi_steps_t *steps, uint8_t *states, size_t states_r
 /* Whether libyaml does something else with a token of this kind, if it is handed in next: one of the four numbers above. */
 uint8_t pokhvizi_differs(const pokhvizi_steps_t *steps, uint8_t kind);
 
-/* Of a strict parse: 1 where libyaml does something else with this token, and then `fault` is libyaml's, or says that it loses the
- * token; 0 where it does the same. `marks` are those of the next step. */
+/* Of a strict parse: 1 if libyaml does something else with this token, and then `fault` is libyaml's, or says that it loses the
+ * token; 0 if it does the same. `marks` are those of the next step. */
 static __inline int pokhvizi_refuses(const pokhvizi_steps_t *steps, const pokhvizi_mark_t *marks, size_t marks_room,
                                      uint8_t kind, const pokhvizi_span_t *at, pokhvizi_fault_t *fault)
 {

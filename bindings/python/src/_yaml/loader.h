@@ -145,7 +145,7 @@ typedef struct {
     struct held held;
     struct directives directives;
     pokhvizi_steps_t steps;
-    int is_strict; /* where libyaml does something else there is an error */
+    int is_strict; /* if libyaml does something else there is an error */
     uint8_t *states, first_states[64];
     pokhvizi_mark_t *marks, first_marks[32];
     size_t states_room, marks_room;

@@ -172,7 +172,7 @@ static int make_mark_type(void)
     return add(type, "pointer", shared(Py_None));
 }
 
-/* What a loader's class may set: its bounds, where None is none, and whether it reads libyaml's language alone. */
+/* What a loader's class may set: its bounds, of which None is none, and whether it reads libyaml's language alone. */
 static int add_parser_type(PyObject *module)
 {
     PyObject *type = PyType_FromSpec(&parser_spec);

@@ -238,7 +238,7 @@ static int begin_directives(struct directives *directives)
     return -1;
 }
 
-/* Puts the loader's bound of this name; `most` where it is None or a larger number. */
+/* Puts the loader's bound of this name; `most` if it is None or a larger number. */
 static int find_bound(parser_object *parser, PyObject *name, size_t most, size_t *bound)
 {
     PyObject *found = PyObject_GetAttr((PyObject *)parser, name);
@@ -338,7 +338,7 @@ static PyMethodDef parser_methods[] = {
 static PyType_Slot parser_slots[] = {
     {Py_tp_doc,
      "CParser(stream): tokens, events and documents of a text, of bytes, or of a file, as PyYAML's CParser. "
-     "Where its attribute `strict_libyaml` is true, what libyaml doesn't read is an error."},
+     "If its attribute `strict_libyaml` is true, what libyaml doesn't read is an error."},
     {Py_tp_new, PyType_GenericNew},
     {Py_tp_init, parser_init},
     {Py_tp_dealloc, parser_dealloc},

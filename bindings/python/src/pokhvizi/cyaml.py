@@ -4,7 +4,7 @@
 
     yaml.load(text, Loader=CSafeLoader)
 
-Where the class of a loader has `strict_libyaml = True`, it reads what libyaml reads, and no more.
+A loader whose class has `strict_libyaml = True` reads what libyaml reads, and no more.
 
 `CParser` before a constructor and a resolver of PyYAML's makes another loader, as PyYAML's own `CParser` does.
 """
