@@ -69,37 +69,67 @@ def deep():
 # ---- Bounds ----
 
 def bounds():
-    def bounded(text, act, **bounds):
-        return said(lambda: len(list(act(text, type("Bounded", (pokhvizi.CSafeLoader,), bounds)))))
-
-    acts = yaml.parse, yaml.compose_all, yaml.load_all
-    for levels in (1, 2, 31, 32, 33, 200):
-        for text in ("[" * levels + "]" * levels, "- " * levels + "x", "? " * (levels - 1) + "- x"):
-            for act in acts[:2]:
-                free = bounded(text, act)
-                expect("as deep as may be, %d" % levels, bounded(text, act, max_depth=levels), free)
-                expect("deeper than may be, %d" % levels, bounded(text, act, max_depth=levels - 1), "ParserError: found too many levels")
-    for act in acts:
+    for base in pokhvizi.CSafeLoader, pokhvizi.SafeLoader:
+        bounds_of(base)
+    for act in ACTS:
         begun = time.process_time()
-        expect("100 KB of brackets", bounded("[" * 100000, act, max_depth=1000), "ParserError: found too many levels")
+        expect("100 KB of brackets", bounded(pokhvizi.CSafeLoader, "[" * 100000, act, max_depth=1000), TOO_DEEP)
         expect("their time, which is 10 ms", time.process_time() - begun < 1, True)
-    expect("no collection", [bounded(text, yaml.compose_all, max_depth=0) for text in ("a", "- a")],
-           [1, "ParserError: found too many levels"])
+    expect("the bounds of a class", (pokhvizi.CSafeLoader.max_depth, pokhvizi.CParser.max_nodes), (None, None))
+    deep = "- " * 2000 + "x"
+    for loader, wanted in ((pokhvizi.SafeLoader, "RecursionError"), (pokhvizi.CSafeLoader, 1)):
+        found = bounded(loader, deep, yaml.compose_all)
+        expect("a text that is too deep for PyYAML's composer", found if found == wanted else str(found).split(":")[0], wanted)
+    expect("the same within a bound", bounded(pokhvizi.SafeLoader, deep, yaml.compose_all, max_depth=300), TOO_DEEP)
+    expect("strict parsing by a loader in Python", bounded(pokhvizi.SafeLoader, "a", yaml.parse, strict_libyaml=True),
+           "ValueError: strict_libyaml is for the loaders in C, such as CSafeLoader")
+
+    class Notes(pokhvizi.SafeLoader):
+        """Its own method stays in use."""
+        max_nodes, noted = 3, 0
+
+        def compose_node(self, parent, index):
+            self.noted += 1
+            return super().compose_node(parent, index)
+
+    loader = Notes("[a, b]\n--- [c, d]\n--- [e, f, g]")
+    expect("a loader with a method of its own", [said(loader.get_data) for _ in "123"] + [loader.noted],
+           [["a", "b"], ["c", "d"], "ComposerError: found too many nodes", 9])
+    loader.dispose()
+    expect("what it leaves", "compose_node" in vars(loader), False)
+
+
+ACTS = yaml.parse, yaml.compose_all, yaml.load_all
+TOO_DEEP = "ParserError: found too many levels"
+
+
+def bounded(base, text, act, **bounds):
+    """How many things an act gives by a loader with these bounds, or its error."""
+    return said(lambda: len(list(act(text, type("Bounded", (base,), bounds)))))
+
+
+def bounds_of(base):
+    for levels in (1, 2, 31, 32, 33, 63, 64, 65, 200):
+        for text in ("[" * levels + "]" * levels, "- " * levels + "x", "? " * (levels - 1) + "- x"):
+            for act in ACTS[:2]:
+                free = bounded(base, text, act)
+                expect("as deep as may be, %d" % levels, bounded(base, text, act, max_depth=levels), free)
+                expect("deeper than may be, %d" % levels, bounded(base, text, act, max_depth=levels - 1), TOO_DEEP)
+    expect("no collection", [bounded(base, text, yaml.compose_all, max_depth=0) for text in ("a", "- a")], [1, TOO_DEEP])
     many = "ComposerError: found too many nodes"
     for text, nodes in (("[a, b, c]", 4), ("{a: b, c: d}", 5), ("- &a b\n- *a\n- *a\n- *a\n", 4), ("--- a\n--- [b]\n", 2)):
-        for act in acts[1:]:
-            expect("as many nodes as may be", bounded(text, act, max_nodes=nodes), bounded(text, act))
-            expect("more nodes than may be", bounded(text, act, max_nodes=nodes - 1), many)
+        for act in ACTS[1:]:
+            expect("as many nodes as may be", bounded(base, text, act, max_nodes=nodes), bounded(base, text, act))
+            expect("more nodes than may be", bounded(base, text, act, max_nodes=nodes - 1), many)
     try:
-        yaml.compose("- [a]\n- [b, [c]]", type("Bounded", (pokhvizi.CSafeLoader,), {"max_depth": 2}))
+        yaml.compose("- [a]\n- [b, [c]]", type("Bounded", (base,), {"max_depth": 2}))
     except yaml.YAMLError as failure:
         expect("where it is", (failure.problem_mark.line, failure.problem_mark.column, failure.context), (1, 6, None))
     for bound in (-1, "x", 1.5, 1 << 70):
         for name in ("max_depth", "max_nodes"):
-            expect("no bound", bounded("a", yaml.compose_all, **{name: bound}),
+            expect("no bound", bounded(base, "a", yaml.compose_all, **{name: bound}),
                    "ValueError: %s has to be None or a number from 0 on, and is %r" % (name, bound))
-    expect("bounds that are larger than any", bounded("[a]", yaml.compose_all, max_depth=1 << 62, max_nodes=1 << 62), 1)
-    expect("the bounds of a class", (pokhvizi.CSafeLoader.max_depth, pokhvizi.CParser.max_nodes), (None, None))
+    expect("bounds that are larger than any", bounded(base, "[a]", yaml.compose_all, max_depth=1 << 62, max_nodes=1 << 62), 1)
 
 
 # ---- Loaders that are called while they are at work ----

@@ -21,11 +21,16 @@ Each event takes as many tokens of the scanner as PyYAML's parser takes. These d
 
 A loader is for one thread; several loaders may be used at once. An error is raised again by each later call for an event.
 
+`max_depth` of a loader's class bounds the collections that are open at once, and `max_nodes` the nodes of a document and the
+items or pairs of a node; None, the default, is no bound.
+
 `CSafeLoader` and the others of `pokhvizi.cyaml` are PyYAML's loaders in C, over an extension that is in the wheels.
 """
 import ctypes
+import functools
 import os
 import struct
+import sys
 
 import yaml
 
@@ -78,6 +83,14 @@ def use_library(path):
 def pointer(buffer):
     """Returns the address of a buffer, which the caller keeps."""
     return ctypes.c_void_p(ctypes.addressof(ctypes.c_char.from_buffer(buffer)))
+
+
+def bound_of(loader, name, most):
+    """Returns the loader's bound of this name, or `most` if it is None or a larger number."""
+    bound = getattr(loader, name, None)
+    if bound is not None and (not isinstance(bound, int) or not 0 <= bound < 1 << 64):
+        raise ValueError("%s has to be None or a number from 0 on, and is %r" % (name, bound))
+    return most if bound is None else min(bound, most)
 
 
 # ---- Tag directives ----
@@ -184,9 +197,10 @@ class Steps:
 
     def __init__(self, scanner):
         if getattr(scanner, "strict_libyaml", False):
-            raise ValueError("strict_libyaml is for the loaders in C, as CSafeLoader")
+            raise ValueError("strict_libyaml is for the loaders in C, such as CSafeLoader")
         self.scanner, self.library, self.marks = scanner, Library.get(), Marks()
         self.directives = Directives(self.library)
+        self.max_depth = bound_of(scanner, "max_depth", sys.maxsize)
         self.record, self.states = bytearray(self.RECORD), bytearray(self.FEW)
         self.mark_stack = memoryview(bytearray(24 * self.FEW)).cast("Q")
         self.at = memoryview(bytearray(48)).cast("Q")   # pokhvizi_span_t
@@ -203,7 +217,8 @@ class Steps:
 
     def arguments(self):
         """Returns the arguments of a step before the token's kind and after its fact."""
-        states_room, marks_room = ctypes.c_size_t(len(self.states)), ctypes.c_size_t(len(self.mark_stack) // 3)
+        states_room = ctypes.c_size_t(len(self.states))
+        marks_room = ctypes.c_size_t(min(len(self.mark_stack) // 3, self.max_depth))
         record, states, marks = map(pointer, (self.record, self.states, self.mark_stack))
         return (record, states, states_room, marks, marks_room, *map(pointer, (self.at, self.event, self.fault)))
 
@@ -241,6 +256,8 @@ class Steps:
         if did == self.FULL_STATES:
             self.states = self.states + bytes(len(self.states))
         elif did == self.FULL_MARKS:
+            if len(self.mark_stack) // 3 >= self.max_depth:
+                raise yaml.parser.ParserError(None, None, "found too many levels", self.token.start_mark)
             self.mark_stack = memoryview(bytearray(self.mark_stack) + bytes(self.mark_stack.nbytes)).cast("Q")
         else:
             raise RuntimeError("the stacks were overwritten")
@@ -373,6 +390,7 @@ class Steps:
 class Parser:
     """This parser with the methods of `yaml.parser.Parser`, over the scanner of the same loader."""
 
+    max_depth = max_nodes = None
     current_event = None
     failure = None
     events = None
@@ -405,8 +423,28 @@ class Parser:
             self.failure = failure
             raise
 
+    def compose_document(self):
+        """As PyYAML's. Its composer calls itself, so nothing stands between its calls unless there is a bound."""
+        if self.max_nodes is not None:
+            self.max_entries = self.nodes_left = bound_of(self, "max_nodes", (1 << 31) - 1)
+            if "compose_node" not in vars(self):
+                self.compose_node = functools.partial(self.compose_bounded, self.compose_node)
+        return super().compose_document()
+
+    def compose_bounded(self, compose, parent, index):
+        """Composes the next node, unless a list of the document would then have more entries than it may."""
+        event = self.peek_event()
+        is_alias = isinstance(event, yaml.AliasEvent)
+        is_entry = parent is not None and not isinstance(index, yaml.Node)  # an item or a key, and no value
+        if is_alias == (event.anchor in self.anchors):  # else PyYAML's composer has an error of its own
+            if is_entry and len(parent.value) >= self.max_entries or not is_alias and self.nodes_left == 0:
+                raise yaml.composer.ComposerError(None, None, "found too many nodes", event.start_mark)
+        self.nodes_left -= not is_alias
+        return compose(parent, index)
+
     def dispose(self):
         """Gives back what the parser holds; it then has no further event."""
+        vars(self).pop("compose_node", None)
         self.events, self.failure = iter(()), None
 
 

@@ -1,5 +1,5 @@
 import os
-from typing import Union
+from typing import Optional, Union
 
 import yaml
 from yaml.parser import Parser as _Parser
@@ -11,7 +11,9 @@ __version__: str
 
 class LibraryError(Exception): ...
 
-class Parser(_Parser): ...
+class Parser(_Parser):
+    max_depth: Optional[int]
+    max_nodes: Optional[int]
 
 class Loader(Parser, yaml.Loader): ...
 
