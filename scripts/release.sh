@@ -11,14 +11,15 @@
 #     pokhvizi-VERSION-llvm.tar.gz               the LLVM modules, to be compiled
 #     SHA256SUMS
 #
-# MACHINE is x86_64 and aarch64; MACHINES names others of these. WITHOUT_MODULES leaves the LLVM archive out. BUILT has what
-# build_c.sh made, for aarch64 in BUILT/aarch64; without it both are made here. ORIGINAL is the folder of unsafe-libyaml 0.2.11, as Debian's librust-unsafe-libyaml-dev has it
-# in /usr/share/cargo/registry; without it the script says so and makes no archive for Rust. Times are those of the last commit, so
-# two runs over one commit write the same bytes.
+# MACHINE is x86_64, and aarch64 if its compiler is there; MACHINES names others of these. WITHOUT_MODULES leaves the LLVM archive
+# out. BUILT has what build_c.sh made, for aarch64 in BUILT/aarch64; without it both are made here, with all proofs. ORIGINAL is the
+# folder of unsafe-libyaml 0.2.11, as Debian's librust-unsafe-libyaml-dev has it in /usr/share/cargo/registry; without it there is no
+# archive for Rust. The script says what it leaves out. Times are those of the last commit, so two runs over one commit write the
+# same bytes.
 #
-# Needs the kit, gcc, binutils, python3 with its headers, libyaml-dev, and for aarch64 gcc-aarch64-linux-gnu with libyaml's library
-# and Python's headers for that machine (Debian: libyaml-dev:arm64 and libpython3-dev:arm64), without which that archive has no
-# preload library, and the wheel no extension; the script says so.
+# Needs the kit, git, gcc, binutils, python3 with its headers, libyaml-dev (Debian: git gcc python3-dev libyaml-dev), and for aarch64
+# gcc-aarch64-linux-gnu with libyaml's library and Python's headers for that machine (libyaml-dev:arm64 and libpython3-dev:arm64),
+# without which that archive has no preload library, and the wheel no extension; the script says so.
 #
 # Run by hand for a release, and by release_checks.sh.
 set -eu
@@ -33,7 +34,11 @@ work=$(mktemp -d)
 trap 'rm -rf "$work"' EXIT
 version=$(cat VERSION)
 abi=$(cat bindings/c/ABI_VERSION)
-machines=${MACHINES:-x86_64 aarch64}
+machines=${MACHINES-}
+if [ -z "$machines" ]; then
+    machines='x86_64 aarch64'
+    command -v aarch64-linux-gnu-gcc > /dev/null || { machines=x86_64; echo "no archives for aarch64: aarch64-linux-gnu-gcc isn't there"; }
+fi
 original=${ORIGINAL:-$(ls -d /usr/share/cargo/registry/unsafe-libyaml-0.2.11 2> /dev/null || true)}
 SOURCE_DATE_EPOCH=$(git log -1 --format=%ct)
 export SOURCE_DATE_EPOCH LC_ALL=C TZ=UTC
