@@ -28,7 +28,7 @@ from controls import edited
 PAGE = TOP / "docs" / "WRONG_BODIES.md"
 PROGRAMS = {
     "libyaml_types": ["rows_yaml", "example_scanner", "rows_hostile", "example_outline"],
-    "libyaml_automaton": ["yamltokens", "rows_yaml", "rows_lines", "rows_hostile"],
+    "libyaml_automaton": ["yamltokens", "rows_steps", "rows_yaml", "rows_lines", "rows_hostile"],
     "libyaml_events": ["yamltokens", "rows_yaml", "rows_lines", "rows_hostile"],
     "rust_original": ["rows"],
     "libyaml_documents": ["rows_yaml", "example_outline", "rows_hostile"],

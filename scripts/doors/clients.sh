@@ -22,8 +22,10 @@
 #     cloaders           the C loaders of bindings/python and PyYAML's over YAML files of this machine, PyYAML's test data, the
 #                        test suite and broken texts, with all fields
 #     strict_c           strict parsing, preloaded, over 20,000 drawn texts: libyaml's events, nodes and errors, unless it loses
-#                        a token; SEED is another draw
+#                        a token; and over YAML files of this machine; SEED is another draw
 #     strict_python      the same of the C loaders of bindings/python, and of PyYAML's
+#     bounds             bounds on depth and nodes over 2,000 drawn texts: preloaded, by the crate, by the C loaders of bindings/python
+#                        and by those in Python each refuses the same token or event, in the same words; SEED is another draw
 #     crate              the tests of bindings/rust, and with its feature `strict` over the same texts
 #     loads_rust         nodes, memory over 7 MB and instructions of loads by that crate and by the original; of one large
 #                        document, small documents and anchors they are at most 1.31, 1.28 and .68 of the original's
@@ -231,8 +233,13 @@ strict_c() {
         "$work/events" $what < "$work/strict_names" > "$work/plain" &&
             LD_PRELOAD=$preloaded "$work/events" $what < "$work/strict_names" > "$work/loose" &&
             POKHVIZI_STRICT=1 LD_PRELOAD=$preloaded "$work/events" $what < "$work/strict_names" > "$work/strict_read" || return 1
-        compare_strict || return 1
+        drawn=$(compare_strict) || { echo "$drawn"; return 1; }
     done
+    name_files > "$work/files"
+    "$work/events" files < "$work/files" > "$work/plain" 2> "$work/count" &&
+        POKHVIZI_STRICT=1 LD_PRELOAD=$preloaded "$work/events" files < "$work/files" > "$work/strict_read" || return 1
+    found=$(python3 "$lists/strict.py" alike "$work/plain" "$work/strict_read") || { echo "$found"; return 1; }
+    echo "$drawn; $found"
 }
 
 strict_python() {
@@ -241,6 +248,64 @@ strict_python() {
         PYTHONPATH="$work/python" "$python" "$lists/strict.py" ${how%_read} < "$work/strict_names" > "$work/$how" || return 1
     done
     compare_strict
+}
+
+# ---- Bounds ----
+
+# bounded DOOR WHAT DEPTH NODES: what a door reads of the drawn texts, by events or by nodes; a bound that is `-` is none.
+bounded() {
+    case $1 in
+    c) env "LD_PRELOAD=$preloaded" "POKHVIZI_MAX_DEPTH=${3#-}" "POKHVIZI_MAX_NODES=${4#-}" "$work/events" "$(echo "$2" | sed s/events/files/)" ;;
+    rust) "$CARGO_TARGET_DIR/debug/bounds" "$2" "$3" "$4" ;;
+    *) PYTHONPATH=$work/python "$python" "$lists/bounds.py" read "$1" "$2" "$3" "$4" ;;
+    esac 2> "$work/count"
+}
+
+# bounds_of DOOR LOADER: how often the door refused, for too many levels and for too many nodes, and how often not.
+bounds_of() {
+    for what in events nodes; do
+        bounded "$1" $what - - < "$work/bounds_names" > "$work/free_$what" || { cat "$work/count"; return 1; }
+        set -- "$1" "$2"
+        for pair in '0 -' '1 3' '2 -' '3 6' '4 10' '- 0' '- 1' '- 2' '- 5' '- 12' '31 -' '32 33' '33 -' '64 -' '65 66'; do
+            set -- "$@" $pair "$work/bound_$(echo $pair | tr ' ' _)"
+            bounded "$1" $what $pair < "$work/bounds_names" > "$work/bound_$(echo $pair | tr ' ' _)" || { cat "$work/count"; return 1; }
+        done
+        how=$1 loader=$2
+        shift 2
+        "$python" "$lists/bounds.py" compare "$loader" $what "$work/free_events" "$work/free_$what" "$@" > "$work/stopped" ||
+            { echo "$how, $what: $(cat "$work/stopped")"; return 1; }
+        cat "$work/stopped" >> "$work/all_stopped"
+        set -- "$how" "$loader"
+    done
+    if "$python" "$lists/bounds.py" compare "$2" nodes "$work/free_events" "$work/free_nodes" 3 7 "$work/bound_3_6" > "$work/turned"; then
+        echo "other bounds pass"
+        return 1
+    fi
+}
+
+bounds() {
+    prepare_cargo
+    mkdir -p "$work/bounds" "$work/bounds_crate/src"
+    "$python" "$lists/bounds.py" write "$work/bounds" 2000 "${SEED:-1}" > "$work/all_names"
+    cp "$lists/bounds.rs" "$work/bounds_crate/src/main.rs"
+    printf '[package]\nname = "bounds"\nversion = "0.0.0"\nedition = "2021"\n[dependencies]\n' > "$work/bounds_crate/Cargo.toml"
+    printf 'unsafe-libyaml = { path = "%s" }\n[workspace]\n' "$work/unsafe_libyaml" >> "$work/bounds_crate/Cargo.toml"
+    (cd "$work/bounds_crate" && cargo build -q -j 1) || return 1
+    : > "$work/counts"
+    for door in c rust CLoader Loader; do
+        : > "$work/all_stopped"
+        cp "$work/all_names" "$work/bounds_names"
+        if [ $door = Loader ]; then  # PyYAML's scanner in Python takes its time
+            head -n 500 "$work/all_names" > "$work/bounds_names"
+            bounds_of $door Loader || return 1
+        else
+            bounds_of $door CLoader || return 1
+            awk '{ levels += $1; nodes += $2; free += $3 } END { print levels, nodes, free }' "$work/all_stopped" >> "$work/counts"
+        fi
+    done
+    set -- $(uniq "$work/counts")
+    [ $# -eq 3 ] && [ "$1" -gt 1000 ] && [ "$2" -gt 1000 ] || { echo "doors over one scanner refuse other texts: $(cat "$work/counts")"; return 1; }
+    echo "2000 texts within 15 pairs of bounds, by events and nodes, at each door: $1 times too many levels, $2 too many nodes, $3 neither"
 }
 
 # Names YAML files of this machine.
@@ -506,7 +571,7 @@ serde_yaml() {
 
 wanted=$*
 for word in $wanted; do
-    case " preload events pipe_c pyyaml_c psych pyyaml_pure loaders pipe_python pyyaml_ext cloaders strict_c strict_python crate loads_rust pipe_rust yaml_test_suite serde_yaml " in
+    case " preload events pipe_c pyyaml_c psych pyyaml_pure loaders pipe_python pyyaml_ext cloaders strict_c strict_python bounds crate loads_rust pipe_rust yaml_test_suite serde_yaml " in
     *" $word "*) ;;
     *) echo "no check has the name $word" >&2; exit 2 ;;
     esac
@@ -525,6 +590,7 @@ check pyyaml_ext PyYAML cc yaml.h pyyaml _yaml.abi3.so -- pyyaml_ext
 check cloaders PyYAML cc yaml.h pyyaml libyaml-pp-perl _yaml.abi3.so -- cloaders
 check strict_c cc yaml.h libyaml_preload.so events -- strict_c
 check strict_python PyYAML _yaml.abi3.so -- strict_python
+check bounds PyYAML cc cargo yaml.h libyaml_preload.so events _yaml.abi3.so unsafe-libyaml -- bounds
 check crate cargo unsafe-libyaml -- crate
 check loads_rust cargo valgrind unsafe-libyaml -- loads_rust
 check pipe_rust cargo unsafe-libyaml -- pipe_rust

@@ -3,11 +3,12 @@
     strict.py write DIR COUNT SEED     draws texts, and writes them as files of DIR; prints their names
     strict.py plain|strict|loose < NAMES
     strict.py compare PLAIN STRICT LOOSE
+    strict.py alike PLAIN STRICT
 
 The second reads files by PyYAML's CLoader, and by that of bindings/python, strict or not. PLAIN, STRICT and LOOSE are its outputs,
-or those of events.c over these files: of libyaml, of a strict parser, and of one that isn't. What is
-strict must be libyaml's, byte by byte; or, if libyaml loses a token after the KEY of a flow pair, begin so and end with the error
-that says it. There must be texts of each kind, and the parser that isn't strict must differ at all three places.
+or those of events.c over these files: of libyaml, of a strict parser, and of one that isn't. What is strict must be libyaml's, byte
+by byte; or, if libyaml loses a token after the KEY of a flow pair, begin so and end with the error that says it. Of `compare` there
+must be texts of each kind, and the parser that isn't strict must differ at all three places; `alike` takes any files.
 
 Run by clients.sh.
 """
@@ -99,6 +100,20 @@ def place_of(plain, loose, strict):
     return None
 
 
+def is_as_there(plain, strict):
+    """Whether a strict parser read what libyaml reads, or as much and refused what libyaml loses."""
+    if LOSES in strict[-1]:
+        return strict[:-1] == plain[:len(strict) - 1]
+    return strict == plain
+
+
+def alike(plain, strict):
+    plain, strict = blocks(plain), blocks(strict)
+    wrong = [name for name, lines in plain.items() if not is_as_there(lines or [""], strict.get(name) or [""])]
+    print("\n".join(wrong[:20] + [f"{len(plain)} files, of which {len(wrong)} are read otherwise"]))
+    return int(bool(wrong) or list(plain) != list(strict))
+
+
 def compare(plain, strict, loose):
     plain, strict, loose = blocks(plain), blocks(strict), blocks(loose)
     counts = {"accepted": 0, "refused": 0, "pair_key": 0, "value_first": 0, "bare_document": 0}
@@ -106,10 +121,7 @@ def compare(plain, strict, loose):
     for name, lines in plain.items():
         here = strict.get(name, [""])
         place = place_of(lines, loose.get(name), here)
-        if LOSES in here[-1]:
-            if here[:-1] != lines[:len(here) - 1]:
-                wrong.append(name)
-        elif here != lines:
+        if not is_as_there(lines, here):
             wrong.append(name)
         elif place is None and lines != loose.get(name):
             wrong.append(name + ", which is read otherwise though nothing is told apart")
@@ -127,7 +139,7 @@ def compare(plain, strict, loose):
 if __name__ == "__main__":
     if sys.argv[1] == "write":
         write(sys.argv[2], int(sys.argv[3]), sys.argv[4])
-    elif sys.argv[1] != "compare":
-        read(sys.argv[1])
+    elif sys.argv[1] in ("compare", "alike"):
+        sys.exit({"compare": compare, "alike": alike}[sys.argv[1]](*sys.argv[2:]))
     else:
-        sys.exit(compare(*sys.argv[2:]))
+        read(sys.argv[1])

@@ -1,0 +1,271 @@
+"""Texts for bounds, and the comparison of what each door reads of them within bounds.
+
+    bounds.py write DIR COUNT SEED            draws texts, and writes them as files of DIR; prints their names
+    bounds.py read LOADER WHAT DEPTH NODES < NAMES
+    bounds.py compare LOADER WHAT EVENTS FREE [DEPTH NODES BOUND]..
+
+The second reads files by a loader of bindings/python, CLoader or Loader, and writes `events` or `nodes` in lines that begin as those
+of events.c and bounds.rs. DEPTH and NODES are numbers, or `-` if there is no such bound. EVENTS and FREE are what a door reads without
+a bound, by events and by WHAT, and each BOUND what it reads by WHAT within the two bounds before it. What that should be is made of the first two, of
+the tokens that PyYAML's loader of this name scans, and of what the headers say: one collection more than DEPTH is an error at the
+token that opens it, one node, item or pair more than NODES an error at the start of its event, and up to there all is as without.
+Prints how many texts have too many levels, too many nodes, and neither.
+
+Run by clients.sh.
+"""
+import os
+import random
+import sys
+
+import yaml
+
+import strict
+
+LEAVES = ["a", "'b c'", "*z", "&x d", "&x", "!t e", "", "&x [f, *x]", "? g", "{h: i}", "[j, k, l]", "[m: n, ? o]", "{&x p: q, *x : r}"]
+BLOCK, FLOW = ["- ", "? ", "k: "], ["[", "{k: ", "[p: ", "[q, ", "&z [", "{? "]
+LEVELS = [1, 2, 3, 5, 8, 31, 32, 33, 40, 64, 70]
+
+
+def nested(random_):
+    """A document of collections in collections, of block style, of flow style, or of the second in the first."""
+    kinds = random_.choice([BLOCK[:2], FLOW, BLOCK + FLOW])
+    text, closes, anchors = "", [], 0
+    for _ in range(random_.choice(LEVELS)):
+        kind = random_.choice(FLOW if closes else kinds)
+        if kind[0] in "[{&":
+            closes.append("}" if "{" in kind else "]")
+        text += kind.replace("z", "z%d" % anchors)
+        anchors += "z" in kind
+        if kind == "k: ":  # a line has one such key
+            kinds = FLOW
+    text += random_.choice(LEAVES)
+    for close in reversed(closes):
+        more = random_.choice(["", "", "", ", r", ", *z%d" % random_.randrange(anchors) if anchors else ""])
+        text += more + close
+    return text + "\n"
+
+
+def unindented(random_):
+    """Mappings whose sequences aren't indented, which have no entry of their own among the open collections."""
+    lines, indent = [], 0
+    for _ in range(random_.randint(1, 12)):
+        lines.append(" " * indent + "k:")
+        lines.append(" " * indent + "- a")
+        if random_.random() < 0.5:
+            indent += 2
+            lines[-1] = " " * (indent - 2) + "- l: m"
+    return "\n".join(lines) + "\n"
+
+
+def drawn(random_):
+    how = random_.random()
+    if how < 0.5:
+        return strict.drawn(random_)
+    text = (nested if how < 0.8 else unindented)(random_)
+    return "--- " * (text[0] not in "-?k") + text + (nested(random_) if random_.random() < 0.2 else "")
+
+
+def write(folder, count, seed):
+    for number in range(count):
+        name = os.path.join(folder, f"{number}.yaml")
+        with open(name, "w", encoding="utf-8", newline="") as file:
+            file.write(drawn(random.Random(f"{seed} {number}")))
+        print(name)
+
+
+# ---- Reading, in lines that begin as those of events.c ----
+
+KINDS = {kind: number for number, kind in enumerate(
+    (yaml.StreamStartEvent, yaml.StreamEndEvent, yaml.DocumentStartEvent, yaml.DocumentEndEvent, yaml.AliasEvent, yaml.ScalarEvent,
+     yaml.SequenceStartEvent, yaml.SequenceEndEvent, yaml.MappingStartEvent, yaml.MappingEndEvent), 1)}
+STARTS, ENDS, ALIAS, SCALAR = (7, 9), (8, 10), 5, 6
+ERRORS = {yaml.reader.ReaderError: 2, yaml.scanner.ScannerError: 3, yaml.parser.ParserError: 4, yaml.composer.ComposerError: 5}
+
+
+def place(mark):
+    return f"{mark.index}:{mark.line}:{mark.column}" if mark else "0:0:0"
+
+
+def listed(root):
+    """The nodes below a root, each once, in the order of their numbers, with the numbers of their children."""
+    numbers, found, lines = {id(root): 0}, [root], []
+    for node in found:  # which grows
+        children = []
+        if not isinstance(node, yaml.ScalarNode):
+            children = [part for item in node.value for part in (item if isinstance(item, tuple) else (item,))]
+        for child in children:
+            if id(child) not in numbers:
+                numbers[id(child)] = len(found)
+                found.append(child)
+        told = " ".join(str(numbers[id(child)]) for child in children)
+        lines.append(f"{node.id} {place(node.start_mark)} {place(node.end_mark)} {told}")
+    return lines
+
+
+def told(failure):
+    if not isinstance(failure, yaml.MarkedYAMLError):
+        return f"error {ERRORS.get(type(failure), 0)} {failure}".replace("\n", " ")
+    return (f"error {ERRORS[type(failure)]} {failure.problem} {place(failure.problem_mark)} {failure.context or '-'} "
+            f"{place(failure.context_mark)}")
+
+
+def read(loader, what, depth, nodes):
+    import pokhvizi
+
+    class Bounded(getattr(pokhvizi, loader)):
+        max_depth, max_nodes = depth, nodes
+
+    for name in sys.stdin.read().split("\n")[:-1]:
+        print("file", name)
+        try:
+            with open(name, "rb") as file:
+                text = file.read()
+            if what == "events":
+                for it in yaml.parse(text, Bounded):
+                    print(KINDS[type(it)], place(it.start_mark), place(it.end_mark), f"{it.anchor}." if getattr(it, "anchor", None) else "-")
+            else:
+                for root in yaml.compose_all(text, Bounded):
+                    print("document")
+                    print("\n".join(listed(root)))
+        except yaml.YAMLError as failure:
+            print(told(failure))
+        except RecursionError:
+            print("error RecursionError")
+
+
+# ---- What should be read ----
+
+OPENS = (yaml.BlockSequenceStartToken, yaml.BlockMappingStartToken, yaml.FlowSequenceStartToken, yaml.FlowMappingStartToken)
+
+
+def openers(name, scanner):
+    """The places of the tokens that open a collection, by the places where they end and their kinds of collection."""
+    found = {}
+    try:
+        with open(name, "rb") as file:
+            for token in yaml.scan(file.read(), scanner):
+                if isinstance(token, OPENS):
+                    kind = STARTS["Mapping" in type(token).__name__]
+                    found[kind, place(token.end_mark)] = place(token.start_mark)
+    except yaml.YAMLError:
+        pass
+    return found
+
+
+class Stops(Exception):
+    """An error number, words and the place."""
+
+
+class Document:
+    """The lists of a document that is composed, and its anchors."""
+
+    def __init__(self, nodes):
+        self.most = self.left = float("inf") if nodes is None else nodes
+        self.anchors, self.open = set(), []
+
+    def take(self, kind, start, anchor):
+        """Takes an event that is a node or an alias; returns whether it is no error of another kind."""
+        if kind == ALIAS and anchor not in self.anchors or kind != ALIAS and anchor in self.anchors:
+            return False
+        if self.open:
+            entry = self.open[-1]
+            if not (entry["is_mapping"] and entry["parts"] % 2) and entry["parts"] // (1 + entry["is_mapping"]) == self.most:
+                raise Stops(5, "found too many nodes", start)
+            entry["parts"] += 1
+        if kind != ALIAS:
+            if self.left == 0:
+                raise Stops(5, "found too many nodes", start)
+            self.left -= 1
+            self.anchors |= {anchor} - {"-"}
+        if kind in STARTS:
+            self.open.append({"is_mapping": kind == STARTS[1], "parts": 0})
+        return True
+
+
+def wanted(events, free, opens, depth, nodes, loads):
+    """The lines that a text gives within bounds; `free` are those without, of documents if they are loaded."""
+    collections, document, ended, given = [], None, 0, []
+    try:
+        for line in events:
+            words = line.split()
+            if words[0] == "error":
+                return free
+            kind, start, end, anchor = int(words[0]), words[1], words[2], words[3] if len(words) > 3 else "-"
+            if kind in STARTS:
+                at = opens.get((kind, end))
+                if at is not None and sum(collections) == depth:
+                    raise Stops(4, "found too many levels", at)
+                collections.append(at is not None)
+            elif kind in ENDS:
+                collections.pop()
+            if loads:
+                if kind == 3:
+                    document = Document(nodes)
+                elif kind == 4:
+                    ended += 1
+                elif kind in ENDS:
+                    document.open.pop()
+                elif kind in (ALIAS, SCALAR, *STARTS) and not document.take(kind, start, anchor):
+                    return free
+            given.append(line)
+    except Stops as stop:
+        if loads:
+            places = [number for number, line in enumerate(free) if line.startswith(("document", "error"))] + [len(free)]
+            given = free[:places[ended]]
+        return given + ["error %d %s %s - 0:0:0" % stop.args]
+    return free
+
+
+def blocks(name):
+    """The lines of each file."""
+    found = {}
+    with open(name, encoding="utf-8") as lines:
+        for line in lines:
+            if line.startswith("file "):
+                here = found.setdefault(line[5:-1], [])
+            else:
+                here.append(" ".join(line.split()))
+    return found
+
+
+def cut(lines):
+    """Lines of which an error has no more than its number, words and places."""
+    return [" ".join(line.split()[:-2]) if line.startswith("error") and line.split()[-1].isdigit() else line for line in lines]
+
+
+def compare(scanner, what, events, free, *bounded):
+    events, free = blocks(events), blocks(free)
+    opens = {name: openers(name, getattr(yaml, scanner)) for name in free}
+    counts = {"too many levels": 0, "too many nodes": 0, "": 0}
+    wrong = [] if list(events) == list(free) else ["other files"]
+    for depth, nodes, bound in zip(bounded[::3], bounded[1::3], bounded[2::3]):
+        found = blocks(bound)
+        if list(found) != list(free):
+            wrong.append(f"{bound}: other files")
+        for name, lines in found.items():
+            here = wanted(events[name], cut(free[name]), opens[name], number(depth), number(nodes), what == "nodes")
+            lines = cut(lines)
+            if lines != here:
+                at = next((n for n, pair in enumerate(zip(lines, here)) if pair[0] != pair[1]), min(len(lines), len(here)))
+                wrong.append(f"{name} within {depth} {nodes}: {lines[at:at + 1]}, wanted was {here[at:at + 1]}")
+            counts[next(word for word in counts if word in (here or [""])[-1])] += 1
+    if wrong:
+        print("\n".join(wrong[:10]))
+        print(f"{len(wrong)} wrong")
+        return 1
+    print(*counts.values())
+    return 0
+
+
+def number(word):
+    return None if word == "-" else int(word)
+
+
+if __name__ == "__main__":
+    command, *words = sys.argv[1:]
+    if command == "write":
+        write(words[0], int(words[1]), words[2])
+    elif command == "read":
+        read(*words[:2], *map(number, words[2:]))
+    else:
+        sys.exit(compare(*words))

@@ -1,0 +1,101 @@
+//! Reads the files that lines of standard input name within bounds, and prints the kinds and marks of `events` or `nodes`, and the
+//! fault, in lines that begin as those of events.c:
+//!
+//!     bounds events|nodes DEPTH NODES < NAMES
+//!
+//! DEPTH and NODES are numbers, or `-` if there is no such bound. Run by clients.sh.
+
+use std::ffi::{c_char, CStr};
+use std::mem::MaybeUninit;
+use std::{env, fs, io};
+use unsafe_libyaml::*;
+
+fn place(mark: yaml_mark_t) -> String {
+    format!("{}:{}:{}", mark.index, mark.line, mark.column)
+}
+
+unsafe fn text(text: *const c_char) -> String {
+    match text.is_null() {
+        true => "-".to_owned(),
+        false => CStr::from_ptr(text).to_string_lossy().into_owned(),
+    }
+}
+
+unsafe fn put_event(event: &yaml_event_t) {
+    let anchor = match event.type_ {
+        YAML_ALIAS_EVENT => event.data.alias.anchor,
+        YAML_SCALAR_EVENT => event.data.scalar.anchor,
+        YAML_SEQUENCE_START_EVENT => event.data.sequence_start.anchor,
+        YAML_MAPPING_START_EVENT => event.data.mapping_start.anchor,
+        _ => std::ptr::null_mut(),
+    };
+    let anchor = text(anchor.cast()) + if anchor.is_null() { "" } else { "." };
+    println!("{} {} {} {anchor}", event.type_ as u32, place(event.start_mark), place(event.end_mark));
+}
+
+unsafe fn put_nodes(document: &yaml_document_t) {
+    println!("document");
+    let mut node = document.nodes.start;
+    while node != document.nodes.top {
+        println!("{} {} {}", (*node).type_ as u32, place((*node).start_mark), place((*node).end_mark));
+        node = node.add(1);
+    }
+}
+
+unsafe fn put_fault(parser: *mut yaml_parser_t) {
+    let (problem, context) = (text((*parser).problem.cast()), text((*parser).context.cast()));
+    let (at, from) = (place((*parser).problem_mark), place((*parser).context_mark));
+    println!("error {} {problem} {at} {context} {from}", (*parser).error as u32);
+}
+
+/// Puts the next event or document of a parser; returns whether there may be another.
+unsafe fn put_next(parser: *mut yaml_parser_t, loads: bool) -> bool {
+    let (mut event, mut document) = (MaybeUninit::uninit(), MaybeUninit::uninit());
+    let (given, is_last) = if loads {
+        let given = yaml_parser_load(parser, document.as_mut_ptr()).ok;
+        let is_last = !given || yaml_document_get_root_node(document.as_mut_ptr()).is_null();
+        if given && !is_last {
+            put_nodes(&*document.as_ptr());
+        }
+        if given {
+            yaml_document_delete(document.as_mut_ptr());
+        }
+        (given, is_last)
+    } else {
+        let given = yaml_parser_parse(parser, event.as_mut_ptr()).ok;
+        if given {
+            put_event(&*event.as_ptr());
+        }
+        let is_last = !given || (*event.as_ptr()).type_ == YAML_STREAM_END_EVENT;
+        yaml_event_delete(event.as_mut_ptr());
+        (given, is_last)
+    };
+    if !given {
+        put_fault(parser);
+    }
+    !is_last
+}
+
+fn main() -> io::Result<()> {
+    let words: Vec<String> = env::args().skip(1).collect();
+    if let Ok(depth) = words[1].parse() {
+        bounds::set_max_depth(depth);
+    }
+    if let Ok(nodes) = words[2].parse() {
+        bounds::set_max_nodes(nodes);
+    }
+    for name in io::stdin().lines() {
+        let name = name?;
+        let text = fs::read(&name)?;
+        println!("file {name}");
+        let mut parser = MaybeUninit::<yaml_parser_t>::uninit();
+        let parser = parser.as_mut_ptr();
+        unsafe {
+            assert!(yaml_parser_initialize(parser).ok);
+            yaml_parser_set_input_string(parser, text.as_ptr(), text.len() as u64);
+            while put_next(parser, words[0] == "nodes") {}
+            yaml_parser_delete(parser);
+        }
+    }
+    Ok(())
+}
