@@ -1,0 +1,5 @@
+pub mod Limits
+pub mod View
+pub mod Limited
+pub mod LimitedLaws
+pub mod Depth
