@@ -4,3 +4,4 @@ pub mod Runs
 pub mod Differences
 pub mod Strict
 pub mod StrictCalls
+pub mod Passed

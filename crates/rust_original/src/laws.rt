@@ -13,18 +13,22 @@ ghost use Rattle.libyaml_automaton.specs.declared.difference.Difference.TheVaria
 ghost use Rattle.libyaml_automaton.specs.declared.difference.Difference.TheVariants.{ValueFirst};
 ghost use Rattle.libyaml_graphs.specs.loads.Bounds.{IsBoundedLoads, bounded_loads};
 ghost use Rattle.libyaml_graphs.specs.loads.Loads.{Load};
-ghost use Rattle.libyaml_events.specs.machine.Config.{is_fault};
+ghost use Rattle.libyaml_events.specs.machine.Config.{is_fault, start};
+ghost use Rattle.libyaml_events.specs.machine.Want.{AtState};
 ghost use Rattle.rust_original.specs.loader.Loader.{loads_there};
 ghost use Rattle.rust_original.specs.loader.LoadsThere.{LoadsCompare, LoadsThere};
 ghost use Rattle.rust_original.specs.parser.Differences.{Compares, Differs, call_here, call_there};
+ghost use Rattle.rust_original.specs.parser.Passed.{FailsBefore, IsTagFault, PassedRun, passed};
 ghost use Rattle.rust_original.specs.parser.Parser.{Mends, OK, OriginalParser, yaml_parser_parse};
 ghost use Rattle.rust_original.specs.parser.Runs.{Runs, RunsThere, as_here, as_there, call};
 ghost use Rattle.rust_original.specs.parser.Runs.{new_original_parser, run_within};
-ghost use Rattle.rust_original.specs.parser.Strict.{Over, Stopped, StopsAt, StrictEnding, StrictRun};
+ghost use Rattle.rust_original.specs.parser.Strict.{Over, Stopped, StopsAt, StrictEnding};
+ghost use Rattle.rust_original.specs.parser.Strict.{StrictFrom, StrictRun};
 ghost use Rattle.rust_original.specs.parser.Strict.{document_fault, key_fault};
 ghost use Rattle.rust_original.specs.parser.StrictCalls.{BetweenAsked, ForAskedFailed, ForStopped};
 ghost use Rattle.rust_original.specs.parser.StrictCalls.{RunThere, StopThere};
 ghost use Rattle.rust_original.specs.parser.Texts.{NoneHoldsZero, as_held};
+ghost use Rattle.token_limits.specs.Limits.{difference_fault};
 
 /// The Rust crate has one run over each list of tokens and error of a source after it. Its events nest, and
 /// to the end only if it ends. A run that is computed within so many calls is a run.
@@ -83,6 +87,22 @@ pub fn strict()
     ensures some { (l : List Token) (f : Fault) → (e : List Event) × (x : StrictEnding) × StrictRun l f e x }
     ensures one { (l : List Token) (f : Fault) (e d : List Event) (x y : StrictEnding) → StrictRun l f e x
         → StrictRun l f d y → (e ≡ d) × (x ≡ y) }
+{}
+
+/// The run of a parser over a source that a strict limiter stands before, and so what `yaml_parser_parse_all`
+/// gives over a `yaml_limited_source_t` of `token_limits`: where the strict run is over, the same run. At a
+/// token where the Rust crate does something else the limiter fails with that crate's words and marks, and the
+/// parser gives the events that the tokens before it determine. It also does so beside a tag whose handle
+/// isn't defined, where the Rust crate has the error of the tag.
+pub fn strict_source()
+    ensures ends { (l : List Token) (f : Fault) (e : List Event) → StrictFrom f AtState start l e (Over Ends)
+        → PassedRun l f e Ends }
+    ensures fails { (l : List Token) (f g : Fault) (e : List Event)
+        → StrictFrom f AtState start l e (Over (Fails g))
+        → PassedRun l f e (Fails g) ⊎ (IsTagFault g × FailsBefore l f e) }
+    ensures stops { (l : List Token) (f : Fault) (e : List Event) (k : Difference) (m n : Mark)
+        → StrictFrom f AtState start l e (Stopped k m n)
+        → ((passed l f).fault ≡ difference_fault k m n) × FailsBefore l f e }
 {}
 
 /// So it is with a caller of the steps that asks before each call (`steps_t::differs`): what it was given,

@@ -74,7 +74,7 @@ impl token_limiter_t {
                 Ok(())
             }
             Err(fault) => {
-                self.refusal = Some(fault);
+                self.keep(fault);
                 Err(fault)
             }
         }

@@ -1,6 +1,6 @@
 -- Between documents, both parsers do the same.
 use Rattle.std.proofs.Common.{◌≡◌, ◌∷◌, ◌++◌, ◌||◌, ◌&&◌, ℕ, pos, List, [], Option, Some, None, Bool, true, false, not, refl, sym, subst, codes, if◌then◌else◌, is_some}
-use Rattle.std.specs.FinMap.{get, insert}
+use Rattle.std.specs.FinMap.{insert}
 use Rattle.std.specs.Ordering.{int_eq}
 use Rattle.libyaml_types.specs.declared.directive.yaml_tag_directive_t.{yaml_tag_directive_t}
 use Rattle.libyaml_types.specs.declared.directive.yaml_version_directive_t.{yaml_version_directive_t}

@@ -295,6 +295,14 @@ same l f e x run =
           (subst (λ (y : Ending). IsRun (map as_held l) f r.0 y) k.1 (r.5 refl)),
     )
 
+-- over any list
+pub runs_so : (l : List Token) (f : Fault) (e : List Event) (x : Ending) → StrictOver l f e (Over x) → IsRun l f e x
+runs_so l f e x run =
+    let h = result l f e (Over x) run in
+    let r = some_run as_here false (λ p. inl refl) l f in
+    let k = one_run r.2 e x h.1 in
+    subst (λ (d : List Event). IsRun l f d x) k.0 (subst (λ (y : Ending). IsRun l f r.0 y) k.1 (r.5 refl))
+
 pub stops_at : (l : List Token) (f : Fault) (e : List Event) (k : Difference) (m n : Mark)
     → StrictOver l f e (Stopped k m n) → StopsAt (new_original_parser l f) e k m n
 stops_at l f e k m n run = result l f e (Stopped k m n) run
