@@ -16,9 +16,10 @@ CRATES = Path(__file__).resolve().parents[2] / "crates"
 # the header, the files that have its structs, and the structs' names in C where they are others
 HEADERS = (
     ("pokhvizi/compose.h",
-     ("libyaml_composer/src/composer.rt", "libyaml_composer/src/records.rt", "document_steps/src/anchors.rt"),
+     ("libyaml_composer/src/composer.rt", "libyaml_composer/src/records.rt", "document_steps/src/anchors.rt",
+      "document_sizes/src/sizes.rt"),
      {"composer_t": "pokhvizi_composer_t", "open_t": "pokhvizi_open_t", "place_t": "pokhvizi_place_t",
-      "anchor_t": "pokhvizi_anchor_t"},
+      "anchor_t": "pokhvizi_anchor_t", "sizes_t": "pokhvizi_size_t"},
      ()),
     ("pokhvizi/steps.h",
      ("libyaml_types/src/mark.rt", "libyaml_automaton/src/automaton.rt", "libyaml_automaton/src/reading.rt",

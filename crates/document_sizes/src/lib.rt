@@ -5,5 +5,5 @@
 mod counted;
 mod sizes;
 
-pub use counted::Counted;
+pub use counted::{Counted, deed_of};
 pub use sizes::sizes_t;

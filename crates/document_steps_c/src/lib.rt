@@ -1,14 +1,18 @@
-//! The calls of `libyaml_composer` and `document_steps` for C. `bindings/c/include/pokhvizi/compose.h`
+//! The calls of `libyaml_composer`, `document_steps` and `document_sizes` for C. `bindings/c/include/pokhvizi/compose.h`
 //! declares them, and says what a caller does.
 #![tactic(auto)]
 
 ghost use Rattle.std.specs.Prelude.{◌≡◌, ◌≤◌, ◌↔◌, List, [], length, true, false};
 ghost use Rattle.libyaml_composer.specs.declared.deed.Deed.{Deed};
 ghost use Rattle.libyaml_composer.specs.declared.records.open_t.{open_t};
-ghost use Rattle.libyaml_composer.specs.Composing.{composer_of, most_of, composer_step, told};
+ghost use Rattle.libyaml_composer.specs.Composing.{composer_of, is_start, most_of, composer_step, told};
 ghost use Rattle.libyaml_composer.specs.Numbers.{is_undone_number, event_kind, deed_number};
 ghost use Rattle.document_steps.specs.Anchors.{node_in};
+ghost use Rattle.document_sizes.specs.Counting.{bound_of, count_of, counting};
+ghost use Rattle.document_sizes.specs.Numbers.{counted_number, deed_of};
+ghost use Rattle.document_sizes.specs.declared.counted.Counted.{Counted};
 
+use document_sizes::{deed_of, sizes_t};
 use document_steps::{anchor_t, carrier};
 use libyaml_composer::{composer_t, event_kind, open_t, place_t};
 
@@ -63,4 +67,36 @@ pub extern "C" fn pokhvizi_carrier(anchors: &[anchor_t], texts: &[u8], anchor: &
     ensures { result ≡ node_in texts.now anchors.now anchor.now }
 {
     carrier(anchors, texts, anchor)
+}
+
+/// Puts what is kept before a stream's first event. A document may have `max` nodes with its aliases written
+/// out, and never more than 9,223,372,036,854,775,807.
+#[unsafe(no_mangle)]
+pub extern "C" fn pokhvizi_size_new(size: &mut sizes_t, max: u64)
+    ensures total { size.new.total ≡ 0 }
+    ensures bound { size.new.max ≡ max }
+{
+    *size = sizes_t::new(max);
+}
+
+/// Counts a deed at an event of this kind, like `sizes_t::count`. Returns 0 if it was counted; 13 if the
+/// document is too large with it; 14 if an alias stands within the node that it names; 15 if a number is one
+/// that no composer gives; and 16 if `sizes` has no entry for the node. Except for 0, nothing was done.
+#[unsafe(no_mangle)]
+pub extern "C" fn pokhvizi_count(
+    size: &mut sizes_t,
+    sizes: &mut [u64],
+    deed: u32,
+    kind: u8,
+    place: &place_t,
+) -> u32
+    ensures counts { (answer : Counted) × (result ≡ counted_number answer)
+        × (count_of answer size.new.total sizes.new ≡ counting (bound_of size.old.max) (deed_of deed)
+        (is_start (event_kind kind)) place.now size.old.total sizes.old) }
+    ensures numbers { result ≤ 16 }
+    ensures undone { (result ≡ 0 → ⊥) → (size.new ≡ size.old) × (sizes.new ≡ sizes.old) }
+    ensures bound { size.new.max ≡ size.old.max }
+{
+    size.count(sizes, deed_of(deed), event_kind(kind), place)
+        .number()
 }

@@ -109,22 +109,65 @@ typedef struct {
 int32_t pokhvizi_carrier(const pokhvizi_anchor_t *anchors, size_t count, const uint8_t *texts, size_t length,
                          const uint8_t *anchor, size_t anchor_length);
 
+/* ---- How large a document is with its aliases written out ----
+ *
+ * A short text may stand for a huge tree: each alias stands for a copy of the node that it names. To stop at the event that
+ * makes the tree too large, hand each deed of pokhvizi_compose on, with its event's kind and its place:
+ *
+ *     pokhvizi_size_new(&size, 1000000);                               and the first event
+ *     counted = pokhvizi_count(&size, sizes, room, deed, kind, &place);
+ *
+ *     POKHVIZI_COUNTED          the document so far has `size.total` nodes with its aliases written out
+ *     POKHVIZI_TOO_LARGE        nothing was done: stop. With this node or alias it has more than `max`
+ *     POKHVIZI_ENDLESS          nothing was done: stop. This alias stands within the node that it names, `place.child`, so
+ *                               the tree has no end
+ *     POKHVIZI_BAD_SIZES        nothing was done: stop. `deed`, `place` or `sizes` has a number that no call put
+ *     POKHVIZI_FULL_SIZES       nothing was done: make `sizes` larger, call again with the same deed
+ *
+ * `sizes` has an entry for each node of the document: with room for as many as a document ever has it is never full. Its
+ * contents before the first call don't matter; to make it larger, move its bytes, for example by realloc. A deed that stops
+ * or does nothing may be handed on or not. What the total is, and when a call stops, is proved. */
+
+/* What counts. It may be copied and moved. */
+typedef struct {
+    uint64_t total; /* the nodes of the document so far, with its aliases written out */
+    uint64_t max;   /* how many it may have; what is more than INT64_MAX stands for that */
+} pokhvizi_size_t;
+
+enum {
+    POKHVIZI_COUNTED,
+    POKHVIZI_TOO_LARGE = POKHVIZI_BAD_STACK + 1,
+    POKHVIZI_ENDLESS,
+    POKHVIZI_BAD_SIZES,
+    POKHVIZI_FULL_SIZES
+};
+
+/* Begins a stream. A document may have `max` nodes with its aliases written out. */
+void pokhvizi_size_new(pokhvizi_size_t *size, uint64_t max);
+
+/* Counts a deed, as described above. */
+uint32_t pokhvizi_count(pokhvizi_size_t *size, uint64_t *sizes, size_t room, uint32_t deed, uint8_t kind,
+                        const pokhvizi_place_t *place);
+
 /* ---- Words ---- */
 
-/* Returns the words of a deed that stops, libyaml's where it has such an error, and sets `*context` to those of its context, or
- * to NULL. */
+/* Returns the words of a deed that stops, or of a count that does, libyaml's where it has such an error, and sets `*context` to
+ * those of its context, or to NULL. */
 static __inline const char *pokhvizi_refusal(uint32_t deed, const char **context)
 {
-    static const char *const words[4][2] = {
+    static const char *const words[7][2] = {
         {"found undefined alias", NULL},
         {"second occurrence", "found duplicate anchor; first occurrence"},
         {"found too many nodes", NULL},
         {"the composer's stack was overwritten", NULL},
+        {"found too many nodes, with aliases written out", NULL},
+        {"found an alias within the node that it names", NULL},
+        {"the nodes' sizes were overwritten", NULL},
     };
     uint32_t place = deed - POKHVIZI_UNDEFINED_ALIAS;
 
-    *context = words[place < 4 ? place : 3][1];
-    return words[place < 4 ? place : 3][0];
+    *context = words[place < 7 ? place : 3][1];
+    return words[place < 7 ? place : 3][0];
 }
 
 #ifdef __cplusplus
