@@ -1,0 +1,9 @@
+pub mod Trees
+pub mod Holding
+pub mod Steps
+pub mod Inverse
+pub mod Views
+pub mod Events
+pub mod Running
+pub mod Later
+pub mod Stops

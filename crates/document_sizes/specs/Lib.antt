@@ -1,2 +1,4 @@
 pub mod Numbers
 pub mod Counting
+pub mod Runs
+pub mod RunLaws

@@ -3,6 +3,7 @@
 #![tactic(auto)]
 
 mod counted;
+pub mod laws;
 mod sizes;
 
 pub use counted::{Counted, deed_of};

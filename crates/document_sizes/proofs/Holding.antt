@@ -1,0 +1,168 @@
+-- A child in the innermost open collection: what the nodes hold then.
+use Rattle.std.proofs.Common.{◌≡◌, ◌<◌, ◌≤◌, ◌∷◌, ◌++◌, ◌∙◌, ℕ, zero, suc, ℤ, pos, negsuc, List, [], length, map, Option, Some, None, Bool, true, false, refl, sym, ap, subst, arith, slice_get, option_map, append-nil, append_assoc, length-append}
+use Rattle.libyaml_documents.specs.Nodes.{changed_at, ids_of, ids_of_pairs, node_at, with_changed, with_item, with_pair}
+use Rattle.libyaml_documents.specs.declared.node.unnamed_yaml_node_t_data.{unnamed_yaml_node_t_data}
+use Rattle.libyaml_documents.specs.declared.node.unnamed_yaml_node_t_data.TheVariants.{Scalar, Sequence, Mapping}
+use Rattle.libyaml_documents.specs.declared.node.yaml_node_t.{yaml_node_t}
+use Rattle.libyaml_documents.specs.declared.pairs.yaml_node_pair_t.{yaml_node_pair_t}
+use Rattle.libyaml_composer.specs.declared.records.open_t.{open_t}
+use Rattle.libyaml_composer.specs.Composing.{deed_for, deed_in, holding, holding_in, holding_top, place_in}
+use Rattle.libyaml_composer.specs.Numbers.{is_set, is_id}
+use Rattle.libyaml_composer.specs.DocumentSoFar.{placed}
+use Rattle.libyaml_composer.specs.Represents.{IsAlike, IsOpenBy, IsOpenNode, Opens}
+use Rattle.yaml_expansion.specs.Expansion.{ids_at, ids_of_node}
+use Rattle.document_sizes.specs.RunLaws.{held_so_far, key_waiting}
+use Rattle.document_sizes.proofs.Trees.{Opened, with_child}
+
+-- a node among others
+pub get_before : (f : yaml_node_t → yaml_node_t) (nodes : List yaml_node_t) (j k : ℕ) → (k ≡ j → ⊥)
+    → slice_get (changed_at j f nodes) k ≡ slice_get nodes k
+get_before f [] j k h = refl
+get_before f (x ∷ xs) zero zero h = absurd (h refl)
+get_before f (x ∷ xs) zero (suc k) h = refl
+get_before f (x ∷ xs) (suc j) zero h = refl
+get_before f (x ∷ xs) (suc j) (suc k) h = get_before f xs j k (λ e. h (ap (λ (n : ℕ). suc n) e))
+
+pub get_there : (f : yaml_node_t → yaml_node_t) (nodes : List yaml_node_t) (k : ℕ)
+    → slice_get (changed_at k f nodes) k ≡ option_map f (slice_get nodes k)
+get_there f [] k = refl
+get_there f (x ∷ xs) zero = refl
+get_there f (x ∷ xs) (suc k) = get_there f xs k
+
+pub get_among : (nodes l : List yaml_node_t) (k : ℕ) → k < length nodes → slice_get (nodes ++ l) k ≡ slice_get nodes k
+get_among [] l k h = absurd (omega arith)
+get_among (x ∷ xs) l zero h = refl
+get_among (x ∷ xs) l (suc k) h = get_among xs l k (omega arith)
+
+pub get_last : (nodes : List yaml_node_t) (x : yaml_node_t) → slice_get (nodes ++ x ∷ []) (length nodes) ≡ Some x
+get_last [] x = refl
+get_last (y ∷ nodes) x = get_last nodes x
+
+pub length_changed : (k : ℕ) (f : yaml_node_t → yaml_node_t) (nodes : List yaml_node_t)
+    → length (changed_at k f nodes) ≡ length nodes
+length_changed k f [] = refl
+length_changed zero f (x ∷ nodes) = refl
+length_changed (suc k) f (x ∷ nodes) = ap suc (length_changed k f nodes)
+
+pub opens_more : (most : ℕ) (nodes l : List yaml_node_t) (n : ℕ) (s : List open_t) → n ≤ length nodes
+    → Opens most nodes n s → Opens most (nodes ++ l) n s
+opens_more most nodes l n [] le h = tt
+opens_more most nodes l n (o ∷ s) le (k, is, lt, here, key, rest) = (
+  k,
+  is,
+  lt,
+  subst (λ (x : Option yaml_node_t). IsOpenNode x o) (sym (get_among nodes l k (omega arith))) here,
+  key,
+  opens_more most nodes l k s (omega arith) rest,
+)
+
+-- the ids of a node with one more child
+pairs_more : (ps : List yaml_node_pair_t) (p : yaml_node_pair_t)
+    → ids_of_pairs (ps ++ p ∷ []) ≡ ids_of_pairs ps ++ p.key ∷ p.value ∷ []
+pairs_more [] p = refl
+pairs_more (q ∷ ps) p = ap (λ (l : List ℤ). q.key ∷ q.value ∷ l) (pairs_more ps p)
+
+item_more : (i : ℤ) (x : Option yaml_node_t) (w : Bool) (n : ℕ) → IsOpenBy x false w n
+    → ids_of_node (option_map (with_item i) x) ≡ ids_of_node x ++ i ∷ []
+item_more i None w n h = absurd h
+item_more i (Some x) w n h = go x.content h
+  where
+    go : (c : unnamed_yaml_node_t_data) → IsAlike c false w n
+        → ids_of (with_item i (record x { content = c })).content ≡ ids_of c ++ i ∷ []
+    go (Scalar s) h = absurd h
+    go (Sequence s) h = refl
+    go (Mapping s) h = absurd h
+
+pair_more : (k i : ℤ) (x : Option yaml_node_t) (n : ℕ) → IsOpenBy x true true n
+    → ids_of_node (option_map (with_pair k i) x) ≡ ids_of_node x ++ k ∷ i ∷ []
+pair_more k i None n h = absurd h
+pair_more k i (Some x) n h = go x.content h
+  where
+    go : (c : unnamed_yaml_node_t_data) → IsAlike c true true n
+        → ids_of (with_pair k i (record x { content = c })).content ≡ ids_of c ++ k ∷ i ∷ []
+    go (Scalar s) h = absurd h
+    go (Sequence s) h = absurd h
+    go (Mapping s) h = pairs_more s.pairs (record { key = k; value = i })
+
+-- the place of an id
+abbrev pub index_of : ℤ → ℕ
+index_of (pos zero) = 0
+index_of (pos (suc k)) = k
+index_of (negsuc n) = 0
+
+abbrev pub opened_as : ℤ → List ℤ → Opened
+opened_as node ids = record { place = index_of node; ids = ids }
+
+abbrev pub opened_of : List yaml_node_t → open_t → Opened
+opened_of nodes o = opened_as o.node (held_so_far nodes o)
+
+-- the nodes and the stack with a child in the innermost open collection
+module _ (nodes : List yaml_node_t) (n i : ℤ) (some : is_id i ≡ true) (o : open_t) (s : List open_t) where
+  abbrev pub after : List yaml_node_t
+  after = placed (deed_for (o ∷ s)) (place_in n i (o ∷ s)) nodes
+
+  module _ (k most : ℕ) (is : o.node ≡ pos (suc k)) (here : IsOpenNode (slice_get nodes k) o) where
+    pub record Hands (later : List yaml_node_t) (p : open_t) : Type 0 where
+      pub count : length later ≡ length nodes
+      pub others : (j : ℕ) → (j ≡ k → ⊥) → slice_get later j ≡ slice_get nodes j
+      pub top : held_so_far later p ≡ held_so_far nodes o ++ i ∷ []
+      pub node : p.node ≡ o.node
+
+    changes : (f : yaml_node_t → yaml_node_t) → with_changed o.node f nodes ≡ changed_at k f nodes
+    changes f = ap (λ (y : ℤ). with_changed y f nodes) is
+
+    changed_count : (f : yaml_node_t → yaml_node_t) → length (with_changed o.node f nodes) ≡ length nodes
+    changed_count f = ap length (changes f) ∙ length_changed k f nodes
+
+    changed_others : (f : yaml_node_t → yaml_node_t) (j : ℕ) → (j ≡ k → ⊥)
+        → slice_get (with_changed o.node f nodes) j ≡ slice_get nodes j
+    changed_others f j h = ap (λ (l : List yaml_node_t). slice_get l j) (changes f) ∙ get_before f nodes k j h
+
+    ids_here : (l : List yaml_node_t) → ids_at l o.node ≡ ids_of_node (slice_get l k)
+    ids_here l = ap (λ (y : ℤ). ids_at l y) is
+
+    ids_changed : (f : yaml_node_t → yaml_node_t)
+        → ids_at (with_changed o.node f nodes) o.node ≡ ids_of_node (option_map f (slice_get nodes k))
+    ids_changed f = ids_here (with_changed o.node f nodes)
+        ∙ (ap (λ (l : List yaml_node_t). ids_of_node (slice_get l k)) (changes f) ∙ ap ids_of_node (get_there f nodes k))
+
+    pub hands : Hands after (holding i o)
+    hands = go (is_set o.is_mapping) (is_id o.key) refl refl here
+      where
+        go : (m w : Bool) → is_set o.is_mapping ≡ m → is_id o.key ≡ w → IsOpenBy (slice_get nodes k) m w o.children
+            → Hands (placed (deed_in m w) (place_in n i (o ∷ s)) nodes) (holding_in i o m w)
+        go false w a b h = record {
+          count = changed_count (with_item i);
+          others = changed_others (with_item i);
+          top = rw (a, ids_changed (with_item i), item_more i (slice_get nodes k) w o.children h, ids_here nodes, append-nil, append-nil) refl;
+          node = refl;
+        }
+        go true false a b h = record {
+          count = refl;
+          others = λ j h. refl;
+          top = rw (a, b, some, append-nil) refl;
+          node = refl;
+        }
+        go true true a b h = record {
+          count = changed_count (with_pair o.key i);
+          others = changed_others (with_pair o.key i);
+          top = rw (a, b, ids_changed (with_pair o.key i), pair_more o.key i (slice_get nodes k) o.children h, ids_here nodes, append-nil) (sym (append_assoc (ids_of_node (slice_get nodes k)) (o.key ∷ []) (i ∷ [])));
+          node = refl;
+        }
+
+    pub top_after : opened_of after (holding i o) ≡ with_child (opened_of nodes o) i
+    top_after = ap (λ (z : ℤ). opened_as z (held_so_far after (holding i o))) hands.node
+        ∙ ap (λ (l : List ℤ). opened_as o.node l) hands.top
+
+-- collections that no change reaches
+pub opened_same : (most : ℕ) (nodes later : List yaml_node_t) (m : ℕ) (r : List open_t) → Opens most nodes m r
+    → ((j : ℕ) → j < m → slice_get later j ≡ slice_get nodes j) → map (opened_of later) r ≡ map (opened_of nodes) r
+opened_same most nodes later m [] h same = refl
+opened_same most nodes later m (p ∷ r) (j, at, lt, there, key, rest) same =
+    let e : opened_of later p ≡ opened_of nodes p = same_opened (same j lt) in
+    let f : map (opened_of later) r ≡ map (opened_of nodes) r = opened_same most nodes later j r rest (λ i l. same i (omega arith)) in
+    cc
+  where
+    same_opened : slice_get later j ≡ slice_get nodes j → opened_of later p ≡ opened_of nodes p
+    same_opened e = ap (λ (l : List ℤ). opened_as p.node (l ++ key_waiting (is_set p.is_mapping) (is_id p.key) p.key))
+        (ap (λ (y : ℤ). ids_at later y) at ∙ (ap ids_of_node e ∙ sym (ap (λ (y : ℤ). ids_at nodes y) at)))
