@@ -132,6 +132,55 @@ def bounds_of(base):
     expect("bounds that are larger than any", bounded(base, "[a]", yaml.compose_all, max_depth=1 << 62, max_nodes=1 << 62), 1)
 
 
+# ---- Aliases written out ----
+
+def bomb(levels, width):
+    """A mapping of so many lists, each of which but the first names the one before so many times."""
+    first = "a0: &a0 [" + ", ".join("x" * width) + "]\n"
+    return first + "".join("a%d: &a%d [%s]\n" % (n, n, ", ".join(["*a%d" % (n - 1)] * width)) for n in range(1, levels))
+
+
+def size_of(node, sizes):
+    """How many nodes a node stands for with its aliases written out; none contains itself."""
+    if id(node) not in sizes:
+        children = [] if isinstance(node, yaml.ScalarNode) else node.value
+        below = [part for child in children for part in (child if isinstance(child, tuple) else (child,))]
+        sizes[id(node)] = 1 + sum(size_of(part, sizes) for part in below)
+    return sizes[id(node)]
+
+
+def place_of_error(text, **bounds):
+    """The line and the column of the error that ends this text, and its words."""
+    try:
+        yaml.compose(text, type("Bounded", (pokhvizi.CSafeLoader,), bounds))
+    except yaml.composer.ComposerError as failure:
+        return failure.problem_mark.line, failure.problem_mark.column, failure.problem
+
+
+def expanded():
+    many = "found too many nodes, with aliases written out"
+    for text in ("a", "[a, b]", "{a: b}", "- &a [x, y]\n- *a\n", "&k a: *k", bomb(3, 3), bomb(10, 2), bomb(40, 1), "[%s]" % ("a, " * 500)):
+        size = size_of(yaml.compose(text, pokhvizi.CSafeLoader), {})
+        expect("as large as may be", bounded(pokhvizi.CSafeLoader, text, yaml.compose_all, max_expanded=size), 1)
+        expect("larger than may be", bounded(pokhvizi.CSafeLoader, text, yaml.compose_all, max_expanded=size - 1),
+               "ComposerError: " + many)
+    expect("each document has the bound", bounded(pokhvizi.CSafeLoader, "[a]\n--- [b]\n", yaml.compose_all, max_expanded=2), 2)
+    expect("events have none", bounded(pokhvizi.CSafeLoader, "[a, b]", yaml.parse, max_expanded=0), 8)
+    expect("at an alias", place_of_error("- &a [x, y]\n- *a\n", max_expanded=6), (1, 2, many))
+    expect("at a node", place_of_error("- &a [x, y]\n- *a\n", max_expanded=3), (0, 9, many))
+    expect("within itself", place_of_error("- &a [x, *a]", max_expanded=100),
+           (0, 9, "found an alias within the node that it names"))
+    expect("within itself, if there is no bound", place_of_error("- &a [x, *a]"), None)
+    begun = time.process_time()
+    expect("a bomb of ten levels of ten", place_of_error(bomb(10, 10), max_expanded=1000000), (5, 44, many))
+    expect("its time, which is less than 10 ms", time.process_time() - begun < .1, True)
+    for bound in (-1, "x", 1.5, 1 << 70):
+        expect("no bound", bounded(pokhvizi.CSafeLoader, "a", yaml.compose_all, max_expanded=bound),
+               "ValueError: max_expanded has to be None or a number from 0 on, and is %r" % (bound,))
+    expect("a loader in Python", bounded(pokhvizi.SafeLoader, "a", yaml.parse, max_expanded=1),
+           "ValueError: max_expanded is for the loaders in C, such as CSafeLoader")
+
+
 # ---- Loaders that are called while they are at work ----
 
 def within_itself():
@@ -474,7 +523,7 @@ def leaks():
     expect("KB after them, beside %d" % before, max(resident() - before, 500), 500)
 
 
-for part in (deep, bounds, within_itself, finalizers, errors, again_and_again, mixed, drawn_directives, second_interpreter, no_extension, hooks,
+for part in (deep, bounds, expanded, within_itself, finalizers, errors, again_and_again, mixed, drawn_directives, second_interpreter, no_extension, hooks,
              marks, leaks):
     part()
 print("%d cases, %d levels, %d wrong" % (cases, LEVELS, wrong))

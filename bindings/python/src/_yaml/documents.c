@@ -194,10 +194,24 @@ static int grow_stack(struct document *document)
     return grow(&document->stack, document->first_stack, &document->stack_room, 0, sizeof *document->stack);
 }
 
+/* Counts what was done, and returns it; or that the document is too large with its aliases written out. */
+static int count(struct document *document, int deed, const pokhvizi_place_t *place)
+{
+    uint32_t counted;
+
+    if (document->parser->max_expanded == PY_SSIZE_T_MAX)
+        return deed;
+    while ((counted = pokhvizi_count(&document->size, document->sizes, document->sizes_room, (uint32_t)deed,
+                                     document->parser->event.kind, place)) == POKHVIZI_FULL_SIZES)
+        if (grow(&document->sizes, document->first_sizes, &document->sizes_room, 0, sizeof *document->sizes) < 0)
+            return -1;
+    return counted == POKHVIZI_COUNTED ? deed : (int)counted;
+}
+
 /* Composes the event at hand, and returns what was done. */
 static int compose_event(struct document *document)
 {
-    pokhvizi_place_t place;
+    pokhvizi_place_t place = {0, 0, 0, 0};
     int32_t fact;
     int deed;
 
@@ -206,7 +220,8 @@ static int compose_event(struct document *document)
     while ((deed = ask(document, fact, &place)) == POKHVIZI_FULL_STACK)
         if (grow_stack(document) < 0)
             return -1;
-    return follow(document, deed, fact, &place) < 0 ? -1 : deed;
+    deed = count(document, deed, &place);
+    return deed < 0 || follow(document, deed, fact, &place) < 0 ? -1 : deed;
 }
 
 /* ---- Documents ---- */
@@ -218,11 +233,14 @@ static void begin_document(struct document *document, parser_object *parser)
     document->stack_room = LENGTH(document->first_stack);
     document->entries = document->first_entries;
     document->entries_room = LENGTH(document->first_entries);
+    document->sizes = document->first_sizes;
+    document->sizes_room = LENGTH(document->first_sizes);
     document->count = 0;
     document->anchors = NULL;
     document->hooks = (struct hooks){0};
     document->resolved = (struct resolved){0};
     pokhvizi_composer_new(&document->composer, (uint32_t)parser->max_nodes);
+    pokhvizi_size_new(&document->size, parser->max_expanded);
 }
 
 /* Gives back what a document has taken. */
@@ -234,6 +252,8 @@ static void end_document(struct document *document)
         PyMem_Free(document->stack);
     if (document->entries != document->first_entries)
         PyMem_Free(document->entries);
+    if (document->sizes != document->first_sizes)
+        PyMem_Free(document->sizes);
     Py_XDECREF(document->hooks.resolve);
     Py_XDECREF(document->hooks.descend);
     Py_XDECREF(document->hooks.ascend);

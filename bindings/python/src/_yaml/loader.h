@@ -52,7 +52,7 @@ struct kept {
     /* Names of attributes, made once, since Python's cache of attributes goes by their addresses. */
     struct {
         PyObject *read, *name, *resolve, *descend_resolver, *ascend_resolver, *yaml_path_resolvers, *function,
-            *start_mark, *end_mark, *max_depth, *max_nodes, *strict_libyaml;
+            *start_mark, *end_mark, *max_depth, *max_nodes, *max_expanded, *strict_libyaml;
     } names;
     int is_new; /* Python is 3.9 or later */
 };
@@ -150,6 +150,7 @@ typedef struct {
     pokhvizi_mark_t *marks, first_marks[32];
     size_t states_room, marks_room;
     size_t max_depth, max_nodes; /* what may be open at once; what each list of a document may have */
+    size_t max_expanded; /* how many nodes a document may have with its aliases written out */
 } parser_object;
 
 extern PyType_Spec parser_spec;
@@ -266,6 +267,9 @@ struct document {
     pokhvizi_open_t *stack, first_stack[24];
     struct entry *entries, first_entries[32]; /* by ids, from 1 */
     size_t stack_room, entries_room, count;
+    pokhvizi_size_t size; /* of the nodes so far, with their aliases written out, if that is bounded */
+    uint64_t *sizes, first_sizes[32];
+    size_t sizes_room;
     PyObject *anchors; /* ids by texts, or NULL before the first */
     struct hooks hooks;
     struct resolved resolved;

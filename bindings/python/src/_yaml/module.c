@@ -108,6 +108,7 @@ static int make_names(void)
         {"end_mark", &its.names.end_mark},
         {"max_depth", &its.names.max_depth},
         {"max_nodes", &its.names.max_nodes},
+        {"max_expanded", &its.names.max_expanded},
         {"strict_libyaml", &its.names.strict_libyaml},
     };
     size_t i;
@@ -178,7 +179,7 @@ static int add_parser_type(PyObject *module)
     PyObject *type = PyType_FromSpec(&parser_spec);
 
     if (type == NULL || add(type, "max_depth", shared(Py_None)) < 0 || add(type, "max_nodes", shared(Py_None)) < 0 ||
-        add(type, "strict_libyaml", shared(Py_False)) < 0) {
+        add(type, "max_expanded", shared(Py_None)) < 0 || add(type, "strict_libyaml", shared(Py_False)) < 0) {
         Py_XDECREF(type);
         return -1;
     }

@@ -258,7 +258,8 @@ static int find_bound(parser_object *parser, PyObject *name, size_t most, size_t
 static int find_bounds(parser_object *parser)
 {
     if (find_bound(parser, its.names.max_depth, PY_SSIZE_T_MAX, &parser->max_depth) < 0 ||
-        find_bound(parser, its.names.max_nodes, INT32_MAX, &parser->max_nodes) < 0)
+        find_bound(parser, its.names.max_nodes, INT32_MAX, &parser->max_nodes) < 0 ||
+        find_bound(parser, its.names.max_expanded, PY_SSIZE_T_MAX, &parser->max_expanded) < 0)
         return -1;
     if (parser->marks_room > parser->max_depth)
         parser->marks_room = parser->max_depth;

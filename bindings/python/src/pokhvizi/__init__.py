@@ -198,6 +198,8 @@ class Steps:
     def __init__(self, scanner):
         if getattr(scanner, "strict_libyaml", False):
             raise ValueError("strict_libyaml is for the loaders in C, such as CSafeLoader")
+        if getattr(scanner, "max_expanded", None) is not None:
+            raise ValueError("max_expanded is for the loaders in C, such as CSafeLoader")
         self.scanner, self.library, self.marks = scanner, Library.get(), Marks()
         self.directives = Directives(self.library)
         self.max_depth = bound_of(scanner, "max_depth", sys.maxsize)

@@ -7,6 +7,7 @@ from yaml.resolver import BaseResolver, Resolver
 class CParser:
     max_depth: Optional[int]
     max_nodes: Optional[int]
+    max_expanded: Optional[int]
     strict_libyaml: bool
     def __init__(self, stream: Any) -> None: ...
     def dispose(self) -> None: ...
