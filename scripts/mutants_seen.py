@@ -37,6 +37,7 @@ PROGRAMS = {
     "token_steps": ["rows_steps"],
     "token_steps_c": [],
     "document_steps": ["rows_steps"],
+    "document_sizes": [],
     "document_steps_c": [],
     "unsafe_libyaml": ["rows_yaml", "rows_hostile"],
     "line_reading": ["yamltokens", "rows_lines", "rows_hostile"],

@@ -25,7 +25,7 @@ USE = re.compile(r"pub use ([\w:]+?)(?:::\{([^}]*)\}| as (\w+))?;")
 LAWS = re.compile(r"(?:laws|rows)::")
 NAMED = (
     "unsafe_libyaml", "token_lines", "yaml_path", "yaml_expansion", "libyaml_composer", "token_steps", "token_steps_c",
-    "document_steps", "document_steps_c",
+    "document_steps", "document_sizes", "document_steps_c",
 )
 INNER = re.compile(r"putting::")  # a module for the crates above alone
 EXAMPLES = {"example_source", "example_theorems", "rows_common"}

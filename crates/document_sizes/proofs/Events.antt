@@ -1,28 +1,24 @@
 -- What an event that is counted makes of the numbers.
-use Rattle.std.proofs.Common.{◌≡◌, ◌+◌, ◌-◌, ◌<◌, ◌≤◌, ◌∷◌, ◌++◌, ◌∙◌, ℕ, zero, suc, ℤ, pos, List, [], length, Option, Some, None, Bool, true, false, refl, sym, ap, subst, arith, slice_get, if◌then◌else◌, length-append, ◌==◌, eq-eqb, eqb-true}
-use Rattle.std.specs.Prelude.{slice_set, min}
+use Rattle.std.proofs.Common.{◌≡◌, ◌+◌, ◌-◌, ◌<◌, ◌≤◌, ◌∷◌, ◌++◌, ◌∙◌, ℕ, suc, ℤ, pos, List, [], length, Option, Some, Bool, true, false, refl, sym, ap, subst, arith, slice_get, if◌then◌else◌, ◌==◌, eq-eqb, eqb-true}
+use Rattle.std.specs.Prelude.{slice_set}
 use Rattle.libyaml_grammar.specs.grammar.Tokens.{Mark}
-use Rattle.libyaml_documents.specs.LoadedNodes.{with_end}
-use Rattle.libyaml_documents.specs.Nodes.{ids_of, with_changed}
+use Rattle.libyaml_documents.specs.Nodes.{ids_of}
 use Rattle.libyaml_documents.specs.declared.node.yaml_node_t.{yaml_node_t}
-use Rattle.libyaml_graphs.specs.graphs.GraphParts.{Opening, Part, leaf_part, start_part}
+use Rattle.libyaml_graphs.specs.graphs.GraphParts.{Part}
 use Rattle.libyaml_composer.specs.declared.deed.Deed.{Deed}
 use Rattle.libyaml_composer.specs.declared.deed.Deed.TheVariants as deed
 use Rattle.libyaml_composer.specs.declared.records.open_t.{open_t}
 use Rattle.libyaml_composer.specs.declared.records.place_t.{place_t}
-use Rattle.libyaml_composer.specs.Composing.{Composer, Told, deed_for, deed_in, holding_top, place_in, waiting_in}
+use Rattle.libyaml_composer.specs.Composing.{Composer, deed_for, deed_in, holding_top, place_in}
 use Rattle.libyaml_composer.specs.Numbers.{is_set, is_id}
 use Rattle.libyaml_composer.specs.DocumentSoFar.{DocumentSoFar, applied_part, nodes_made, placed, with_made_node}
-use Rattle.libyaml_composer.specs.Represents.{Opens, Represents}
+use Rattle.libyaml_composer.specs.Represents.{Opens}
 use Rattle.document_sizes.specs.declared.counted.Counted.{Counted}
 use Rattle.document_sizes.specs.declared.counted.Counted.TheVariants as counted
-use Rattle.document_sizes.specs.Counting.{Count, at_child, bound_of, count_of, counting, number_of, place_of, size_at, at_end}
+use Rattle.document_sizes.specs.Counting.{at_child, bound_of, count_of, counting, new_number, place_among, size_at, at_end}
 use Rattle.document_sizes.specs.Runs.{LosesNothing}
-use Rattle.document_sizes.proofs.Trees.{Says}
-use Rattle.document_sizes.proofs.Holding.{opened_of}
-use Rattle.document_sizes.proofs.Inverse.{limit, alias_within, alias_large, alias_endless, node_within, node_large, node_ends, end_of, set_there, set_other, set_count, size_there}
+use Rattle.document_sizes.proofs.Inverse.{limit, alias_within, alias_large, node_within, node_large, end_of, set_there, set_other, set_count, size_there}
 use Rattle.document_sizes.proofs.Steps.{SaysOf, alias_says, closed_says, open_says, root_open_says, root_says, scalar_says, start_of}
-use Rattle.document_sizes.proofs.Views.{View, alias, begins, closes, passes, scalar}
 
 pub bound_small : (max : ℕ) → bound_of max < limit
 bound_small max = omega arith
@@ -102,8 +98,7 @@ module _ (max : ℕ) (c : Composer) (h : DocumentSoFar) (total : ℕ) (sizes : L
   alias_next [] j total' sizes' lt opens says all e = let f : c.nodes ≡ 0 = all in absurd (omega arith)
   alias_next (o ∷ s) j total' sizes' lt opens says all e =
       let r = alias_within (bound_of max) total sizes total' sizes' (size_at sizes (pos (suc j)))
-          (e ∙ counting_child (o ∷ s) (bound_of max) start (aliased (o ∷ s) j) total sizes) in
-      (
+      (e ∙ counting_child (o ∷ s) (bound_of max) start (aliased (o ∷ s) j) total sizes) in (
         subst (λ (l : List ℕ). c.nodes ≤ length l) (sym r.4) room,
         r.5,
         subst (λ (l : List ℕ). SaysOf limit (nodes_after (deed_for (o ∷ s)) (aliased (o ∷ s) j)) (holding_top (pos (suc j)) (o ∷ s)) (get_in l) total')
@@ -119,8 +114,7 @@ module _ (max : ℕ) (c : Composer) (h : DocumentSoFar) (total : ℕ) (sizes : L
   alias_larger [] j total' sizes' lt opens says all e = let f : c.nodes ≡ 0 = all in absurd (omega arith)
   alias_larger (o ∷ s) j total' sizes' lt opens says all e =
       let r = alias_large (bound_of max) total sizes total' sizes' (size_at sizes (pos (suc j)))
-          (e ∙ counting_child (o ∷ s) (bound_of max) start (aliased (o ∷ s) j) total sizes) in
-      (
+      (e ∙ counting_child (o ∷ s) (bound_of max) start (aliased (o ∷ s) j) total sizes) in (
         get_in sizes,
         total + r.0,
         says_moved _ _ (holding_top (pos (suc j)) (o ∷ s)) (get_in sizes) (total + r.0) (total + r.0)
@@ -165,11 +159,11 @@ module _ (max : ℕ) (c : Composer) (h : DocumentSoFar) (total : ℕ) (sizes : L
     node_next : (s : List open_t) (total' : ℕ) (sizes' : List ℕ)
         → count_of counted.Within total' sizes' ≡ counting (bound_of max) (deed_for s) start (place_in id id s) total sizes
         → (suc c.nodes ≤ length sizes') × (total' ≤ bound_of max) × (total' ≡ total + 1)
-        × (sizes' ≡ slice_set sizes (length h.nodes) (number_of start total)) × (length h.nodes < length sizes)
+        × (sizes' ≡ slice_set sizes (length h.nodes) (new_number start total)) × (length h.nodes < length sizes)
     node_next s total' sizes' e =
         let r = node_within (bound_of max) total sizes total' sizes' start (length h.nodes)
-            (e ∙ counting_child s (bound_of max) start (place_in id id s) total sizes) in
-        let f : length sizes' ≡ length sizes = ap length r.2 ∙ set_count sizes (length h.nodes) (number_of start total) in
+        (e ∙ counting_child s (bound_of max) start (place_in id id s) total sizes) in
+        let f : length sizes' ≡ length sizes = ap length r.2 ∙ set_count sizes (length h.nodes) (new_number start total) in
         (omega arith, r.3, r.0, r.2, r.1)
 
     pub scalar_next : (s : List open_t) (total' : ℕ) (sizes' : List ℕ) → OpensNow s → SaysNow s → LosesNothing (deed_for s) c → start ≡ false
@@ -177,13 +171,16 @@ module _ (max : ℕ) (c : Composer) (h : DocumentSoFar) (total : ℕ) (sizes : L
         → Next (nodes_after (deed_for s) (place_in id id s)) (holding_top id s) (suc c.nodes) total' sizes'
     scalar_next s total' sizes' opens says all starts e =
         let r = node_next s total' sizes' e in
-        let number : number_of start total ≡ 1 = ap (λ (b : Bool). number_of b total) starts in
-        let at : get_in (slice_set sizes (length h.nodes) (number_of start total)) (length h.nodes) ≡ Some 1
-        = set_there sizes (length h.nodes) (number_of start total) r.4 ∙ ap (λ (n : ℕ). Some n) number in
-        (r.0, r.1, subst (λ (l : List ℕ). SaysOf limit (nodes_after (deed_for s) (place_in id id s)) (holding_top id s) (get_in l) total')
-        (sym r.3) (says_moved _ _ (holding_top id s) (get_in (slice_set sizes (length h.nodes) (number_of start total))) (total + 1) total' refl r.2
-        (scalar_by (get_in (slice_set sizes (length h.nodes) (number_of start total)))
-        (λ j lt. set_other sizes (length h.nodes) (number_of start total) j (λ f. omega arith)) s opens says all at)))
+        let number : new_number start total ≡ 1 = ap (λ (b : Bool). new_number b total) starts in
+        let at : get_in (slice_set sizes (length h.nodes) (new_number start total)) (length h.nodes) ≡ Some 1
+        = set_there sizes (length h.nodes) (new_number start total) r.4 ∙ ap (λ (n : ℕ). Some n) number in (
+          r.0,
+          r.1,
+          subst (λ (l : List ℕ). SaysOf limit (nodes_after (deed_for s) (place_in id id s)) (holding_top id s) (get_in l) total')
+              (sym r.3) (says_moved _ _ (holding_top id s) (get_in (slice_set sizes (length h.nodes) (new_number start total))) (total + 1) total' refl r.2
+              (scalar_by (get_in (slice_set sizes (length h.nodes) (new_number start total)))
+              (λ j lt. set_other sizes (length h.nodes) (new_number start total) j (λ f. omega arith)) s opens says all at)),
+        )
 
     pub open_next : (s : List open_t) (kind total' : ℕ) (sizes' : List ℕ) → OpensNow s → SaysNow s → LosesNothing (deed_for s) c → start ≡ true
         → count_of counted.Within total' sizes' ≡ counting (bound_of max) (deed_for s) start (place_in id id s) total sizes
@@ -191,15 +188,18 @@ module _ (max : ℕ) (c : Composer) (h : DocumentSoFar) (total : ℕ) (sizes : L
         (suc c.nodes) total' sizes'
     open_next s kind total' sizes' opens says all starts e =
         let r = node_next s total' sizes' e in
-        let number : number_of start total ≡ limit + total = ap (λ (b : Bool). number_of b total) starts in
-        let at : get_in (slice_set sizes (length h.nodes) (number_of start total)) (length h.nodes) ≡ Some (limit + total)
-        = set_there sizes (length h.nodes) (number_of start total) r.4 ∙ ap (λ (n : ℕ). Some n) number in
-        (r.0, r.1, subst (λ (l : List ℕ). SaysOf limit (nodes_after (deed_for s) (place_in id id s))
-        (record { node = id; key = pos 0; children = 0; is_mapping = kind } ∷ holding_top id s) (get_in l) total')
-        (sym r.3) (says_moved _ _ (record { node = id; key = pos 0; children = 0; is_mapping = kind } ∷ holding_top id s)
-        (get_in (slice_set sizes (length h.nodes) (number_of start total))) (total + 1) total' refl r.2
-        (open_by (get_in (slice_set sizes (length h.nodes) (number_of start total)))
-        (λ j lt. set_other sizes (length h.nodes) (number_of start total) j (λ f. omega arith)) s kind opens says all at)))
+        let number : new_number start total ≡ limit + total = ap (λ (b : Bool). new_number b total) starts in
+        let at : get_in (slice_set sizes (length h.nodes) (new_number start total)) (length h.nodes) ≡ Some (limit + total)
+        = set_there sizes (length h.nodes) (new_number start total) r.4 ∙ ap (λ (n : ℕ). Some n) number in (
+          r.0,
+          r.1,
+          subst (λ (l : List ℕ). SaysOf limit (nodes_after (deed_for s) (place_in id id s))
+              (record { node = id; key = pos 0; children = 0; is_mapping = kind } ∷ holding_top id s) (get_in l) total')
+              (sym r.3) (says_moved _ _ (record { node = id; key = pos 0; children = 0; is_mapping = kind } ∷ holding_top id s)
+              (get_in (slice_set sizes (length h.nodes) (new_number start total))) (total + 1) total' refl r.2
+              (open_by (get_in (slice_set sizes (length h.nodes) (new_number start total)))
+              (λ j lt. set_other sizes (length h.nodes) (new_number start total) j (λ f. omega arith)) s kind opens says all at)),
+        )
 
     node_larger : (s : List open_t) (total' : ℕ) (sizes' : List ℕ)
         → count_of counted.TooLarge total' sizes' ≡ counting (bound_of max) (deed_for s) start (place_in id id s) total sizes
@@ -210,16 +210,24 @@ module _ (max : ℕ) (c : Composer) (h : DocumentSoFar) (total : ℕ) (sizes : L
     pub scalar_larger : (s : List open_t) (total' : ℕ) (sizes' : List ℕ) → OpensNow s → SaysNow s → LosesNothing (deed_for s) c
         → count_of counted.TooLarge total' sizes' ≡ counting (bound_of max) (deed_for s) start (place_in id id s) total sizes
         → Larger (nodes_after (deed_for s) (place_in id id s)) (holding_top id s)
-    scalar_larger s total' sizes' opens says all e = (beside (get_in sizes) (length h.nodes) 1, total + 1,
-        scalar_by (beside (get_in sizes) (length h.nodes) 1) (beside_other (get_in sizes) (length h.nodes) 1) s opens says all
-        (beside_there (get_in sizes) (length h.nodes) 1), node_larger s total' sizes' e)
+    scalar_larger s total' sizes' opens says all e = (
+      beside (get_in sizes) (length h.nodes) 1,
+      total + 1,
+      scalar_by (beside (get_in sizes) (length h.nodes) 1) (beside_other (get_in sizes) (length h.nodes) 1) s opens says all
+          (beside_there (get_in sizes) (length h.nodes) 1),
+      node_larger s total' sizes' e,
+    )
 
     pub open_larger : (s : List open_t) (kind total' : ℕ) (sizes' : List ℕ) → OpensNow s → SaysNow s → LosesNothing (deed_for s) c
         → count_of counted.TooLarge total' sizes' ≡ counting (bound_of max) (deed_for s) start (place_in id id s) total sizes
         → Larger (nodes_after (deed_for s) (place_in id id s)) (record { node = id; key = pos 0; children = 0; is_mapping = kind } ∷ holding_top id s)
-    open_larger s kind total' sizes' opens says all e = (beside (get_in sizes) (length h.nodes) (limit + total), total + 1,
-        open_by (beside (get_in sizes) (length h.nodes) (limit + total)) (beside_other (get_in sizes) (length h.nodes) (limit + total)) s kind
-        opens says all (beside_there (get_in sizes) (length h.nodes) (limit + total)), node_larger s total' sizes' e)
+    open_larger s kind total' sizes' opens says all e = (
+      beside (get_in sizes) (length h.nodes) (limit + total),
+      total + 1,
+      open_by (beside (get_in sizes) (length h.nodes) (limit + total)) (beside_other (get_in sizes) (length h.nodes) (limit + total)) s kind
+          opens says all (beside_there (get_in sizes) (length h.nodes) (limit + total)),
+      node_larger s total' sizes' e,
+    )
 
   -- the end of a collection
   module _ (o : open_t) (s : List open_t) (opens : OpensNow (o ∷ s)) (says : SaysNow (o ∷ s)) where
@@ -232,7 +240,7 @@ module _ (max : ℕ) (c : Composer) (h : DocumentSoFar) (total : ℕ) (sizes : L
         → (a ≡ counted.Within) × (total' ≡ total) × (sizes' ≡ slice_set sizes opens.0 (total - before))
     ended_by a total' sizes' good e before at =
         let r = end_of (bound_of max) total sizes total' sizes' a opens.0 (limit + before) good at
-            (e ∙ ap (λ (z : ℤ). at_end (place_of (length sizes) z) total sizes) opens.1) in
+        (e ∙ ap (λ (z : ℤ). at_end (place_among (length sizes) z) total sizes) opens.1) in
         let f : limit + before - limit ≡ before = omega arith in
         (r.0, r.1, r.2 ∙ ap (λ (n : ℕ). slice_set sizes opens.0 (total - n)) f)
 
@@ -252,10 +260,12 @@ module _ (max : ℕ) (c : Composer) (h : DocumentSoFar) (total : ℕ) (sizes : L
         let lt : k < length h.nodes = opens.2 in
         let r = ended_by counted.Within total' sizes' (λ f. cc) e before start_at.1 in
         let small : total - before < limit = let b = bound_small max in omega (arith, b) in
-        let same_count : length sizes' ≡ length sizes = ap length r.2 ∙ set_count sizes k (total - before) in
-        (omega arith, let f : total' ≡ total = r.1 in omega arith,
-        subst (λ (l : List ℕ). SaysOf limit (nodes_after deed.Closes ending) s (get_in l) total') (sym r.2)
-        (says_moved _ _ s (get_in (slice_set sizes k (total - before))) total total' refl r.1
-        (closed_says limit h.nodes (get_in sizes) (get_in (slice_set sizes k (total - before))) total before (length h.nodes) k o s
-        opens.1 lt opens.5 waits (λ j f. set_other sizes k (total - before) j f) start_at.1
-        (set_there sizes k (total - before) (omega arith)) small m says)))
+        let same_count : length sizes' ≡ length sizes = ap length r.2 ∙ set_count sizes k (total - before) in (
+          omega arith,
+          let f : total' ≡ total = r.1 in omega arith,
+          subst (λ (l : List ℕ). SaysOf limit (nodes_after deed.Closes ending) s (get_in l) total') (sym r.2)
+              (says_moved _ _ s (get_in (slice_set sizes k (total - before))) total total' refl r.1
+              (closed_says limit h.nodes (get_in sizes) (get_in (slice_set sizes k (total - before))) total before (length h.nodes) k o s
+              opens.1 lt opens.5 waits (λ j f. set_other sizes k (total - before) j f) start_at.1
+              (set_there sizes k (total - before) (omega arith)) small m says)),
+        )

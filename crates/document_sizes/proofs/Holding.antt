@@ -1,12 +1,12 @@
 -- A child in the innermost open collection: what the nodes hold then.
-use Rattle.std.proofs.Common.{◌≡◌, ◌<◌, ◌≤◌, ◌∷◌, ◌++◌, ◌∙◌, ℕ, zero, suc, ℤ, pos, negsuc, List, [], length, map, Option, Some, None, Bool, true, false, refl, sym, ap, subst, arith, slice_get, option_map, append-nil, append_assoc, length-append}
-use Rattle.libyaml_documents.specs.Nodes.{changed_at, ids_of, ids_of_pairs, node_at, with_changed, with_item, with_pair}
+use Rattle.std.proofs.Common.{◌≡◌, ◌<◌, ◌≤◌, ◌∷◌, ◌++◌, ◌∙◌, ℕ, zero, suc, ℤ, pos, negsuc, List, [], length, map, Option, Some, None, Bool, true, false, refl, sym, ap, subst, arith, slice_get, option_map, append-nil, append_assoc}
+use Rattle.libyaml_documents.specs.Nodes.{changed_at, ids_of, ids_of_pairs, with_changed, with_item, with_pair}
 use Rattle.libyaml_documents.specs.declared.node.unnamed_yaml_node_t_data.{unnamed_yaml_node_t_data}
 use Rattle.libyaml_documents.specs.declared.node.unnamed_yaml_node_t_data.TheVariants.{Scalar, Sequence, Mapping}
 use Rattle.libyaml_documents.specs.declared.node.yaml_node_t.{yaml_node_t}
 use Rattle.libyaml_documents.specs.declared.pairs.yaml_node_pair_t.{yaml_node_pair_t}
 use Rattle.libyaml_composer.specs.declared.records.open_t.{open_t}
-use Rattle.libyaml_composer.specs.Composing.{deed_for, deed_in, holding, holding_in, holding_top, place_in}
+use Rattle.libyaml_composer.specs.Composing.{deed_for, deed_in, holding, holding_in, place_in}
 use Rattle.libyaml_composer.specs.Numbers.{is_set, is_id}
 use Rattle.libyaml_composer.specs.DocumentSoFar.{placed}
 use Rattle.libyaml_composer.specs.Represents.{IsAlike, IsOpenBy, IsOpenNode, Opens}
@@ -24,22 +24,22 @@ get_before f (x ∷ xs) (suc j) zero h = refl
 get_before f (x ∷ xs) (suc j) (suc k) h = get_before f xs j k (λ e. h (ap (λ (n : ℕ). suc n) e))
 
 pub get_there : (f : yaml_node_t → yaml_node_t) (nodes : List yaml_node_t) (k : ℕ)
-    → slice_get (changed_at k f nodes) k ≡ option_map f (slice_get nodes k)
+    → slice_get (with_changed (pos (suc k)) f nodes) k ≡ option_map f (slice_get nodes k)
 get_there f [] k = refl
 get_there f (x ∷ xs) zero = refl
 get_there f (x ∷ xs) (suc k) = get_there f xs k
 
-pub get_among : (nodes l : List yaml_node_t) (k : ℕ) → k < length nodes → slice_get (nodes ++ l) k ≡ slice_get nodes k
-get_among [] l k h = absurd (omega arith)
-get_among (x ∷ xs) l zero h = refl
-get_among (x ∷ xs) l (suc k) h = get_among xs l k (omega arith)
+pub get_among : {A : Type 0} (xs more : List A) (k : ℕ) → k < length xs → slice_get (xs ++ more) k ≡ slice_get xs k
+get_among [] more k h = absurd (omega arith)
+get_among (x ∷ xs) more zero h = refl
+get_among (x ∷ xs) more (suc k) h = get_among xs more k (omega arith)
 
-pub get_last : (nodes : List yaml_node_t) (x : yaml_node_t) → slice_get (nodes ++ x ∷ []) (length nodes) ≡ Some x
+pub get_last : {A : Type 0} (xs : List A) (x : A) → slice_get (xs ++ x ∷ []) (length xs) ≡ Some x
 get_last [] x = refl
-get_last (y ∷ nodes) x = get_last nodes x
+get_last (y ∷ xs) x = get_last xs x
 
 pub length_changed : (k : ℕ) (f : yaml_node_t → yaml_node_t) (nodes : List yaml_node_t)
-    → length (changed_at k f nodes) ≡ length nodes
+    → length (with_changed (pos (suc k)) f nodes) ≡ length nodes
 length_changed k f [] = refl
 length_changed zero f (x ∷ nodes) = refl
 length_changed (suc k) f (x ∷ nodes) = ap suc (length_changed k f nodes)

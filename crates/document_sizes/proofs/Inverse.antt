@@ -1,10 +1,10 @@
 -- What a result of the count says of the numbers.
-use Rattle.std.proofs.Common.{◌≡◌, ◌+◌, ◌-◌, ◌<◌, ◌≤◌, ◌∷◌, ◌++◌, ◌∙◌, ◌&&◌, ℕ, zero, suc, ℤ, pos, List, [], length, Option, Some, None, Bool, true, false, refl, sym, ap, subst, arith, slice_get, set, nat_le, nat_lt, if◌then◌else◌}
+use Rattle.std.proofs.Common.{◌≡◌, ◌+◌, ◌-◌, ◌<◌, ◌≤◌, ◌∷◌, ◌++◌, ◌∙◌, ◌&&◌, ℕ, zero, suc, pos, List, [], length, Option, Some, None, Bool, true, false, refl, ap, arith, slice_get, nat_le, nat_lt, if◌then◌else◌}
 use Rattle.std.specs.Prelude.{slice_set}
 use Rattle.std.proofs.lemmas.Bool.{leb-true, leb-false, ltb-true}
 use Rattle.document_sizes.specs.declared.counted.Counted.{Counted}
 use Rattle.document_sizes.specs.declared.counted.Counted.TheVariants as counted
-use Rattle.document_sizes.specs.Counting.{Count, at_alias, at_end, at_node, count_of, ended, is_open, number_of, place_of, size_at, size_in}
+use Rattle.document_sizes.specs.Counting.{Count, at_alias, at_end, at_node, count_of, ended_with, is_open, new_number, place_among, size_at, size_in}
 
 abbrev pub limit : ℕ
 limit = 9223372036854775808
@@ -88,15 +88,15 @@ module _ (max total : ℕ) (sizes : List ℕ) (total' : ℕ) (sizes' : List ℕ)
   -- a node
   module _ (start : Bool) (k : ℕ) where
     abbrev put : Bool → Bool → Count
-    put a b = if a then (if b then count_of counted.Within (total + 1) (slice_set sizes k (number_of start total))
+    put a b = if a then (if b then count_of counted.Within (total + 1) (slice_set sizes k (new_number start total))
         else count_of counted.Full total sizes) else count_of counted.TooLarge total sizes
 
     pub node_within : count_of counted.Within total' sizes' ≡ at_node max start (pos (suc k)) total sizes
-        → (total' ≡ total + 1) × (k < length sizes) × (sizes' ≡ slice_set sizes k (number_of start total)) × (total' ≤ max)
+        → (total' ≡ total + 1) × (k < length sizes) × (sizes' ≡ slice_set sizes k (new_number start total)) × (total' ≤ max)
     node_within e = go (nat_le (total + 1) max) (nat_lt k (length sizes)) refl refl e
       where
         go : (a b : Bool) → nat_le (total + 1) max ≡ a → nat_lt k (length sizes) ≡ b → count_of counted.Within total' sizes' ≡ put a b
-            → (total' ≡ total + 1) × (k < length sizes) × (sizes' ≡ slice_set sizes k (number_of start total)) × (total' ≤ max)
+            → (total' ≡ total + 1) × (k < length sizes) × (sizes' ≡ slice_set sizes k (new_number start total)) × (total' ≤ max)
         go true true a b e =
             let f : total' ≡ total + 1 = totals _ _ _ _ _ _ e in
             let le : total + 1 ≤ max = leb-true (total + 1) max a in
@@ -132,13 +132,13 @@ module _ (max total : ℕ) (sizes : List ℕ) (total' : ℕ) (sizes' : List ℕ)
   ended_by a k size good false e = absurd (good (answers _ _ _ _ _ _ e))
 
   pub end_of : (a : Counted) (k size : ℕ) → (a ≡ counted.Bad → ⊥) → slice_get sizes k ≡ Some size
-      → count_of a total' sizes' ≡ at_end (place_of (length sizes) (pos (suc k))) total sizes → Ended a k size
+      → count_of a total' sizes' ≡ at_end (place_among (length sizes) (pos (suc k))) total sizes → Ended a k size
   end_of a k size good at e = go (nat_lt k (length sizes)) e
     where
       go : (b : Bool) → count_of a total' sizes' ≡ at_end (if b then Some k else None) total sizes → Ended a k size
       go false e = absurd (good (answers _ _ _ _ _ _ e))
       go true e = ended_by a k size good (is_open size && nat_le (size - limit) total)
-          (e ∙ ap (λ (x : Option ℕ). ended k x total sizes) at)
+          (e ∙ ap (λ (x : Option ℕ). ended_with k x total sizes) at)
 
 -- a list with one number changed
 pub set_there : (xs : List ℕ) (k v : ℕ) → k < length xs → slice_get (slice_set xs k v) k ≡ Some v
@@ -157,8 +157,3 @@ pub set_count : (xs : List ℕ) (k v : ℕ) → length (slice_set xs k v) ≡ le
 set_count [] k v = refl
 set_count (x ∷ xs) zero v = refl
 set_count (x ∷ xs) (suc k) v = ap (λ (n : ℕ). suc n) (set_count xs k v)
-
-pub get_more : (xs more : List ℕ) (k : ℕ) → k < length xs → slice_get (xs ++ more) k ≡ slice_get xs k
-get_more [] more k lt = absurd (omega arith)
-get_more (x ∷ xs) more zero lt = refl
-get_more (x ∷ xs) more (suc k) lt = get_more xs more k (omega arith)

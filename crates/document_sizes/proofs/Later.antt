@@ -1,12 +1,12 @@
 -- However a document goes on, its tree has all nodes of the tree so far, and a node that holds one around it lies on a cycle.
-use Rattle.std.proofs.Common.{◌≡◌, ◌+◌, ◌<◌, ◌≤◌, ◌∷◌, ◌++◌, ◌∙◌, ◌⊎◌, ℕ, zero, suc, ℤ, pos, List, [], length, Contains, inl, inr, refl, sym, ap, subst, arith, append_assoc, append-nil}
+use Rattle.std.proofs.Common.{◌≡◌, ◌+◌, ◌≤◌, ◌∷◌, ◌++◌, ◌∙◌, ℕ, suc, ℤ, pos, List, [], Contains, inl, inr, refl, sym, ap, subst, arith, append_assoc, append-nil}
 use Rattle.std.specs.List.{AllByRecursion}
 use Rattle.std.proofs.lemmas.List.Elements.{Contains-append_left, Contains-append_right}
 use Rattle.libyaml_documents.specs.declared.node.yaml_node_t.{yaml_node_t}
 use Rattle.yaml_expansion.specs.Expansion.{HasExpandedSize, Holds, LeadsTo, LiesOnCycle, TreesHave, here, ids_at, on}
 use Rattle.yaml_expansion.specs.Expansion as expansion
 use Rattle.document_sizes.specs.RunLaws.{StartsWith}
-use Rattle.document_sizes.proofs.Trees.{Around, IsAmong, IsEnded, Opened, Stands, State, Trees, first, none}
+use Rattle.document_sizes.proofs.Trees.{Around, IsAmong, Opened, Stands, State, Trees, first, none}
 
 module _ (later : List yaml_node_t) where
   -- it goes on from these open collections

@@ -1,5 +1,5 @@
 -- A run keeps the numbers those of the trees.
-use Rattle.std.proofs.Common.{◌≡◌, ◌+◌, ◌<◌, ◌≤◌, ◌∷◌, ◌++◌, ◌∙◌, ℕ, zero, suc, ℤ, pos, List, [], length, map, Option, Some, None, Bool, true, false, inl, inr, refl, sym, ap, subst, arith, slice_get, length-append, true≢false}
+use Rattle.std.proofs.Common.{◌≡◌, ◌≤◌, ◌∷◌, ◌++◌, ◌∙◌, ℕ, suc, ℤ, pos, List, [], length, map, Option, None, Bool, inl, inr, refl, sym, ap, subst, arith, length-append}
 use Rattle.std.specs.Cmp.Lexicographic.{nat_list_cmp_total}
 use Rattle.std.specs.FinMap.{get, get-from_entries}
 use Rattle.libyaml_types.specs.Types.{event_type}
@@ -8,29 +8,28 @@ use Rattle.libyaml_types.specs.declared.event.unnamed_yaml_event_t_data.{unnamed
 use Rattle.libyaml_grammar.specs.grammar.Events.{Event}
 use Rattle.libyaml_grammar.specs.grammar.Tokens.{Mark}
 use Rattle.libyaml_documents.specs.declared.node.yaml_node_t.{yaml_node_t}
-use Rattle.libyaml_graphs.specs.graphs.GraphParts.{Closing, Opening, Part, closing_in, closing_of, part_of}
+use Rattle.libyaml_graphs.specs.graphs.GraphParts.{Opening, Part, closing_in, closing_of, part_of}
 use Rattle.libyaml_graphs.specs.machine.Loader.{bounded_option, no_anchors}
 use Rattle.libyaml_composer.specs.declared.deed.Deed.{Deed}
 use Rattle.libyaml_composer.specs.declared.deed.Deed.TheVariants as deed
 use Rattle.libyaml_composer.specs.declared.records.open_t.{open_t}
 use Rattle.libyaml_composer.specs.declared.records.place_t.{place_t}
-use Rattle.libyaml_composer.specs.Composing.{Composer, Told, composer_step, deed_for, handing, holding_top, is_start, place_in, step_in, told, waiting_in, within_step}
+use Rattle.libyaml_composer.specs.Composing.{Composer, Told, composer_step, deed_for, holding_top, is_start, place_in, step_in, waiting_in, within_step}
 use Rattle.libyaml_composer.specs.DocumentSoFar.{DocumentSoFar, IsRefused, applied, applied_part, event_fact, loader_by, nodes_made}
 use Rattle.libyaml_composer.specs.Represents.{IsCarried, IsPart, Opens, Represents}
 use Rattle.libyaml_composer.proofs.exported.Follows.{Follows, fails, follows, full, goes}
 use Rattle.yaml_expansion.specs.Expansion.{HasExpandedSize, TreesHave}
 use Rattle.yaml_expansion.specs.Expansion as expansion
-use Rattle.document_sizes.specs.declared.counted.Counted.{Counted}
 use Rattle.document_sizes.specs.declared.counted.Counted.TheVariants as counted
 use Rattle.document_sizes.specs.Counting.{Count, bound_of, count_of, counting}
-use Rattle.document_sizes.specs.Runs.{CountRun, Counts, LosesNothing, begun}
+use Rattle.document_sizes.specs.Runs.{CountRun, Counts, LosesNothing, document_begun}
 use Rattle.document_sizes.specs.Runs as run
 use Rattle.document_sizes.specs.RunLaws.{TotalIsSize}
-use Rattle.document_sizes.proofs.Trees.{IsAmong, Says, Trees, first, none, says_same}
-use Rattle.document_sizes.proofs.Holding.{opened_of}
-use Rattle.document_sizes.proofs.Inverse.{get_more, limit}
+use Rattle.document_sizes.proofs.Trees.{Trees, first, none, says_same}
+use Rattle.document_sizes.proofs.Holding.{get_among, opened_of}
+use Rattle.document_sizes.proofs.Inverse.{limit}
 use Rattle.document_sizes.proofs.Steps.{SaysOf, state_of}
-use Rattle.document_sizes.proofs.Events.{Larger, Next, alias_larger, alias_next, bound_small, closed_next, get_in, open_larger, open_next, scalar_larger, scalar_next}
+use Rattle.document_sizes.proofs.Events.{Next, alias_next, closed_next, get_in, open_next, scalar_next}
 use Rattle.document_sizes.proofs.Views.{View, alias, begins, closes, passes, scalar, view}
 
 pub record Standing (max : ℕ) (c : Composer) (h : DocumentSoFar) (total : ℕ) (sizes : List ℕ) : Type 0 where
@@ -80,8 +79,7 @@ module _ (max : ℕ) (c : Composer) (h : DocumentSoFar) (total : ℕ) (sizes : L
       total' sizes' (sym (ap waiting_in is) ∙ all) e
   next t total' sizes' (passes p) all e =
       let f : total' ≡ total = ap (λ (x : Count). x.total) e in
-      let g : sizes' ≡ sizes = ap (λ (x : Count). x.sizes) e in
-      (
+      let g : sizes' ≡ sizes = ap (λ (x : Count). x.sizes) e in (
         subst (λ (l : List ℕ). c.nodes ≤ length l) (sym g) stands.room,
         let b : total ≤ bound_of max = stands.bound in subst (λ (n : ℕ). n ≤ bound_of max) (sym f) b,
         subst (λ (n : ℕ). SaysOf limit h.nodes c.stack (get_in sizes') n) (sym f)
@@ -90,7 +88,7 @@ module _ (max : ℕ) (c : Composer) (h : DocumentSoFar) (total : ℕ) (sizes : L
 
 -- the deeds of parts
 part_applied : (d : Deed) → IsPart d → (p : place_t) (e : Event) (h : DocumentSoFar)
-    → applied_part d p (part_of e) e.end_mark h ≡ applied d p e h
+    → applied d p e h ≡ applied_part d p (part_of e) e.end_mark h
 part_applied deed.Passes k p e h = refl
 part_applied deed.Root k p e h = refl
 part_applied deed.Item k p e h = refl
@@ -134,7 +132,7 @@ module _ (c : Composer) (h : DocumentSoFar) (o : Opening) (stands : Represents c
       go : (t : Told) → IsPart t.deed
           → Follows c.most o h c.stack (part_of e) e.start_mark e.end_mark (bounded_option c.most (loader_by c h) (part_of e)) t
           → Represents t.composer (applied t.deed t.place e h) o
-      go t part (goes k going there bound puts) = rw (part_applied t.deed part t.place e h) at there
+      go t part (goes k going there bound puts) = rw (sym (part_applied t.deed part t.place e h)) at there
       go t part (fails refused failed) = absurd (not_refused t.deed part refused)
       go t part (full is) = absurd (not_full t.deed part is)
 
@@ -144,32 +142,32 @@ none_carried a = subst (IsCarried 0) (sym (get-from_entries nat_list_cmp_total [
 
 -- an event that is composed and counted
 module _ (max : ℕ) (c : Composer) (h : DocumentSoFar) (total : ℕ) (sizes : List ℕ) (s : Standing max c h total sizes) (e : Event) (t : Told)
-    where
-  pub view_of : (count : Count) → Counts max c h total sizes e t count → View c h (part_of e) (is_start (event_type e.content)) t
-  view_of n k = subst (View c h (part_of e) (is_start (event_type e.content))) (sym k.composed)
-      (view c h s.opening s.represents k.place e (subst (λ (x : Told). IsPart x.deed) k.composed k.part))
+  where
+    pub view_of : (count : Count) → Counts max c h total sizes e t count → View c h (part_of e) (is_start (event_type e.content)) t
+    view_of n k = subst (View c h (part_of e) (is_start (event_type e.content))) (sym k.composed)
+        (view c h s.opening s.represents k.place e (subst (λ (x : Told). IsPart x.deed) k.composed k.part))
 
-  pub same_nodes : (count : Count) → Counts max c h total sizes e t count
-      → applied_part t.deed t.place (part_of e) e.end_mark h ≡ applied t.deed t.place e h
-  same_nodes n k = part_applied t.deed k.part t.place e h
+    pub same_nodes : (count : Count) → Counts max c h total sizes e t count
+        → applied_part t.deed t.place (part_of e) e.end_mark h ≡ applied t.deed t.place e h
+    same_nodes n k = sym (part_applied t.deed k.part t.place e h)
 
-  pub represented : (count : Count) → Counts max c h total sizes e t count → Represents t.composer (applied t.deed t.place e h) s.opening
-  represented n k = subst (λ (x : Told). Represents x.composer (applied x.deed x.place e h) s.opening) (sym k.composed)
-      (stays c h s.opening s.represents e k.place (subst (λ (x : Told). IsPart x.deed) k.composed k.part))
+    pub represented : (count : Count) → Counts max c h total sizes e t count → Represents t.composer (applied t.deed t.place e h) s.opening
+    represented n k = subst (λ (x : Told). Represents x.composer (applied x.deed x.place e h) s.opening) (sym k.composed)
+        (stays c h s.opening s.represents e k.place (subst (λ (x : Told). IsPart x.deed) k.composed k.part))
 
-  pub steps : (total' : ℕ) (sizes' : List ℕ) → Counts max c h total sizes e t (count_of counted.Within total' sizes')
-      → Standing max t.composer (applied t.deed t.place e h) total' sizes'
-  steps total' sizes' k =
-      let r = next max c h total sizes s (part_of e) (is_start (event_type e.content)) e.end_mark t total' sizes'
-          (view_of (count_of counted.Within total' sizes') k) k.all k.counted in
-      record {
-        opening = s.opening;
-        represents = represented (count_of counted.Within total' sizes') k;
-        room = r.0;
-        bound = r.1;
-        says = subst (λ (d : DocumentSoFar). SaysOf limit d.nodes t.composer.stack (get_in sizes') total')
-            (same_nodes (count_of counted.Within total' sizes') k) r.2;
-      }
+    pub steps : (total' : ℕ) (sizes' : List ℕ) → Counts max c h total sizes e t (count_of counted.Within total' sizes')
+        → Standing max t.composer (applied t.deed t.place e h) total' sizes'
+    steps total' sizes' k =
+        let r = next max c h total sizes s (part_of e) (is_start (event_type e.content)) e.end_mark t total' sizes'
+        (view_of (count_of counted.Within total' sizes') k) k.all k.counted in
+        record {
+          opening = s.opening;
+          represents = represented (count_of counted.Within total' sizes') k;
+          room = r.0;
+          bound = r.1;
+          says = subst (λ (d : DocumentSoFar). SaysOf limit d.nodes t.composer.stack (get_in sizes') total')
+              (same_nodes (count_of counted.Within total' sizes') k) r.2;
+        }
 
 pub standing : (max : ℕ) (c : Composer) (h : DocumentSoFar) (total : ℕ) (sizes : List ℕ) → CountRun max c h total sizes
     → Standing max c h total sizes
@@ -200,7 +198,7 @@ standing max c h total sizes (run.moves c' h' total' room sizes' more r) =
       bound = s.bound;
       says = says_same limit (state_of h'.nodes (get_in sizes')) (state_of h'.nodes (get_in (sizes' ++ more)))
           (map (opened_of h'.nodes) c'.stack) total' refl refl
-          (λ j lt. get_more sizes' more j (let a : c'.nodes ≤ length sizes' = s.room in omega (arith, a, n, lt))) s.says;
+          (λ j lt. get_among sizes' more j (let a : c'.nodes ≤ length sizes' = s.room in omega (arith, a, n, lt))) s.says;
     }
 standing max c h total sizes (run.takes c' h' total' total'' sizes' sizes'' e t r counts) =
     steps max c' h' total' sizes' (standing max c' h' total' sizes' r) e t total'' sizes'' counts

@@ -1,5 +1,5 @@
 -- What an event does to the nodes and the stack keeps the numbers those of the trees.
-use Rattle.std.proofs.Common.{◌≡◌, ◌+◌, ◌-◌, ◌<◌, ◌≤◌, ◌∷◌, ◌++◌, ◌∙◌, ◌⊎◌, ℕ, zero, suc, ℤ, pos, List, [], length, map, Option, Some, None, Bool, true, false, inl, inr, refl, sym, ap, subst, arith, slice_get, option_map, append-nil, length-append}
+use Rattle.std.proofs.Common.{◌≡◌, ◌+◌, ◌-◌, ◌<◌, ◌≤◌, ◌∷◌, ◌++◌, ◌∙◌, ℕ, suc, ℤ, pos, List, [], length, map, Option, Some, None, Bool, true, false, inl, inr, refl, sym, ap, subst, arith, slice_get, option_map, append-nil, length-append}
 use Rattle.libyaml_grammar.specs.grammar.Tokens.{Mark}
 use Rattle.libyaml_documents.specs.LoadedNodes.{with_end}
 use Rattle.libyaml_documents.specs.Nodes.{changed_at, ids_of, with_changed}
@@ -11,17 +11,14 @@ use Rattle.libyaml_composer.specs.DocumentSoFar.{placed}
 use Rattle.libyaml_composer.specs.Represents.{IsKeyIn, IsOpenNode, Opens}
 use Rattle.yaml_expansion.specs.Expansion.{ids_at, ids_of_node}
 use Rattle.document_sizes.specs.RunLaws.{held_so_far, key_waiting}
-use Rattle.document_sizes.proofs.Trees.{State, Opened, IsEnded, Keeps, Says, Stands, Trees, first, with_child, new_at, says_alias, says_scalar, says_root, says_open, says_root_open, says_closed}
-use Rattle.document_sizes.proofs.Holding.{Hands, after, get_among, get_before, get_last, get_there, hands, index_of, length_changed, opened_as, opened_of, opened_same, opens_more, top_after}
+use Rattle.document_sizes.proofs.Trees.{State, Opened, Keeps, Says, Trees, first, with_child, new_at, says_alias, says_scalar, says_root, says_open, says_root_open, says_closed, some_is}
+use Rattle.document_sizes.proofs.Holding.{Hands, after, get_among, get_before, get_last, get_there, hands, index_of, length_changed, opened_as, opened_of, opened_same, top_after}
 
 abbrev pub state_of : List yaml_node_t → (ℕ → Option ℕ) → State
 state_of nodes g = record { held = ids_at nodes; size = g; nodes = length nodes }
 
 two : {x y : Opened} {xs ys : List Opened} → x ≡ y → xs ≡ ys → x ∷ xs ≡ y ∷ ys
 two e f = cc
-
-some_is : (x y : ℕ) → Some x ≡ Some y → x ≡ y
-some_is x y h = cc
 
 -- the open collections after an alias
 pub alias_opened : (most n : ℕ) (nodes : List yaml_node_t) (o : open_t) (s : List open_t) (j : ℕ) → Opens most nodes n (o ∷ s)
@@ -68,7 +65,7 @@ module _ (limit : ℕ) where
       let start = start_of nodes g o s total k is h in
       let keeps : Keeps limit (state_of nodes g) (state_of (after nodes (pos 0) i refl o s) g)
       = keeps_by nodes (after nodes (pos 0) i refl o s) g g (omega (arith, r.count)) (λ q l z e m. refl)
-          (λ q z l e m. r.others q (apart g q k z start.0 e m start.1)) in
+      (λ q z l e m. r.others q (apart g q k z start.0 e m start.1)) in
       subst (λ (l : List Opened). Says limit (state_of (after nodes (pos 0) i refl o s) g) l (total + size))
       (sym (alias_opened most n nodes o s j (k, is, lt, here, key, rest)))
       (says_alias limit (state_of nodes g) (state_of (after nodes (pos 0) i refl o s) g) keeps (λ q. refl) r.count

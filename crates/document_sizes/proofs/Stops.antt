@@ -1,22 +1,19 @@
 -- Where the count stops, it is right.
-use Rattle.std.proofs.Common.{◌≡◌, ◌+◌, ◌<◌, ◌≤◌, ◌∷◌, ◌++◌, ◌∙◌, ℕ, zero, suc, ℤ, pos, List, [], length, map, Option, Some, None, Bool, inl, inr, refl, sym, ap, subst, arith}
+use Rattle.std.proofs.Common.{◌≡◌, ◌<◌, ◌≤◌, ◌∷◌, ◌++◌, ◌∙◌, ℕ, suc, ℤ, pos, List, [], length, map, Option, Bool, inl, inr, refl, sym, ap, subst, arith}
 use Rattle.std.specs.List.{AllByRecursion}
 use Rattle.libyaml_types.specs.Types.{event_type}
-use Rattle.libyaml_grammar.specs.grammar.Events.{Event}
 use Rattle.libyaml_grammar.specs.grammar.Tokens.{Mark}
 use Rattle.libyaml_documents.specs.declared.node.yaml_node_t.{yaml_node_t}
 use Rattle.libyaml_graphs.specs.graphs.GraphParts.{Opening, Part, part_of}
-use Rattle.libyaml_composer.specs.declared.deed.Deed.TheVariants as deed
 use Rattle.libyaml_composer.specs.declared.records.open_t.{open_t}
-use Rattle.libyaml_composer.specs.declared.records.place_t.{place_t}
 use Rattle.libyaml_composer.specs.Composing.{Composer, Told, deed_for, handing, holding_top, is_start, place_in}
 use Rattle.libyaml_composer.specs.DocumentSoFar.{DocumentSoFar, applied, applied_part, nodes_made}
 use Rattle.libyaml_composer.specs.Represents.{Opens, Represents}
 use Rattle.yaml_expansion.specs.Expansion.{HasExpandedSize, IsCyclicAt, LeadsTo, here, ids_at}
 use Rattle.document_sizes.specs.declared.counted.Counted.TheVariants as counted
 use Rattle.document_sizes.specs.Counting.{Count, bound_of, count_of, counting, size_at}
-use Rattle.document_sizes.specs.Runs.{CountRun, Counts, LosesNothing}
-use Rattle.document_sizes.specs.RunLaws.{EndlessIsRight, GoesOn, StartsWith, TooLargeIsRight, held_so_far}
+use Rattle.document_sizes.specs.Runs.{LosesNothing}
+use Rattle.document_sizes.specs.RunLaws.{EndlessIsRight, Continues, StartsWith, TooLargeIsRight, held_so_far}
 use Rattle.document_sizes.proofs.Trees.{IsAmong, Opened, Stands, Trees, first, with_child}
 use Rattle.document_sizes.proofs.Holding.{index_of, opened_of}
 use Rattle.document_sizes.proofs.Inverse.{alias_endless, limit, node_ends, size_there}
@@ -59,7 +56,7 @@ module _ (max : ℕ) (c : Composer) (h : DocumentSoFar) (total : ℕ) (sizes : L
       let opens = subst (λ (l : List open_t). Opens (length h.nodes) h.nodes (length h.nodes) l) is stands.represents.opens in
       let says = subst (λ (l : List open_t). SaysOf limit h.nodes l (get_in sizes) total) is stands.says in
       let f = closed_answers max c h total sizes q start m count stands.room stands.bound o s opens says counted.TooLarge total' sizes'
-          (λ f. cc) e in
+      (λ f. cc) e in
       absurd cc
   larger t total' sizes' (passes p) all e = let f = ap (λ (x : Count). x.answer) e in absurd cc
 
@@ -71,7 +68,7 @@ module _ (max : ℕ) (c : Composer) (h : DocumentSoFar) (total : ℕ) (sizes : L
       → count_of counted.Endless total' sizes' ≡ counting (bound_of max) t.deed start t.place total sizes → IsOpenAlias t
   endless t total' sizes' (alias j lt) e =
       let r = alias_endless (bound_of max) total sizes total' sizes' (size_at sizes (pos (suc j)))
-          (e ∙ counting_child c.stack (bound_of max) start (place_in (pos 0) (pos (suc j)) c.stack) total sizes) in
+      (e ∙ counting_child c.stack (bound_of max) start (place_in (pos 0) (pos (suc j)) c.stack) total sizes) in
       (j, refl, stands.says.opened j r.0 lt (size_there sizes j r.0 r.1) r.2, lt)
   endless t total' sizes' (scalar a x empty is starts) e = absurd (node_ends (bound_of max) total sizes total' sizes' start c.nodes
       (e ∙ counting_child c.stack (bound_of max) start (place_in (pos (suc c.nodes)) (pos (suc c.nodes)) c.stack) total sizes))
@@ -81,7 +78,7 @@ module _ (max : ℕ) (c : Composer) (h : DocumentSoFar) (total : ℕ) (sizes : L
       let opens = subst (λ (l : List open_t). Opens (length h.nodes) h.nodes (length h.nodes) l) is stands.represents.opens in
       let says = subst (λ (l : List open_t). SaysOf limit h.nodes l (get_in sizes) total) is stands.says in
       let f = closed_answers max c h total sizes q start m count stands.room stands.bound o s opens says counted.Endless total' sizes'
-          (λ f. cc) e in
+      (λ f. cc) e in
       absurd cc
   endless t total' sizes' (passes p) e = let f = ap (λ (x : Count). x.answer) e in absurd cc
 
@@ -96,17 +93,17 @@ goes_from later nodes most n (o ∷ s) (k, is, lt, there, key, rest) g = (
 
 some_node : (nodes : List yaml_node_t) (s : List Opened) (g : ℕ → Option ℕ) (total : ℕ) → Stands limit (state_of nodes g) s total
     → 0 < total → 0 < length nodes
-some_node nodes [] g total h lt = elim h [ | inl e ↦ absurd (omega (arith, e.1)) | inr t ↦ go total t ]
+some_node nodes [] g total h lt = elim h [ inl e ↦ absurd (omega (arith, e.1)) | inr t ↦ go total t ]
   where
     go : (n : ℕ) → Trees limit (state_of nodes g) (pos 1 ∷ []) n → 0 < length nodes
     go n (first id ids below beside p b s) = omega (arith, p.3)
 some_node nodes (o ∷ s) g total (before, n, place, at, t, sum, around) lt = omega arith
 
 too_large_by : (later nodes : List yaml_node_t) (most n : ℕ) (s : List open_t) (g : ℕ → Option ℕ) (total all : ℕ)
-    → SaysOf limit nodes s g total → Opens most nodes n s → GoesOn nodes s later → 0 < total → HasExpandedSize later all → total ≤ all
+    → SaysOf limit nodes s g total → Opens most nodes n s → Continues nodes s later → 0 < total → HasExpandedSize later all → total ≤ all
 too_large_by later nodes most n s g total all says opens goes lt tree = go later goes tree
   where
-    go : (later : List yaml_node_t) → GoesOn nodes s later → HasExpandedSize later all → total ≤ all
+    go : (later : List yaml_node_t) → Continues nodes s later → HasExpandedSize later all → total ≤ all
     go [] goes tree =
         let some : 0 < length nodes = some_node nodes (map (opened_of nodes) s) g total says.stands lt in
         absurd (omega (arith, goes.count))
@@ -118,19 +115,19 @@ too_large_is_right max c h total total' sizes sizes' e t r k later goes all size
     let s = standing max c h total sizes r in
     let n : Count = count_of counted.TooLarge total' sizes' in
     let found = larger max c h total sizes s (part_of e) (is_start (event_type e.content)) e.end_mark t total' sizes'
-        (view_of max c h total sizes s e t n k) k.all k.counted in
+    (view_of max c h total sizes s e t n k) k.all k.counted in
     let b : bound_of max < found.1 = found.3 in
     let says = subst (λ (d : DocumentSoFar). SaysOf limit d.nodes t.composer.stack found.0 found.1) (same_nodes max c h total sizes s e t n k)
-        found.2 in
+    found.2 in
     let le : found.1 ≤ all = too_large_by later (applied t.deed t.place e h).nodes _ _ t.composer.stack found.0 found.1 all says
-        (represented max c h total sizes s e t n k).opens goes (let some : 0 < found.1 = omega (arith, b) in some) size in
+    (represented max c h total sizes s e t n k).opens goes (let some : 0 < found.1 = omega (arith, b) in some) size in
     omega (arith, b, le)
 
 -- an alias of an open node, placed
 endless_by : (later : List yaml_node_t) (h : DocumentSoFar) (total : ℕ) (g : ℕ → Option ℕ) (q : Option Part) (m : Mark) (j : ℕ) (s : List open_t)
     → Opens (length h.nodes) h.nodes (length h.nodes) s → SaysOf limit h.nodes s g total → IsAmong j (map (opened_of h.nodes) s)
     → (nodes : List yaml_node_t) → nodes ≡ (applied_part (deed_for s) (place_in (pos 0) (pos (suc j)) s) q m h).nodes
-    → (most n : ℕ) → Opens most nodes n (holding_top (pos (suc j)) s) → GoesOn nodes (holding_top (pos (suc j)) s) later → 0 < length later
+    → (most n : ℕ) → Opens most nodes n (holding_top (pos (suc j)) s) → Continues nodes (holding_top (pos (suc j)) s) later → 0 < length later
     → IsCyclicAt later (pos (suc j))
 endless_by later h total g q m j [] opens says i nodes is most n after goes some = absurd i
 endless_by later h total g q m j (o ∷ s) opens says i nodes is most n after goes some =
@@ -138,19 +135,21 @@ endless_by later h total g q m j (o ∷ s) opens says i nodes is most n after go
     let top : Opened = opened_of h.nodes o in
     let same : map (opened_of nodes) (holding_top id (o ∷ s)) ≡ with_child top id ∷ map (opened_of h.nodes) s
     = ap (λ (l : List yaml_node_t). map (opened_of l) (holding_top id (o ∷ s)))
-        (is ∙ child_nodes (o ∷ s) (place_in (pos 0) id (o ∷ s)) q m h)
-        ∙ alias_opened (length h.nodes) (length h.nodes) h.nodes o s j opens in
+    (is ∙ child_nodes (o ∷ s) (place_in (pos 0) id (o ∷ s)) q m h)
+    ∙ alias_opened (length h.nodes) (length h.nodes) h.nodes o s j opens in
     let from : GoesOnFrom later (with_child top id ∷ map (opened_of h.nodes) s)
     = subst (GoesOnFrom later) same (goes_from later nodes most n (holding_top id (o ∷ s)) after goes.holds_keys) in
     let holds = holds_last later (pos (suc top.place)) id top.ids (top.ids ++ id ∷ []) refl from.0 in
     let around = says.stands.6 in
-    let before : ℕ = says.stands.0 in
-    (
-      (some, elim i [
-        | inl e ↦ subst (λ (k : ℕ). LeadsTo later (pos 1) (pos (suc k))) (sym e)
-            (root_leads later limit (state_of h.nodes g) top.place (map (opened_of h.nodes) s) before around from.1)
-        | inr r ↦ root_leads_among later limit (state_of h.nodes g) j top.place (map (opened_of h.nodes) s) before around from.1 r
-      ]),
+    let before : ℕ = says.stands.0 in (
+      (
+        some,
+        elim i [
+          | inl e ↦ subst (λ (k : ℕ). LeadsTo later (pos 1) (pos (suc k))) (sym e)
+              (root_leads later limit (state_of h.nodes g) top.place (map (opened_of h.nodes) s) before around from.1)
+          | inr r ↦ root_leads_among later limit (state_of h.nodes g) j top.place (map (opened_of h.nodes) s) before around from.1 r
+        ],
+      ),
       cycle later id (pos (suc top.place)) (elim i [
         | inl e ↦ subst (λ (k : ℕ). LeadsTo later id (pos (suc k))) e (here id)
         | inr r ↦ among_leads later limit (state_of h.nodes g) j top.place (map (opened_of h.nodes) s) before around from.1 r
@@ -162,12 +161,12 @@ endless_is_right max c h total total' sizes sizes' e t r k later goes =
     let s = standing max c h total sizes r in
     let n : Count = count_of counted.Endless total' sizes' in
     let found = endless max c h total sizes s (part_of e) (is_start (event_type e.content)) e.end_mark t total' sizes'
-        (view_of max c h total sizes s e t n k) k.counted in
+    (view_of max c h total sizes s e t n k) k.counted in
     go found.0 found.1 found.2 found.3 (s.opening, represented max c h total sizes s e t n k) goes (same_nodes max c h total sizes s e t n k) s
   where
     go : (j : ℕ) → t ≡ handing (pos 0) (pos (suc j)) c → IsAmong j (map (opened_of h.nodes) c.stack) → j < length h.nodes
         → (o : Opening) × Represents t.composer (applied t.deed t.place e h) o
-        → GoesOn (applied t.deed t.place e h).nodes t.composer.stack later
+        → Continues (applied t.deed t.place e h).nodes t.composer.stack later
         → applied_part t.deed t.place (part_of e) e.end_mark h ≡ applied t.deed t.place e h → Standing max c h total sizes
         → IsCyclicAt later t.place.child
     go j is i lt stays goes same s = subst F (sym is) (λ stays goes same.
@@ -181,5 +180,5 @@ endless_is_right max c h total total' sizes sizes' e t r k later goes =
       where
         F : Told → Type 0
         F x = ((o : Opening) × Represents x.composer (applied x.deed x.place e h) o)
-            → GoesOn (applied x.deed x.place e h).nodes x.composer.stack later
+            → Continues (applied x.deed x.place e h).nodes x.composer.stack later
             → applied_part x.deed x.place (part_of e) e.end_mark h ≡ applied x.deed x.place e h → IsCyclicAt later x.place.child

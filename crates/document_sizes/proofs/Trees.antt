@@ -24,6 +24,9 @@ abbrev pub IsAmong : ℕ → List Opened → Type 0
 IsAmong k [] = ⊥
 IsAmong k (o ∷ s) = (k ≡ o.place) ⊎ IsAmong k s
 
+pub some_is : (x y : ℕ) → Some x ≡ Some y → x ≡ y
+some_is x y h = cc
+
 module _ (limit : ℕ) where
   -- a node that has ended, or that is a scalar
   abbrev pub IsEnded : State → ℤ → Type 0
@@ -62,7 +65,7 @@ module _ (limit : ℕ) where
   trees_stay a b k ids n (first id rest below beside p t s) =
       let q = k id p in
       first id rest below beside q.0 (subst (λ (l : List ℤ). Trees b l below) (sym q.1) (trees_stay a b k _ below t))
-          (trees_stay a b k rest beside s)
+      (trees_stay a b k rest beside s)
 
   pub around_stays : (a b : State) → Keeps a b → (k : ℕ) (s : List Opened) (start : ℕ)
       → ((j : ℕ) → j < k → b.size j ≡ a.size j) → Around a k s start → Around b k s start
@@ -126,12 +129,9 @@ module _ (limit : ℕ) where
         let f : total - start ≡ suc (n + 0) = omega arith in
         let tree : Trees b (pos (suc o.place) ∷ []) (total - start)
         = rw f (first (pos (suc o.place)) [] n 0 (o.place, total - start, refl, omega arith, new, small)
-            (subst (λ (l : List ℤ). Trees b l n) (sym holds) (trees_stay a b keeps o.ids n t)) none) in
+        (subst (λ (l : List ℤ). Trees b l n) (sym holds) (trees_stay a b keeps o.ids n t)) none) in
         (tree, go s around tree e)
       where
-        some_is : (x y : ℕ) → Some x ≡ Some y → x ≡ y
-        some_is x y h = cc
-
         same_start : before ≡ start
         same_start =
             let e : limit + before ≡ limit + start = some_is (limit + before) (limit + start) (sym at ∙ at_start) in
@@ -159,9 +159,6 @@ module _ (limit : ℕ) where
     pub opened : (k size : ℕ) → k < a.nodes → a.size k ≡ Some size → limit ≤ size → IsAmong k s
     pub stands : Stands a s total
 
-  some_is : (x y : ℕ) → Some x ≡ Some y → x ≡ y
-  some_is x y h = cc
-
   earlier_or_last : (k n : ℕ) → k < suc n → (k < n) ⊎ (k ≡ n)
   earlier_or_last k n lt = elim (cases_order k n) [
     | inl e ↦ inr e
@@ -181,79 +178,79 @@ module _ (limit : ℕ) where
 
   -- a node after the others
   module _ (a b : State) (keeps : Keeps a b) (same : (j : ℕ) → j < a.nodes → b.size j ≡ a.size j) (count : b.nodes ≡ suc a.nodes)
-      where
-    module _ (one : 1 < limit) (at : b.size a.nodes ≡ Some 1) (empty : b.held (pos (suc a.nodes)) ≡ []) where
-      new_tree : Trees b (pos (suc a.nodes) ∷ []) 1
-      new_tree = first (pos (suc a.nodes)) [] 0 0 (a.nodes, 1, refl, omega arith, at, one)
-          (subst (λ (l : List ℤ). Trees b l 0) (sym empty) none) none
+    where
+      module _ (one : 1 < limit) (at : b.size a.nodes ≡ Some 1) (empty : b.held (pos (suc a.nodes)) ≡ []) where
+        new_tree : Trees b (pos (suc a.nodes) ∷ []) 1
+        new_tree = first (pos (suc a.nodes)) [] 0 0 (a.nodes, 1, refl, omega arith, at, one)
+            (subst (λ (l : List ℤ). Trees b l 0) (sym empty) none) none
 
-      scalar_ended : (s : List Opened) (total : ℕ) → Says a s total → (k size : ℕ) → k < b.nodes → b.size k ≡ Some size → size < limit
-          → Trees b (pos (suc k) ∷ []) size
-      scalar_ended s total h k size lt e small = elim (earlier_or_last k a.nodes (omega arith)) [
-        | inl l ↦ trees_stay a b keeps _ size (h.ended k size l (sym (same k l) ∙ e) small)
-        | inr i ↦
-            let f : size ≡ 1 = some_is size 1 (sym e ∙ (ap b.size i ∙ at)) in
-            subst (λ (n : ℕ). Trees b (pos (suc k) ∷ []) n) (sym f)
-            (subst (λ (j : ℕ). Trees b (pos (suc j) ∷ []) 1) (sym i) new_tree)
-      ]
+        scalar_ended : (s : List Opened) (total : ℕ) → Says a s total → (k size : ℕ) → k < b.nodes → b.size k ≡ Some size → size < limit
+            → Trees b (pos (suc k) ∷ []) size
+        scalar_ended s total h k size lt e small = elim (earlier_or_last k a.nodes (omega arith)) [
+          | inl l ↦ trees_stay a b keeps _ size (h.ended k size l (sym (same k l) ∙ e) small)
+          | inr i ↦
+              let f : size ≡ 1 = some_is size 1 (sym e ∙ (ap b.size i ∙ at)) in
+              subst (λ (n : ℕ). Trees b (pos (suc k) ∷ []) n) (sym f)
+              (subst (λ (j : ℕ). Trees b (pos (suc j) ∷ []) 1) (sym i) new_tree)
+        ]
 
-      scalar_opened : (s : List Opened) (total : ℕ) → Says a s total → (k size : ℕ) → k < b.nodes → b.size k ≡ Some size → limit ≤ size
-          → IsAmong k s
-      scalar_opened s total h k size lt e large = elim (earlier_or_last k a.nodes (omega arith)) [
-        | inl l ↦ h.opened k size l (sym (same k l) ∙ e) large
-        | inr i ↦
-            let f : size ≡ 1 = some_is size 1 (sym e ∙ (ap b.size i ∙ at)) in
-            absurd (omega arith)
-      ]
+        scalar_opened : (s : List Opened) (total : ℕ) → Says a s total → (k size : ℕ) → k < b.nodes → b.size k ≡ Some size → limit ≤ size
+            → IsAmong k s
+        scalar_opened s total h k size lt e large = elim (earlier_or_last k a.nodes (omega arith)) [
+          | inl l ↦ h.opened k size l (sym (same k l) ∙ e) large
+          | inr i ↦
+              let f : size ≡ 1 = some_is size 1 (sym e ∙ (ap b.size i ∙ at)) in
+              absurd (omega arith)
+        ]
 
-      pub says_scalar : (o : Opened) (s : List Opened) (total : ℕ) → Says a (o ∷ s) total
-          → Says b (with_child o (pos (suc a.nodes)) ∷ s) (total + 1)
-      says_scalar o s total h = record {
-        ended = scalar_ended (o ∷ s) total h;
-        opened = scalar_opened (o ∷ s) total h;
-        stands = stands_child a b keeps o s total 1 (pos (suc a.nodes)) (omega arith)
-            (λ j l. let lt : o.place < a.nodes = h.stands.2 in same j (omega arith)) new_tree h.stands;
-      }
+        pub says_scalar : (o : Opened) (s : List Opened) (total : ℕ) → Says a (o ∷ s) total
+            → Says b (with_child o (pos (suc a.nodes)) ∷ s) (total + 1)
+        says_scalar o s total h = record {
+          ended = scalar_ended (o ∷ s) total h;
+          opened = scalar_opened (o ∷ s) total h;
+          stands = stands_child a b keeps o s total 1 (pos (suc a.nodes)) (omega arith)
+              (λ j l. let lt : o.place < a.nodes = h.stands.2 in same j (omega arith)) new_tree h.stands;
+        }
 
-      pub says_root : (total : ℕ) → a.nodes ≡ 0 → total ≡ 0 → Says a [] total → Says b [] (total + 1)
-      says_root total zero nothing h = record {
-        ended = scalar_ended [] total h;
-        opened = scalar_opened [] total h;
-        stands = inr (
-            let e : total + 1 ≡ 1 = omega arith in
-            rw e (subst (λ (j : ℕ). Trees b (pos (suc j) ∷ []) 1) zero new_tree));
-      }
+        pub says_root : (total : ℕ) → a.nodes ≡ 0 → total ≡ 0 → Says a [] total → Says b [] (total + 1)
+        says_root total zero nothing h = record {
+          ended = scalar_ended [] total h;
+          opened = scalar_opened [] total h;
+          stands = inr (
+              let e : total + 1 ≡ 1 = omega arith in
+              rw e (subst (λ (j : ℕ). Trees b (pos (suc j) ∷ []) 1) zero new_tree));
+        }
 
-    module _ (total : ℕ) (at : b.size a.nodes ≡ Some (limit + total)) where
-      open_ended : (s : List Opened) → Says a s total → (k size : ℕ) → k < b.nodes → b.size k ≡ Some size → size < limit
-          → Trees b (pos (suc k) ∷ []) size
-      open_ended s h k size lt e small = elim (earlier_or_last k a.nodes (omega arith)) [
-        | inl l ↦ trees_stay a b keeps _ size (h.ended k size l (sym (same k l) ∙ e) small)
-        | inr i ↦
-            let f : size ≡ limit + total = some_is size (limit + total) (sym e ∙ (ap b.size i ∙ at)) in
-            absurd (omega arith)
-      ]
+      module _ (total : ℕ) (at : b.size a.nodes ≡ Some (limit + total)) where
+        open_ended : (s : List Opened) → Says a s total → (k size : ℕ) → k < b.nodes → b.size k ≡ Some size → size < limit
+            → Trees b (pos (suc k) ∷ []) size
+        open_ended s h k size lt e small = elim (earlier_or_last k a.nodes (omega arith)) [
+          | inl l ↦ trees_stay a b keeps _ size (h.ended k size l (sym (same k l) ∙ e) small)
+          | inr i ↦
+              let f : size ≡ limit + total = some_is size (limit + total) (sym e ∙ (ap b.size i ∙ at)) in
+              absurd (omega arith)
+        ]
 
-      pub says_open : (o : Opened) (s : List Opened) → Says a (o ∷ s) total
-          → Says b (new_at a.nodes ∷ with_child o (pos (suc a.nodes)) ∷ s) (total + 1)
-      says_open o s h = record {
-        ended = open_ended (o ∷ s) h;
-        opened = λ k size lt e large. elim (earlier_or_last k a.nodes (omega arith)) [
-          | inl l ↦ inr (h.opened k size l (sym (same k l) ∙ e) large)
-          | inr i ↦ inl i
-        ];
-        stands = stands_open a b keeps o s total count same at h.stands;
-      }
+        pub says_open : (o : Opened) (s : List Opened) → Says a (o ∷ s) total
+            → Says b (new_at a.nodes ∷ with_child o (pos (suc a.nodes)) ∷ s) (total + 1)
+        says_open o s h = record {
+          ended = open_ended (o ∷ s) h;
+          opened = λ k size lt e large. elim (earlier_or_last k a.nodes (omega arith)) [
+            | inl l ↦ inr (h.opened k size l (sym (same k l) ∙ e) large)
+            | inr i ↦ inl i
+          ];
+          stands = stands_open a b keeps o s total count same at h.stands;
+        }
 
-      pub says_root_open : a.nodes ≡ 0 → total ≡ 0 → Says a [] total → Says b (new_at a.nodes ∷ []) (total + 1)
-      says_root_open zero none_yet h = record {
-        ended = open_ended [] h;
-        opened = λ k size lt e large. elim (earlier_or_last k a.nodes (omega arith)) [
-          | inl l ↦ absurd (h.opened k size l (sym (same k l) ∙ e) large)
-          | inr i ↦ inl i
-        ];
-        stands = (total, 0, omega arith, at, none, omega arith, (zero, none_yet));
-      }
+        pub says_root_open : a.nodes ≡ 0 → total ≡ 0 → Says a [] total → Says b (new_at a.nodes ∷ []) (total + 1)
+        says_root_open zero none_yet h = record {
+          ended = open_ended [] h;
+          opened = λ k size lt e large. elim (earlier_or_last k a.nodes (omega arith)) [
+            | inl l ↦ absurd (h.opened k size l (sym (same k l) ∙ e) large)
+            | inr i ↦ inl i
+          ];
+          stands = (total, 0, omega arith, at, none, omega arith, (zero, none_yet));
+        }
 
   -- the end of the innermost open collection
   module _ (a b : State) (keeps : Keeps a b) (count : b.nodes ≡ a.nodes) (o : Opened) (s : List Opened) (total before : ℕ)
@@ -301,7 +298,7 @@ module _ (limit : ℕ) where
           ((k, size, is, omega arith, same k lt ∙ at, small), ap (λ (f : ℤ → List ℤ). f id) held)
 
       go : (s : List Opened) → Stands a s total → Stands b s total
-      go [] h = elim h [ | inl e ↦ inl (count ∙ e.0, e.1) | inr t ↦ inr (trees_stay a b keeps (pos 1 ∷ []) total t) ]
+      go [] h = elim h [ inl e ↦ inl (count ∙ e.0, e.1) | inr t ↦ inr (trees_stay a b keeps (pos 1 ∷ []) total t) ]
       go (o ∷ s) (before, n, lt, at, t, sum, around) = (
         before,
         n,

@@ -1,5 +1,5 @@
 -- What the composer tells at an event within a document, if it takes the event.
-use Rattle.std.proofs.Common.{◌≡◌, ◌<◌, ◌≤◌, ◌∷◌, ◌∙◌, ℕ, zero, suc, ℤ, pos, List, [], length, nat_le, nat_lt, Option, Some, None, Bool, true, false, refl, sym, ap, subst, arith}
+use Rattle.std.proofs.Common.{◌≡◌, ◌<◌, ◌≤◌, ◌∷◌, ℕ, zero, suc, ℤ, pos, List, [], length, nat_le, nat_lt, Option, Some, None, Bool, true, false, refl, sym, ap, subst, arith}
 use Rattle.std.specs.FinMap.{get}
 use Rattle.libyaml_types.specs.Types.{event_type}
 use Rattle.libyaml_types.specs.declared.event.unnamed_yaml_event_t_data.TheVariants as ev
@@ -9,8 +9,7 @@ use Rattle.libyaml_grammar.specs.grammar.Tokens.{Mark}
 use Rattle.libyaml_documents.specs.Nodes.{ids_of}
 use Rattle.libyaml_documents.specs.declared.node.yaml_node_t.{yaml_node_t}
 use Rattle.libyaml_graphs.specs.graphs.Graphs.{AnchoredNode, id_or}
-use Rattle.libyaml_graphs.specs.graphs.GraphParts.{Opening, Part, end_part, leaf_part, part_in, part_of, start_part}
-use Rattle.libyaml_composer.specs.declared.deed.Deed.{Deed}
+use Rattle.libyaml_graphs.specs.graphs.GraphParts.{Opening, Part, leaf_part, part_in, part_of, start_part}
 use Rattle.libyaml_composer.specs.declared.deed.Deed.TheVariants as deed
 use Rattle.libyaml_composer.specs.declared.records.open_t.{open_t}
 use Rattle.libyaml_composer.specs.declared.records.place_t.{place_t}

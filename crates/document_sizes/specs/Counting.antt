@@ -23,10 +23,10 @@ abbrev pub count_of : Counted → ℕ → List ℕ → Count
 count_of a total sizes = record { answer = a; total = total; sizes = sizes }
 
 -- the place of an id in a list of so many, from 0
-abbrev pub place_of : ℕ → ℤ → Option ℕ
-place_of room (pos zero) = None
-place_of room (pos (suc k)) = if nat_lt k room then Some k else None
-place_of room (negsuc n) = None
+abbrev pub place_among : ℕ → ℤ → Option ℕ
+place_among room (pos zero) = None
+place_among room (pos (suc k)) = if nat_lt k room then Some k else None
+place_among room (negsuc n) = None
 
 abbrev pub size_in : List ℕ → Option ℕ → Option ℕ
 size_in sizes None = None
@@ -34,13 +34,13 @@ size_in sizes (Some k) = slice_get sizes k
 
 -- the number of a node
 abbrev pub size_at : List ℕ → ℤ → Option ℕ
-size_at sizes id = size_in sizes (place_of (length sizes) id)
+size_at sizes id = size_in sizes (place_among (length sizes) id)
 
 abbrev pub is_open : ℕ → Bool
 is_open size = nat_le 9223372036854775808 size
 
-abbrev pub opened : (total : ℕ) → ℕ
-opened total = 9223372036854775808 + total
+abbrev pub open_number : (total : ℕ) → ℕ
+open_number total = 9223372036854775808 + total
 
 -- the total before an open collection
 abbrev pub total_before : ℕ → ℕ
@@ -57,27 +57,27 @@ at_alias max None total sizes = count_of counted.Bad total sizes
 at_alias max (Some size) total sizes = if is_open size then count_of counted.Endless total sizes else with_more max size total sizes
 
 -- a node, whose tree has one node so far
-abbrev pub number_of : (is_start : Bool) → (total : ℕ) → ℕ
-number_of start total = if start then opened total else 1
+abbrev pub new_number : (is_start : Bool) → (total : ℕ) → ℕ
+new_number start total = if start then open_number total else 1
 
 abbrev pub at_node : (max : ℕ) → (is_start : Bool) → ℤ → (total : ℕ) → List ℕ → Count
 at_node max start (pos zero) total sizes = count_of counted.Bad total sizes
 at_node max start (pos (suc k)) total sizes = if nat_le (total + 1) max
-    then (if nat_lt k (length sizes) then count_of counted.Within (total + 1) (slice_set sizes k (number_of start total))
+    then (if nat_lt k (length sizes) then count_of counted.Within (total + 1) (slice_set sizes k (new_number start total))
     else count_of counted.Full total sizes)
     else count_of counted.TooLarge total sizes
 at_node max start (negsuc n) total sizes = count_of counted.Bad total sizes
 
 -- the end of a collection: what came since its start is its tree
-abbrev pub ended : (k : ℕ) → Option ℕ → (total : ℕ) → List ℕ → Count
-ended k None total sizes = count_of counted.Bad total sizes
-ended k (Some size) total sizes = if is_open size && nat_le (total_before size) total
+abbrev pub ended_with : (k : ℕ) → Option ℕ → (total : ℕ) → List ℕ → Count
+ended_with k None total sizes = count_of counted.Bad total sizes
+ended_with k (Some size) total sizes = if is_open size && nat_le (total_before size) total
     then count_of counted.Within total (slice_set sizes k (total - total_before size))
     else count_of counted.Bad total sizes
 
 abbrev pub at_end : Option ℕ → (total : ℕ) → List ℕ → Count
 at_end None total sizes = count_of counted.Bad total sizes
-at_end (Some k) total sizes = ended k (slice_get sizes k) total sizes
+at_end (Some k) total sizes = ended_with k (slice_get sizes k) total sizes
 
 -- a node or an alias
 abbrev pub at_child : (max : ℕ) → (is_node is_start : Bool) → place_t → (total : ℕ) → List ℕ → Count
@@ -91,7 +91,7 @@ counting max deed.Root start p total sizes = at_child max (is_id p.node) start p
 counting max deed.Item start p total sizes = at_child max (is_id p.node) start p total sizes
 counting max deed.Key start p total sizes = at_child max (is_id p.node) start p total sizes
 counting max deed.Value start p total sizes = at_child max (is_id p.node) start p total sizes
-counting max deed.Closes start p total sizes = at_end (place_of (length sizes) p.parent) total sizes
+counting max deed.Closes start p total sizes = at_end (place_among (length sizes) p.parent) total sizes
 counting max deed.Bad start p total sizes = count_of counted.Bad total sizes
 counting max _ start p total sizes = count_of counted.Within total sizes
 

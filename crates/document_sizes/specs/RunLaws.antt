@@ -26,7 +26,7 @@ abbrev pub StartsWith : List ℤ → List ℤ → Type 0
 StartsWith ids all = (more : List ℤ) × (all ≡ ids ++ more)
 
 -- These nodes go on from those, of which these collections are open: each node holds first what it holds so far.
-pub record GoesOn (nodes : List yaml_node_t) (open_now : List open_t) (later : List yaml_node_t) : Type 0 where
+pub record Continues (nodes : List yaml_node_t) (open_now : List open_t) (later : List yaml_node_t) : Type 0 where
   pub count : length nodes ≤ length later
   pub holds : (id : ℤ) → StartsWith (ids_at nodes id) (ids_at later id)
   pub holds_keys : AllByRecursion (λ o. StartsWith (held_so_far nodes o) (ids_at later o.node)) open_now
@@ -40,12 +40,12 @@ TotalIsSize = (max : ℕ) (c : Composer) (h : DocumentSoFar) (total : ℕ) (size
 abbrev pub TooLargeIsRight : Type 0
 TooLargeIsRight = (max : ℕ) (c : Composer) (h : DocumentSoFar) (total total' : ℕ) (sizes sizes' : List ℕ) (e : Event) (t : Told)
     → CountRun max c h total sizes → Counts max c h total sizes e t (count_of counted.TooLarge total' sizes')
-    → (later : List yaml_node_t) → GoesOn (applied t.deed t.place e h).nodes t.composer.stack later
+    → (later : List yaml_node_t) → Continues (applied t.deed t.place e h).nodes t.composer.stack later
     → (size : ℕ) → HasExpandedSize later size → bound_of max < size
 
 -- at an alias that makes the tree endless, however the document goes on, the node that it names lies on a cycle
 abbrev pub EndlessIsRight : Type 0
 EndlessIsRight = (max : ℕ) (c : Composer) (h : DocumentSoFar) (total total' : ℕ) (sizes sizes' : List ℕ) (e : Event) (t : Told)
     → CountRun max c h total sizes → Counts max c h total sizes e t (count_of counted.Endless total' sizes')
-    → (later : List yaml_node_t) → GoesOn (applied t.deed t.place e h).nodes t.composer.stack later
+    → (later : List yaml_node_t) → Continues (applied t.deed t.place e h).nodes t.composer.stack later
     → IsCyclicAt later t.place.child

@@ -15,8 +15,8 @@ use Rattle.document_sizes.specs.declared.counted.Counted.TheVariants as counted
 use Rattle.document_sizes.specs.Counting.{Count, bound_of, count_of, counting}
 
 -- a document that begins
-abbrev pub begun : Opening → DocumentSoFar
-begun o = record { opening = Some o; nodes = []; anchors = no_anchors }
+abbrev pub document_begun : Opening → DocumentSoFar
+document_begun o = record { opening = Some o; nodes = []; anchors = no_anchors }
 
 -- no second root, and no end of a mapping whose key waits for its value: a parser gives no such events
 abbrev pub LosesNothing : Deed → Composer → Type 0
@@ -37,7 +37,7 @@ pub record Counts (max : ℕ) (c : Composer) (h : DocumentSoFar) (total : ℕ) (
 -- says.
 pub data CountRun (max : ℕ) : Composer → DocumentSoFar → (total : ℕ) → (sizes : List ℕ) → Type 0 where
   begins : (c : Composer) (o : Opening) (sizes : List ℕ)
-      → CountRun max (record c { is_within = true; nodes = 0; stack = [] }) (begun o) 0 sizes
+      → CountRun max (record c { is_within = true; nodes = 0; stack = [] }) (document_begun o) 0 sizes
   -- more room in the stack and for the sizes
   moves : (c : Composer) (h : DocumentSoFar) (total room : ℕ) (sizes more : List ℕ) → CountRun max c h total sizes
       → CountRun max (record c { room = room }) h total (sizes ++ more)

@@ -4,7 +4,7 @@ ghost use Rattle.libyaml_composer.specs.Composing.{is_start};
 ghost use Rattle.libyaml_composer.specs.Numbers.{is_id};
 ghost use Rattle.libyaml_composer.specs.Represents.{PutsNode};
 ghost use Rattle.document_sizes.specs.Counting.{at_alias, at_child, at_end, at_node, bound_of, count_of};
-ghost use Rattle.document_sizes.specs.Counting.{IsBad, counting, is_open, more_of, number_of, place_of, size_at, with_more};
+ghost use Rattle.document_sizes.specs.Counting.{IsBad, counting, is_open, more_of, new_number, place_among, size_at, with_more};
 
 use crate::counted::Counted;
 use libyaml_composer::{Deed, place_t};
@@ -35,7 +35,7 @@ fn is_start(kind: yaml_event_type_t) -> bool
 /// Returns the place of an id in a list of so many, from 0, or `None` if the list has no such place.
 #[inline(always)]
 fn place_of(room: usize, id: i32) -> Option<usize>
-    ensures place { result ≡ place_of room id }
+    ensures place { result ≡ place_among room id }
     ensures within { IfSome result (λ place. place < room) }
 {
     if id <= 0 {
@@ -189,7 +189,7 @@ impl sizes_t {
     #[inline(always)]
     fn end(&self, sizes: &mut [u64], id: i32) -> Counted
         ensures counts { count_of result self.now.total sizes.new
-            ≡ at_end (place_of (length sizes.old) id) self.now.total sizes.old }
+            ≡ at_end (place_among (length sizes.old) id) self.now.total sizes.old }
         ensures undone { (result ≡ Counted.Within → ⊥) → sizes.new ≡ sizes.old }
     {
         let Some(place) = place_of(sizes.len(), id) else {
