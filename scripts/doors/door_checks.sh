@@ -151,9 +151,13 @@ check_steps() {
 check_compose() {
     check_header 's/int32_t node, key;/int32_t key, node;/'
     printf '%s\n' '#include <pokhvizi/compose.h>' 'int main(void) { pokhvizi_composer_t c; pokhvizi_open_t s[1]; pokhvizi_place_t p;' \
-        'pokhvizi_anchor_t a; unsigned char b = 0; a.place = 0; a.length = 0; a.node = 7; pokhvizi_composer_new(&c, 9);' \
+        'pokhvizi_anchor_t a; pokhvizi_size_t z; uint64_t n[1]; unsigned char b = 0; a.place = 0; a.length = 0; a.node = 7;' \
+        'pokhvizi_composer_new(&c, 9); pokhvizi_size_new(&z, 1);' \
         'if (pokhvizi_compose(&c, s, 1, 3, 0, &p) != POKHVIZI_BEGINS) return 1;' \
         'if (pokhvizi_compose(&c, s, 1, 6, 0, &p) != POKHVIZI_ROOT) return 1;' \
+        'if (pokhvizi_count(&z, n, 0, POKHVIZI_ROOT, 6, &p) != POKHVIZI_FULL_SIZES || z.total != 0) return 1;' \
+        'if (pokhvizi_count(&z, n, 1, POKHVIZI_ROOT, 6, &p) != POKHVIZI_COUNTED || z.total != 1) return 1;' \
+        'if (pokhvizi_count(&z, n, 1, POKHVIZI_ROOT, 6, &p) != POKHVIZI_TOO_LARGE || z.total != 1) return 1;' \
         'return p.node == 1 && pokhvizi_carrier(&a, 1, &b, 0, &b, 0) == 7 && pokhvizi_carrier(&a, 1, &b, 0, &b, 1) == 0 ? 0 : 1; }' \
         > "$work/header.c"
     check_library
