@@ -14,7 +14,7 @@ use Rattle.libyaml_automaton.specs.declared.difference.Difference.TheVariants.{N
 use Rattle.libyaml_automaton.specs.declared.node_place.NodePlace.{NodePlace}
 use Rattle.libyaml_automaton.specs.declared.node_place.NodePlace.TheVariants as place
 use Rattle.libyaml_automaton.specs.declared.slot.Slot.TheVariants as slot
-use Rattle.token_limits.specs.Limits.{Again, At, Done, Looked, asked, given, let_on, look, stepped, unless}
+use Rattle.token_limits.specs.Limits.{Again, At, Done, Looked, asked, kept_or_done, let_on, look, stepped, unless_apart}
 
 -- how much a token of this kind may still do in a state
 abbrev pub indentless_rank : yaml_token_type_t → ℕ
@@ -290,14 +290,14 @@ LookedFact k ms n (Done s) = Unit {0}
 stepped_fact : (k : yaml_token_type_t) (ms : List yaml_mark_t) (n : ℕ) (s : Step) → Fact k ms n s → LookedFact k ms n (stepped s)
 stepped_fact k ms n (automaton.Gives e d) h = go e.stays h
   where
-    go : (b : Bool) → GivesFact k ms n b d → LookedFact k ms n (given b d)
+    go : (b : Bool) → GivesFact k ms n b d → LookedFact k ms n (kept_or_done b d)
     go true h = h
     go false h = h
 stepped_fact k ms n (automaton.Wants v d) h = let e : length d.marks ≡ length ms = ap length h in omega arith
 stepped_fact k ms n _ h = tt
 
 unless_fact : (k : yaml_token_type_t) (ms : List yaml_mark_t) (n : ℕ) (x : Difference) (c : Stacks) (t : KindAndMarks) (l : Looked)
-    → LookedFact k ms n l → LookedFact k ms n (unless x c t l)
+    → LookedFact k ms n l → LookedFact k ms n (unless_apart x c t l)
 unless_fact k ms n Nowhere c t l h = h
 unless_fact k ms n _ c t l h = tt
 

@@ -15,12 +15,12 @@ use Rattle.token_steps.specs.declared.records.step_event_t.{step_event_t}
 use Rattle.token_steps.specs.declared.records.step_fault_t.{step_fault_t}
 use Rattle.token_steps.specs.declared.records.step_span_t.{step_span_t}
 use Rattle.token_steps.specs.declared.steps.steps_t.{steps_t}
-use Rattle.token_limits.specs.Limits.{Again, At, Done, Looked, Passes, given, let_on, stepped}
+use Rattle.token_limits.specs.Limits.{Again, At, Done, Looked, Passes, kept_or_done, let_on, stepped}
 use Rattle.token_limits.specs.View.{fact_that_goes_on}
 use Rattle.token_limits.proofs.Steps.{Fact, raw, room}
 
 abbrev Says : StepResult → Looked → Type 0
-Says (Ok (Given e, d)) l = l ≡ given e.stays d
+Says (Ok (Given e, d)) l = l ≡ kept_or_done e.stays d
 Says (Ok (Wants v, d)) l = l ≡ Done (At v.next d)
 Says (Err f) l = l ≡ Done Passes
 

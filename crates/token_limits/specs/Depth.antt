@@ -4,11 +4,11 @@ use Rattle.libyaml_types.specs.declared.token.yaml_token_t.{yaml_token_t}
 use Rattle.token_limits.specs.declared.limits.yaml_limits_t.{yaml_limits_t}
 use Rattle.token_limits.specs.Limits.{At, Standing, taken}
 
-abbrev pub unbounded : yaml_limits_t → yaml_limits_t
-unbounded m = record m { max_depth = None }
+abbrev pub without_depth : yaml_limits_t → yaml_limits_t
+without_depth m = record m { max_depth = None }
 
-abbrev pub bounded : (max : ℕ) → yaml_limits_t → yaml_limits_t
-bounded max m = record m { max_depth = Some max }
+abbrev pub with_depth : (max : ℕ) → yaml_limits_t → yaml_limits_t
+with_depth max m = record m { max_depth = Some max }
 
 -- how many collections are open that tokens opened
 abbrev pub levels : Standing → ℕ
@@ -16,6 +16,6 @@ levels (At w c) = length c.marks
 levels s = 0
 
 -- after no prefix of the tokens more than so many are
-abbrev pub StaysWithin : (max : ℕ) → yaml_limits_t → Standing → List yaml_token_t → Type 0
-StaysWithin max m s [] = Unit {0}
-StaysWithin max m s (t ∷ l) = (levels (taken (unbounded m) s t) ≤ max) × StaysWithin max m (taken (unbounded m) s t) l
+abbrev pub NestsWithin : (max : ℕ) → yaml_limits_t → Standing → List yaml_token_t → Type 0
+NestsWithin max m s [] = Unit {0}
+NestsWithin max m s (t ∷ l) = (levels (taken (without_depth m) s t) ≤ max) × NestsWithin max m (taken (without_depth m) s t) l

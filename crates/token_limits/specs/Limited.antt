@@ -31,8 +31,8 @@ StandsAfter m (At w c) t new = (new ≡ taken m (At w c) t) ⊎ (new ≡ Refuses
 StandsAfter m old t new = new ≡ old
 
 -- what a call of `take` does
-abbrev pub Takes : Limiter → yaml_token_t → SourceResult → Limiter → Type 0
-Takes l t answer n = (n.limits ≡ l.limits) × (StandsAfter l.limits l.standing t n.standing × (answer ≡ answer_at t n.standing))
+abbrev pub LimiterTakes : Limiter → yaml_token_t → SourceResult → Limiter → Type 0
+LimiterTakes l t answer n = (n.limits ≡ l.limits) × (StandsAfter l.limits l.standing t n.standing × (answer ≡ answer_at t n.standing))
 
 -- a source
 
@@ -41,7 +41,7 @@ pub record Limited (S : Type 0) : Type 0 where
   pub limiter : Limiter
 
 abbrev pub Passed : Limiter → SourceResult → SourceResult → Limiter → Type 0
-Passed l (Ok t) answer n = Takes l t answer n
+Passed l (Ok t) answer n = LimiterTakes l t answer n
 Passed l (Err f) answer n = (answer ≡ Err f) × (n ≡ refusing f l)
 
 -- the source is asked, unless an error is kept, and its error is kept
@@ -58,17 +58,17 @@ abbrev pub ending_at : Standing → Fault → Coming
 ending_at (Refuses g) f = coming [] g
 ending_at _ f = coming [] f
 
-abbrev pub passing : yaml_token_t → Standing → Coming → Coming
-passing t (Refuses g) rest = coming [] g
-passing t _ rest = coming (t ∷ rest.tokens) rest.fault
+abbrev pub if_passed : yaml_token_t → Standing → Coming → Coming
+if_passed t (Refuses g) rest = coming [] g
+if_passed t _ rest = coming (t ∷ rest.tokens) rest.fault
 
 abbrev pub limited : yaml_limits_t → Standing → List yaml_token_t → Fault → Coming
 limited m s [] f = ending_at s f
-limited m s (t ∷ l) f = passing t (taken m s t) (limited m (taken m s t) l f)
+limited m s (t ∷ l) f = if_passed t (taken m s t) (limited m (taken m s t) l f)
 
-abbrev pub known_by : Limiter → Option Coming → Option Coming
-known_by l None = None
-known_by l (Some c) = Some (limited l.limits l.standing c.tokens c.fault)
+abbrev pub known_within : Limiter → Option Coming → Option Coming
+known_within l None = None
+known_within l (Some c) = Some (limited l.limits l.standing c.tokens c.fault)
 
 -- as the source may break, or out of memory
 abbrev pub MayBreakBy : (Fault → Type 0) → Fault → Type 0

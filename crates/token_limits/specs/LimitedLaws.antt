@@ -4,7 +4,7 @@ use Rattle.libyaml_types.specs.Fault.{Fault, SourceResult, memory_fault}
 use Rattle.libyaml_types.specs.Source.{Coming, Follows, FollowsList, coming}
 use Rattle.libyaml_types.specs.declared.token.yaml_token_t.{yaml_token_t}
 use Rattle.token_limits.specs.declared.limits.yaml_limits_t.{yaml_limits_t}
-use Rattle.token_limits.specs.Limited.{GivesAt, Limited, LimitedGives, Limiter, MayBreakBy, Passed, StandsAfter, answer_at, known_by, limited, passing}
+use Rattle.token_limits.specs.Limited.{GivesAt, Limited, LimitedGives, Limiter, MayBreakBy, Passed, StandsAfter, answer_at, known_within, limited, if_passed}
 use Rattle.token_limits.specs.Limits.{At, Passes, Refuses, Standing, taken}
 
 -- each token lowers the bound by one
@@ -45,12 +45,12 @@ limited_repeats gives s t u fault answer h k
         let j : t.limiter.standing ≡ s.limiter.standing = ap (λ (x : Limited _). x.limiter.standing) h.1 in cc
     at _ i h = by h.0 h.1.1
 
--- and each answer is that of the list
+-- and each result is that of the list
 
 -- none is kept
-abbrev IsOpen : Standing → Type 0
-IsOpen (Refuses g) = ⊥
-IsOpen _ = Unit {0}
+abbrev KeepsNone : Standing → Type 0
+KeepsNone (Refuses g) = ⊥
+KeepsNone _ = Unit {0}
 
 refused_list : (m : yaml_limits_t) (g : Fault) (l : List yaml_token_t) (f : Fault) → limited m (Refuses g) l f ≡ coming [] g
 refused_list m g [] f = refl
@@ -70,7 +70,7 @@ module _ (B : Fault → Type 0) where
 
   -- a token was looked at, and x is where the limiter then stands
   looked : (m : yaml_limits_t) (x : Standing) (t : yaml_token_t) (l : List yaml_token_t) (f : Fault)
-      → FollowsList (MayBreakBy B) (passing t x (limited m x l f)).tokens (passing t x (limited m x l f)).fault (answer_at t x)
+      → FollowsList (MayBreakBy B) (if_passed t x (limited m x l f)).tokens (if_passed t x (limited m x l f)).fault (answer_at t x)
       (Some (limited m x l f))
   looked m (Refuses g) t l f = (inl refl, ap Some (refused_list m g l f))
   looked m _ t l f = (refl, refl)
@@ -85,28 +85,28 @@ module _ (B : Fault → Type 0) where
       (f : Fault) (after : Option Coming) → n.limits ≡ m
       → (n.standing ≡ taken m x u) ⊎ (n.standing ≡ Refuses memory_fault)
       → answer ≡ answer_at u n.standing → FollowsList B l f (Ok u) after
-      → FollowsList (MayBreakBy B) (limited m x l f).tokens (limited m x l f).fault answer (known_by n after)
+      → FollowsList (MayBreakBy B) (limited m x l f).tokens (limited m x l f).fault answer (known_within n after)
   took m x n u answer [] f after i s e h = absurd h
   took m x n u answer (t ∷ l) f after i s e h
-      = subst (λ (y : yaml_token_t). AtList m x n y l f answer (known_by n after)) h.0
+      = subst (λ (y : yaml_token_t). AtList m x n y l f answer (known_within n after)) h.0
       (elim s [ inl a ↦ taken_so a | inr a ↦ no_memory a ])
     where
-      left : (z : Standing) → n.standing ≡ z → known_by n after ≡ Some (limited m z l f)
-      left z a = ap (known_by n) h.1 ∙ ap (λ (k : yaml_limits_t). Some (limited k n.standing l f)) i
+      left : (z : Standing) → n.standing ≡ z → known_within n after ≡ Some (limited m z l f)
+      left z a = ap (known_within n) h.1 ∙ ap (λ (k : yaml_limits_t). Some (limited k n.standing l f)) i
           ∙ ap (λ (y : Standing). Some (limited m y l f)) a
 
-      taken_so : n.standing ≡ taken m x u → AtList m x n u l f answer (known_by n after)
-      taken_so a = subst (λ (r : SourceResult). AtList m x n u l f r (known_by n after)) (sym (e ∙ ap (answer_at u) a))
+      taken_so : n.standing ≡ taken m x u → AtList m x n u l f answer (known_within n after)
+      taken_so a = subst (λ (r : SourceResult). AtList m x n u l f r (known_within n after)) (sym (e ∙ ap (answer_at u) a))
           (subst (λ (o : Option Coming). AtList m x n u l f (answer_at u (taken m x u)) o)
           (sym (left (taken m x u) a)) (looked m (taken m x u) u l f))
 
-      no_memory : n.standing ≡ Refuses memory_fault → AtList m x n u l f answer (known_by n after)
-      no_memory a = subst (λ (r : SourceResult). AtList m x n u l f r (known_by n after)) (sym (e ∙ ap (answer_at u) a))
-          (broken (limited m x (u ∷ l) f).tokens (limited m x (u ∷ l) f).fault memory_fault (known_by n after) (inr refl)
+      no_memory : n.standing ≡ Refuses memory_fault → AtList m x n u l f answer (known_within n after)
+      no_memory a = subst (λ (r : SourceResult). AtList m x n u l f r (known_within n after)) (sym (e ∙ ap (answer_at u) a))
+          (broken (limited m x (u ∷ l) f).tokens (limited m x (u ∷ l) f).fault memory_fault (known_within n after) (inr refl)
           (left (Refuses memory_fault) a ∙ ap Some (refused_list m memory_fault l f)))
 
   -- it failed
-  source_failed : (m : yaml_limits_t) (x : Standing) → IsOpen x → (l : List yaml_token_t) (f e : Fault)
+  source_failed : (m : yaml_limits_t) (x : Standing) → KeepsNone x → (l : List yaml_token_t) (f e : Fault)
       (after next : Option Coming) → FollowsList B l f (Err e) after
       → (after ≡ Some (coming [] e) → next ≡ Some (coming [] e))
       → FollowsList (MayBreakBy B) (limited m x l f).tokens (limited m x l f).fault (Err e) next
@@ -115,24 +115,24 @@ module _ (B : Fault → Type 0) where
   source_failed m x o (t ∷ l) f e after next h a
       = broken (limited m x (t ∷ l) f).tokens (limited m x (t ∷ l) f).fault e next (inl h.0) (a h.1)
 
-  stands : (m : yaml_limits_t) (x z : Standing) (u : yaml_token_t) → IsOpen x → StandsAfter m x u z
+  stands : (m : yaml_limits_t) (x z : Standing) (u : yaml_token_t) → KeepsNone x → StandsAfter m x u z
       → (z ≡ taken m x u) ⊎ (z ≡ Refuses memory_fault)
   stands m (At w c) z u o h = h
   stands m Passes z u o h = inl h
   stands m (Refuses g) z u o h = absurd o
 
-  open_follows : (l n : Limiter) (o p : Option Coming) (inner answer : SourceResult) → IsOpen l.standing → Follows B o inner p
-      → Passed l inner answer n → Follows (MayBreakBy B) (known_by l o) answer (known_by n p)
+  open_follows : (l n : Limiter) (o p : Option Coming) (inner answer : SourceResult) → KeepsNone l.standing → Follows B o inner p
+      → Passed l inner answer n → Follows (MayBreakBy B) (known_within l o) answer (known_within n p)
   open_follows l n None p inner answer i h k = tt
   open_follows l n (Some c) p (Ok u) answer i h k
       = took l.limits l.standing n u answer c.tokens c.fault p k.0 (stands l.limits l.standing n.standing u i k.1.0) k.1.1 h
   open_follows l n (Some c) p (Err e) answer i h k
-      = subst (λ (r : SourceResult). Follows (MayBreakBy B) (known_by l (Some c)) r (known_by n p)) (sym k.0)
-      (source_failed l.limits l.standing i c.tokens c.fault e p (known_by n p) h
-      (λ a. ap (known_by n) a ∙ ap (λ (y : Limiter). known_by y (Some (coming [] e))) k.1))
+      = subst (λ (r : SourceResult). Follows (MayBreakBy B) (known_within l (Some c)) r (known_within n p)) (sym k.0)
+      (source_failed l.limits l.standing i c.tokens c.fault e p (known_within n p) h
+      (λ a. ap (known_within n) a ∙ ap (λ (y : Limiter). known_within y (Some (coming [] e))) k.1))
 
   closed_follows : (l : Limiter) (f : Fault) (o : Option Coming) → l.standing ≡ Refuses f
-      → Follows (MayBreakBy B) (known_by l o) (Err f) (known_by l o)
+      → Follows (MayBreakBy B) (known_within l o) (Err f) (known_within l o)
   closed_follows l f None i = tt
   closed_follows l f (Some c) i =
       let e : limited l.limits l.standing c.tokens c.fault ≡ coming [] f
@@ -143,19 +143,19 @@ pub limited_follows : {S : Type 0} (known : S → Option Coming) (breaks : S →
     (gives : S → SourceResult → S → Type 0)
     → ((s t : S) (answer : SourceResult) → gives s answer t → Follows (breaks t) (known s) answer (known t))
     → (s t : Limited S) (answer : SourceResult) → LimitedGives gives s answer t
-    → Follows (MayBreakBy (breaks t.source)) (known_by s.limiter (known s.source)) answer (known_by t.limiter (known t.source))
+    → Follows (MayBreakBy (breaks t.source)) (known_within s.limiter (known s.source)) answer (known_within t.limiter (known t.source))
 limited_follows known breaks gives follows s t answer h = at s.limiter.standing refl h
   where
-    by : IsOpen s.limiter.standing
+    by : KeepsNone s.limiter.standing
         → ((inner : SourceResult) × (gives s.source inner t.source × Passed s.limiter inner answer t.limiter))
-        → Follows (MayBreakBy (breaks t.source)) (known_by s.limiter (known s.source)) answer (known_by t.limiter (known t.source))
+        → Follows (MayBreakBy (breaks t.source)) (known_within s.limiter (known s.source)) answer (known_within t.limiter (known t.source))
     by o h = open_follows (breaks t.source) s.limiter t.limiter (known s.source) (known t.source) h.0 answer o
         (follows s.source t.source h.0 h.1.0) h.1.1
 
     at : (x : Standing) → s.limiter.standing ≡ x → GivesAt gives x s answer t
-        → Follows (MayBreakBy (breaks t.source)) (known_by s.limiter (known s.source)) answer (known_by t.limiter (known t.source))
-    at (Refuses f) i h = subst (λ (r : SourceResult). Follows (MayBreakBy (breaks t.source)) (known_by s.limiter (known s.source)) r (known_by t.limiter (known t.source)))
+        → Follows (MayBreakBy (breaks t.source)) (known_within s.limiter (known s.source)) answer (known_within t.limiter (known t.source))
+    at (Refuses f) i h = subst (λ (r : SourceResult). Follows (MayBreakBy (breaks t.source)) (known_within s.limiter (known s.source)) r (known_within t.limiter (known t.source)))
         (sym h.0)
-        (subst (λ (y : Limited _). Follows (MayBreakBy (breaks y.source)) (known_by s.limiter (known s.source)) (Err f) (known_by y.limiter (known y.source)))
+        (subst (λ (y : Limited _). Follows (MayBreakBy (breaks y.source)) (known_within s.limiter (known s.source)) (Err f) (known_within y.limiter (known y.source)))
         (sym h.1) (closed_follows (breaks s.source) s.limiter f (known s.source) i))
-    at x i h = by (subst IsOpen (sym i) tt) h
+    at x i h = by (subst KeepsNone (sym i) tt) h

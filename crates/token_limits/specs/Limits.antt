@@ -61,13 +61,13 @@ pub data Looked : Type 0 where
   Again : Stacks → Looked
   Done : Standing → Looked
 
-abbrev pub given : (stays : Bool) → Stacks → Looked
-given true c = Again c
-given false c = Done (At AtState c)
+abbrev pub kept_or_done : (stays : Bool) → Stacks → Looked
+kept_or_done true c = Again c
+kept_or_done false c = Done (At AtState c)
 
 -- a token at which the automaton fails passes: the parser tells its error, and asks for no more
 abbrev pub stepped : Step → Looked
-stepped (Gives e c) = given e.stays c
+stepped (Gives e c) = kept_or_done e.stays c
 stepped (Wants w c) = Done (At w c)
 stepped _ = Done Passes
 
@@ -75,12 +75,12 @@ abbrev pub asked : (strict : Bool) → Purpose → Stacks → yaml_token_type_t 
 asked false w c k = Nowhere
 asked true w c k = differs w c.state c.behind_document_end k
 
-abbrev pub unless : Difference → Stacks → KindAndMarks → Looked → Looked
-unless Nowhere c t l = l
-unless k c t l = Done (Refuses (difference_fault k (top_mark c.marks) t.start_mark))
+abbrev pub unless_apart : Difference → Stacks → KindAndMarks → Looked → Looked
+unless_apart Nowhere c t l = l
+unless_apart k c t l = Done (Refuses (difference_fault k (top_mark c.marks) t.start_mark))
 
 abbrev pub look : (strict : Bool) → Purpose → Stacks → KindAndMarks → Looked
-look strict w c t = unless (asked strict w c t.kind) c t (stepped (let_on t (step w c t t.kind)))
+look strict w c t = unless_apart (asked strict w c t.kind) c t (stepped (let_on t (step w c t t.kind)))
 
 -- a whole token
 

@@ -14,22 +14,22 @@ use Rattle.token_limits.specs.declared.follower.Move.TheVariants as move
 use Rattle.token_limits.specs.Limits.{Again, At, Done, Looked, Passes, Refuses, Standing, let_on, stepped}
 
 -- where the automaton stands
-pub record Place : Type 0 where
+pub record Followed : Type 0 where
   pub wants : Purpose
   pub stacks : Stacks
 
-abbrev pub first_place : Place
-first_place = record { wants = AtState; stacks = first_stacks }
+abbrev pub first_followed : Followed
+first_followed = record { wants = AtState; stacks = first_stacks }
 
-abbrev pub place_in : steps_t → (states : List ℕ) → (marks : List yaml_mark_t) → Place
-place_in d ss ms = record { wants = purpose_of d.read; stacks = stacks_of d.machine ss ms }
+abbrev pub followed_in : steps_t → (states : List ℕ) → (marks : List yaml_mark_t) → Followed
+followed_in d ss ms = record { wants = purpose_of d.read; stacks = stacks_of d.machine ss ms }
 
 -- what a step there leads to
-abbrev pub step_at : Place → KindAndMarks → Looked
-step_at p t = stepped (let_on t (step p.wants p.stacks t t.kind))
+abbrev pub followed_step : Followed → KindAndMarks → Looked
+followed_step p t = stepped (let_on t (step p.wants p.stacks t t.kind))
 
 -- what a step that had memory did
-abbrev pub MovesBy : Move → Looked → Place → Type 0
+abbrev pub MovesBy : Move → Looked → Followed → Type 0
 MovesBy move.Taken l p = l ≡ Done (At p.wants p.stacks)
 MovesBy move.Stays l p = (l ≡ Again p.stacks) × (p.wants ≡ AtState)
 MovesBy move.Fails l p = l ≡ Done Passes
@@ -40,22 +40,22 @@ fact_that_goes_on kinds.YAML_VERSION_DIRECTIVE_TOKEN = 1
 fact_that_goes_on kinds.YAML_TAG_TOKEN = 3
 fact_that_goes_on k = 0
 
-abbrev pub standing_of : (passes : Bool) → (refusal : Option yaml_source_fault_t) → Place → Standing
+abbrev pub standing_of : (passes : Bool) → (refusal : Option yaml_source_fault_t) → Followed → Standing
 standing_of b (Some f) p = Refuses (source_fault f)
 standing_of true None p = Passes
 standing_of false None p = At p.wants p.stacks
 
 -- an error is that of a token which was refused, or of memory
-abbrev pub FailsBy : (refused : Fault → Type 0) → Fault → Type 0
-FailsBy refused f = refused f ⊎ (f ≡ memory_fault)
+abbrev pub IsErrorOrMemory : (refused : Fault → Type 0) → Fault → Type 0
+IsErrorOrMemory refused f = refused f ⊎ (f ≡ memory_fault)
 
 -- what a look did
-abbrev pub LooksBy : Result Move yaml_source_fault_t → Looked → Place → Type 0
+abbrev pub LooksBy : Result Move yaml_source_fault_t → Looked → Followed → Type 0
 LooksBy (Ok moved) l p = MovesBy moved l p
-LooksBy (Err f) l p = FailsBy (λ g. l ≡ Done (Refuses g)) (source_fault f)
+LooksBy (Err f) l p = IsErrorOrMemory (λ g. l ≡ Done (Refuses g)) (source_fault f)
 
 -- what became of a token
-abbrev pub FollowsBy : Result Bool yaml_source_fault_t → Standing → Place → Type 0
+abbrev pub FollowsBy : Result Bool yaml_source_fault_t → Standing → Followed → Type 0
 FollowsBy (Ok true) s p = s ≡ At p.wants p.stacks
 FollowsBy (Ok false) s p = s ≡ Passes
-FollowsBy (Err f) s p = FailsBy (λ g. s ≡ Refuses g) (source_fault f)
+FollowsBy (Err f) s p = IsErrorOrMemory (λ g. s ≡ Refuses g) (source_fault f)

@@ -4,7 +4,7 @@ ghost use Rattle.libyaml_types.specs.declared.mark.yaml_mark_t.{yaml_mark_t};
 ghost use Rattle.libyaml_automaton.specs.Config.{Within, marks_of, top_mark};
 ghost use Rattle.libyaml_automaton.specs.Differing.{differs};
 ghost use Rattle.libyaml_automaton.specs.Purposes.{kind_and_marks};
-ghost use Rattle.token_limits.specs.View.{MovesBy, fact_that_goes_on, first_place, place_in, step_at};
+ghost use Rattle.token_limits.specs.View.{MovesBy, fact_that_goes_on, first_followed, followed_in, followed_step};
 
 use libyaml_types::{ZERO_MARK, yaml_mark_t, yaml_token_type_t};
 use std::alloc::{AllocError, Global};
@@ -32,11 +32,11 @@ pub(crate) struct Follower {
 
 impl Model for Follower {
     ghost use Rattle.libyaml_automaton.specs.Config.{Within};
-    ghost use Rattle.token_limits.specs.View.{Place, place_in};
+    ghost use Rattle.token_limits.specs.View.{Followed, followed_in};
 
-    ghost Value = { Place };
+    ghost Value = { Followed };
 
-    ghost view = { λ f. place_in f.steps f.states.items f.marks.items };
+    ghost view = { λ f. followed_in f.steps f.states.items f.marks.items };
 
     ghost invariant = { λ f. Within f.steps.machine f.states.items f.marks.items };
 }
@@ -94,7 +94,7 @@ fn make_room_for_mark(marks: &mut Vec<yaml_mark_t>, count: usize) -> Result<(), 
     Ok(())
 }
 
-/// Takes a token once. Where its texts decide, the automaton goes on.
+/// LimiterTakes a token once. Where its texts decide, the automaton goes on.
 ///
 /// # Errors
 ///
@@ -108,8 +108,8 @@ fn step_on(
 ) -> Result<Move, AllocError>
     requires { Within steps.old.machine states.old marks.old }
     ensures within { Within steps.new.machine states.new marks.new }
-    ensures moves { IfOk result (λ moved. MovesBy moved (step_at (place_in steps.old states.old marks.old)
-        (kind_and_marks kind at.now.start_mark at.now.end_mark)) (place_in steps.new states.new marks.new)) }
+    ensures moves { IfOk result (λ moved. MovesBy moved (followed_step (followed_in steps.old states.old marks.old)
+        (kind_and_marks kind at.now.start_mark at.now.end_mark)) (followed_in steps.new states.new marks.new)) }
 {
     steps.tag = DECLARED_TAG;
     let mut event = NO_EVENT;
@@ -146,7 +146,7 @@ fn top_mark(marks: &[yaml_mark_t], count: usize) -> yaml_mark_t
 impl Follower {
     /// Returns an automaton at a stream's start, without an allocation.
     pub(crate) fn new(alloc: Global) -> Self
-        ensures { result ≡ first_place }
+        ensures { result ≡ first_followed }
     {
         Follower {
             steps: steps_t::new(),
@@ -178,7 +178,7 @@ impl Follower {
         self.steps.machine.marks_count
     }
 
-    /// Takes a token once. Where its texts decide, the automaton goes on.
+    /// LimiterTakes a token once. Where its texts decide, the automaton goes on.
     ///
     /// # Errors
     ///
@@ -188,7 +188,7 @@ impl Follower {
         kind: yaml_token_type_t,
         at: &step_span_t,
     ) -> Result<Move, AllocError>
-        ensures { IfOk result (λ moved. MovesBy moved (step_at self.old
+        ensures { IfOk result (λ moved. MovesBy moved (followed_step self.old
             (kind_and_marks kind at.now.start_mark at.now.end_mark)) self.new) }
     {
         self.make_room()?;
@@ -204,13 +204,13 @@ impl Follower {
         make_room_for_mark(&mut self.marks, self.steps.machine.marks_count)
     }
 
-    /// Takes a token once, over stacks that have room.
+    /// LimiterTakes a token once, over stacks that have room.
     fn step_in_room(
         &mut self,
         kind: yaml_token_type_t,
         at: &step_span_t,
     ) -> Result<Move, AllocError>
-        ensures { IfOk result (λ moved. MovesBy moved (step_at self.old
+        ensures { IfOk result (λ moved. MovesBy moved (followed_step self.old
             (kind_and_marks kind at.now.start_mark at.now.end_mark)) self.new) }
     {
         step_on(

@@ -5,7 +5,7 @@ ghost use Rattle.libyaml_types.specs.Source.{coming};
 ghost use Rattle.libyaml_types.specs.declared.token.yaml_token_t.{yaml_token_t};
 ghost use Rattle.libyaml_automaton.specs.Automaton.{AtState, KindAndMarks, Purpose};
 ghost use Rattle.libyaml_automaton.specs.Config.{Stacks};
-ghost use Rattle.token_limits.specs.Depth.{StaysWithin, bounded, unbounded};
+ghost use Rattle.token_limits.specs.Depth.{NestsWithin, with_depth, without_depth};
 ghost use Rattle.token_limits.specs.Limited.{limited};
 ghost use Rattle.token_limits.specs.Limits.{At, Standing, look, looks, most_looks, starts, taken, then_again};
 ghost use Rattle.token_limits.specs.Limits.{within};
@@ -27,11 +27,11 @@ pub fn token_is_taken()
 /// nothing else. A list whose tokens stay within it is not cut. A token that is refused is one too many:
 /// without a bound it would open one collection more than there may be.
 pub fn depth()
-    ensures by_token { (m : yaml_limits_t) (max : ℕ) (s : Standing) (t : yaml_token_t) → taken (bounded max m) s t
-        ≡ within (bounded max m).max_depth t.start_mark (taken (unbounded m) s t) }
+    ensures by_token { (m : yaml_limits_t) (max : ℕ) (s : Standing) (t : yaml_token_t) → taken (with_depth max m) s t
+        ≡ within (with_depth max m).max_depth t.start_mark (taken (without_depth m) s t) }
     ensures of_list { (m : yaml_limits_t) (max : ℕ) (s : Standing) (l : List yaml_token_t) (f : Fault)
-        → StaysWithin max m s l → limited (bounded max m) s l f ≡ limited (unbounded m) s l f }
+        → NestsWithin max m s l → limited (with_depth max m) s l f ≡ limited (without_depth m) s l f }
     ensures one_too_many { (m : yaml_limits_t) (max : ℕ) (w v : Purpose) (c d : Stacks) (t : yaml_token_t)
-        → taken (unbounded m) (At w c) t ≡ At v d → length c.marks ≤ max → max < length d.marks
+        → taken (without_depth m) (At w c) t ≡ At v d → length c.marks ≤ max → max < length d.marks
         → (length c.marks ≡ max) × (length d.marks ≡ max + 1) }
 {}

@@ -3,7 +3,7 @@ ghost use Rattle.std.specs.Prelude.{◌≡◌, length, option_map};
 ghost use Rattle.libyaml_types.specs.Fault.{source_fault};
 ghost use Rattle.libyaml_types.specs.Source.{answer_in};
 ghost use Rattle.libyaml_automaton.specs.Purposes.{kind_and_marks};
-ghost use Rattle.token_limits.specs.Limited.{Takes, new_limiter, refusal, refusing};
+ghost use Rattle.token_limits.specs.Limited.{LimiterTakes, new_limiter, refusal, refusing};
 ghost use Rattle.token_limits.specs.Limits.{At, difference_fault, is_beyond, look, looks, most_looks, taken};
 ghost use Rattle.token_limits.specs.Limits.{scanner_fault_in};
 ghost use Rattle.token_limits.specs.View.{FollowsBy, LooksBy};
@@ -60,7 +60,7 @@ impl token_limiter_t {
     /// That of the first token that is refused, for good: a scanner error, where libyaml does something else
     /// its own words, and `found too many levels` where a collection opens too many. Or out of memory.
     pub fn take(&mut self, token: &yaml_token_t) -> Result<(), yaml_source_fault_t>
-        ensures { Takes self.old token.now (answer_in result token.now) self.new }
+        ensures { LimiterTakes self.old token.now (answer_in result token.now) self.new }
     {
         if let Some(fault) = self.refusal {
             return Err(fault);
@@ -145,7 +145,7 @@ impl Follower {
         }
     }
 
-    /// Takes a token within these limits. Returns whether the automaton took it too.
+    /// LimiterTakes a token within these limits. Returns whether the automaton took it too.
     ///
     /// # Errors
     ///

@@ -1,7 +1,7 @@
 //! A source within limits.
 ghost use Rattle.std.specs.Prelude.{◌≡◌, None};
 ghost use Rattle.libyaml_types.specs.Source.{answer_in};
-ghost use Rattle.token_limits.specs.Limited.{LimitedGives, MayBreakBy, known_by, new_limiter, refusal};
+ghost use Rattle.token_limits.specs.Limited.{LimitedGives, MayBreakBy, known_within, new_limiter, refusal};
 ghost use Rattle.token_limits.specs.LimitedLaws.{limited_falls, limited_follows, limited_repeats};
 
 use crate::limiter::token_limiter_t;
@@ -32,7 +32,7 @@ impl<S> Model for yaml_limited_source_t<S> {
 
 impl<S> yaml_limited_source_t<S> {
     /// Returns a source of the tokens that this one still gives, within limits. The first of them begins a
-    /// stream. Takes no memory.
+    /// stream. LimiterTakes no memory.
     pub fn new(alloc: Global, source: S, limits: yaml_limits_t) -> Self
         ensures { result ≡ record {
           source = source;
@@ -45,7 +45,7 @@ impl<S> yaml_limited_source_t<S> {
         }
     }
 
-    /// Returns the source in its state after the last call. Takes no memory.
+    /// Returns the source in its state after the last call. LimiterTakes no memory.
     pub fn into_source(self) -> S
         ensures { result ≡ self.source }
     {
@@ -75,7 +75,7 @@ impl<S: yaml_token_source_t> yaml_token_source_t for yaml_limited_source_t<S> {
 
     ghost gives = { LimitedGives S.gives };
 
-    ghost known = { λ s. known_by s.limiter (S.known s.source) };
+    ghost known = { λ s. known_within s.limiter (S.known s.source) };
 
     ghost may_break = { λ s. MayBreakBy (S.may_break s.source) };
 

@@ -17,8 +17,8 @@ use Rattle.libyaml_automaton.specs.declared.node_place.NodePlace.{NodePlace}
 use Rattle.libyaml_events.specs.machine.Config.{Config, config_of, is_end_state, start, without_lookahead}
 use Rattle.libyaml_events.specs.machine.Machine.{Progressed, content_after, content_resolved, is_accepted_in, lookahead_after, put, resolve, seen, step, was_declared, with_texts}
 use Rattle.libyaml_events.specs.machine.Want.{AtState, Given, Texts, Want, Wants}
-use Rattle.token_limits.specs.Limited.{limited, passing}
-use Rattle.token_limits.specs.Limits.{Again, At, Done, Looked, Passes, Refuses, Standing, difference_fault, given, let_on, look, looks, most_looks, stepped, taken, then_again, unless, within, without_texts}
+use Rattle.token_limits.specs.Limited.{limited, if_passed}
+use Rattle.token_limits.specs.Limits.{Again, At, Done, Looked, Passes, Refuses, Standing, difference_fault, kept_or_done, let_on, look, looks, most_looks, stepped, taken, then_again, unless_apart, within, without_texts}
 use Rattle.rust_original.proofs.strict.Runs.{StrictOver, runs_so}
 use Rattle.rust_original.specs.parser.Strict as strict
 use Rattle.rust_original.specs.parser.Strict.{Over, Stopped, StrictEnding, StrictFrom, differs_by, to_come}
@@ -44,8 +44,8 @@ module _ (h : Texts) (c : Config) (t : Token) (k : Content) where
   put_like : (a g : Option _) (s : Step) → LooksLike c t (put h a g c t k s) (stepped s)
   put_like a g (automaton.Gives e x) = go e.stays
     where
-      go : (b : Bool) → ((given b x ≡ Again x) × (lookahead_after b t c.lookahead ≡ Some t))
-          ⊎ ((given b x ≡ Done (At automaton.AtState x)) × (lookahead_after b t c.lookahead ≡ c.lookahead))
+      go : (b : Bool) → ((kept_or_done b x ≡ Again x) × (lookahead_after b t c.lookahead ≡ Some t))
+          ⊎ ((kept_or_done b x ≡ Done (At automaton.AtState x)) × (lookahead_after b t c.lookahead ≡ c.lookahead))
       go true = inl (refl, refl)
       go false = inr (refl, refl)
   put_like a g (automaton.Wants n x) = (refl, refl)
@@ -79,8 +79,8 @@ module _ (h : Texts) (c : Config) (t : Token) (k : Content) where
   texts_like (automaton.Wants n x) = put_like None None (automaton.Wants n x)
   texts_like (automaton.Fails f) = put_like None None (automaton.Fails f)
 
-unless_nowhere : (x : Difference) (c : Stacks) (t : KindAndMarks) (l : Looked) → x ≡ Nowhere → unless x c t l ≡ l
-unless_nowhere x c t l e = ap (λ (y : Difference). unless y c t l) e
+unless_nowhere : (x : Difference) (c : Stacks) (t : KindAndMarks) (l : Looked) → x ≡ Nowhere → unless_apart x c t l ≡ l
+unless_nowhere x c t l e = ap (λ (y : Difference). unless_apart y c t l) e
 
 like : (w : Want) (c : Config) (t : Token) → differs_by w c t ≡ Nowhere
     → LooksLike c t (step w c t) (look true w.next (config_of c) (without_texts t))
@@ -130,7 +130,7 @@ refused_so g (Over Ends) e h = absurd h
 refused_so g (Over (Fails v)) e h = inr (h, refl)
 refused_so g (Stopped k a b) e h = (h, refl)
 
--- a run over these tokens, after which the source fails by r.fault
+-- a run over these tokens, with the error after them
 pub record LimitedRun (r : Coming) (w : Want) (c : Config) (e : List Event) (x : StrictEnding) : Type 0 where
   pub events : List Event
   pub ending : Ending
@@ -149,7 +149,7 @@ Out w c [] f e x = LimitedRun (coming [] f) w c e x
 Out w c (t ∷ l) f e x = Beside (taken strict_alone (at w c) t) w c t l f e x
 
 beside : (s : Standing) (w : Want) (c : Config) (t : Token) (l : List Token) (f : Fault) (e : List Event) (x : StrictEnding)
-    → Beside s w c t l f e x → LimitedRun (passing t s (limited strict_alone s l f)) w c e x
+    → Beside s w c t l f e x → LimitedRun (if_passed t s (limited strict_alone s l f)) w c e x
 beside (Refuses g) w c t l f e x h = record {
   events = [];
   ending = Fails g;
@@ -187,7 +187,7 @@ passes_over s w c t l f e y p h = record {
 }
 
 apart : (k : Difference) (c : Stacks) (t : KindAndMarks) (l : Looked) → (k ≡ Nowhere → ⊥)
-    → unless k c t l ≡ Done (Refuses (difference_fault k (top_mark c.marks) t.start_mark))
+    → unless_apart k c t l ≡ Done (Refuses (difference_fault k (top_mark c.marks) t.start_mark))
 apart Nowhere c t l n = absurd (n refl)
 apart _ c t l n = refl
 

@@ -1,5 +1,5 @@
-use Rattle.token_limits.proofs.Looking as lemmas
+use Rattle.token_limits.proofs.Looking.{looked_again}
 use Rattle.token_limits.proofs.laws.token_is_taken.Goals as goal
 
 pub returns : goal.returns
-returns c = lemmas.looked_again
+returns c = looked_again
