@@ -12,7 +12,7 @@ use token_lines::{
 };
 use unsafe_libyaml::{
     yaml_documents_t, yaml_parser_initialize, yaml_parser_load_all, yaml_parser_parse_all,
-    yaml_parser_set_max_entries, yaml_parser_t_prefix, yaml_run_t,
+    yaml_parser_set_max_entries, yaml_parser_t_prefix, yaml_run_t, yaml_token_source_t,
 };
 
 /// So many bytes are read and written at once.
@@ -76,18 +76,28 @@ pub fn are_given_at_once(rt: &(impl Print + AllocGlobal), case: Case<'_>) -> io:
 
 fn write_at_once(alloc: Global, case: Case<'_>, out: &mut Vec<u8>) -> Result<()> {
     match case.given {
-        Given::Events => {
-            let run = yaml_parser_parse_all(alloc, list_of(alloc, case.text.tokens)?)?;
-            write_run(alloc, &run, out)
-        }
-        Given::Nodes => {
-            let all = yaml_parser_load_all(alloc, list_of(alloc, case.text.tokens)?)?;
-            write_all(alloc, &all, out)
-        }
         Given::NodesWithin(_) => {
             out.extend_from_slice(case.text.wanted.as_bytes())?;
             Ok(())
         }
+        given => write_source(alloc, list_of(alloc, case.text.tokens)?, given, out),
+    }
+}
+
+/// Writes all events or all documents of a source, and its fault.
+///
+/// # Errors
+///
+/// An allocation failed.
+pub fn write_source<S: yaml_token_source_t + Drop>(
+    alloc: Global,
+    source: S,
+    given: Given,
+    out: &mut Vec<u8>,
+) -> Result<()> {
+    match given {
+        Given::Events => write_run(alloc, &yaml_parser_parse_all(alloc, source)?, out),
+        _ => write_all(alloc, &yaml_parser_load_all(alloc, source)?, out),
     }
 }
 

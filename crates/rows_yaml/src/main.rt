@@ -13,6 +13,7 @@ mod cuts;
 mod documents;
 mod enums;
 mod failing;
+mod limits;
 mod lines;
 mod loaded;
 mod made_tokens;
@@ -63,6 +64,7 @@ fn show_all(rt: &(impl Files + Print + AllocGlobal), words: &[String]) -> Result
     }
     show_calls(rt, &mut tables)?;
     scanners::show(rt, &mut tables)?;
+    limits::show(rt, &mut tables)?;
     failing::show(rt, &mut tables)?;
     tables.end()
 }

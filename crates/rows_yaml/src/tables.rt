@@ -1,16 +1,21 @@
 //! Tables of lists, read from files.
 
-use crate::{asked, cuts, lines, one_by_one};
+use crate::{asked, cuts, limits, lines, one_by_one};
 use anyhow::{Context, Result};
 use rows_common::{Tables, read_text, show_difference};
 use std::io;
 use std::rt::Files;
+
+/// The tables whose lists libyaml reads alike.
+const SAME_IN_LIBYAML: [&str; 2] = ["suite", "real"];
 
 /// A text of a list.
 #[derive(Copy, Clone)]
 enum View {
     /// What is parsed or loaded.
     Given(Given),
+    /// What is parsed or loaded strictly.
+    Strict(Given),
     /// How many tokens each call has asked for.
     Asked,
 }
@@ -168,6 +173,7 @@ fn is_right(
     text: &str,
 ) -> Result<bool> {
     let view = view_of(text)?;
+    let is_same = SAME_IN_LIBYAML.contains(&table);
     let tokens = read_text(
         rt,
         format!(in rt.alloc(); "{table}/{name}.tokens")?.as_str(),
@@ -177,6 +183,7 @@ fn is_right(
     is_text_right(
         rt,
         view,
+        is_same,
         Text {
             name: name.as_str(),
             tokens: tokens.as_str(),
@@ -189,6 +196,8 @@ fn view_of(text: &str) -> Result<View> {
     Ok(match text {
         "events" => View::Given(Given::Events),
         "nodes" => View::Given(Given::Nodes),
+        "strict-events" => View::Strict(Given::Events),
+        "strict-nodes" => View::Strict(Given::Nodes),
         "asked" => View::Asked,
         _ => {
             let most = text.strip_prefix("nodes@").context("no text of a list")?;
@@ -197,10 +206,19 @@ fn view_of(text: &str) -> Result<View> {
     })
 }
 
-fn is_text_right(rt: &(impl Print + AllocGlobal), view: View, text: Text<'_>) -> Result<bool> {
+fn is_text_right(
+    rt: &(impl Print + AllocGlobal),
+    view: View,
+    is_same: bool,
+    text: Text<'_>,
+) -> Result<bool> {
     match view {
         View::Asked => Ok(asked::is_counted(rt, text)?),
-        View::Given(given) => is_case_right(rt, Case { text, given }),
+        View::Strict(given) => limits::is_strict(rt, Case { text, given }),
+        View::Given(given) => {
+            let case = Case { text, given };
+            Ok(is_case_right(rt, case)? && (!is_same || limits::is_strict(rt, case)?))
+        }
     }
 }
 
