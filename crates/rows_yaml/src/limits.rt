@@ -38,7 +38,7 @@ struct Row {
 }
 
 /// Returns a row with this bound, strict or not.
-fn row(levels: u64, strict: bool, max_depth: Option<usize>, fault: Option<u64>) -> Row {
+fn row_of(levels: u64, strict: bool, max_depth: Option<usize>, fault: Option<u64>) -> Row {
     let limits = yaml_limits_t { strict, max_depth };
     Row {
         levels,
@@ -151,15 +151,15 @@ pub fn show(rt: &(impl Print + AllocGlobal), tables: &mut Tables<'_>) -> Result<
         return Ok(());
     }
     let rows = [
-        row(3, false, None, None),
-        row(3, true, None, None),
-        row(3, true, Some(3), None),
-        row(3, false, Some(2), Some(3)),
-        row(3, true, Some(2), Some(3)),
-        row(1, false, Some(0), Some(1)),
-        row(0, false, Some(0), None),
-        row(60, false, Some(60), None),
-        row(60, true, Some(59), Some(60)),
+        row_of(3, false, None, None),
+        row_of(3, true, None, None),
+        row_of(3, true, Some(3), None),
+        row_of(3, false, Some(2), Some(3)),
+        row_of(3, true, Some(2), Some(3)),
+        row_of(1, false, Some(0), Some(1)),
+        row_of(0, false, Some(0), None),
+        row_of(60, false, Some(60), None),
+        row_of(60, true, Some(59), Some(60)),
     ];
     let mut differ = 0u64;
     for row in &rows {
