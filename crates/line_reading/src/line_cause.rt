@@ -5,7 +5,7 @@ ghost use Rattle.line_reading.specs.tokens.Field.{mark_of};
 ghost use Rattle.line_reading.specs.tokens.LineCause.{cause_of_line, start_cause, end_cause};
 ghost use Rattle.line_reading.specs.tokens.LineCause.{fields_cause, one_field_cause, two_fields_cause};
 ghost use Rattle.line_reading.specs.tokens.LineCause.{scalar_cause, mark_cause, has_large_number};
-ghost use Rattle.line_reading.specs.tokens.LineCause.{is_large_number, texts_cause, text_cause, is_text};
+ghost use Rattle.line_reading.specs.tokens.LineCause.{is_large_number, texts_cause, text_cause, begins_text};
 ghost use Rattle.line_reading.specs.tokens.LineCause.{cause_words};
 
 use crate::field::read_scalar_style;
@@ -144,7 +144,7 @@ fn two_fields_cause(type_: yaml_token_type_t, first: &[u8], second: &[u8]) -> Li
 fn scalar_cause(text: &[u8], style: &[u8]) -> LineCause
     ensures { result ≡ scalar_cause text.now style.now }
 {
-    if !is_text(text) {
+    if !begins_text(text) {
         return LineCause::NoText;
     }
     match read_scalar_style(style) {
@@ -157,7 +157,7 @@ fn scalar_cause(text: &[u8], style: &[u8]) -> LineCause
 fn texts_cause(first: &[u8], second: &[u8]) -> LineCause
     ensures { result ≡ texts_cause first.now second.now }
 {
-    if is_text(first) {
+    if begins_text(first) {
         return text_cause(second);
     }
     LineCause::NoText
@@ -167,15 +167,15 @@ fn texts_cause(first: &[u8], second: &[u8]) -> LineCause
 fn text_cause(field: &[u8]) -> LineCause
     ensures { result ≡ text_cause field.now }
 {
-    if is_text(field) {
+    if begins_text(field) {
         return LineCause::NotUtf8;
     }
     LineCause::NoText
 }
 
 /// Returns whether a field begins with `=`.
-fn is_text(field: &[u8]) -> bool
-    ensures { result ≡ is_text field.now }
+fn begins_text(field: &[u8]) -> bool
+    ensures { result ≡ begins_text field.now }
 {
     match field {
         [b'=', ..] => true,

@@ -8,6 +8,7 @@ pub use Rattle.libyaml_types.specs.Events as MadeEvents
 pub use Rattle.libyaml_types.specs.Models as TypeModels
 pub use Rattle.libyaml_types.specs.Numbers
 pub use Rattle.libyaml_types.specs.Texts
+pub use Rattle.libyaml_types.specs.TokensMade
 pub use Rattle.libyaml_types.specs.Types
 pub use Rattle.libyaml_types.specs.Words
 pub use Rattle.libyaml_grammar.specs.partial.PartialEvents

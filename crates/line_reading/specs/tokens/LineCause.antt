@@ -43,22 +43,22 @@ abbrev pub mark_cause : LineCause → List ℕ → LineCause
 mark_cause cause field = if has_large_number field then LargeNumber else cause
 
 -- a text begins with `=`
-abbrev pub is_text : List ℕ → Bool
-is_text [] = false
-is_text (b ∷ bs) = b == 61
+abbrev pub begins_text : List ℕ → Bool
+begins_text [] = false
+begins_text (b ∷ bs) = b == 61
 
 abbrev pub text_cause : List ℕ → LineCause
-text_cause field = if is_text field then NotUtf8 else NoText
+text_cause field = if begins_text field then NotUtf8 else NoText
 
 abbrev pub texts_cause : List ℕ → List ℕ → LineCause
-texts_cause first second = if is_text first then text_cause second else NoText
+texts_cause first second = if begins_text first then text_cause second else NoText
 
 abbrev pub style_cause : Option yaml_scalar_style_t → LineCause
 style_cause None = UnknownWord
 style_cause (Some style) = NotUtf8
 
 abbrev pub scalar_cause : (text style : List ℕ) → LineCause
-scalar_cause text style = if is_text text then style_cause (scalar_style_of style) else NoText
+scalar_cause text style = if begins_text text then style_cause (scalar_style_of style) else NoText
 
 -- of the further fields of a token
 abbrev pub one_field_cause : yaml_token_type_t → List ℕ → LineCause

@@ -2,7 +2,7 @@
 use Rattle.std.specs.Prelude.{◌≡◌, Option, Some, None, Result, Ok, Err, ℕ, List, String, string_bytes}
 use Rattle.libyaml_types.specs.declared.token.yaml_token_t.{yaml_token_t}
 use Rattle.line_reading.specs.declared.line_problem.LineProblem.{LineProblem}
-use Rattle.line_reading.specs.declared.line_problem.LineProblem.TheVariants as problem
+use Rattle.line_reading.specs.declared.line_problem.LineProblem.TheVariants as line_problem
 use Rattle.line_reading.specs.declared.token_line_error.TokenLineError.{TokenLineError}
 use Rattle.line_reading.specs.declared.token_line_error.TokenLineError.TheVariants.{Memory, Bad}
 use Rattle.line_reading.specs.tokens.LineCause.{cause_of_line}
@@ -24,6 +24,6 @@ IsTextReadAs (Err Memory) there = Unit {0}
 -- and of a line's token, with what is wrong with the line; no other problem comes
 abbrev pub IsLineRead : Result (Unit {0}) LineProblem → yaml_token_t → (line : List ℕ) → Type 0
 IsLineRead (Ok u) value line = token_of_line line ≡ Some value
-IsLineRead (Err (problem.BadTokenLine cause)) value line = (token_of_line line ≡ None) × (cause ≡ cause_of_line line)
-IsLineRead (Err problem.Memory) value line = Unit {0}
+IsLineRead (Err (line_problem.BadTokenLine cause)) value line = (token_of_line line ≡ None) × (cause ≡ cause_of_line line)
+IsLineRead (Err line_problem.Memory) value line = Unit {0}
 IsLineRead (Err _) value line = ⊥
