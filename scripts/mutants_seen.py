@@ -34,6 +34,7 @@ PROGRAMS = {
     "libyaml_documents": ["rows_yaml", "example_outline", "rows_hostile"],
     "libyaml_composer": ["yamltokens", "rows_steps", "rows_yaml", "rows_hostile"],
     "libyaml_loader": ["yamltokens", "rows_yaml", "example_outline", "rows_hostile"],
+    "token_limits": ["rows_yaml"],
     "token_steps": ["rows_steps"],
     "token_steps_c": [],
     "document_steps": ["rows_steps"],
