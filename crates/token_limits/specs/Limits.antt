@@ -88,7 +88,7 @@ abbrev pub then_again : Looked → (Stacks → Standing) → Standing
 then_again (Again c) more = more c
 then_again (Done s) more = s
 
--- Looked at up to n times. A token stays less often than `most_looks`, whatever the stacks (the law `looked_at_again`).
+-- Looked at up to n times. A token stays less often than `most_looks`, whatever the stacks (the law `token_is_taken`).
 unfoldable pub looks : (n : ℕ) → (strict : Bool) → Purpose → Stacks → KindAndMarks → Standing
 looks zero strict w c t = Passes
 looks (suc n) strict w c t = then_again (look strict w c t) (λ d. looks n strict AtState d t)
