@@ -7,11 +7,8 @@ use Rattle.libyaml_automaton.specs.declared.action.Action.TheVariants as action
 use Rattle.libyaml_automaton.specs.declared.automaton.Automaton.{Automaton}
 use Rattle.libyaml_automaton.specs.declared.reading.Reading.{Reading}
 use Rattle.libyaml_automaton.specs.declared.next.Next.{Next}
-use Rattle.libyaml_automaton.specs.declared.next.Next.TheVariants as next
 use Rattle.libyaml_automaton.specs.declared.node_place.NodePlace.{NodePlace}
-use Rattle.libyaml_automaton.specs.Numbers.{next_of}
-use Rattle.libyaml_automaton.specs.Purposes.{purpose_by}
-use Rattle.libyaml_automaton.specs.Fits.{FitsBare, IsFull, IsNothingDone, Stays, SameReading, begins_at, opens_at}
+use Rattle.libyaml_automaton.specs.Fits.{FitsBare, IsFull, IsNothingDone, Stays, begins_at, opens_at}
 use Rattle.libyaml_automaton.specs.Growth.{pushes, begun_place, opens, HasNoRoom}
 
 -- it is full where a stack that it pushes on is
@@ -28,16 +25,6 @@ pub full_marks_where : (n : Next) (k : yaml_token_type_t) (p : NodePlace) (a : A
     → (a ≡ action.FullMarks) ↔ HasNoRoom (opens n k) marks m.marks_count
 full_marks_where n k p a m d marks b s f = rw (b, sym s) f
 
--- what was read is wanted still
-wanted_still : (n : Next) (k : yaml_token_type_t) (p : NodePlace) (r : Reading) (entering place : ℕ)
-    → begun_place n k ≡ Some p → purpose_by n (record r { entering = entering; place = place }) ≡ purpose_by n r
-wanted_still next.AfterProperties k p r e q b = absurd cc
-wanted_still _ k p r e q b = refl
-
-pub stays : (k : yaml_token_type_t) (p : NodePlace) (r d : Reading) (entering place : ℕ)
-    → begun_place (next_of r.next) k ≡ Some p → d ≡ record r { entering = entering; place = place } → SameReading r d
-stays k p r d e q b s = rw s (refl, wanted_still (next_of r.next) k p r e q b)
-
 -- nothing else is undone
 pub full_of : (a : Action) (k : yaml_token_type_t) (r : Reading) → FitsBare a k r ⊎ IsFull a → IsNothingDone a → IsFull a
 full_of action.FullStates k r f u = tt
@@ -47,22 +34,21 @@ full_of action.Document k r (inl f) u = absurd f
 full_of action.AsksContent k r (inl f) u = absurd f
 full_of _ k r (inl f) u = absurd u
 
+stays : (a : Action) (r r' : Reading) → IsFull a → r' ≡ r → Stays a r r'
+stays action.AsksContent r r' f e = absurd f
+stays _ r r' f e = rw e (refl, refl)
+
 -- a node without a state to push lacks room for its mark alone
 pub bare_full : (a : Action) (k : yaml_token_type_t) (r : Reading) → FitsBare a k r → IsFull a → a ≡ action.FullMarks
 bare_full action.FullStates k r f u = absurd f
 bare_full action.FullMarks k r f u = refl
 bare_full _ k r f u = absurd u
 
-full_stays : (a : Action) (r r' : Reading) → IsFull a → SameReading r r' → Stays a r r'
-full_stays action.AsksContent r r' f s = absurd f
-full_stays _ r r' f s = s
-
 -- a node that was begun, where its function did nothing
-pub undone_at : (k : yaml_token_type_t) (p : NodePlace) (a : Action) (m d m' : Automaton) (r s r' : Reading)
-    (states states' : List ℕ) (marks marks' : List yaml_mark_t) (entering place : ℕ)
-    → begun_place (next_of r.next) k ≡ Some p → d ≡ m → s ≡ record r { entering = entering; place = place } → IsFull a
+pub undone_at : (a : Action) (m d m' : Automaton) (r s r' : Reading) (states states' : List ℕ) (marks marks' : List yaml_mark_t)
+    → d ≡ m → s ≡ r → IsFull a
     → (IsFull a → (m' ≡ d) × ((states' ≡ states) × ((marks' ≡ marks) × (r' ≡ s))))
     → (m' ≡ m) × ((states' ≡ states) × ((marks' ≡ marks) × Stays a r r'))
-undone_at k p a m d m' r s r' states states' marks marks' entering place b i j f h =
+undone_at a m d m' r s r' states states' marks marks' i j f h =
     let u = h f in
-    (u.0 ∙ i, (u.1.0, (u.1.1.0, full_stays a r r' f (stays k p r r' entering place b (u.1.1.1 ∙ j)))))
+    (u.0 ∙ i, (u.1.0, (u.1.1.0, stays a r r' f (u.1.1.1 ∙ j))))

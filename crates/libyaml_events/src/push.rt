@@ -18,6 +18,12 @@ use libyaml_types::{yaml_error_type_t, yaml_event_t, yaml_parser_t_prefix, yaml_
 use std::alloc::Global;
 use std::marker::Model;
 
+/// Names the steps whose event is put in place (`TokenParser::step`).
+pub(crate) struct InPlace;
+
+/// Names those whose event is put aside first.
+pub(crate) struct Aside;
+
 /// A parser that is handed one token after another.
 #[derive(Drop)]
 pub struct yaml_push_parser_t {
@@ -65,6 +71,7 @@ impl yaml_push_parser_t {
     ///
     /// An error of the grammar, or out of memory if an allocation failed. The parser keeps the error for
     /// good, and each further call returns it.
+    #[inline(always)]
     pub fn push(
         &mut self,
         token: yaml_token_t,
@@ -84,6 +91,7 @@ impl yaml_push_parser_t {
     /// # Errors
     ///
     /// Those of `push`.
+    #[inline(always)]
     pub fn push_from(
         &mut self,
         token: &mut yaml_token_t,
@@ -93,14 +101,14 @@ impl yaml_push_parser_t {
             events.old.items (done_of result) self.new events.new.items }
         ensures error { IfErr result (λ f. fault_of f ≡ fault_in self.new) }
     {
-        match self.take_from(token, events) {
-            Ok(()) => Ok(()),
-            Err(_) => Err(*self.prefix()),
+        if self.take_from(token, events).is_err() {
+            return Err(*self.prefix());
         }
+        Ok(())
     }
 
-    /// Takes the token in this variable, and returns the kind of an error.
-    #[inline(always)]
+    /// Takes the token in this variable, and returns the kind of an error: two scalars. The whole error is put
+    /// in its place by the caller's own code, into which `push` and `push_from` are inlined.
     fn take_from(
         &mut self,
         token: &mut yaml_token_t,
@@ -204,7 +212,7 @@ impl TokenParser {
     {
         let place = events.len();
         events.push_reserved(no_event());
-        match self.step(token, pending, &mut events[place]) {
+        match self.step::<InPlace>(token, pending, &mut events[place]) {
             Step::Given => Step::Given,
             Step::GivenBefore => Step::GivenBefore,
             Step::Wants => {
@@ -234,7 +242,7 @@ impl TokenParser {
         ensures ready { result ≡ Step.Wants → Ready pending.new self.new }
     {
         let mut event = no_event();
-        let step = self.step(token, pending, &mut event);
+        let step = self.step::<Aside>(token, pending, &mut event);
         match step {
             Step::Wants => return Step::Wants,
             Step::Failed => return Step::Failed,

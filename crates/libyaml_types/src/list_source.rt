@@ -81,6 +81,7 @@ impl yaml_token_source_t for yaml_list_source_t {
         }
     }
 
+    #[inline(always)]
     fn next_token_into(&mut self, token: &mut yaml_token_t) -> Result<(), yaml_source_fault_t> {
         let Some(next) = self.tokens.next() else {
             return Err(self.fault);

@@ -129,6 +129,7 @@ impl<R: BufRead> yaml_token_source_t for yaml_line_source_t<R> {
     /// Puts the token of the next line straight into `token`; after an error its value is unspecified.
     ///
     /// A line that lies whole in the reader's buffer, with its LF, is read there; any other is copied first.
+    #[inline(always)]
     fn next_token_into(&mut self, token: &mut yaml_token_t) -> Result<(), yaml_source_fault_t>
         ensures gives { Gives R.remaining self.old (answer_in result token.new) self.new }
         ensures leaves { IfOk result (λ _. IsAfterLine (R.remaining self.old.reader)

@@ -40,8 +40,6 @@ told_in_step action.Document k r s f n m d c = d refl
 told_in_step action.AsksContent k r s f n m d c = c refl
 told_in_step action.AsksVersion k r s f n m d c = f
 told_in_step action.AsksHandle k r s f n m d c = f
-told_in_step action.Enter k r s f n m d c = f
-told_in_step action.Node k r s f n m d c = f
 told_in_step _ k r s f n m d c = tt
 
 pub told_in_document : (a : Action) (k : yaml_token_type_t) (r : Reading) (s : yaml_parser_state_t) → FitsDocument a k r s
@@ -52,8 +50,6 @@ told_in_document action.AsksHandle k r s f n d c = c refl
 told_in_document action.FullMarks k r s f n d c = f
 told_in_document action.Document k r s f n d c = f
 told_in_document action.AsksContent k r s f n d c = f
-told_in_document action.Enter k r s f n d c = f
-told_in_document action.Node k r s f n d c = f
 told_in_document _ k r s f n d c = tt
 
 pub told_content : (a : Action) (k : yaml_token_type_t) (r : Reading) → FitsContent a k r → (a ≡ action.FullMarks → ⊥)
@@ -64,8 +60,6 @@ told_content action.AsksVersion k r f n = f
 told_content action.AsksHandle k r f n = f
 told_content action.AsksContent k r f n = f
 told_content action.FullStates k r f n = f
-told_content action.Enter k r f n = f
-told_content action.Node k r f n = f
 told_content _ k r f n = tt
 
 -- what is wanted
@@ -288,8 +282,6 @@ asks_nothing s action.AsksHandle h t r c e x = absurd x
 asks_nothing s action.AsksContent h t r c e x = absurd x
 asks_nothing s action.FullStates h t r c e x = absurd x
 asks_nothing s action.FullMarks h t r c e x = absurd x
-asks_nothing s action.Enter h t r c e x = absurd x
-asks_nothing s action.Node h t r c e x = absurd x
 asks_nothing s _ h t r c e x = ap is_asking e
 
 plainly : (tag : ℕ) (t : StepToken) (s : Step) → is_asking s ≡ false → with_facts tag t s ≡ put_by_fact NoTag tag t s

@@ -66,8 +66,6 @@ IsTold action.AsksHandle = ⊥
 IsTold action.AsksContent = ⊥
 IsTold action.FullStates = ⊥
 IsTold action.FullMarks = ⊥
-IsTold action.Enter = ⊥
-IsTold action.Node = ⊥
 IsTold _ = Unit {0}
 
 -- a property alone has the next token wanted after properties, and g is the tag of the node that the event is of

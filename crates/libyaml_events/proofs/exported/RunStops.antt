@@ -3,7 +3,6 @@ use Rattle.std.proofs.Common.{◌≡◌, ◌⊎◌, inl, inr, List, [], ◌∷�
 use Rattle.std.proofs.lemmas.Bool.{both_ways}
 use Rattle.libyaml_types.specs.Fault.{SourceResult, Fault, no_fault}
 use Rattle.libyaml_grammar.specs.grammar.Tokens.{Token}
-use Rattle.libyaml_grammar.specs.grammar.Trees.{tokens}
 use Rattle.libyaml_grammar.specs.grammar.Events.{Event}
 use Rattle.libyaml_grammar.specs.grammar.ValidLists.{has_end}
 use Rattle.libyaml_grammar.specs.partial.DeterminedEvents.{Begins}

@@ -13,8 +13,8 @@ use Rattle.libyaml_events.specs.automaton.View.{InStep, Ready}
 use Rattle.libyaml_events.proofs.calls.CallLemmas.{taken_same}
 
 -- a variable in which no token stays adds none
-pub without_lookahead : (l : Lookahead) (c : Config) → l.stays ≡ false → c.lookahead ≡ None → with_lookahead l c ≡ c
-without_lookahead l c s n
+pub adds_no_token : (l : Lookahead) (c : Config) → l.stays ≡ false → c.lookahead ≡ None → with_lookahead l c ≡ c
+adds_no_token l c s n
     = ap (λ (b : Bool). let x : Config = record c { lookahead = token_if b l.token } in x) s ∙ taken_same c n
 
 fetched_at : {S : Type 0} (gives : S → SourceResult → S → Type 0) (o : Option yaml_token_t) (old now : Parser S)

@@ -9,17 +9,21 @@ use crate::parser::TokenParser;
 use libyaml_types::{yaml_error_type_t, yaml_token_source_t, yaml_token_t};
 
 impl TokenParser {
-    /// Asks the source for a token, and keeps its error for good.
-    fn ask_source<S: yaml_token_source_t>(
+    /// Asks the source for a token. An error of the source is kept for good.
+    #[inline(always)]
+    #[tactic(auto, using(crate::proofs::code::SourceErrors::source_error_is_fault))]
+    pub(crate) fn ask_source<S: yaml_token_source_t>(
         &mut self,
         source: &mut S,
         token: &mut yaml_token_t,
     ) -> Result<(), yaml_error_type_t>
-        ensures error { IfErr result IsSourceError }
-        ensures gives { MatchResult result
-            (λ _. S.gives source.old (Ok token.new) source.new × (self.new ≡ self.old))
-            (λ e. S.gives source.old (Err self.new.fault) source.new
-            × (self.new ≡ with_fault self.old self.new.fault) × (e ≡ self.new.fault.error)) }
+        requires none { self.old.lookahead ≡ None }
+        ensures fetches { (max : ℤ) → MatchResult result
+            (λ _. Fetches S.gives (parser max source.old self.old) (Ok token.new)
+            (parser max source.new self.new))
+            (λ e. Fetches S.gives (parser max source.old self.old) (Err e) (parser max source.new self.new)) }
+        ensures none { self.new.lookahead ≡ None }
+        ensures error { IfErr result (λ e. is_fault e ≡ true) }
     {
         match source.next_token_into(token) {
             Ok(()) => Ok(()),
@@ -30,9 +34,7 @@ impl TokenParser {
         }
     }
 
-    /// Puts the source's next token into `lookahead`, unless a token stays there. An error of the source is
-    /// kept for good.
-    #[tactic(auto, using(crate::proofs::code::SourceErrors::source_error_is_fault))]
+    /// Puts the call's first token into `lookahead`: the one that stays there, or else the source's.
     pub(crate) fn next_token<S: yaml_token_source_t>(
         &mut self,
         source: &mut S,

@@ -1,4 +1,4 @@
-use Rattle.std.proofs.Common.{None, ◌≡◌, ap}
+use Rattle.std.proofs.Common.{None, ap}
 use Rattle.libyaml_types.specs.Fault.{fault_of}
 use Rattle.libyaml_events.specs.machine.Config.{Config, handles_of}
 use Rattle.libyaml_events.proofs.layer.StepWithTexts.{still_ready}
