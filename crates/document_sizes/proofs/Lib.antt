@@ -7,3 +7,7 @@ pub mod Events
 pub mod Running
 pub mod Later
 pub mod Stops
+pub mod NestedEvents
+pub mod LeftValues
+pub mod ParserRunning
+pub mod ParserLaws

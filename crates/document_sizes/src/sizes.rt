@@ -1,10 +1,12 @@
 //! The count.
-ghost use Rattle.std.specs.Prelude.{◌≡◌, ◌≤◌, ◌<◌, ◌+◌, ◌^◌, ◌≤ℤ◌, ◌<ℤ◌, ◌↔◌, ℕ, pos, List, IfSome, Some, length};
+ghost use Rattle.std.specs.Prelude.{◌≡◌, ◌≤◌, ◌<◌, ◌+◌, ◌^◌, ◌≤ℤ◌, ◌<ℤ◌, ◌↔◌};
+ghost use Rattle.std.specs.Prelude.{ℕ, pos, List, IfSome, Some, length};
 ghost use Rattle.libyaml_composer.specs.Composing.{is_start};
 ghost use Rattle.libyaml_composer.specs.Numbers.{is_id};
 ghost use Rattle.libyaml_composer.specs.Represents.{PutsNode};
 ghost use Rattle.document_sizes.specs.Counting.{at_alias, at_child, at_end, at_node, bound_of, count_of};
-ghost use Rattle.document_sizes.specs.Counting.{IsBad, counting, is_open, more_of, new_number, place_among, size_at, with_more};
+ghost use Rattle.document_sizes.specs.Counting.{IsBad, counting, is_open, more_of, new_number};
+ghost use Rattle.document_sizes.specs.Counting.{place_among, size_at, with_more};
 
 use crate::counted::Counted;
 use libyaml_composer::{Deed, place_t};

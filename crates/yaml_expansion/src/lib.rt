@@ -6,10 +6,12 @@
 
 mod children;
 mod error;
+mod fault;
 pub mod laws;
 mod measure;
 mod size;
 mod walk;
 
 pub use error::yaml_expansion_error_t;
+pub use fault::bounded_size;
 pub use measure::expanded_size;
