@@ -4,8 +4,8 @@ use anyhow::Result;
 use std::alloc::Global;
 use std::fmt::Write;
 use unsafe_libyaml::{
-    unnamed_yaml_event_t_data, yaml_event_t, yaml_list_source_t, yaml_parser_initialize,
-    yaml_token_t,
+    unnamed_yaml_event_t_data, yaml_event_t, yaml_list_source_t, yaml_parser_composed_events,
+    yaml_parser_initialize, yaml_token_source_t, yaml_token_t,
 };
 
 /// Returns by how many levels the events after this one are deeper.
@@ -50,6 +50,26 @@ pub fn outline_of(alloc: Global, tokens: Vec<yaml_token_t>) -> Result<String> {
     let mut outline = String::new(alloc);
     let mut depth = 0u32;
     for event in parser.by_ref() {
+        let event = event?;
+        write_line(&mut outline, &event, depth)?;
+        depth = depth.saturating_add_signed(i32::from(depth_change(&event)));
+    }
+    Ok(outline)
+}
+
+/// Returns the outline of the events of a source, which has to load.
+///
+/// # Errors
+///
+/// The error of the source, of the grammar or of the loader, or that memory ran out.
+pub fn loadable_outline_of<S: yaml_token_source_t + Drop>(
+    alloc: Global,
+    source: S,
+) -> Result<String> {
+    let mut parser = yaml_parser_initialize(alloc, source);
+    let mut outline = String::new(alloc);
+    let mut depth = 0u32;
+    for event in yaml_parser_composed_events(&mut parser) {
         let event = event?;
         write_line(&mut outline, &event, depth)?;
         depth = depth.saturating_add_signed(i32::from(depth_change(&event)));

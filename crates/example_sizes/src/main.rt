@@ -12,7 +12,7 @@ use std::io::BufReader;
 use std::process::ExitCode;
 use token_lines::yaml_line_source_t;
 use unsafe_libyaml::{yaml_document_t, yaml_parser_documents, yaml_parser_initialize};
-use yaml_expansion::expanded_size;
+use yaml_expansion::bounded_size;
 
 /// How many bytes are read at once.
 const BUFFER_SIZE: usize = 1 << 16;
@@ -63,7 +63,7 @@ fn print_sizes(rt: &HostRuntime, max: u64) -> Result<bool> {
 /// Prints the line of a document, and returns whether it has a size up to the bound.
 fn print_size(rt: &HostRuntime, document: &yaml_document_t, max: u64) -> Result<bool> {
     let count = document.nodes().len();
-    match expanded_size(rt.alloc(), document, max) {
+    match bounded_size(rt.alloc(), document, max) {
         Ok(size) => {
             println!(rt; "{count} nodes, {size} with aliases written out")?;
             Ok(true)

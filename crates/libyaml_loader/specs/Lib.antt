@@ -1,3 +1,4 @@
+pub mod composed
 pub mod document
 pub mod loads
 pub mod pushes

@@ -457,7 +457,7 @@ pub(crate) fn empty_document(alloc: Global) -> yaml_document_t
 ///
 /// The error.
 #[inline(always)]
-fn accepted(deed: Deed) -> Result<Deed, Refusal>
+pub(crate) fn accepted(deed: Deed) -> Result<Deed, Refusal>
     ensures ok { IfOk result (λ d. (d ≡ deed) × (IsRefused deed → ⊥)) }
     ensures err { IfErr result (λ r. IsRefused deed × (r ≡ refusal_of deed)) }
 {

@@ -6,7 +6,7 @@ pub mod determined;
 ghost use Rattle.std.specs.Prelude.{◌≡◌, ◌≤◌, ◌*◌, ◌++◌, ℕ, List, [], Err, Some, length, false, true};
 ghost use Rattle.libyaml_types.specs.Fault.{Fault};
 ghost use Rattle.libyaml_types.specs.Source.{coming};
-ghost use Rattle.libyaml_grammar.specs.runs.Runs.{Ending, Ends};
+ghost use Rattle.libyaml_grammar.specs.runs.Runs.{Ending, Ends, IsRun};
 ghost use Rattle.libyaml_grammar.specs.grammar.Events.{Event};
 ghost use Rattle.libyaml_grammar.specs.grammar.Nesting.{NestsSoFar};
 ghost use Rattle.libyaml_grammar.specs.grammar.ValidLists.{has_end};
@@ -18,6 +18,9 @@ ghost use Rattle.libyaml_events.specs.sources.RunToCome.{RunToCome};
 ghost use Rattle.libyaml_graphs.specs.loads.Bounds.{IsBoundedLoads, bounded_loads, next_bounded};
 ghost use Rattle.libyaml_graphs.specs.loads.Linear.{documents_size};
 ghost use Rattle.libyaml_graphs.specs.loads.Loads.{Load, last_load, left_over};
+ghost use Rattle.libyaml_loader.specs.composed.ComposedEvents.{ComposedEvents};
+ghost use Rattle.libyaml_loader.specs.composed.ComposedLoops.{AreComposedOf, LoopComposes};
+ghost use Rattle.libyaml_loader.specs.composed.EventComposer.{new_event_composer};
 ghost use Rattle.libyaml_loader.specs.document.Ids.{magnitude};
 ghost use Rattle.libyaml_loader.specs.loads.Loading.{DocumentOrError, LoadsFrom};
 ghost use Rattle.libyaml_loader.specs.loads.LoadsInTurn.{AreLoadsOf, LoopYields};
@@ -41,6 +44,22 @@ pub fn loop_yields_loads<S: yaml_token_source_t>()
         (x : Ending) → RunToCome S.known old e x → NestsSoFar e
         → LoopYields S.yaml_token_source_t old documents ending new
         → AreLoadsOf S.may_break new documents ending (bounded_loads (magnitude old.max_entries) e x) }
+{}
+
+/// What a whole loop over the composed events of a parser yielded, over a list of tokens from the start, or
+/// over events that are to come: exactly the run's events up to the first with which a load fails, and an error
+/// only if the run's loads end with it; or memory ran out, or the source failed early, after a prefix of these
+/// events.
+pub fn composed_events_are_loads<S: yaml_token_source_t>()
+    ensures of_list { (n : ℕ) (old new : ComposedEvents S) (yielded : List Event) (ending : Ending)
+        (l : List Token) (f : Fault) (e : List Event) (x : Ending) → old.composer ≡ new_event_composer n
+        → History old.parser [] [] → S.known old.parser.source ≡ Some (coming l f) → IsRun l f e x
+        → LoopComposes S.yaml_token_source_t old yielded ending new
+        → AreComposedOf S.may_break new.parser n yielded ending e x }
+    ensures of_run { (n : ℕ) (old new : ComposedEvents S) (yielded : List Event) (ending : Ending)
+        (e : List Event) (x : Ending) → old.composer ≡ new_event_composer n
+        → RunToCome S.known old.parser e x → LoopComposes S.yaml_token_source_t old yielded ending new
+        → AreComposedOf S.may_break new.parser n yielded ending e x }
 {}
 
 /// What a load says of each run that its parser had to come: a document is the run's first load, and the

@@ -2,9 +2,11 @@
 #![tactic(auto)]
 
 mod anchors;
+mod composed_events;
 mod composer;
 mod context;
 mod documents;
+mod event_composer;
 mod ids;
 pub mod laws;
 mod load;
@@ -12,6 +14,8 @@ mod push;
 mod refusal;
 mod stack;
 
+pub use composed_events::{yaml_parser_composed_events, yaml_parser_composed_events_t};
 pub use documents::{yaml_parser_documents, yaml_parser_documents_t};
+pub use event_composer::event_composer_t;
 pub use load::yaml_parser_load;
 pub use push::yaml_push_loader_t;

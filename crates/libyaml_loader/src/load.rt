@@ -117,7 +117,7 @@ fn next_document<S: yaml_token_source_t>(
 }
 
 /// How many entries each list may have.
-fn bound_of<S>(parser: &yaml_parser_t<S>) -> u32
+pub(crate) fn bound_of<S>(parser: &yaml_parser_t<S>) -> u32
     ensures value { result ≡ magnitude parser.now.max_entries }
     ensures most { result ≤ 2147483647 }
 {

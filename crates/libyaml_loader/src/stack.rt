@@ -104,6 +104,36 @@ impl OpenCollections {
         Ok(self.step(kind, fact, place))
     }
 
+    /// Takes any event, also one between documents, by its kind and fact. Returns what is to be done, never
+    /// `FullStack`.
+    ///
+    /// # Errors
+    ///
+    /// An allocation failed, at the start of a collection.
+    #[tactic(auto, using(libyaml_composer::proofs::exported::Full::full_starts))]
+    pub(crate) fn take_any(
+        &mut self,
+        kind: yaml_event_type_t,
+        fact: i32,
+        place: &mut place_t,
+    ) -> Result<Deed, AllocError>
+        ensures ok { IfOk result (λ d. (room : ℕ) × (told d place.new self.new
+            ≡ composer_step kind fact place.old (roomy room self.old))) }
+        ensures roomy { IfOk result (λ d. d ≡ Deed.FullStack → ⊥) }
+        ensures err { OnErr result (is_start kind ≡ true) }
+    {
+        self.make_room(kind)?;
+        Ok(self.step_any(kind, fact, place))
+    }
+
+    /// Takes any event, if the stack has room for what it opens.
+    fn step_any(&mut self, kind: yaml_event_type_t, fact: i32, place: &mut place_t) -> Deed
+        ensures tells { told result place.new self.new ≡ composer_step kind fact place.old self.old }
+    {
+        let stack = self.entries.as_mut_slice();
+        self.composer.compose(stack, kind, fact, place)
+    }
+
     /// Returns whether the stack has no room for one more.
     #[inline(always)]
     #[tactic(auto, using(libyaml_composer::proofs::exported::Stacks::depth_is))]

@@ -3,7 +3,8 @@ use Rattle.std.proofs.Common.{◌≡◌, ◌<◌, ◌≤◌, ◌+◌, ◌∙◌,
 use Rattle.libyaml_types.specs.declared.mark.yaml_mark_t.{yaml_mark_t}
 use Rattle.libyaml_automaton.specs.Automaton.{AtState, KindAndMarks, Purpose}
 use Rattle.libyaml_automaton.specs.Config.{Stacks}
-use Rattle.token_limits.specs.Limits.{Again, At, Done, Looked, Standing, look, looks, most_looks, then_again}
+use Rattle.token_limits.specs.Limits.{Again, At, Done, Looked, LooksTo, Standing, look, looks, most_looks, then_again}
+use Rattle.token_limits.specs.Limits as limits
 use Rattle.token_limits.proofs.Steps.{LookedFact, look_fact, room, room_small}
 
 none : (strict : Bool) (w : Purpose) (c : Stacks) (t : KindAndMarks) (n : ℕ)
@@ -74,3 +75,26 @@ pub falls_so : (strict : Bool) (w : Purpose) (c : Stacks) (t : KindAndMarks) (v 
     → (look strict w c t ≡ Again d) × (v ≡ AtState) → room v d t.kind < room w c t.kind
 falls_so strict w c t v d e = subst (λ (x : Purpose). room x d t.kind < room w c t.kind) (sym e.1)
     (subst (LookedFact t.kind c.marks (room w c t.kind)) e.0 (look_fact strict w c t)).0
+
+-- the standing to which it leads
+pub led_to : (strict : Bool) (t : KindAndMarks) (w : Purpose) (c : Stacks) (s : Standing) → LooksTo strict t w c s
+    → looks (most_looks c) strict w c t ≡ s
+led_to strict t w c s (limits.at_once w' c' s' e) = done_so strict w' c' t s' e
+led_to strict t w c s (limits.at_last w' c' d s' e h) = again_so strict w' c' t AtState d (e, refl) ∙ led_to strict t AtState d s' h
+
+leads_within : (n : ℕ) (strict : Bool) (t : KindAndMarks) (w : Purpose) (c : Stacks) (s : Standing)
+    → looks (most_looks c) strict w c t ≡ s → room w c t.kind < n → LooksTo strict t w c s
+leads_within zero strict t w c s e lt = absurd (omega (arith, lt))
+leads_within (suc n) strict t w c s e lt = by (look strict w c t) refl
+    (λ d is less. leads_within n strict t AtState d s (sym (again_so strict w c t AtState d (is, refl)) ∙ e) less)
+  where
+    by : (l : Looked) → look strict w c t ≡ l
+        → ((d : Stacks) → look strict w c t ≡ Again d → room AtState d t.kind < n → LooksTo strict t AtState d s)
+        → LooksTo strict t w c s
+    by (Done x) is ih = limits.at_once w c s (is ∙ ap Done (sym (done_so strict w c t x is) ∙ e))
+    by (Again d) is ih =
+        let less = falls_so strict w c t AtState d (is, refl) in limits.at_last w c d s is (ih d is (omega (arith, less, lt)))
+
+pub leads_to : (strict : Bool) (t : KindAndMarks) (w : Purpose) (c : Stacks) (s : Standing) → looks (most_looks c) strict w c t ≡ s
+    → LooksTo strict t w c s
+leads_to strict t w c s e = leads_within (suc (room w c t.kind)) strict t w c s e (omega arith)

@@ -1,7 +1,7 @@
 -- Which tokens a limiter passes (docs/DEFINITIONS.md, "Limits"): it takes each through the automaton without texts before the
 -- parser does, and refuses the first where libyaml does something else, or that opens a collection too many. In each function t is
 -- the token without its texts.
-use Rattle.std.specs.Prelude.{◌+◌, ℕ, zero, suc, List, Bool, true, false, Option, None, Some, codes, length, nat_lt, if◌then◌else◌}
+use Rattle.std.specs.Prelude.{◌≡◌, ◌+◌, ℕ, zero, suc, List, Bool, true, false, Option, None, Some, codes, length, nat_lt, if◌then◌else◌}
 use Rattle.libyaml_types.specs.Fault.{Fault, scanner_fault}
 use Rattle.libyaml_types.specs.Types.{token_type}
 use Rattle.libyaml_types.specs.declared.enums.yaml_token_type_t.{yaml_token_type_t}
@@ -88,7 +88,13 @@ abbrev pub then_again : Looked → (Stacks → Standing) → Standing
 then_again (Again c) more = more c
 then_again (Done s) more = s
 
--- Looked at up to n times. A token stays less often than `most_looks`, whatever the stacks (the law `token_is_taken`).
+-- Looked at until it doesn't stay, it leads from these stacks to this standing.
+pub data LooksTo (strict : Bool) (t : KindAndMarks) : Purpose → Stacks → Standing → Type 0 where
+  at_once : (w : Purpose) (c : Stacks) (s : Standing) → look strict w c t ≡ Done s → LooksTo strict t w c s
+  at_last : (w : Purpose) (c d : Stacks) (s : Standing) → look strict w c t ≡ Again d → LooksTo strict t AtState d s
+      → LooksTo strict t w c s
+
+-- That standing, as a function: looked at up to n times. `most_looks` are always enough (the law `token_is_taken`).
 unfoldable pub looks : (n : ℕ) → (strict : Bool) → Purpose → Stacks → KindAndMarks → Standing
 looks zero strict w c t = Passes
 looks (suc n) strict w c t = then_again (look strict w c t) (λ d. looks n strict AtState d t)

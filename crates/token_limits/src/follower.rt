@@ -4,7 +4,8 @@ ghost use Rattle.libyaml_types.specs.declared.mark.yaml_mark_t.{yaml_mark_t};
 ghost use Rattle.libyaml_automaton.specs.Config.{Within, marks_of, top_mark};
 ghost use Rattle.libyaml_automaton.specs.Differing.{differs};
 ghost use Rattle.libyaml_automaton.specs.Purposes.{kind_and_marks};
-ghost use Rattle.token_limits.specs.View.{MovesBy, fact_that_goes_on, first_followed, followed_in, followed_step};
+ghost use Rattle.token_limits.specs.View.{MovesBy, fact_that_goes_on, first_followed, followed_in};
+ghost use Rattle.token_limits.specs.View.{followed_step};
 
 use libyaml_types::{ZERO_MARK, yaml_mark_t, yaml_token_type_t};
 use std::alloc::{AllocError, Global};
@@ -94,7 +95,7 @@ fn make_room_for_mark(marks: &mut Vec<yaml_mark_t>, count: usize) -> Result<(), 
     Ok(())
 }
 
-/// LimiterTakes a token once. Where its texts decide, the automaton goes on.
+/// Takes a token once. Where its texts decide, the automaton goes on.
 ///
 /// # Errors
 ///
@@ -108,8 +109,10 @@ fn step_on(
 ) -> Result<Move, AllocError>
     requires { Within steps.old.machine states.old marks.old }
     ensures within { Within steps.new.machine states.new marks.new }
-    ensures moves { IfOk result (λ moved. MovesBy moved (followed_step (followed_in steps.old states.old marks.old)
-        (kind_and_marks kind at.now.start_mark at.now.end_mark)) (followed_in steps.new states.new marks.new)) }
+    ensures moves { IfOk result (λ moved. MovesBy moved
+        (followed_step (followed_in steps.old states.old marks.old)
+        (kind_and_marks kind at.now.start_mark at.now.end_mark))
+        (followed_in steps.new states.new marks.new)) }
 {
     steps.tag = DECLARED_TAG;
     let mut event = NO_EVENT;
@@ -178,7 +181,7 @@ impl Follower {
         self.steps.machine.marks_count
     }
 
-    /// LimiterTakes a token once. Where its texts decide, the automaton goes on.
+    /// Takes a token once. Where its texts decide, the automaton goes on.
     ///
     /// # Errors
     ///
@@ -204,7 +207,7 @@ impl Follower {
         make_room_for_mark(&mut self.marks, self.steps.machine.marks_count)
     }
 
-    /// LimiterTakes a token once, over stacks that have room.
+    /// Takes a token once, over stacks that have room.
     fn step_in_room(
         &mut self,
         kind: yaml_token_type_t,

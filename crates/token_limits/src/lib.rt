@@ -1,7 +1,7 @@
 //! Limits on tokens before a parser takes them: libyaml's own language, and a bound on depth.
 //!
-//! A parser over a limited source reads these tokens alone. A parser that is handed its tokens is limited by a
-//! call of the limiter before each push.
+//! A parser over a limited source reads these tokens alone. A parser that is handed its tokens is limited by
+//! a call of the limiter before each push.
 #![tactic(auto)]
 
 mod follower;

@@ -145,7 +145,7 @@ impl Follower {
         }
     }
 
-    /// LimiterTakes a token within these limits. Returns whether the automaton took it too.
+    /// Takes a token within these limits. Returns whether the automaton took it too.
     ///
     /// # Errors
     ///

@@ -32,7 +32,7 @@ impl<S> Model for yaml_limited_source_t<S> {
 
 impl<S> yaml_limited_source_t<S> {
     /// Returns a source of the tokens that this one still gives, within limits. The first of them begins a
-    /// stream. LimiterTakes no memory.
+    /// stream. Takes no memory.
     pub fn new(alloc: Global, source: S, limits: yaml_limits_t) -> Self
         ensures { result ≡ record {
           source = source;
@@ -45,7 +45,7 @@ impl<S> yaml_limited_source_t<S> {
         }
     }
 
-    /// Returns the source in its state after the last call. LimiterTakes no memory.
+    /// Returns the source in its state after the last call. Takes no memory.
     pub fn into_source(self) -> S
         ensures { result ≡ self.source }
     {

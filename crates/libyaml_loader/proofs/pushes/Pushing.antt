@@ -24,7 +24,6 @@ use Rattle.libyaml_events.specs.sources.Pushes as pushes
 use Rattle.libyaml_events.specs.sources.Pushes.{Done, NeedsMemory, Pushes, Stops, Takes, done_by, for_event, for_step}
 use Rattle.libyaml_events.proofs.exported.Pushes.{fed_begins_run, fed_count, fed_ended, fed_faultless, fed_determined, fed_whole}
 use Rattle.libyaml_events.proofs.exported.RunStops.{short_run, whole_run}
-use Rattle.libyaml_loader.specs.pushes.Composing as composing
 use Rattle.libyaml_loader.specs.pushes.Composing.{Composes, RefusesEvent, RefusesOneOf, by_loads, by_memory as no_memory, state_by, composer_state}
 use Rattle.libyaml_graphs.specs.loads.Leads.{Leads, as_loads, loads_from}
 use Rattle.libyaml_loader.specs.pushes.Loaded.{ForLoaded, Loaded, PushLoader, RemembersLoads, loader_has_stopped, loader_keeps_fault, standing_loader}

@@ -1,10 +1,7 @@
-use Rattle.std.proofs.Common.{◌≡◌, ◌≤◌, Err, Ok, ap, rules, subst, sym, ◌∙◌}
+use Rattle.std.proofs.Common.{◌≡◌, ◌≤◌, Err, Ok, ap, rules, sym, ◌∙◌}
 use Rattle.std.specs.Vec.{vec_capacity, vec_len}
-use Rattle.libyaml_events.specs.sources.Pushes.{Pushes, done_by, done_of}
+use Rattle.libyaml_events.specs.sources.Pushes.{done_by, done_of}
 use Rattle.libyaml_types.specs.Fault.{fault_of}
-use Rattle.libyaml_loader.specs.pushes.Composing.{composer_state}
-use Rattle.libyaml_loader.specs.pushes.Loaded.{standing_loader}
-use Rattle.libyaml_loader.specs.pushes.PushesLoads.{PushesLoads}
 use Rattle.libyaml_loader.proofs.pushes.Pushing.{kept_fault, on_ok, push_remembers, pushes_failed, pushes_ok, pushes_refused}
 use Rattle.libyaml_loader.proofs.push.yaml_push_loader_t.take_from.Goals as goal
 

@@ -1,0 +1,4 @@
+pub mod Anchoring
+pub mod EventComposer
+pub mod ComposedEvents
+pub mod ComposedLoops
