@@ -23,8 +23,9 @@ pub use libyaml_events::{
 };
 pub use libyaml_graphs::laws as graph_laws;
 pub use libyaml_loader::{
-    laws as loader_laws, yaml_parser_documents, yaml_parser_documents_t, yaml_parser_load,
-    yaml_push_loader_t,
+    event_composer_t, laws as loader_laws, yaml_parser_composed_events,
+    yaml_parser_composed_events_t, yaml_parser_documents, yaml_parser_documents_t,
+    yaml_parser_load, yaml_push_loader_t,
 };
 pub use libyaml_types::{
     ZERO_MARK, laws as type_laws, unnamed_yaml_event_t_data, unnamed_yaml_event_t_data_alias,

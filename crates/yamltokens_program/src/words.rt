@@ -1,10 +1,12 @@
 //! What the words of the command line ask for.
 ghost use Rattle.std.specs.Prelude.{◌≡◌, ◌<◌, Some, None, map, string_bytes};
-ghost use Rattle.yamltokens_program.specs.Arguments.{run_of, asked_run, RunsWith};
+ghost use Rattle.yamltokens_program.specs.Arguments.{run_of, asked_run, RunsWith, WasOver};
 
 use std::alloc::Global;
 use std::io::{BufRead, Write};
-use token_lines::{Outcome, run_events, run_nodes};
+use token_lines::{
+    Outcome, run_events, run_events_within, run_nodes, run_nodes_within, yaml_limits_t,
+};
 
 /// The exit status of words that ask for nothing, or that can't be read.
 const WRONG_WORDS: u8 = 2;
@@ -19,6 +21,10 @@ pub enum Run {
     Events,
     /// The texts of documents.
     Nodes,
+    /// The lines of events, if the tokens are of libyaml's own language.
+    StrictEvents,
+    /// The texts of documents, likewise.
+    StrictNodes,
 }
 
 /// Runs what the words after the program's name ask for, from `reader` to `output`, and returns the
@@ -39,15 +45,35 @@ pub fn run_words<R: BufRead + Drop, W: Write, E: Write>(
         × (output.new ≡ output.old) }
     ensures quiet { result < 2 → errors.new ≡ errors.old }
 {
-    let outcome = match asked_run(words) {
-        Some(Run::Events) => run_events(alloc, reader, output),
-        Some(Run::Nodes) => run_nodes(alloc, reader, output),
-        None => return refuse_words(errors),
+    let Some(asked) = asked_run(words) else {
+        return refuse_words(errors);
     };
-    match outcome {
+    match run_asked(asked, alloc, reader, output) {
         Outcome::Ended => 0,
         Outcome::Faulted => 1,
         Outcome::OutputFailed => refuse(OUTPUT_FAILED, "yamltokens: output failed\n", errors),
+    }
+}
+
+/// Makes this run.
+fn run_asked<R: BufRead + Drop, W: Write>(
+    run: Run,
+    alloc: Global,
+    reader: R,
+    output: &mut W,
+) -> Outcome
+    ensures { WasOver run R.remaining W.contents reader result (W.contents output.old)
+        (W.contents output.new) }
+{
+    let strict = yaml_limits_t {
+        strict: true,
+        max_depth: None,
+    };
+    match run {
+        Run::Events => run_events(alloc, reader, output),
+        Run::Nodes => run_nodes(alloc, reader, output),
+        Run::StrictEvents => run_events_within(alloc, reader, strict, output),
+        Run::StrictNodes => run_nodes_within(alloc, reader, strict, output),
     }
 }
 
@@ -68,6 +94,8 @@ fn run_of(word: &str) -> Option<Run>
     match word {
         "events" => Some(Run::Events),
         "nodes" => Some(Run::Nodes),
+        "strict-events" => Some(Run::StrictEvents),
+        "strict-nodes" => Some(Run::StrictNodes),
         _ => None,
     }
 }
@@ -76,7 +104,11 @@ fn run_of(word: &str) -> Option<Run>
 pub fn refuse_words<E: Write>(errors: &mut E) -> u8
     ensures { result ≡ 2 }
 {
-    refuse(WRONG_WORDS, "usage: yamltokens events|nodes\n", errors)
+    refuse(
+        WRONG_WORDS,
+        "usage: yamltokens events|nodes|strict-events|strict-nodes\n",
+        errors,
+    )
 }
 
 /// Writes that no memory was found for a buffer.

@@ -1,0 +1,2 @@
+pub mod SourceRun
+pub mod WithinLimits
