@@ -16,6 +16,8 @@ printf '%s\n' 'STREAM-START 0:0:0 0:0:0 utf8' 'SCALAR 0:0:0 1:0:1 =a plain' 'STR
 head -n 2 whole > cut
 printf '%s\n' 'STREAM-START 0:0:0 0:0:0 utf8' 'STREAM-END 0:0:0' > bad
 printf '%s\n' 'STREAM-START 0:0:0 0:0:0 utf8' 'ALIAS 0:0:0 2:0:2 =a' 'STREAM-END 2:0:2 2:0:2' > unknown
+printf '%s\n' 'STREAM-START 0:0:0 0:0:0 utf8' 'SCALAR 0:0:0 1:0:1 =a plain' 'DOCUMENT-END 2:1:0 5:1:3' \
+    'SCALAR 6:2:0 7:2:1 =b plain' 'STREAM-END 8:3:0 8:3:0' > bare
 printf 'a: b\n' > yaml
 { printf '\357\273\277' && cat whole; } > bom
 sed 's/$/\r/' whole > crlf
@@ -51,6 +53,12 @@ is 1 bad output nodes; says 1 0
 is 0 unknown output events; says 5 0
 is 1 unknown output nodes; says 1 0
 is 1 /dev/null output events; says 1 0
+is 0 whole output strict-events; says 5 0
+is 0 whole output strict-nodes; says 2 0
+is 0 bare output events; says 8 0
+is 1 bare output strict-events; says 5 0
+is 0 bare output nodes; says 4 0
+is 1 bare output strict-nodes; says 3 0
 is 2 whole output; says 0 1
 is 2 whole output Events; says 0 1
 is 2 whole output events nodes; says 0 1
@@ -59,6 +67,7 @@ if [ -w /dev/full ]; then
     is 3 whole /dev/full events
     is 3 whole /dev/full nodes
     is 3 cut /dev/full events
+    is 3 bare /dev/full strict-nodes
 else
     echo "no /dev/full: status 3 is not tried"; wrong=1
 fi

@@ -13,7 +13,7 @@ use unsafe_libyaml::{
     yaml_document_add_mapping, yaml_document_add_scalar, yaml_document_add_sequence,
     yaml_document_initialize, yaml_document_t,
 };
-use yaml_expansion::{expanded_size, yaml_expansion_error_t};
+use yaml_expansion::{bounded_size, expanded_size, yaml_expansion_error_t};
 
 /// How deep the deep document is.
 const DEEP: u64 = 100_000;
@@ -80,7 +80,30 @@ fn returns_this(alloc: Global, document: &yaml_document_t, max: u64, wanted: &st
         Ok(size) => format!(in alloc; "{size}")?,
         Err(error) => format!(in alloc; "{error}")?,
     };
-    Ok(told.as_str() == wanted)
+    Ok(told.as_str() == wanted && is_bounded_so(alloc, document, max, wanted)?)
+}
+
+/// Whether `bounded_size` returns the same. A node made by a call starts nowhere.
+fn is_bounded_so(
+    alloc: Global,
+    document: &yaml_document_t,
+    max: u64,
+    wanted: &str,
+) -> Result<bool> {
+    let told = match bounded_size(alloc, document, max) {
+        Ok(size) => format!(in alloc; "{size}")?,
+        Err(error) => format!(in alloc; "{error}")?,
+    };
+    let words = match wanted {
+        "too many nodes, with aliases written out" => {
+            "found too many nodes, with aliases written out at line 1, column 1"
+        }
+        _ if wanted.ends_with(" contains itself") => {
+            "found an alias within the node that it names at line 1, column 1"
+        }
+        size => size,
+    };
+    Ok(told.as_str() == words)
 }
 
 /// Makes sequences in a row, each with the next one so many times, and the last with a scalar.

@@ -1,7 +1,7 @@
 //! Allocations that fail: each run is made twice, and at most one of the two meets a failed allocation.
 //!
-//! `scripts/gate/allocation_failures.sh` runs this with the first allocation failed, then the second, and so on
-//! until none fails. Where none fails, a run is right only if it is whole.
+//! `scripts/gate/allocation_failures.sh` runs this with the first allocation failed, then the second, and so
+//! on until none fails. Where none fails, a run is right only if it is whole.
 
 use crate::memory;
 use crate::runs::{LinesOf, Passage, Run, run_lines};
@@ -183,7 +183,7 @@ fn after_next<'a, S: yaml_token_source_t>(
         LinesOf::Documents if yaml_parser_between_documents(parser) => {
             after_loaded(alloc, &yaml_parser_load(parser), rest)
         }
-        LinesOf::Documents => Err(Passage::Wrong),
+        _ => Err(Passage::Wrong),
     }
 }
 

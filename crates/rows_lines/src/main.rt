@@ -2,9 +2,10 @@
 //! writers that fail.
 //!
 //! The program makes each check of `Check` for each run that the file `names` names, and for each line of
-//! `good_lines` and the folder `bad_lines`; it counts the rows of each table and names those that differ. It
-//! also runs over more lines than are read. `rows_lines TABLE` makes the checks of one table, `rows_lines TABLE ROW`
-//! those of one row, and `rows_lines failing` those of `failing`, for `scripts/gate/allocation_failures.sh`.
+//! `good_lines` and the folder `bad_lines`; those of `STRICT`, and with allocations that fail, for each run
+//! of `strict_names`; it counts the rows of each table and names those that differ. It also runs over more
+//! lines than are read. `rows_lines TABLE` makes the checks of one table, `rows_lines TABLE ROW` those of one
+//! row, and `rows_lines failing` those of `failing`, for `scripts/gate/allocation_failures.sh`.
 #![tactic(auto)]
 
 mod failing;
@@ -64,11 +65,13 @@ impl Check {
     }
 }
 
-/// Whose lines a row of `names` has, and how its run ends.
+/// Whose lines a row of `names` or `strict_names` has, and how its run ends.
 fn ending_of(of: &str, outcome: &str) -> Option<(LinesOf, Outcome)> {
     let of = match of {
         "events" => LinesOf::Events,
         "nodes" => LinesOf::Documents,
+        "strict-events" => LinesOf::StrictEvents,
+        "strict-nodes" => LinesOf::StrictDocuments,
         _ => return None,
     };
     match outcome {
@@ -78,7 +81,7 @@ fn ending_of(of: &str, outcome: &str) -> Option<(LinesOf, Outcome)> {
     }
 }
 
-/// Makes a check of the run that a row of `names` names.
+/// Makes a check of the run that a row of `names` or `strict_names` names.
 fn is_row_right(rt: &(impl Files + Print + AllocGlobal), row: &str, check: Check) -> Result<bool> {
     let (name, ending) = row.split_once(' ').context("no name")?;
     let (extension, outcome) = ending.split_once(' ').context("no outcome")?;
@@ -103,10 +106,21 @@ fn show_runs(
     name: &'static str,
     check: Check,
 ) -> Result<()> {
+    show_runs_of(rt, tables, name, "names", check)
+}
+
+/// Makes a check of each run that this file names.
+fn show_runs_of(
+    rt: &(impl Files + Print + AllocGlobal),
+    tables: &mut Tables<'_>,
+    name: &'static str,
+    names: &str,
+    check: Check,
+) -> Result<()> {
     let Some(mut table) = tables.begin(name) else {
         return Ok(());
     };
-    let names = read_text(rt, "names")?;
+    let names = read_text(rt, names)?;
     for row in names.lines() {
         if table.has(row) {
             table.count(rt, row, is_row_right(rt, row, check)?)?;
@@ -228,9 +242,24 @@ const BAD_LINES: [[&str; 3]; 9] = [
     ],
 ];
 
+/// What is checked of strict runs.
+const STRICT: [(&str, Check); 4] = [
+    ("strict runs in pieces", Check::Pieces),
+    ("strict runs, reads that fail", Check::Reads),
+    ("strict runs, writes that fail", Check::Writes),
+    ("strict runs, flushes", Check::Flushes),
+];
+
 fn show_bad_lines(rt: &(impl Files + Print + AllocGlobal), tables: &mut Tables<'_>) -> Result<()> {
     for [name, lines, fault] in BAD_LINES {
         show_lines(rt, tables, name, lines, fault)?;
+    }
+    Ok(())
+}
+
+fn show_strict(rt: &(impl Files + Print + AllocGlobal), tables: &mut Tables<'_>) -> Result<()> {
+    for (name, check) in STRICT {
+        show_runs_of(rt, tables, name, "strict_names", check)?;
     }
     Ok(())
 }
@@ -244,7 +273,9 @@ fn show_failing_tables(
     let runs = "runs, allocations that fail";
     show_runs(rt, tables, runs, Check::Allocations)?;
     let parts = "events and documents, allocations that fail";
-    show_runs(rt, tables, parts, Check::Parts)
+    show_runs(rt, tables, parts, Check::Parts)?;
+    let strict = "strict runs, allocations that fail";
+    show_runs_of(rt, tables, strict, "strict_names", Check::Allocations)
 }
 
 fn show_tables(rt: &(impl Files + Print + AllocGlobal), tables: &mut Tables<'_>) -> Result<()> {
@@ -254,6 +285,7 @@ fn show_tables(rt: &(impl Files + Print + AllocGlobal), tables: &mut Tables<'_>)
     show_runs(rt, tables, "runs, flushes", Check::Flushes)?;
     show_runs(rt, tables, "runs in memory", Check::Memory)?;
     show_runs(rt, tables, "runs in memory, bounds", Check::Bounds)?;
+    show_strict(rt, tables)?;
     show_lines(
         rt,
         tables,

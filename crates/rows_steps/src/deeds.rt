@@ -1,5 +1,6 @@
 //! What the composer's steps do to the documents of events.
 
+use crate::sizes::Count;
 use anyhow::Result;
 use document_steps::{anchor_t, carrier};
 use libyaml_composer::{Deed, composer_t, event_kind, open_t, place_t};
@@ -40,10 +41,12 @@ pub struct Documents {
     /// An event was refused.
     is_over: bool,
     lines: Vec<u8>,
+    count: Count,
 }
 
 impl Documents {
-    pub fn new(alloc: Global) -> Self {
+    /// Returns a composer before a stream. A document may have `max` nodes with its aliases written out.
+    pub fn new(alloc: Global, max: u64) -> Self {
         Documents {
             composer: composer_t::new(MAX_ENTRIES),
             stack: Vec::new(alloc),
@@ -51,12 +54,18 @@ impl Documents {
             texts: Vec::new(alloc),
             is_over: false,
             lines: Vec::new(alloc),
+            count: Count::new(alloc, max),
         }
     }
 
     pub fn into_lines(self) -> Vec<u8> {
         let Documents { lines, .. } = self;
         lines
+    }
+
+    pub fn into_sizes(self) -> Vec<u8> {
+        let Documents { count, .. } = self;
+        count.into_lines()
     }
 
     /// Takes an event with its anchor, and writes the lines of what is done; after a refusal it takes none.
@@ -91,6 +100,9 @@ impl Documents {
         }
         let number = deed.number();
         self.is_over = number >= REFUSED;
+        if number < FULL_STACK {
+            self.count.take(number, kind, &place)?;
+        }
         Ok(number)
     }
 

@@ -75,7 +75,8 @@ pub struct Parser {
 }
 
 impl Parser {
-    pub fn new(alloc: Global) -> Self {
+    /// Returns a parser before a stream. A document may have `max` nodes with its aliases written out.
+    pub fn new(alloc: Global, max: u64) -> Self {
         Parser {
             steps: steps_t::new(),
             states: Vec::new(alloc),
@@ -87,7 +88,7 @@ impl Parser {
             open: 0,
             deepest: 0,
             lines: Vec::new(alloc),
-            documents: Documents::new(alloc),
+            documents: Documents::new(alloc, max),
         }
     }
 
@@ -101,6 +102,12 @@ impl Parser {
     pub fn into_deeds(self) -> Vec<u8> {
         let Parser { documents, .. } = self;
         documents.into_lines()
+    }
+
+    /// Returns the lines of what was counted of documents.
+    pub fn into_sizes(self) -> Vec<u8> {
+        let Parser { documents, .. } = self;
+        documents.into_sizes()
     }
 
     /// Takes tokens, up to a fault.

@@ -2,12 +2,15 @@
 //!
 //! Each line of `data/lists/index` names a list and says what it shows. Its tokens become records, and steps
 //! over these give the lines of its events, and the number and the marks of the fault that ends them. The
-//! composer's steps over the same events give what is done to each document. The program compares both with
-//! `NAME.steps` and `NAME.deeds`, and counts. `rows_steps TABLE [NAME]` compares one table, or a list of it.
+//! composer's steps over the same events give what is done to each document, and the count of each deed how
+//! many nodes it has with its aliases written out, within each bound that `NAME.sizes` names. The program
+//! compares these with `NAME.steps`, `NAME.deeds` and `NAME.sizes`, and counts. `rows_steps TABLE [NAME]`
+//! compares one table, or a list of it.
 #![tactic(auto)]
 
 mod deeds;
 mod events;
+mod sizes;
 mod tokens;
 
 use crate::events::Parser;
@@ -16,6 +19,7 @@ use anyhow::{Context, Result};
 use line_reading::yaml_line_source_t;
 use rows_common::{Table, Tables, read_text, read_words, show_difference};
 use std::alloc::Global;
+use std::io::Write;
 use std::rt::Files;
 
 /// A list has fewer tokens than this.
@@ -26,6 +30,7 @@ const MAX_TOKENS: u64 = 100_000;
 enum View {
     Events,
     Deeds,
+    Sizes,
 }
 
 impl View {
@@ -34,18 +39,41 @@ impl View {
         match self {
             View::Events => "steps",
             View::Deeds => "deeds",
+            View::Sizes => "sizes",
         }
     }
 
-    /// Returns the lines of these tokens.
-    fn lines(self, alloc: Global, tokens: &Tokens) -> Result<Vec<u8>> {
-        let mut parser = Parser::new(alloc);
-        parser.take_all(alloc, tokens)?;
-        Ok(match self {
-            View::Events => parser.into_lines(),
-            View::Deeds => parser.into_deeds(),
-        })
+    /// Returns the lines of these tokens, of which these are wanted.
+    fn lines(self, alloc: Global, tokens: &Tokens, wanted: &str) -> Result<Vec<u8>> {
+        match self {
+            View::Events => Ok(parsed(alloc, tokens, NO_BOUND)?.into_lines()),
+            View::Deeds => Ok(parsed(alloc, tokens, NO_BOUND)?.into_deeds()),
+            View::Sizes => counted(alloc, tokens, wanted),
+        }
     }
+}
+
+/// The bound of a count that stops nowhere below the largest total.
+const NO_BOUND: u64 = u64::MAX;
+
+/// Returns the parser that took these tokens, and counted within this bound.
+fn parsed(alloc: Global, tokens: &Tokens, max: u64) -> Result<Parser> {
+    let mut parser = Parser::new(alloc, max);
+    parser.take_all(alloc, tokens)?;
+    Ok(parser)
+}
+
+/// Returns the lines of the counts of these tokens within each bound that the wanted lines name.
+fn counted(alloc: Global, tokens: &Tokens, wanted: &str) -> Result<Vec<u8>> {
+    let mut lines = Vec::new(alloc);
+    for line in wanted.lines() {
+        if let Some(bound) = line.strip_prefix("bound ") {
+            let max: u64 = bound.parse().ok().context("a bound that is no number")?;
+            writeln!(&mut lines, "bound {max}")?;
+            lines.extend_from_slice(parsed(alloc, tokens, max)?.into_sizes().as_slice())?;
+        }
+    }
+    Ok(lines)
 }
 
 /// Returns the records of these token lines.
@@ -65,7 +93,7 @@ fn is_right(rt: &(impl Files + Print + AllocGlobal), name: &str, view: View) -> 
     let ending = view.ending();
     let wanted = read_text(rt, format!(in alloc; "lists/{name}.{ending}")?.as_str())?;
     let tokens = tokens_of(alloc, tokens.as_str())?;
-    let given = view.lines(alloc, &tokens)?;
+    let given = view.lines(alloc, &tokens, wanted.as_str())?;
     if given.as_slice() == wanted.as_bytes() {
         return Ok(true);
     }
@@ -115,5 +143,6 @@ fn main(rt: HostRuntime) -> Result<()> {
     let mut tables = Tables::asked(words.as_slice())?;
     show_table(&rt, &mut tables, "events", View::Events)?;
     show_table(&rt, &mut tables, "deeds", View::Deeds)?;
+    show_table(&rt, &mut tables, "sizes", View::Sizes)?;
     tables.end()
 }

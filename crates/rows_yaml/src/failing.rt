@@ -3,6 +3,7 @@
 //! `scripts/gate/allocation_failures.sh` runs this with the first allocation failed, then the second, and so on
 //! until none fails.
 
+use crate::composed::write_composed;
 use crate::cuts::ends_right;
 use crate::reading::write_given;
 use crate::tables::Given;
@@ -13,12 +14,26 @@ use std::alloc::Global;
 use std::rt::Files;
 use unsafe_libyaml::{YAML_MEMORY_ERROR, ZERO_MARK, yaml_parser_t_prefix, yaml_source_fault_t};
 
-/// What is read of each list, and the name of its table. Loads are tried with few entries too.
-const READINGS: [(&str, Given); 4] = [
-    ("rows, parsed", Given::Events),
-    ("rows, loaded", Given::Nodes),
-    ("rows, loaded into lists of two", Given::NodesWithin(2)),
-    ("rows, loaded into lists of one", Given::NodesWithin(1)),
+/// How a list is read: call by call, or as an iterator over its composed events.
+#[derive(Copy, Clone)]
+enum Reading {
+    Calls(Given),
+    Composed,
+}
+
+/// How each list is read, and the name of its table. Loads are tried with few entries too.
+const READINGS: [(&str, Reading); 5] = [
+    ("rows, parsed", Reading::Calls(Given::Events)),
+    ("rows, composed events", Reading::Composed),
+    ("rows, loaded", Reading::Calls(Given::Nodes)),
+    (
+        "rows, loaded into lists of two",
+        Reading::Calls(Given::NodesWithin(2)),
+    ),
+    (
+        "rows, loaded into lists of one",
+        Reading::Calls(Given::NodesWithin(1)),
+    ),
 ];
 
 /// Whether a fault of a failed allocation has no other field.
@@ -28,8 +43,11 @@ fn is_bare(kept: &yaml_parser_t_prefix) -> bool {
 }
 
 /// Writes what these lines give, and more where a fault of a failed allocation has other fields.
-fn write_list(alloc: Global, tokens: &str, given: Given, out: &mut Vec<u8>) -> Result<()> {
-    let kept = write_given(alloc, list_of(alloc, tokens)?, given, out)?;
+fn write_list(alloc: Global, tokens: &str, reading: Reading, out: &mut Vec<u8>) -> Result<()> {
+    let kept = match reading {
+        Reading::Calls(given) => write_given(alloc, list_of(alloc, tokens)?, given, out)?,
+        Reading::Composed => write_composed(alloc, tokens, i32::MAX, out)?,
+    };
     if !is_bare(&kept) {
         out.extend_from_slice(b"a fault with other fields\n")?;
     }
@@ -37,9 +55,9 @@ fn write_list(alloc: Global, tokens: &str, given: Given, out: &mut Vec<u8>) -> R
 }
 
 /// What these lines give. None where an allocation for the list or for what is written failed.
-fn written(alloc: Global, tokens: &str, given: Given) -> Option<Vec<u8>> {
+fn written(alloc: Global, tokens: &str, reading: Reading) -> Option<Vec<u8>> {
     let mut out = Vec::new(alloc);
-    let whole = write_list(alloc, tokens, given, &mut out);
+    let whole = write_list(alloc, tokens, reading, &mut out);
     whole.ok().and(Some(out))
 }
 
@@ -55,9 +73,9 @@ fn are_same_or_cut(one: Option<&[u8]>, other: Option<&[u8]>) -> bool {
     }
 }
 
-fn is_right(alloc: Global, tokens: &str, given: Given) -> bool {
-    let one = written(alloc, tokens, given);
-    let other = written(alloc, tokens, given);
+fn is_right(alloc: Global, tokens: &str, reading: Reading) -> bool {
+    let one = written(alloc, tokens, reading);
+    let other = written(alloc, tokens, reading);
     are_same_or_cut(one.as_deref(), other.as_deref())
 }
 
@@ -67,13 +85,13 @@ fn count_list(
     table: &mut Table<'_>,
     folder: &str,
     name: &str,
-    given: Given,
+    reading: Reading,
 ) -> Result<()> {
     let tokens = read_text(
         rt,
         format!(in rt.alloc(); "{folder}/{name}.tokens")?.as_str(),
     )?;
-    table.count(rt, name, is_right(rt.alloc(), tokens.as_str(), given))?;
+    table.count(rt, name, is_right(rt.alloc(), tokens.as_str(), reading))?;
     Ok(())
 }
 
@@ -82,14 +100,14 @@ fn count_lists(
     rt: &(impl Files + Print + AllocGlobal),
     table: &mut Table<'_>,
     folder: &str,
-    given: Given,
+    reading: Reading,
 ) -> Result<()> {
     let index = read_text(rt, format!(in rt.alloc(); "{folder}/index")?.as_str())?;
     for line in index.lines() {
         let (texts, _) = line.split_once(": ").unwrap_or((line, ""));
         let (name, _) = texts.split_once(' ').unwrap_or((texts, ""));
         if table.has(name) {
-            count_list(rt, table, folder, name, given)?;
+            count_list(rt, table, folder, name, reading)?;
         }
     }
     Ok(())
@@ -101,9 +119,9 @@ fn count_lists(
 ///
 /// A file is missing, an allocation for its text failed, or printing did.
 pub fn show(rt: &(impl Files + Print + AllocGlobal), tables: &mut Tables<'_>) -> Result<()> {
-    for (name, given) in READINGS {
+    for (name, reading) in READINGS {
         if let Some(table) = tables.begin(name) {
-            show_table(rt, tables, table, given)?;
+            show_table(rt, tables, table, reading)?;
         }
     }
     Ok(())
@@ -113,11 +131,11 @@ fn show_table(
     rt: &(impl Files + Print + AllocGlobal),
     tables: &mut Tables<'_>,
     table: Table<'_>,
-    given: Given,
+    reading: Reading,
 ) -> Result<()> {
     let mut table = table;
-    count_lists(rt, &mut table, "rows", given)?;
-    count_lists(rt, &mut table, "loads", given)?;
+    count_lists(rt, &mut table, "rows", reading)?;
+    count_lists(rt, &mut table, "loads", reading)?;
     tables.show(rt, table)?;
     Ok(())
 }

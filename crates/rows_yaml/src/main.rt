@@ -8,6 +8,7 @@
 #![tactic(auto)]
 
 mod asked;
+mod composed;
 mod constructors;
 mod cuts;
 mod documents;
@@ -42,8 +43,8 @@ const TABLES: [&str; 6] = [
 
 fn show_calls(rt: &(impl Files + Print + AllocGlobal), tables: &mut Tables<'_>) -> Result<()> {
     let alloc: Global = rt.alloc();
-    let scalar = read_text(rt, "rows/one_scalar.tokens")?;
-    let two = read_text(rt, "rows/redeclared_secondary_handle.tokens")?;
+    let scalar = read_text(rt, "rows/implicit_document.tokens")?;
+    let two = read_text(rt, "rows/directives_loaded.tokens")?;
     show_checks(rt, tables, "enums", &enums::checks(alloc))?;
     show_checks(rt, tables, "constructors", &constructors::checks(alloc))?;
     show_checks(rt, tables, "tokens", &made_tokens::checks(alloc))?;

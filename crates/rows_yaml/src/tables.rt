@@ -1,6 +1,6 @@
 //! Tables of lists, read from files.
 
-use crate::{asked, cuts, limits, lines, one_by_one};
+use crate::{asked, composed, cuts, limits, lines, one_by_one};
 use anyhow::{Context, Result};
 use rows_common::{Tables, read_text, show_difference};
 use std::io;
@@ -174,22 +174,49 @@ fn is_right(
 ) -> Result<bool> {
     let view = view_of(text)?;
     let is_same = SAME_IN_LIBYAML.contains(&table);
-    let tokens = read_text(
-        rt,
-        format!(in rt.alloc(); "{table}/{name}.tokens")?.as_str(),
-    )?;
+    let tokens = read_part(rt, table, name, "tokens")?;
+    let wanted = read_part(rt, table, name, text)?;
+    let events = read_part(rt, table, name, "events")?;
     let name = format!(in rt.alloc(); "{table}/{name}.{text}")?;
-    let wanted = read_text(rt, name.as_str())?;
-    is_text_right(
+    let text = Text {
+        name: name.as_str(),
+        tokens: tokens.as_str(),
+        wanted: wanted.as_str(),
+    };
+    Ok(is_text_right(rt, view, is_same, text)? && is_composed(rt, view, text, events.as_str())?)
+}
+
+/// Reads a text of a list.
+fn read_part(
+    rt: &(impl Files + AllocGlobal),
+    table: &str,
+    name: &str,
+    part: &str,
+) -> Result<String> {
+    read_text(
         rt,
-        view,
-        is_same,
-        Text {
-            name: name.as_str(),
-            tokens: tokens.as_str(),
-            wanted: wanted.as_str(),
-        },
+        format!(in rt.alloc(); "{table}/{name}.{part}")?.as_str(),
     )
+}
+
+/// Whether the list's events compose as far as its loads say, where the text is of these.
+fn is_composed(
+    rt: &(impl Print + AllocGlobal),
+    view: View,
+    text: Text<'_>,
+    events: &str,
+) -> io::Result<bool> {
+    match view {
+        View::Given(Given::Nodes) => {
+            let given = Given::Nodes;
+            composed::are_composed(rt, Case { text, given }, events)
+        }
+        View::Given(Given::NodesWithin(most)) => {
+            let given = Given::NodesWithin(most);
+            composed::are_composed(rt, Case { text, given }, events)
+        }
+        _ => Ok(true),
+    }
 }
 
 fn view_of(text: &str) -> Result<View> {
