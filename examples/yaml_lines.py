@@ -4,7 +4,7 @@ import sys
 
 USAGE = """\
 usage: yaml_lines.py tokens FILE
-       yaml_lines.py events|nodes FILE [--program PATH]
+       yaml_lines.py events|nodes|strict-events|strict-nodes FILE [--program PATH]
 
 Reads a YAML text through PyYAML's scanner (Debian: python3-yaml), libyaml's where PyYAML has its C part.
 FILE - is standard input.
@@ -12,6 +12,8 @@ FILE - is standard input.
   tokens   writes the scanner's tokens, as lines that `yamltokens` reads
   events   writes the events
   nodes    writes each document, and then its nodes
+
+With strict- before it a mode reads libyaml's own language: where libyaml would read something else, there is a fault.
 
 Events and nodes are made by the program yamltokens, and are at most those of 1,000,000 tokens:
 
@@ -223,7 +225,7 @@ class Program:
 
     def is_whole(self):
         """Returns whether what a run without a fault has written may be all of it: it has an end, or a document."""
-        if self.mode == "events":
+        if self.mode.endswith("events"):
             return self.output.kept.rpartition(b"\n")[0].rpartition(b"\n")[2].startswith(b"STREAM-END ")
         return bool(self.output.kept) or not self.has_node
 
@@ -380,7 +382,7 @@ def read_words(words):
             raise WrongWords
         else:
             names.append(word)
-    is_run = names[:1] in (["events"], ["nodes"])
+    is_run = bool(names) and names[0] in ("events", "nodes", "strict-events", "strict-nodes")
     if len(names) != 2 or len(options) > 1 or None in options.values() or not (is_run or names[0] == "tokens"):
         raise WrongWords
     if not is_run:
@@ -421,7 +423,7 @@ def told(words):
     try:
         status, message = main(words)
     except WrongWords:
-        status, message = 2, "usage: yaml_lines.py tokens|events|nodes FILE [--program PATH]; or --help"
+        status, message = 2, "usage: yaml_lines.py tokens|events|nodes|strict-events|strict-nodes FILE [--program PATH]; or --help"
     except Failure as failure:
         status, message = 3, failure
     except MemoryError:

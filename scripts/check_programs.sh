@@ -103,6 +103,7 @@ check calling rt -- sh scripts/gate/calling_steps.sh
 check statuses $yamltokens -- sh scripts/gate/statuses.sh $yamltokens
 check slow_pipe python3 $yamltokens -- python3 scripts/gate/slow_pipe.py $yamltokens
 check inlined nm $yamltokens crates/bench_lists/out/bench_lists -- sh scripts/gate/inlined.sh $yamltokens crates/bench_lists/out/bench_lists
+check sizes_by_pyyaml.py PyYAML -- python3 scripts/gate/sizes_by_pyyaml.py
 check faults_of_yaml_lines.py PyYAML $yamltokens -- python3 scripts/gate/compare_errors.py $front
 for rows in rows_hostile rows_lines rows_yaml; do
     check "allocations_of_$rows" cc timeout crates/$rows/out/$rows -- sh scripts/gate/allocation_failures.sh $rows

@@ -118,7 +118,7 @@ c_archive() {
     done | grep -o 'GLIBC_[0-9.]*' | sed s/GLIBC_// | sort -Vu | tail -n 1)
     sed "s/the GNU C library/& ($glibc or later)/" bindings/c/README.md > "$tree/README.md"
     grep -q "($glibc or later)" "$tree/README.md"
-    cp LICENSE "$work/NOTICES" CHANGELOG.md docs/PROVED.md docs/DEFINITIONS.md docs/DIFFERENCES.md docs/HEADLINE.md "$tree/share/doc/pokhvizi"
+    cp LICENSE "$work/NOTICES" CHANGELOG.md docs/PROVED.md docs/DEFINITIONS.md docs/DIFFERENCES.md docs/BOUNDS.md docs/HEADLINE.md "$tree/share/doc/pokhvizi"
     cp "$tree/README.md" "$tree/share/doc/pokhvizi"
     cp examples/events.c examples/compose.c examples/yaml.c examples/list.yaml "$tree/share/doc/pokhvizi/examples"
     proof_note "$machine" > "$tree/share/doc/pokhvizi/PROOF"

@@ -13,9 +13,11 @@
  * Hash tables find an alias's node and a tag's handle, where libyaml looks at each anchor and handle of the document. A failed
  * allocation is the error YAML_MEMORY_ERROR, after which a call gives no event and no document.
  *
- * The environment's POKHVIZI_MAX_DEPTH and POKHVIZI_MAX_NODES are the most collections that may be open at once, and the most
- * nodes of a document, items or pairs of a node. What exceeds them is a parser error, "found too many levels", at the token that
- * opens one more, and a composer error, "found too many nodes", at the node.
+ * The environment's POKHVIZI_MAX_DEPTH, POKHVIZI_MAX_NODES and POKHVIZI_MAX_EXPANDED are the most collections that may be open at
+ * once, the most nodes of a document, items or pairs of a node, and the most nodes of a document with its aliases written out.
+ * What exceeds them is a parser error, "found too many levels", at the token that opens one more, and a composer error, "found too
+ * many nodes" or "found too many nodes, with aliases written out", at the node or alias. With the third, an alias within the node
+ * that it names is a composer error, "found an alias within the node that it names".
  *
  * What is other than with libyaml stands in docs/DIFFERENCES.md. With POKHVIZI_STRICT=1 in the environment nothing is: if libyaml
  * has an error, so has a call, and if it loses a token, a call has an error of its own. */
@@ -43,7 +45,10 @@ struct kept {
     pokhvizi_steps_t steps;
     size_t states_room, marks_room;
     uint32_t key;  /* for the hashes of anchors and handles, or 0 */
-    int strict;    /* if libyaml does something else there is an error */
+    /* What is looked at before a step, a bit for each kind of token: those with texts, or all of a strict parser, for which there
+     * is an error if libyaml does something else. And the kind whose fact is its style, and nothing else: a scalar's, or none. */
+    uint32_t looked_at, by_style;
+    uint8_t tag[64];  /* the tag in full whose fact was asked for last, if it is so short */
     uint8_t states[];
 };
 
@@ -66,7 +71,12 @@ struct held {
     int has_version;
 };
 
-static int out_of_memory(yaml_parser_t *parser)
+/* What each token or event goes through is inlined, what some need is a function apart, and what few need is out of the way. */
+#define OFTEN static inline __attribute__((always_inline))
+#define APART static __attribute__((noinline))
+#define SELDOM static __attribute__((cold, noinline))
+
+SELDOM int out_of_memory(yaml_parser_t *parser)
 {
     parser->error = YAML_MEMORY_ERROR;
     return 0;
@@ -74,10 +84,12 @@ static int out_of_memory(yaml_parser_t *parser)
 
 /* ---- The environment ---- */
 
-/* How many collections may be open, and how many entries each list of a document may have. */
+/* How many collections may be open, how many entries each list of a document may have, and how many nodes a document may have with
+ * its aliases written out: UNCOUNTED if there is no such bound. */
 static struct {
-    size_t depth, nodes;
+    size_t depth, nodes, expanded;
 } bounds;
+#define UNCOUNTED ((size_t)PTRDIFF_MAX)
 static const char *check_file;
 
 /* The number that a variable of the environment has, or `most` if it has none. Another text ends the process: it would run
@@ -104,6 +116,7 @@ __attribute__((constructor)) static void read_environment(void)
     check_file = getenv("POKHVIZI_CHECK");
     bounds.depth = bound_of("POKHVIZI_MAX_DEPTH", PTRDIFF_MAX / sizeof(yaml_mark_t));
     bounds.nodes = bound_of("POKHVIZI_MAX_NODES", INT32_MAX);
+    bounds.expanded = bound_of("POKHVIZI_MAX_EXPANDED", UNCOUNTED);
 }
 
 static size_t least(size_t one, size_t other)
@@ -279,18 +292,34 @@ static void forget_directives(yaml_parser_t *parser)
 
 /* ---- Tokens ---- */
 
-/* The next token, which is left; NULL where the scanner has an error. */
-static yaml_token_t *peek(yaml_parser_t *parser)
+/* The kinds of tokens that have texts or numbers, a bit for each. Most tokens have none. */
+enum {
+    WITH_TEXT = 1 << YAML_VERSION_DIRECTIVE_TOKEN | 1 << YAML_TAG_DIRECTIVE_TOKEN | 1 << YAML_ALIAS_TOKEN |
+                1 << YAML_ANCHOR_TOKEN | 1 << YAML_TAG_TOKEN | 1 << YAML_SCALAR_TOKEN
+};
+
+/* The scanner has an error. */
+SELDOM uint32_t no_token(yaml_parser_t *parser)
 {
-    if (parser->token_available || yaml_parser_fetch_more_tokens(parser))
-        return parser->tokens.head;
     if (parser->error == YAML_NO_ERROR)  /* libyaml doesn't say of each refused allocation that it was one */
         parser->error = YAML_MEMORY_ERROR;
-    return NULL;
+    return 0;
+}
+
+/* Where a token stands. */
+static const pokhvizi_span_t *span_of(const yaml_token_t *token)
+{
+    return (const pokhvizi_span_t *)(const void *)&token->start_mark;
+}
+
+/* The next token if the scanner has given it, or NULL. */
+static yaml_token_t *at_hand(const yaml_parser_t *parser)
+{
+    return parser->token_available ? parser->tokens.head : NULL;
 }
 
 /* Takes the next token, whose texts have another owner now. */
-static void skip(yaml_parser_t *parser)
+OFTEN void skip(yaml_parser_t *parser)
 {
     parser->token_available = 0;
     parser->tokens_parsed++;
@@ -328,14 +357,11 @@ static uint8_t directive_fact(yaml_parser_t *parser, const yaml_char_t *handle)
     return pokhvizi_directive_fact(found, count, texts_of(all), all->length, handle, strlen((const char *)handle));
 }
 
-/* The fact that a step takes with a token. Most tokens have none, and are told apart first. */
+/* The fact that a step takes with a token. */
 static uint8_t fact_of(yaml_parser_t *parser, const yaml_token_t *token, struct held *held)
 {
-    enum { WITH_FACT = 1 << YAML_VERSION_DIRECTIVE_TOKEN | 1 << YAML_TAG_DIRECTIVE_TOKEN | 1 << YAML_TAG_TOKEN | 1 << YAML_SCALAR_TOKEN };
-    uint8_t none;
+    struct kept *kept = kept_of(parser);
 
-    if ((WITH_FACT >> token->type & 1) == 0)
-        return 0;
     switch (token->type) {
     case YAML_SCALAR_TOKEN:
         return token->data.scalar.style == YAML_PLAIN_SCALAR_STYLE;
@@ -344,7 +370,7 @@ static uint8_t fact_of(yaml_parser_t *parser, const yaml_token_t *token, struct 
     case YAML_TAG_DIRECTIVE_TOKEN:
         return directive_fact(parser, token->data.tag_directive.handle);
     case YAML_TAG_TOKEN:
-        return put_tag(parser, token, &none, 0, &held->tag_length);
+        return put_tag(parser, token, kept->tag, sizeof kept->tag, &held->tag_length);
     default:
         return 0;
     }
@@ -362,7 +388,10 @@ static int hold_tag(yaml_parser_t *parser, const yaml_token_t *token, struct hel
         held->tag = malloc(held->tag_length + 1);
         if (held->tag == NULL)
             return 0;
-        put_tag(parser, token, held->tag, held->tag_length, &held->tag_length);
+        if (held->tag_length <= sizeof kept_of(parser)->tag)
+            memcpy(held->tag, kept_of(parser)->tag, held->tag_length);
+        else
+            put_tag(parser, token, held->tag, held->tag_length, &held->tag_length);
         held->tag[held->tag_length] = '\0';
     }
     free(token->data.tag.handle);
@@ -371,12 +400,8 @@ static int hold_tag(yaml_parser_t *parser, const yaml_token_t *token, struct hel
 }
 
 /* Takes what a token has for an event that comes later; 0 where memory is refused, and then its texts are the token's. */
-static int hold(yaml_parser_t *parser, const yaml_token_t *token, struct held *held)
+APART int hold(yaml_parser_t *parser, const yaml_token_t *token, struct held *held)
 {
-    enum { HELD = 1 << YAML_ANCHOR_TOKEN | 1 << YAML_TAG_TOKEN | 1 << YAML_VERSION_DIRECTIVE_TOKEN | 1 << YAML_TAG_DIRECTIVE_TOKEN };
-
-    if ((HELD >> token->type & 1) == 0)
-        return 1;
     switch (token->type) {
     case YAML_ANCHOR_TOKEN:
         held->anchor = token->data.anchor.value;
@@ -468,6 +493,7 @@ static int scalar(const pokhvizi_event_t *made, const yaml_token_t *token, struc
 static int make_event(yaml_parser_t *parser, const pokhvizi_event_t *made, const yaml_token_t *token, struct held *held,
                       yaml_event_t *event)
 {
+    memset(event, 0, offsetof(yaml_event_t, start_mark));
     event->type = (yaml_event_type_t)made->kind;
     memcpy(&event->start_mark, &made->start_mark, sizeof(pokhvizi_span_t));
     switch (event->type) {
@@ -533,12 +559,15 @@ static int is_strict(void)
 /* Begins a stream; 0 where memory is refused. */
 static int begin(yaml_parser_t *parser)
 {
+    int strict = is_strict();
+
     if (!grow_states(parser, 64))
         return 0;
     pokhvizi_steps_new(&kept_of(parser)->steps);
     kept_of(parser)->marks_room = least((size_t)(parser->marks.end - parser->marks.start), bounds.depth);
     kept_of(parser)->key = 0;
-    kept_of(parser)->strict = is_strict();
+    kept_of(parser)->looked_at = strict ? UINT32_MAX : WITH_TEXT;
+    kept_of(parser)->by_style = strict ? YAML_NO_TOKEN : YAML_SCALAR_TOKEN;
     free(parser->tag_directives.start);
     memset(&parser->tag_directives, 0, sizeof parser->tag_directives);
     parser->state = YAML_PARSE_DOCUMENT_CONTENT_STATE;
@@ -552,35 +581,52 @@ static void end_stream(yaml_parser_t *parser)
     parser->stream_end_produced = 1;
 }
 
-/* Makes the event that a step gave, and takes its token unless that stays. */
-static int give_event(yaml_parser_t *parser, const pokhvizi_event_t *made, int stays, struct held *held, yaml_event_t *event)
+/* Makes the event that a step gave, and takes its token if there is one. */
+static int give_event(yaml_parser_t *parser, const pokhvizi_event_t *made, const yaml_token_t *token, struct held *held,
+                      yaml_event_t *event)
 {
-    if (!make_event(parser, made, stays ? NULL : parser->tokens.head, held, event)) {
+    if (!make_event(parser, made, token, held, event)) {
         yaml_event_delete(event);
         return out_of_memory(parser);
     }
-    if (!stays)
+    if (token != NULL)
         skip(parser);
     if (event->type == YAML_STREAM_END_EVENT)
         end_stream(parser);
     return 1;
 }
 
-static inline uint32_t step(yaml_parser_t *parser, const yaml_token_t *token, struct held *held, pokhvizi_event_t *made,
-                            pokhvizi_fault_t *fault)
+/* Looks at a token before a step, and returns its fact; -1 if a strict parser has an error. */
+APART int look(yaml_parser_t *parser, const yaml_token_t *token, struct held *held, pokhvizi_fault_t *fault)
+{
+    const struct kept *kept = kept_of(parser);
+    const pokhvizi_mark_t *marks = (const pokhvizi_mark_t *)(const void *)parser->marks.start;
+
+    if (kept->looked_at != WITH_TEXT &&
+        pokhvizi_refuses(&kept->steps, marks, kept->marks_room, token->type, span_of(token), fault))
+        return -1;
+    return fact_of(parser, token, held);
+}
+
+OFTEN uint32_t step(yaml_parser_t *parser, const yaml_token_t *token, struct held *held, pokhvizi_event_t *made,
+                    pokhvizi_fault_t *fault)
 {
     struct kept *kept = kept_of(parser);
-    const pokhvizi_span_t *at = (const pokhvizi_span_t *)(const void *)&token->start_mark;
     pokhvizi_mark_t *marks = (pokhvizi_mark_t *)(void *)parser->marks.start;
+    int fact = 0;
 
-    if (kept->strict && pokhvizi_refuses(&kept->steps, marks, kept->marks_room, token->type, at, fault))
-        return POKHVIZI_FAULT;
-    return pokhvizi_step(&kept->steps, kept->states, kept->states_room, marks, kept->marks_room, token->type,
-                         fact_of(parser, token, held), at, made, fault);
+    if (__builtin_expect(kept->looked_at >> token->type & 1, 0)) {
+        if (token->type == kept->by_style)
+            fact = token->data.scalar.style == YAML_PLAIN_SCALAR_STYLE;
+        else if ((fact = look(parser, token, held, fault)) < 0)
+            return POKHVIZI_FAULT;
+    }
+    return pokhvizi_step(&kept->steps, kept->states, kept->states_room, marks, kept->marks_room, token->type, (uint8_t)fact,
+                         span_of(token), made, fault);
 }
 
 /* Does what a step asks for that gave no event, and wants no other token; 0 where there is an error. */
-static int follow(yaml_parser_t *parser, uint32_t did, const pokhvizi_fault_t *fault)
+SELDOM int follow(yaml_parser_t *parser, uint32_t did, const pokhvizi_fault_t *fault)
 {
     switch (did) {
     case POKHVIZI_FULL_STATES:
@@ -598,29 +644,33 @@ static int follow(yaml_parser_t *parser, uint32_t did, const pokhvizi_fault_t *f
     }
 }
 
-/* Steps to the next event, whose token is at the head where it was given with it, and held by nobody: POKHVIZI_GAVE or
- * POKHVIZI_STAYS. 0 where there is an error. */
-static uint32_t advance(yaml_parser_t *parser, struct held *held, pokhvizi_event_t *made)
+/* Steps to the next event: POKHVIZI_GAVE with its token, which nobody holds, or POKHVIZI_STAYS; 0 where there is an error. The
+ * token is at hand before, or NULL. */
+OFTEN uint32_t advance(yaml_parser_t *parser, yaml_token_t **token, struct held *held, pokhvizi_event_t *made)
 {
     pokhvizi_fault_t fault;
-    const yaml_token_t *token;
 
-    while ((token = peek(parser)) != NULL) {
-        uint32_t did = step(parser, token, held, made, &fault);
-        if (did == POKHVIZI_GAVE || did == POKHVIZI_STAYS)
-            return did;
+    for (;;) {
+        if (*token == NULL) {
+            if (!yaml_parser_fetch_more_tokens(parser))
+                return no_token(parser);
+            *token = parser->tokens.head;
+        }
+        uint32_t did = step(parser, *token, held, made, &fault);
         if (did == POKHVIZI_WANTS) {
-            if (!hold(parser, token, held))
+            if ((WITH_TEXT >> (*token)->type & 1) && !hold(parser, *token, held))
                 return out_of_memory(parser);
             skip(parser);
+            *token = NULL;
+        } else if (did <= POKHVIZI_STAYS) {
+            return did;
         } else if (!follow(parser, did, &fault)) {
             return 0;
         }
     }
-    return 0;
 }
 
-/* Gives back what neither an event nor a node has taken: after an error; the tag `!`, in whose place a node has its kind's. */
+/* Gives back what neither an event nor a node has taken, after an error. */
 static void forget(struct held *held)
 {
     if (held->anchor != NULL || held->tag != NULL) {
@@ -636,25 +686,34 @@ static int has_stopped(const yaml_parser_t *parser)
     return parser->error != YAML_NO_ERROR || parser->stream_end_produced || parser->state == YAML_PARSE_END_STATE;
 }
 
+/* Gives the next event of a parser that hasn't stopped; 0 where there is an error, and then the event owns nothing. */
+OFTEN int parse(yaml_parser_t *parser, struct held *held, yaml_event_t *event)
+{
+    pokhvizi_event_t made;
+    yaml_token_t *token;
+    uint32_t did;
+
+    if (parser->state == YAML_PARSE_STREAM_START_STATE && !begin(parser))
+        return out_of_memory(parser);
+    token = at_hand(parser);
+    did = advance(parser, &token, held, &made);
+    return did != 0 && give_event(parser, &made, did == POKHVIZI_GAVE ? token : NULL, held, event);
+}
+
 /* In the place of libyaml's function of this name. */
 __attribute__((visibility("default"))) int yaml_parser_parse(yaml_parser_t *parser, yaml_event_t *event)
 {
     struct held held = {0};
-    pokhvizi_event_t made;
-    uint32_t did;
-    int given;
+    int stopped;
 
     assert(parser);
     assert(event);
-    memset(event, 0, sizeof *event);
-    if (has_stopped(parser))
+    stopped = has_stopped(parser);
+    if (!stopped && parse(parser, &held, event))
         return 1;
-    if (parser->state == YAML_PARSE_STREAM_START_STATE && !begin(parser))
-        return out_of_memory(parser);
-    did = advance(parser, &held, &made);
-    given = did != 0 && give_event(parser, &made, did == POKHVIZI_STAYS, &held, event);
+    memset(event, 0, sizeof *event);
     forget(&held);
-    return given;
+    return stopped;
 }
 
 /* ---- The loader ---- */
@@ -666,8 +725,8 @@ struct carrier {
     int32_t node;
 };
 
-/* What is kept while a document is composed. Its first stack is its own. The table has places for twice as many anchors as
- * there are, and a power of two, or none. */
+/* What is kept while a document is composed. Its first stack and its first sizes are its own. The table has places for twice as
+ * many anchors as there are, and a power of two, or none. */
 struct loading {
     pokhvizi_composer_t composer;
     pokhvizi_open_t first[24];
@@ -675,19 +734,41 @@ struct loading {
     size_t stack_room;
     struct carrier *carriers;
     size_t carriers_count, carriers_room;
+    pokhvizi_size_t size;
+    uint64_t first_sizes[24];
+    uint64_t *sizes;
+    size_t sizes_room;
 };
+
+/* An array of twice as many bytes, in the place of one that is the loading's own or isn't; NULL where memory is refused. */
+static void *twice(void *array, int is_own, size_t used)
+{
+    void *made = realloc(is_own ? NULL : array, 2 * used);
+
+    return made == NULL || !is_own ? made : memcpy(made, array, used);
+}
 
 static int grow_stack(struct loading *loading)
 {
     size_t used = loading->stack_room * sizeof *loading->stack;
-    pokhvizi_open_t *old = loading->stack == loading->first ? NULL : loading->stack, *made = realloc(old, 2 * used);
+    pokhvizi_open_t *made = twice(loading->stack, loading->stack == loading->first, used);
 
     if (made == NULL)
         return 0;
-    if (old == NULL)
-        memcpy(made, loading->first, used);
     loading->stack = made;
     loading->stack_room *= 2;
+    return 1;
+}
+
+static int grow_sizes(struct loading *loading)
+{
+    size_t used = loading->sizes_room * sizeof *loading->sizes;
+    uint64_t *made = twice(loading->sizes, loading->sizes == loading->first_sizes, used);
+
+    if (made == NULL)
+        return 0;
+    loading->sizes = made;
+    loading->sizes_room *= 2;
     return 1;
 }
 
@@ -703,7 +784,7 @@ static struct carrier *place_of(struct carrier *table, size_t room, const yaml_c
 }
 
 /* The node of the document that carries an anchor, or 0. */
-static int32_t anchored_node_of(yaml_parser_t *parser, const struct loading *loading, const yaml_char_t *anchor)
+APART int32_t anchored_node_of(yaml_parser_t *parser, const struct loading *loading, const yaml_char_t *anchor)
 {
     if (loading->carriers_count == 0)
         return 0;
@@ -741,10 +822,24 @@ static int carry(yaml_parser_t *parser, struct loading *loading, yaml_char_t **a
     return 1;
 }
 
+static void begin_loading(struct loading *loading)
+{
+    pokhvizi_composer_new(&loading->composer, (uint32_t)bounds.nodes);
+    loading->stack = loading->first;
+    loading->stack_room = sizeof loading->first / sizeof *loading->first;
+    loading->carriers = NULL;
+    loading->carriers_count = loading->carriers_room = 0;
+    pokhvizi_size_new(&loading->size, bounds.expanded);
+    loading->sizes = loading->first_sizes;
+    loading->sizes_room = sizeof loading->first_sizes / sizeof *loading->first_sizes;
+}
+
 static void end_loading(struct loading *loading)
 {
     if (loading->stack != loading->first)
         free(loading->stack);
+    if (loading->sizes != loading->first_sizes)
+        free(loading->sizes);
     for (size_t i = 0; i < loading->carriers_room; i++)
         free(loading->carriers[i].anchor);
     free(loading->carriers);
@@ -779,22 +874,32 @@ static yaml_node_t *node_of(const yaml_document_t *document, int32_t id)
     return document->nodes.start + id - 1;
 }
 
-/* The tag of a node: a missing one, or `!`, is its kind's. NULL where memory is refused. */
-static yaml_char_t *tag_of(const pokhvizi_event_t *made, struct held *held, const char *by_kind, size_t size)
+/* Takes the tag of a node; NULL if it is `!`. */
+APART yaml_char_t *own_tag_of(struct held *held)
 {
     yaml_char_t *tag = held->tag;
 
-    if (made->has_tag && strcmp((const char *)tag, "!") != 0) {
-        held->tag = NULL;
+    held->tag = NULL;
+    if (strcmp((const char *)tag, "!") != 0)
         return tag;
-    }
+    free(tag);
+    return NULL;
+}
+
+/* The tag of a node: a missing one, or `!`, is its kind's. NULL where memory is refused. */
+OFTEN yaml_char_t *tag_of(const pokhvizi_event_t *made, struct held *held, const char *by_kind, size_t size)
+{
+    yaml_char_t *tag = made->has_tag ? own_tag_of(held) : NULL;
+
+    if (tag != NULL)
+        return tag;
     return (tag = malloc(size)) == NULL ? NULL : memcpy(tag, by_kind, size);
 }
 
 #define TAG_OF(made, held, by_kind) tag_of(made, held, by_kind, sizeof(by_kind))
 
 /* A scalar has the value and style of its token, or is empty where the token isn't its own. */
-static int make_scalar(const pokhvizi_event_t *made, yaml_token_t *token, struct held *held, yaml_node_t *node)
+OFTEN int make_scalar(const pokhvizi_event_t *made, yaml_token_t *token, struct held *held, yaml_node_t *node)
 {
     node->type = YAML_SCALAR_NODE;
     if ((node->tag = TAG_OF(made, held, YAML_DEFAULT_SCALAR_TAG)) == NULL)
@@ -812,7 +917,7 @@ static int make_scalar(const pokhvizi_event_t *made, yaml_token_t *token, struct
 }
 
 /* Makes a node of an event, without children; 0 where memory is refused. */
-static int make_node(const pokhvizi_event_t *made, yaml_token_t *token, struct held *held, yaml_node_t *node)
+OFTEN int make_node(const pokhvizi_event_t *made, yaml_token_t *token, struct held *held, yaml_node_t *node)
 {
     memset(node, 0, offsetof(yaml_node_t, start_mark));
     memcpy(&node->start_mark, &made->start_mark, sizeof(pokhvizi_span_t));
@@ -831,15 +936,18 @@ static int make_node(const pokhvizi_event_t *made, yaml_token_t *token, struct h
 }
 
 /* Puts the node or alias of an event at its place; 0 where memory is refused. */
-static int put(yaml_parser_t *parser, struct loading *loading, uint32_t deed, const pokhvizi_place_t *place,
-               const pokhvizi_event_t *made, yaml_token_t *token, struct held *held, yaml_document_t *document)
+OFTEN int put(yaml_parser_t *parser, struct loading *loading, uint32_t deed, const pokhvizi_place_t *place,
+              const pokhvizi_event_t *made, yaml_token_t *token, struct held *held, yaml_document_t *document)
 {
     yaml_node_t *parent;
 
-    if (place->node != 0 &&
-        (!ROOM(document->nodes) || !make_node(made, token, held, document->nodes.top++) ||
-         (made->has_anchor && !carry(parser, loading, &held->anchor, place->node))))
+    if (place->node == 0) {
+        free(token->data.alias.value);
+        token->data.alias.value = NULL;
+    } else if (!ROOM(document->nodes) || !make_node(made, token, held, document->nodes.top++) ||
+               (made->has_anchor && !carry(parser, loading, &held->anchor, place->node))) {
         return 0;
+    }
     if (deed == POKHVIZI_ITEM) {
         parent = node_of(document, place->parent);
         if (!ROOM(parent->data.sequence.items))
@@ -880,94 +988,124 @@ static int give_composer_fault(yaml_parser_t *parser, uint32_t deed, const pokhv
     return 0;
 }
 
-/* Does what is said of an event that puts nothing at a place; 0 where there is an error. */
-static int follow_event(yaml_parser_t *parser, uint32_t deed, int32_t fact, const pokhvizi_place_t *place,
-                        const pokhvizi_event_t *made, const struct held *held, yaml_document_t *document)
+/* Passes over an event that is no part of the document: of the stream, or of one that was begun by yaml_parser_parse. */
+static void pass(yaml_parser_t *parser, const pokhvizi_event_t *made, yaml_token_t *token, struct held *held)
+{
+    if (token != NULL && (token->type == YAML_ALIAS_TOKEN || token->type == YAML_SCALAR_TOKEN)) {
+        free(token->data.scalar.value);  /* where an alias has its text, too */
+        token->data.scalar.value = NULL;
+    }
+    forget(held);
+    if (made->kind == YAML_DOCUMENT_END_EVENT)
+        forget_directives(parser);
+    else if (made->kind == YAML_STREAM_END_EVENT)
+        end_stream(parser);
+}
+
+/* Does what is said of an event that neither puts nor closes a node; 0 where there is an error. */
+SELDOM int follow_event(yaml_parser_t *parser, uint32_t deed, int32_t fact, const pokhvizi_event_t *made, yaml_token_t *token,
+                        struct held *held, yaml_document_t *document)
 {
     switch (deed) {
-    case POKHVIZI_CLOSES:
-        memcpy(&node_of(document, place->parent)->end_mark, &made->end_mark, sizeof(yaml_mark_t));
-        return 1;
     case POKHVIZI_BEGINS:
-        return begin_document(parser, made, held, document) || out_of_memory(parser);
+        if (!begin_document(parser, made, held, document))
+            return out_of_memory(parser);
+        held->has_version = 0;
+        return 1;
     case POKHVIZI_ENDS:
         document->end_implicit = made->implicit;
         memcpy(&document->end_mark, &made->end_mark, sizeof document->end_mark);
+        forget_directives(parser);
         return 1;
     case POKHVIZI_PASSES:
+        pass(parser, made, token, held);
         return 1;
     case POKHVIZI_UNDEFINED_ALIAS:
     case POKHVIZI_REPEATED_ANCHOR:
     case POKHVIZI_FULL_LIST:
+    case POKHVIZI_TOO_LARGE:
+    case POKHVIZI_ENDLESS:
         return give_composer_fault(parser, deed, made, document, fact);
     default:
         return out_of_memory(parser);
     }
 }
 
-/* Composes an event, of the token that ends with it where there is one. Returns what was done, and
- * POKHVIZI_BAD_STACK where there is an error. */
-static uint32_t compose(yaml_parser_t *parser, struct loading *loading, const pokhvizi_event_t *made, yaml_token_t *token,
-                        struct held *held, yaml_document_t *document)
+/* Counts what is to be done, and returns it; or that the document is too large with its aliases written out. */
+APART uint32_t count(struct loading *loading, uint32_t deed, uint8_t kind, const pokhvizi_place_t *place)
 {
-    const yaml_char_t *anchor = made->has_anchor ? held->anchor :
-                                made->kind == YAML_ALIAS_EVENT ? token->data.alias.value : NULL;
-    int32_t fact = anchor == NULL ? 0 : anchored_node_of(parser, loading, anchor);
-    pokhvizi_place_t place;
-    uint32_t deed;
-    int done;
+    uint32_t counted;
 
-    while ((deed = pokhvizi_compose(&loading->composer, loading->stack, loading->stack_room, made->kind, fact, &place)) ==
-           POKHVIZI_FULL_STACK)
-        if (!grow_stack(loading))
+    while ((counted = pokhvizi_count(&loading->size, loading->sizes, loading->sizes_room, deed, kind, place)) ==
+           POKHVIZI_FULL_SIZES)
+        if (!grow_sizes(loading))
             break;
-    if (deed >= POKHVIZI_ROOT && deed <= POKHVIZI_VALUE)
-        done = put(parser, loading, deed, &place, made, token, held, document) || out_of_memory(parser);
-    else
-        done = follow_event(parser, deed, fact, &place, made, held, document);
-    return done ? deed : POKHVIZI_BAD_STACK;
+    return counted == POKHVIZI_COUNTED ? deed : counted;
 }
 
-/* After an event of the stream or of a document: what it ends is over. */
-static void leave_frame(yaml_parser_t *parser, uint8_t kind, struct held *held)
+/* What is to be done with an event for which the stack had no room. */
+SELDOM uint32_t compose_with_room(struct loading *loading, uint8_t kind, int32_t fact, pokhvizi_place_t *place)
 {
-    held->has_version = 0;
-    if (kind == YAML_DOCUMENT_END_EVENT)
-        forget_directives(parser);
-    else if (kind == YAML_STREAM_END_EVENT)
-        end_stream(parser);
+    uint32_t deed = POKHVIZI_FULL_STACK;
+
+    while (deed == POKHVIZI_FULL_STACK && grow_stack(loading))
+        deed = pokhvizi_compose(&loading->composer, loading->stack, loading->stack_room, kind, fact, place);
+    return deed;
 }
 
-/* Lets a token go whose event is composed, with the text that no node took: of a scalar where it is passed over. */
-static void leave(yaml_parser_t *parser, yaml_token_t *token)
+/* The node that carries the anchor of an event's node or alias, or 0. */
+OFTEN int32_t named_by(yaml_parser_t *parser, const struct loading *loading, const pokhvizi_event_t *made,
+                       const yaml_token_t *token, const struct held *held)
 {
-    if (token->type == YAML_ALIAS_TOKEN)
-        free(token->data.alias.value);
-    else if (token->type == YAML_SCALAR_TOKEN && token->data.scalar.value != NULL)
-        free(token->data.scalar.value);
-    skip(parser);
+    if (made->has_anchor)
+        return anchored_node_of(parser, loading, held->anchor);
+    return made->kind == YAML_ALIAS_EVENT ? anchored_node_of(parser, loading, token->data.alias.value) : 0;
 }
 
 /* Loads the next document, of which nothing is there yet; 0 where there is an error. At the stream's end there is none. */
-static int load(yaml_parser_t *parser, struct loading *loading, struct held *held, yaml_document_t *document)
+OFTEN int load(yaml_parser_t *parser, struct loading *loading, struct held *held, yaml_document_t *document, int is_counted)
 {
     pokhvizi_event_t made;
-    uint32_t did, deed;
+    pokhvizi_place_t place = {0, 0, 0, 0};
+    yaml_token_t *token = at_hand(parser);
+    uint32_t did;
 
-    do {
-        if ((did = advance(parser, held, &made)) == 0)
-            return 0;
-        yaml_token_t *token = did == POKHVIZI_STAYS ? NULL : parser->tokens.head;
-        deed = compose(parser, loading, &made, token, held, document);
-        if (made.kind <= YAML_DOCUMENT_END_EVENT)
-            leave_frame(parser, made.kind, held);
-        if (deed == POKHVIZI_BAD_STACK)
-            return 0;
-        if (token != NULL)
-            leave(parser, token);
-        forget(held);
-    } while (deed != POKHVIZI_ENDS && made.kind != YAML_STREAM_END_EVENT);
-    return 1;
+    while ((did = advance(parser, &token, held, &made)) != 0) {
+        yaml_token_t *given = did == POKHVIZI_GAVE ? token : NULL;
+        int32_t fact = named_by(parser, loading, &made, given, held);
+        uint32_t deed = pokhvizi_compose(&loading->composer, loading->stack, loading->stack_room, made.kind, fact, &place);
+        int is_over = 0;
+        if (deed == POKHVIZI_FULL_STACK)
+            deed = compose_with_room(loading, made.kind, fact, &place);
+        if (is_counted)
+            deed = count(loading, deed, made.kind, &place);
+        if (deed >= POKHVIZI_ROOT && deed <= POKHVIZI_VALUE) {
+            if (!put(parser, loading, deed, &place, &made, given, held, document))
+                return out_of_memory(parser);
+        } else if (deed == POKHVIZI_CLOSES) {
+            memcpy(&node_of(document, place.parent)->end_mark, &made.end_mark, sizeof(yaml_mark_t));
+        } else {
+            if (!follow_event(parser, deed, fact, &made, given, held, document))
+                return 0;
+            is_over = deed == POKHVIZI_ENDS || made.kind == YAML_STREAM_END_EVENT;
+        }
+        token = given == NULL ? parser->tokens.head : NULL;
+        if (given != NULL)
+            skip(parser);
+        if (is_over)
+            return 1;
+    }
+    return 0;
+}
+
+static int load_uncounted(yaml_parser_t *parser, struct loading *loading, struct held *held, yaml_document_t *document)
+{
+    return load(parser, loading, held, document, 0);
+}
+
+static int load_counted(yaml_parser_t *parser, struct loading *loading, struct held *held, yaml_document_t *document)
+{
+    return load(parser, loading, held, document, 1);
 }
 
 /* In the place of libyaml's function of this name. */
@@ -980,17 +1118,13 @@ __attribute__((visibility("default"))) int yaml_parser_load(yaml_parser_t *parse
     assert(parser);
     assert(document);
     memset(document, 0, sizeof *document);
-    pokhvizi_composer_new(&loading.composer, (uint32_t)bounds.nodes);
-    loading.stack = loading.first;
-    loading.stack_room = sizeof loading.first / sizeof *loading.first;
-    loading.carriers = NULL;
-    loading.carriers_count = loading.carriers_room = 0;
+    begin_loading(&loading);
     if (!ROOM(document->nodes) || (parser->state == YAML_PARSE_STREAM_START_STATE && !begin(parser)))
         loaded = out_of_memory(parser);
     else if (has_stopped(parser))
         loaded = parser->error == YAML_NO_ERROR;
     else
-        loaded = load(parser, &loading, &held, document);
+        loaded = (bounds.expanded == UNCOUNTED ? load_uncounted : load_counted)(parser, &loading, &held, document);
     forget(&held);
     if (!loaded)
         yaml_document_delete(document);

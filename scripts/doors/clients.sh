@@ -9,7 +9,7 @@
 #
 #     preload            this parser by LD_PRELOAD (bindings/c/libyaml_preload.c): each of its allocations refused, parsers deleted,
 #                        moved, used after a fault and by threads; bounds; libyaml's memory over 7 MB, for events and for documents; and
-#                        if valgrind is there, the instructions of loads, which are at most 1.04 of libyaml's
+#                        if valgrind is there, the instructions of loads, which are at most libyaml's
 #     events             libyaml's events and nodes of YAML files of this machine, broken texts and the YAML test suite,
 #                        preloaded, with all fields
 #     pipe_c             events before a slow pipe's end, preloaded
@@ -24,11 +24,14 @@
 #     strict_c           strict parsing, preloaded, over 20,000 drawn texts: libyaml's events, nodes and errors, unless it loses
 #                        a token; and over YAML files of this machine; SEED is another draw
 #     strict_python      the same of the C loaders of bindings/python, and of PyYAML's
-#     bounds             bounds on depth and nodes over 2,000 drawn texts: preloaded, by the crate, by the C loaders of bindings/python
-#                        and by those in Python each refuses the same token or event, in the same words; SEED is another draw
+#     bounds             bounds on depth, on nodes and on nodes with aliases written out, over 2,000 drawn texts: preloaded, by the crate,
+#                        by the C loaders of bindings/python and by those in Python each refuses the same token or event, in the same
+#                        words; SEED is another draw
+#     hostile_texts      texts that cost more than their length, and broken ones, at each door with its bounds and without, as
+#                        hostile_texts.py says; docs/BOUNDS.md has its figures
 #     crate              the tests of bindings/rust, and with its feature `strict` over the same texts
 #     loads_rust         nodes, memory over 7 MB and instructions of loads by that crate and by the original; of one large
-#                        document, small documents and anchors they are at most 1.31, 1.28 and .68 of the original's
+#                        document, small documents and anchors they are at most 1.11, 1.07 and .3 of the original's
 #     pipe_rust          events before a slow pipe's end, by that crate
 #     yaml_test_suite    the parser of unsafe-libyaml's own tests over the YAML test suite
 #     serde_yaml         serde_yaml's own tests
@@ -179,10 +182,15 @@ compare_instructions() {
 compare_preloaded() {
     write_texts
     for text in plain small anchors; do
-        compare_instructions $text 1.04 "$(instructions "$work/events" loads < "$work/$text.yaml")" \
+        compare_instructions $text 1 "$(instructions "$work/events" loads < "$work/$text.yaml")" \
             "$(LD_PRELOAD=$preloaded instructions "$work/events" loads < "$work/$text.yaml")" || return 1
     done
     memory="$memory; loads have$ratios of libyaml's instructions"
+}
+
+# within DEPTH NODES EXPANDED: the calls for bounds, within these.
+within() {
+    env "LD_PRELOAD=$preloaded" POKHVIZI_MAX_DEPTH="$1" POKHVIZI_MAX_NODES="$2" POKHVIZI_MAX_EXPANDED="$3" "$work/preload_calls" bounds
 }
 
 preload() {
@@ -196,16 +204,18 @@ preload() {
     documents 20 > "$work/text.yaml"
     compare_memory memory 900000 && compare_memory loads 400000 || return 1
     ! command -v valgrind > /dev/null || compare_preloaded || return 1
-    if POKHVIZI_MAX_DEPTH=21 POKHVIZI_MAX_NODES=31 LD_PRELOAD=$preloaded "$work/preload_calls" bounds > "$work/calls" 2>&1; then
-        echo "with other bounds the calls should differ"
-        return 1
-    fi
-    for words in 'MAX_DEPTH=2x' 'MAX_NODES=-1'; do
+    for bounds in '21 30 40' '20 31 40' '20 30 41' '20 30 39'; do
+        if within $bounds > "$work/calls" 2>&1; then
+            echo "with other bounds the calls should differ: $bounds"
+            return 1
+        fi
+    done
+    for words in 'MAX_DEPTH=2x' 'MAX_NODES=-1' 'MAX_EXPANDED=1e6'; do
         env "POKHVIZI_$words" "LD_PRELOAD=$preloaded" "$work/preload_calls" > "$work/calls" 2>&1
         [ "$? $(cat "$work/calls")" = "2 libyaml_preload.so: POKHVIZI_${words%=*} is no number: ${words#*=}" ] ||
             { echo "a bound that is no number: $(cat "$work/calls")"; return 1; }
     done
-    POKHVIZI_MAX_DEPTH=20 POKHVIZI_MAX_NODES=30 LD_PRELOAD=$preloaded "$work/preload_calls" bounds || return 1
+    within 20 30 40 || return 1
     said=$(LD_PRELOAD=$preloaded "$work/preload_calls") && echo "$said$memory"
 }
 
@@ -252,23 +262,28 @@ strict_python() {
 
 # ---- Bounds ----
 
-# bounded DOOR WHAT DEPTH NODES: what a door reads of the drawn texts, by events or by nodes; a bound that is `-` is none.
+# bounded DOOR WHAT DEPTH NODES EXPANDED: what a door reads of the drawn texts, by events or by nodes; a bound that is `-` is none.
 bounded() {
     case $1 in
-    c) env "LD_PRELOAD=$preloaded" "POKHVIZI_MAX_DEPTH=${3#-}" "POKHVIZI_MAX_NODES=${4#-}" "$work/events" "$(echo "$2" | sed s/events/files/)" ;;
-    rust) "$CARGO_TARGET_DIR/debug/bounds" "$2" "$3" "$4" ;;
-    *) PYTHONPATH=$work/python "$python" "$lists/bounds.py" read "$1" "$2" "$3" "$4" ;;
+    c)
+        env "LD_PRELOAD=$preloaded" "POKHVIZI_MAX_DEPTH=${3#-}" "POKHVIZI_MAX_NODES=${4#-}" "POKHVIZI_MAX_EXPANDED=${5#-}" \
+            "$work/events" "$(echo "$2" | sed s/events/files/)"
+        ;;
+    rust) "$CARGO_TARGET_DIR/release/bounds" "$2" "$3" "$4" "$5" ;;
+    *) PYTHONPATH=$work/python "$python" "$lists/bounds.py" read "$1" "$2" "$3" "$4" "$5" ;;
     esac 2> "$work/count"
 }
 
-# bounds_of DOOR LOADER: how often the door refused, for too many levels and for too many nodes, and how often not.
+# bounds_of DOOR LOADER: how often the door refused, for each of four reasons, and how often not.
 bounds_of() {
     for what in events nodes; do
-        bounded "$1" $what - - < "$work/bounds_names" > "$work/free_$what" || { cat "$work/count"; return 1; }
+        bounded "$1" $what - - - < "$work/bounds_names" > "$work/free_$what" || { cat "$work/count"; return 1; }
         set -- "$1" "$2"
-        for pair in '0 -' '1 3' '2 -' '3 6' '4 10' '- 0' '- 1' '- 2' '- 5' '- 12' '31 -' '32 33' '33 -' '64 -' '65 66'; do
-            set -- "$@" $pair "$work/bound_$(echo $pair | tr ' ' _)"
-            bounded "$1" $what $pair < "$work/bounds_names" > "$work/bound_$(echo $pair | tr ' ' _)" || { cat "$work/count"; return 1; }
+        for bounds in '0 - -' '1 3 -' '2 - 4' '3 6 -' '4 10 11' '- 0 -' '- 1 -' '- 2 1' '- 5 5' '- 12 20' '31 - -' '32 33 100' \
+            '33 - -' '64 - -' '65 66 -' '- - 0' '- - 1' '- - 3' '- - 9' '- - 33' '- - 1000' \
+            '- - 9223372036854775806' '- - 9223372036854775807'; do
+            set -- "$@" $bounds "$work/bound_$(echo $bounds | tr ' ' _)"
+            bounded "$1" $what $bounds < "$work/bounds_names" > "$work/bound_$(echo $bounds | tr ' ' _)" || { cat "$work/count"; return 1; }
         done
         how=$1 loader=$2
         shift 2
@@ -277,20 +292,19 @@ bounds_of() {
         cat "$work/stopped" >> "$work/all_stopped"
         set -- "$how" "$loader"
     done
-    if "$python" "$lists/bounds.py" compare "$2" nodes "$work/free_events" "$work/free_nodes" 3 7 "$work/bound_3_6" > "$work/turned"; then
-        echo "other bounds pass"
-        return 1
-    fi
+    for bounds in '3 7 - bound_3_6_-' '- - 8 bound_-_-_9'; do
+        set -- "$1" "$2" ${bounds% *} "$work/${bounds##* }"
+        if "$python" "$lists/bounds.py" compare "$2" nodes "$work/free_events" "$work/free_nodes" "$3" "$4" "$5" "$6" > "$work/turned"; then
+            echo "other bounds pass"
+            return 1
+        fi
+    done
 }
 
 bounds() {
-    prepare_cargo
-    mkdir -p "$work/bounds" "$work/bounds_crate/src"
+    build_bounds bounds '' || return 1
+    mkdir -p "$work/bounds"
     "$python" "$lists/bounds.py" write "$work/bounds" 2000 "${SEED:-1}" > "$work/all_names"
-    cp "$lists/bounds.rs" "$work/bounds_crate/src/main.rs"
-    printf '[package]\nname = "bounds"\nversion = "0.0.0"\nedition = "2021"\n[dependencies]\n' > "$work/bounds_crate/Cargo.toml"
-    printf 'unsafe-libyaml = { path = "%s" }\n[workspace]\n' "$work/unsafe_libyaml" >> "$work/bounds_crate/Cargo.toml"
-    (cd "$work/bounds_crate" && cargo build -q -j 1) || return 1
     : > "$work/counts"
     for door in c rust CLoader Loader; do
         : > "$work/all_stopped"
@@ -300,12 +314,24 @@ bounds() {
             bounds_of $door Loader || return 1
         else
             bounds_of $door CLoader || return 1
-            awk '{ levels += $1; nodes += $2; free += $3 } END { print levels, nodes, free }' "$work/all_stopped" >> "$work/counts"
+            awk '{ for (i = 1; i <= 5; i++) sum[i] += $i } END { print sum[1], sum[2], sum[3], sum[4], sum[5] }' "$work/all_stopped" >> "$work/counts"
         fi
     done
     set -- $(uniq "$work/counts")
-    [ $# -eq 3 ] && [ "$1" -gt 1000 ] && [ "$2" -gt 1000 ] || { echo "doors over one scanner refuse other texts: $(cat "$work/counts")"; return 1; }
-    echo "2000 texts within 15 pairs of bounds, by events and nodes, at each door: $1 times too many levels, $2 too many nodes, $3 neither"
+    [ $# -eq 5 ] && [ "$1" -gt 1000 ] && [ "$2" -gt 1000 ] && [ "$3" -gt 1000 ] && [ "$4" -gt 300 ] ||
+        { echo "doors over one scanner refuse other texts: $(cat "$work/counts")"; return 1; }
+    echo "2000 texts within 23 choices of bounds, by events and nodes, at each door: $1 times too many levels, $2 too many nodes, $3 too many with aliases written out, $4 an alias within its own node, $5 none of these"
+}
+
+hostile_texts() {
+    build_bounds bounds '' && build_bounds bounds_strict '"strict"' || return 1
+    if "$python" scripts/doors/hostile_texts.py --turned "yaml=$dir/yaml" > "$work/turned"; then
+        echo "what is turned passes"
+        return 1
+    fi
+    "$python" scripts/doors/hostile_texts.py "yaml=$dir/yaml" "preload=$preloaded" "events=$work/events" "c_loader=$work/python" \
+        "loader=$work/python" "rust=$CARGO_TARGET_DIR/release/bounds" "rust_strict=$CARGO_TARGET_DIR/release/bounds_strict" \
+        "yamltokens=$top/crates/yamltokens/out/yamltokens"
 }
 
 # Names YAML files of this machine.
@@ -468,6 +494,16 @@ prepare_cargo() {
         "$(realpath "$crates")" > "$CARGO_HOME/config.toml"
 }
 
+# build_bounds NAME FEATURES: bounds.rs over the crate with these features, as a program of this name.
+build_bounds() {
+    prepare_cargo
+    mkdir -p "$work/$1_crate/src"
+    cp "$lists/bounds.rs" "$work/$1_crate/src/main.rs"
+    printf '[package]\nname = "%s"\nversion = "0.0.0"\nedition = "2021"\n[dependencies]\n' "$1" > "$work/$1_crate/Cargo.toml"
+    printf 'unsafe-libyaml = { path = "%s", features = [%s] }\n[workspace]\n' "$work/unsafe_libyaml" "$2" >> "$work/$1_crate/Cargo.toml"
+    (cd "$work/$1_crate" && cargo build -q --release -j 1)
+}
+
 # Copies a crate, and one that takes the place of unsafe-libyaml there.
 copy_crate() {
     mkdir -p "$2"
@@ -511,7 +547,7 @@ loads_rust() {
     set -- "$@" $("$1" "$work/text.yaml") $("$2" "$work/text.yaml")
     [ "$3" -gt 400000 ] && [ "$3" = "$5" ] && [ "$6" -le $(($4 + 1000)) ] || { echo "$3 nodes in $4 KB, $5 in $6"; return 1; }
     write_texts
-    for text in plain:1.31 small:1.28 anchors:0.68; do
+    for text in plain:1.11 small:1.07 anchors:0.3; do
         compare_instructions ${text%:*} ${text#*:} "$(instructions "$1" "$work/${text%:*}.yaml")" \
             "$(instructions "$2" "$work/${text%:*}.yaml")" || return 1
     done
@@ -571,7 +607,7 @@ serde_yaml() {
 
 wanted=$*
 for word in $wanted; do
-    case " preload events pipe_c pyyaml_c psych pyyaml_pure loaders pipe_python pyyaml_ext cloaders strict_c strict_python bounds crate loads_rust pipe_rust yaml_test_suite serde_yaml " in
+    case " preload events pipe_c pyyaml_c psych pyyaml_pure loaders pipe_python pyyaml_ext cloaders strict_c strict_python bounds hostile_texts crate loads_rust pipe_rust yaml_test_suite serde_yaml " in
     *" $word "*) ;;
     *) echo "no check has the name $word" >&2; exit 2 ;;
     esac
@@ -591,6 +627,7 @@ check cloaders PyYAML cc yaml.h pyyaml libyaml-pp-perl _yaml.abi3.so -- cloaders
 check strict_c cc yaml.h libyaml_preload.so events -- strict_c
 check strict_python PyYAML _yaml.abi3.so -- strict_python
 check bounds PyYAML cc cargo yaml.h libyaml_preload.so events _yaml.abi3.so unsafe-libyaml -- bounds
+check hostile_texts PyYAML cc cargo /usr/bin/time yaml.h libyaml_preload.so events _yaml.abi3.so unsafe-libyaml crates/yamltokens/out/yamltokens -- hostile_texts
 check crate cargo unsafe-libyaml -- crate
 check loads_rust cargo valgrind unsafe-libyaml -- loads_rust
 check pipe_rust cargo unsafe-libyaml -- pipe_rust

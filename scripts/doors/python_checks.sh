@@ -51,6 +51,7 @@ printf 'a: b\n' > ok.yaml
 printf 'a: b: c\n' > broken.yaml
 printf '[a, b}\n' > parser.yaml
 printf -- '- *a\n' > composer.yaml
+printf 'a\n...\nb\n' > bare.yaml
 printf '\377\376a\000\n\000' > le.yaml
 printf '\376\377\000a\000\n' > be.yaml
 printf '\357\273\277a\n' > mark.yaml
@@ -78,8 +79,10 @@ runpy.run_path(sys.argv[0], run_name="__main__")' > older.py
 for mode in events nodes; do
     for name in list compose; do
         [ -f "$examples/$name.$mode" ] || continue
-        expect 0 '' "python3 $front $mode $examples/$name.yaml --program $program"
-        same "$examples/$name.$mode"
+        for strict in '' strict-; do
+            expect 0 '' "python3 $front $strict$mode $examples/$name.yaml --program $program"
+            same "$examples/$name.$mode"
+        done
     done
 done
 for name in list compose; do
@@ -114,6 +117,11 @@ expect 1 "$not_allowed" "python3 $front events broken.yaml --program $program"
 expect 1 'yaml_lines.py: standard input: line 1, column 5: *' "python3 $front nodes - --program $program < broken.yaml"
 expect 1 'yaml_lines.py: parser.yaml: line 1, column 6: *(parser)' "python3 $front events parser.yaml --program $program"
 expect 1 'yaml_lines.py: composer.yaml: line 1, column 3: *(composer)' "python3 $front nodes composer.yaml --program $program"
+for mode in events nodes; do
+    expect 0 '' "python3 $front $mode bare.yaml --program $program"
+    expect 1 'yaml_lines.py: bare.yaml: line 3, column 1: did not find expected <document start> (scanner)' \
+        "python3 $front strict-$mode bare.yaml --program $program"
+done
 for name in surrogate beyond version; do
     expect 1 "yaml_lines.py: $name.yaml: line *(scanner)" "python3 $front tokens $name.yaml"
     expect 1 "yaml_lines.py: $name.yaml: line *(scanner)" "PYTHONPATH=pure python3 $front tokens $name.yaml"
@@ -125,7 +133,7 @@ expect 0 '' "PYTHONPATH=$examples:$examples/../bindings/python/src python3 -B -c
 
 # ---- Wrong words: status 2 ----
 
-usage='yaml_lines.py: usage: yaml_lines.py tokens|events|nodes FILE *'
+usage='yaml_lines.py: usage: yaml_lines.py tokens|events|nodes|strict-events|strict-nodes FILE *'
 for words in '' tokens 'tokens a b' 'words ok.yaml' '--wrong' 'events ok.yaml --program' 'tokens ok.yaml --program x' \
     '-x ok.yaml'; do
     expect 2 "$usage" "python3 $front $words"
@@ -155,6 +163,7 @@ expect 3 'yaml_lines.py: out of memory' "python3 $front events --program ./refus
 expect 3 'yaml_lines.py: ./failing failed, with status 9' "python3 $front events --program ./failing ok.yaml"
 for mode in events nodes; do
     expect 3 "yaml_lines.py: ./silent ended without writing its $mode" "python3 $front $mode --program ./silent ok.yaml"
+    expect 3 "yaml_lines.py: ./silent ended without writing its strict-$mode" "python3 $front strict-$mode --program ./silent ok.yaml"
     expect 3 'yaml_lines.py: ok.yaml: too many tokens, after 5 tokens: a limit *' "python3 $front $mode --program ./limited ok.yaml"
     expect 3 'yaml_lines.py: wide.yaml: line too long, after 1 token: a limit *' "python3 $front $mode --program $program wide.yaml"
     [ "$(tail -n 1 out)" = 'FAULT reader 1:1:0 line too long' ] || complain "$(tail -n 1 out)"

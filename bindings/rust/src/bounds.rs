@@ -5,10 +5,11 @@
 //! unsafe_libyaml::bounds::set_max_depth(1000);
 //! ```
 
-use std::sync::atomic::{AtomicU32, AtomicUsize, Ordering::Relaxed};
+use std::sync::atomic::{AtomicU32, AtomicU64, AtomicUsize, Ordering::Relaxed};
 
 static DEPTH: AtomicUsize = AtomicUsize::new(usize::MAX);
 static NODES: AtomicU32 = AtomicU32::new(i32::MAX as u32);
+static EXPANDED: AtomicU64 = AtomicU64::new(u64::MAX);
 
 /// Sets how many collections may be open at once. The token that opens one more is the parser's fault `found too many levels`.
 ///
@@ -23,10 +24,22 @@ pub fn set_max_nodes(nodes: u32) {
     NODES.store(nodes.min(i32::MAX as u32), Relaxed);
 }
 
+/// Sets how many nodes a document may have with its aliases written out: each alias stands for a copy of the node that it names.
+/// The node or alias with which there are more is the composer's fault `found too many nodes, with aliases written out`, and an
+/// alias within the node that it names the fault `found an alias within the node that it names`. From 9223372036854775807 on there
+/// is no such bound.
+pub fn set_max_expanded(nodes: u64) {
+    EXPANDED.store(nodes, Relaxed);
+}
+
 pub(crate) fn max_depth() -> usize {
     DEPTH.load(Relaxed)
 }
 
 pub(crate) fn max_nodes() -> u32 {
     NODES.load(Relaxed)
+}
+
+pub(crate) fn max_expanded() -> Option<u64> {
+    Some(EXPANDED.load(Relaxed)).filter(|&nodes| nodes < i64::MAX as u64)
 }

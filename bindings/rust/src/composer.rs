@@ -1,7 +1,9 @@
 //! The composer of `pokhvizi/compose.h`: an event in, and what is to be done to the document out.
 
 use crate::bounds;
+use crate::expansion::Expansion;
 use crate::fault::Fault;
+use crate::memory::Text;
 use std::collections::HashMap;
 
 /// What is kept between two events: plain numbers, which nobody reads here.
@@ -64,6 +66,18 @@ pub enum Deed {
     Closes,
 }
 
+impl Deed {
+    #[cold]
+    fn of_few(deed: u32, fact: i32) -> Result<Deed, Refusal> {
+        match deed {
+            PASSES => Ok(Deed::Passes),
+            BEGINS => Ok(Deed::Begins),
+            ENDS => Ok(Deed::Ends),
+            deed => Err(Refusal::Deed(deed, (deed == REPEATED_ANCHOR).then_some(fact))),
+        }
+    }
+}
+
 /// What a node or an alias is to its parent.
 #[derive(Clone, Copy, PartialEq)]
 pub enum Child {
@@ -84,48 +98,54 @@ pub enum Refusal {
 /// The open collections of a document, and its anchors.
 pub struct Composer {
     record: Record,
-    /// The first stack.
-    few: [Open; Composer::ROOM],
-    /// The stack in its place, if it was too small.
-    many: Vec<Open>,
-    anchors: HashMap<Vec<u8>, i32>,
+    stack: Vec<Open>,
+    anchors: HashMap<Text, i32>,
+    expansion: Option<Expansion>,
 }
 
 impl Composer {
     const ROOM: usize = 16;
 
     pub fn new() -> Composer {
-        let mut record = Record([0; 3]);
-        // SAFETY: the record is the caller's.
-        unsafe { pokhvizi_composer_new(&mut record, bounds::max_nodes()) };
         Composer {
-            record,
-            few: [Open([0; 4]); Composer::ROOM],
-            many: Vec::new(),
+            record: Record([0; 3]),
+            stack: Vec::new(),
             anchors: HashMap::new(),
+            expansion: None,
         }
     }
 
-    #[inline]
-    fn stack(&mut self) -> &mut [Open] {
-        match self.many.is_empty() {
-            true => &mut self.few,
-            false => &mut self.many,
+    /// Begins a document.
+    pub fn begin(&mut self) {
+        // SAFETY: the record is the caller's.
+        unsafe { pokhvizi_composer_new(&mut self.record, bounds::max_nodes()) };
+        self.expansion = Expansion::within_bound();
+    }
+
+    /// Forgets the anchors of a document. Its map isn't kept, since another document would take time for all of it.
+    pub fn forget_anchors(&mut self) {
+        if !self.anchors.is_empty() {
+            self.anchors = HashMap::with_hasher(self.anchors.hasher().clone());
         }
     }
 
-    /// Takes an event by its kind and its anchor, and writes where its node or alias goes.
+    /// Returns the node that carries an anchor, or 0.
+    #[cold]
+    pub fn node_of(&self, anchor: &[u8]) -> i32 {
+        self.anchors.get(anchor).copied().unwrap_or(0)
+    }
+
+    /// Takes an event by its kind and the node that carries its anchor, and writes where its node or alias goes.
     #[inline]
-    pub fn compose(&mut self, kind: u8, anchor: Option<&[u8]>, place: &mut Place) -> Result<Deed, Refusal> {
-        let fact = anchor.and_then(|anchor| self.anchors.get(anchor)).copied().unwrap_or(0);
+    pub fn compose(&mut self, kind: u8, fact: i32, place: &mut Place) -> Result<Deed, Refusal> {
         loop {
-            let (stack, room) = (self.stack().as_mut_ptr(), self.stack().len());
+            let (stack, room) = (self.stack.as_mut_ptr(), self.stack.len());
             // SAFETY: the pointers are to as many entries as are said.
-            let deed = unsafe { pokhvizi_compose(&mut self.record, stack, room, kind, fact, place) };
+            let mut deed = unsafe { pokhvizi_compose(&mut self.record, stack, room, kind, fact, place) };
+            if let Some(expansion) = &mut self.expansion {
+                deed = expansion.count(deed, kind, place)?;
+            }
             return match deed {
-                PASSES => Ok(Deed::Passes),
-                BEGINS => Ok(Deed::Begins),
-                ENDS => Ok(Deed::Ends),
                 ROOT => Ok(Deed::Puts(Child::Root)),
                 ITEM => Ok(Deed::Puts(Child::Item)),
                 KEY => Ok(Deed::Puts(Child::Key)),
@@ -135,26 +155,24 @@ impl Composer {
                     self.grow()?;
                     continue;
                 }
-                deed => Err(Refusal::Deed(deed, (deed == REPEATED_ANCHOR).then_some(fact))),
+                other => Deed::of_few(other, fact),
             };
         }
     }
 
     /// Makes a node the carrier of its anchor.
-    pub fn carry(&mut self, anchor: &[u8], node: i32) {
-        self.anchors.insert(anchor.to_vec(), node);
+    #[cold]
+    pub fn carry(&mut self, anchor: Text, node: i32) {
+        self.anchors.insert(anchor, node);
     }
 
     #[cold]
     fn grow(&mut self) -> Result<(), Refusal> {
-        let room = self.stack().len();
-        let mut grown = Vec::new();
-        grown
-            .try_reserve_exact(2 * room)
+        let more = self.stack.len().max(Composer::ROOM);
+        self.stack
+            .try_reserve_exact(more)
             .map_err(|_| Refusal::Fault(Fault::memory()))?;
-        grown.extend_from_slice(self.stack());
-        grown.resize(2 * room, Open([0; 4]));
-        self.many = grown;
+        self.stack.resize(self.stack.len() + more, Open([0; 4]));
         Ok(())
     }
 }

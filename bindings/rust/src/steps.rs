@@ -2,10 +2,11 @@
 
 use crate::bounds;
 use crate::fault::Fault;
+use crate::memory::{self, bytes, Text};
+use crate::tokens::Token;
 use original::*;
 use std::collections::HashMap;
-use std::ffi::CStr;
-use std::mem::MaybeUninit;
+use std::mem::{size_of, MaybeUninit};
 use std::{iter, ptr};
 
 /// What is kept between two steps: plain numbers, which nobody reads here, but for how many marks there are.
@@ -145,23 +146,19 @@ impl TagDirectives {
         }
     }
 
-    /// Returns the handles and prefixes.
-    pub fn iter(&self) -> impl Iterator<Item = (&[u8], &[u8])> {
-        self.handles
-            .iter()
-            .map(|made| (self.text(made.handle), self.text(made.prefix)))
-    }
-
-    /// Returns the tag in full; none where its handle isn't declared.
-    pub fn resolve(&self, handle: &[u8], suffix: &[u8]) -> Option<Vec<u8>> {
-        let mut out = Vec::new();
-        let (_, length) = self.put_tag(handle, suffix, &mut out);
-        if length == usize::MAX {
-            return None;
+    /// Returns a copy for an event or a document to own.
+    pub unsafe fn copy(&self) -> (*mut yaml_tag_directive_t, *mut yaml_tag_directive_t) {
+        if self.handles.is_empty() {
+            return (ptr::null_mut(), ptr::null_mut());
         }
-        out.resize(length, 0);
-        self.put_tag(handle, suffix, &mut out);
-        Some(out)
+        let count = self.handles.len();
+        let start: *mut yaml_tag_directive_t = memory::make(count * size_of::<yaml_tag_directive_t>()).cast();
+        for (place, made) in self.handles.iter().enumerate() {
+            let own = |range| Text::copy(self.text(range)).into_raw();
+            ptr::addr_of_mut!((*start.add(place)).handle).write(own(made.handle));
+            ptr::addr_of_mut!((*start.add(place)).prefix).write(own(made.prefix));
+        }
+        (start, start.add(count))
     }
 
     fn put(&mut self, text: &[u8]) -> Range {
@@ -177,25 +174,22 @@ impl TagDirectives {
         &self.texts[range.place as usize..][..range.length as usize]
     }
 
-    /// Returns the fact of a tag and its length; puts it in full where there is room.
-    fn put_tag(&self, handle: &[u8], suffix: &[u8], out: &mut [u8]) -> (u8, usize) {
+    /// Returns the fact of a tag and its length in full; puts it there if there is room.
+    unsafe fn put_tag(&self, handle: &[u8], suffix: &[u8], out: *mut u8, room: usize) -> (u8, usize) {
         let (found, mut length) = (self.find(handle), 0);
-        // SAFETY: each pointer is to as many entries as are said.
-        let fact = unsafe {
-            pokhvizi_tag(
-                found.as_ptr(),
-                found.len(),
-                self.texts.as_ptr(),
-                self.texts.len(),
-                handle.as_ptr(),
-                handle.len(),
-                suffix.as_ptr(),
-                suffix.len(),
-                out.as_mut_ptr(),
-                out.len(),
-                &mut length,
-            )
-        };
+        let fact = pokhvizi_tag(
+            found.as_ptr(),
+            found.len(),
+            self.texts.as_ptr(),
+            self.texts.len(),
+            handle.as_ptr(),
+            handle.len(),
+            suffix.as_ptr(),
+            suffix.len(),
+            out,
+            room,
+            &mut length,
+        );
         (fact, length)
     }
 
@@ -234,6 +228,9 @@ pub struct Steps {
     marks: Vec<yaml_mark_t>,
     /// How long the stack of marks may get.
     max_depth: usize,
+    /// The tag of the last TAG token in full, if it is short, and its length.
+    tag: [u8; Steps::SHORT],
+    tag_length: usize,
     pub directives: TagDirectives,
 }
 
@@ -241,11 +238,6 @@ pub struct Steps {
 pub fn no_mark() -> yaml_mark_t {
     // SAFETY: a mark is three numbers.
     unsafe { std::mem::zeroed() }
-}
-
-/// Returns the bytes of a text of the scanner's.
-pub unsafe fn bytes<'a>(text: *const u8) -> &'a [u8] {
-    CStr::from_ptr(text.cast()).to_bytes()
 }
 
 /// Doubles the room of a stack.
@@ -259,6 +251,8 @@ fn grow<T: Clone>(stack: &mut Vec<T>, blank: T) -> Result<(), Fault> {
 
 impl Steps {
     const ROOM: usize = 32;
+    /// How long a tag is that is put in full as its fact is asked for.
+    const SHORT: usize = 64;
 
     pub fn new() -> Steps {
         let (mut record, max_depth) = (Record([0; 17]), bounds::max_depth());
@@ -269,6 +263,8 @@ impl Steps {
             states: vec![0; Steps::ROOM],
             marks: vec![no_mark(); Steps::ROOM.min(max_depth)],
             max_depth,
+            tag: [0; Steps::SHORT],
+            tag_length: 0,
             directives: TagDirectives::default(),
         }
     }
@@ -291,14 +287,14 @@ impl Steps {
         }))
     }
 
-    /// Steps with a token, and writes the shape of the event that it gives.
+    /// Steps with a token and its fact, and writes the shape of the event that it gives.
     ///
     /// # Errors
     ///
     /// The parser's error, or no memory for a stack; with the feature `strict`, also if the original does something else.
     #[inline]
-    pub unsafe fn step(&mut self, token: &yaml_token_t, shape: &mut Shape) -> Result<Did, Fault> {
-        let (kind, fact) = (token.type_ as u8, self.fact(token));
+    pub unsafe fn step(&mut self, token: &Token, fact: u8, shape: &mut Shape) -> Result<Did, Fault> {
+        let kind = token.type_ as u8;
         if cfg!(feature = "strict") {
             self.refuse(kind, token.start_mark)?;
         }
@@ -322,20 +318,42 @@ impl Steps {
                 WANTS => return Ok(Did::Wants),
                 GAVE => return Ok(Did::Gave),
                 STAYS => return Ok(Did::Stays),
-                FULL_STATES => grow(&mut self.states, 0)?,
-                FULL_MARKS if self.marks.len() == self.max_depth => return Err(Fault::too_deep(token.start_mark)),
-                FULL_MARKS => {
-                    grow(&mut self.marks, no_mark())?;
-                    self.marks.truncate(self.max_depth);
-                }
-                FAULT => return Err(Fault::of_problem(&problem.assume_init())),
-                _ => unreachable!("the stacks are as long as they are said to be"),
+                other => self.follow(other, token.start_mark, problem.as_ptr())?,
             }
         }
     }
 
+    /// Makes room if a step asked for it.
+    ///
+    /// # Errors
+    ///
+    /// The step's problem; no memory.
+    #[cold]
+    unsafe fn follow(&mut self, did: u32, at: yaml_mark_t, problem: *const Problem) -> Result<(), Fault> {
+        match did {
+            FAULT => Err(Fault::of_problem(&*problem)),
+            FULL_STATES => grow(&mut self.states, 0),
+            FULL_MARKS if self.marks.len() == self.max_depth => Err(Fault::too_deep(at)),
+            FULL_MARKS => {
+                grow(&mut self.marks, no_mark())?;
+                self.marks.truncate(self.max_depth);
+                Ok(())
+            }
+            _ => unreachable!("the stacks are as long as they are said to be"),
+        }
+    }
+
+    /// Returns the fact of a token.
     #[inline]
-    unsafe fn fact(&self, token: &yaml_token_t) -> u8 {
+    pub unsafe fn fact(&mut self, token: &Token) -> u8 {
+        match token.type_ {
+            YAML_SCALAR_TOKEN => u8::from(token.data.scalar.style == YAML_PLAIN_SCALAR_STYLE),
+            _ => self.fact_of_texts(token),
+        }
+    }
+
+    #[cold]
+    unsafe fn fact_of_texts(&mut self, token: &yaml_token_t) -> u8 {
         let data = &token.data;
         match token.type_ {
             YAML_VERSION_DIRECTIVE_TOKEN => {
@@ -343,12 +361,26 @@ impl Steps {
             }
             YAML_TAG_DIRECTIVE_TOKEN => self.directives.fact(bytes(data.tag_directive.handle)),
             YAML_TAG_TOKEN => {
-                self.directives
-                    .put_tag(bytes(data.tag.handle), bytes(data.tag.suffix), &mut [])
-                    .0
+                let (handle, suffix) = (bytes(data.tag.handle), bytes(data.tag.suffix));
+                let (fact, length) = self
+                    .directives
+                    .put_tag(handle, suffix, self.tag.as_mut_ptr(), Steps::SHORT);
+                self.tag_length = length;
+                fact
             }
-            YAML_SCALAR_TOKEN => u8::from(data.scalar.style == YAML_PLAIN_SCALAR_STYLE),
             _ => 0,
+        }
+    }
+
+    /// Returns the tag in full of the handle and suffix whose fact was asked for last; none if the handle isn't declared.
+    pub unsafe fn tag_in_full(&self, handle: &[u8], suffix: &[u8]) -> Option<Text> {
+        let length = self.tag_length;
+        match self.tag.get(..length) {
+            Some(tag) => Some(Text::copy(tag)),
+            None if length == usize::MAX => None,
+            None => Some(Text::of_length(length, |made| {
+                self.directives.put_tag(handle, suffix, made, length);
+            })),
         }
     }
 }

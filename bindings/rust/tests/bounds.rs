@@ -68,4 +68,44 @@ fn bounds_hold() {
         assert_eq!(unsafe { told(text, true) }.1, format!("found too many nodes {at}"));
         assert_eq!(unsafe { told(text, false) }.1, "");
     }
+    bounds::set_max_nodes(u32::MAX);
+    expansion_is_bounded();
+}
+
+/// With aliases written out: how many nodes a text may have, and where it is too large for one less or has no end.
+fn expansion_is_bounded() {
+    let (large, endless) = (
+        "found too many nodes, with aliases written out",
+        "found an alias within the node that it names",
+    );
+    let list = "[".to_owned() + &"a, ".repeat(500) + "]";
+    for (text, size, at) in [
+        ("a", 1, 0),
+        ("[a, b]", 3, 4),
+        ("{a: b, c: d}", 5, 10),
+        ("- &a [x, y]\n- *a\n", 7, 14),
+        ("- &a [x, y]\n- *a\n- z", 8, 19),
+        ("&k a: *k", 3, 6),
+        ("- &a [x, x]\n- &b [*a, *a]\n- &c [*b, *b]\n- *c\n", 41, 42),
+        (list.as_str(), 501, 3 * 499 + 1),
+    ] {
+        bounds::set_max_expanded(size);
+        assert_eq!(unsafe { told(text, true) }, (1, String::new()), "{text}");
+        bounds::set_max_expanded(size - 1);
+        assert_eq!(unsafe { told(text, true) }, (0, format!("{large} {at}")), "{text}");
+        assert_eq!(unsafe { told(text, false) }.1, "");
+    }
+    bounds::set_max_expanded(3);
+    assert_eq!(unsafe { told("--- [a, b]\n--- [c, d]\n", true) }, (2, String::new()));
+    assert_eq!(
+        unsafe { told("--- [a, b]\n--- [c, d, e]\n", true) },
+        (1, format!("{large} 22"))
+    );
+    for (bound, fault) in [
+        (i64::MAX as u64 - 1, format!("{endless} 7")),
+        (i64::MAX as u64, String::new()),
+    ] {
+        bounds::set_max_expanded(bound);
+        assert_eq!(unsafe { told("&a [x, *a]", true) }.1, fault);
+    }
 }

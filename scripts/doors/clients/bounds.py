@@ -1,15 +1,18 @@
 """Texts for bounds, and the comparison of what each door reads of them within bounds.
 
     bounds.py write DIR COUNT SEED            draws texts, and writes them as files of DIR; prints their names
-    bounds.py read LOADER WHAT DEPTH NODES < NAMES
-    bounds.py compare LOADER WHAT EVENTS FREE [DEPTH NODES BOUND]..
+    bounds.py read LOADER WHAT DEPTH NODES EXPANDED < NAMES
+    bounds.py compare LOADER WHAT EVENTS FREE [DEPTH NODES EXPANDED BOUND]..
 
 The second reads files by a loader of bindings/python, CLoader or Loader, and writes `events` or `nodes` in lines that begin as those
-of events.c and bounds.rs. DEPTH and NODES are numbers, or `-` if there is no such bound. EVENTS and FREE are what a door reads without
-a bound, by events and by WHAT, and each BOUND what it reads by WHAT within the two bounds before it. What that should be is made of the first two, of
-the tokens that PyYAML's loader of this name scans, and of what the headers say: one collection more than DEPTH is an error at the
-token that opens it, one node, item or pair more than NODES an error at the start of its event, and up to there all is as without.
-Prints how many texts have too many levels, too many nodes, and neither.
+of events.c and bounds.rs. DEPTH, NODES and EXPANDED are numbers, or `-` if there is no such bound. EVENTS and FREE are what a door
+reads without a bound, by events and by WHAT, and each BOUND what it reads by WHAT within the three bounds before it. What that should
+be is made of the first two, of the tokens that PyYAML's loader of this name scans, and of what the headers say: one collection more
+than DEPTH is an error at the token that opens it; one node, item or pair more than NODES, more than EXPANDED nodes with the aliases
+written out, or an alias within its own node, is an error at the start of its event; and up to there all is as without. How many nodes
+there are with aliases written out is counted anew at each event, by walks from the root.
+Prints how many texts have too many levels, too many nodes, too many with aliases written out, an alias within its own node, and none
+of these.
 
 Run by clients.sh.
 """
@@ -45,6 +48,18 @@ def nested(random_):
     return text + "\n"
 
 
+def bomb(random_):
+    """Lists with anchors, which name those before them, seldom one that isn't whole, and seldom one anew."""
+    lines, count = [], random_.randint(1, 8)
+    for number in range(count):
+        names = [random_.randrange(number + (random_.random() < .05)) if number else None for _ in range(random_.randint(0, 5))]
+        parts = ["x" if name is None else f"*b{name}" for name in names]
+        if random_.random() < .3:
+            parts.append(random_.choice(["y", "&c%d z" % number, "{k: v}", "{k: *b0}" if number else "k: v", "[]"]))
+        lines.append(f"- &b{number} [{', '.join(parts)}]")
+    return "\n".join(lines) + "\n"
+
+
 def unindented(random_):
     """Mappings whose sequences aren't indented, which have no entry of their own among the open collections."""
     lines, indent = [], 0
@@ -61,7 +76,7 @@ def drawn(random_):
     how = random_.random()
     if how < 0.5:
         return strict.drawn(random_)
-    text = (nested if how < 0.8 else unindented)(random_)
+    text = (nested if how < 0.7 else bomb if how < 0.85 else unindented)(random_)
     return "--- " * (text[0] not in "-?k") + text + (nested(random_) if random_.random() < 0.2 else "")
 
 
@@ -109,11 +124,11 @@ def told(failure):
             f"{place(failure.context_mark)}")
 
 
-def read(loader, what, depth, nodes):
+def read(loader, what, depth, nodes, expanded):
     import pokhvizi
 
     class Bounded(getattr(pokhvizi, loader)):
-        max_depth, max_nodes = depth, nodes
+        max_depth, max_nodes, max_expanded = depth, nodes, expanded
 
     for name in sys.stdin.read().split("\n")[:-1]:
         print("file", name)
@@ -159,8 +174,9 @@ class Stops(Exception):
 class Document:
     """The lists of a document that is composed, and its anchors."""
 
-    def __init__(self, nodes):
+    def __init__(self, nodes, expanded, sizes):
         self.most = self.left = float("inf") if nodes is None else nodes
+        self.expanded, self.sizes = expanded, sizes  # those of the document up to each event
         self.anchors, self.open = set(), []
 
     def take(self, kind, start, anchor):
@@ -177,14 +193,59 @@ class Document:
                 raise Stops(5, "found too many nodes", start)
             self.left -= 1
             self.anchors |= {anchor} - {"-"}
+        size = None if self.expanded is None else next(self.sizes)
+        if size == ENDLESS:
+            raise Stops(5, "found an alias within the node that it names", start)
+        if size is not None and size > self.expanded:
+            raise Stops(5, "found too many nodes, with aliases written out", start)
         if kind in STARTS:
             self.open.append({"is_mapping": kind == STARTS[1], "parts": 0})
         return True
 
 
-def wanted(events, free, opens, depth, nodes, loads):
+ENDLESS = float("inf")
+
+
+def tree_of(node, children, known, within):
+    """How many nodes there are from a node down, where one that several name counts for each."""
+    if node in within:
+        return ENDLESS
+    if node not in known:
+        known[node] = 1 + sum(tree_of(child, children, known, within | {node}) for child in children[node])
+    return known[node]
+
+
+def sizes_of(events):
+    """How many nodes a document has with its aliases written out, at each node and alias, for each document of a text."""
+    documents, children, carriers, open_ = [], [], {}, []
+    for line in events:
+        words = line.split()
+        if words[0] in ("3", "error"):
+            documents.append([])
+            children, carriers, open_ = [], {}, []
+        elif int(words[0]) in ENDS:
+            open_.pop()
+        elif int(words[0]) in (ALIAS, SCALAR, *STARTS):
+            anchor, node = words[3], len(children)
+            if int(words[0]) == ALIAS:
+                node = carriers.get(anchor)
+            else:
+                children.append([])
+                carriers.setdefault(anchor, node)
+            if node is None:
+                break  # an error of another kind
+            if open_:
+                children[open_[-1]].append(node)
+            if int(words[0]) in STARTS:
+                open_.append(node)
+            documents[-1].append(tree_of(0, children, {}, frozenset()))
+    return documents
+
+
+def wanted(events, free, opens, sizes, bounds, loads):
     """The lines that a text gives within bounds; `free` are those without, of documents if they are loaded."""
     collections, document, ended, given = [], None, 0, []
+    depth, nodes, expanded = bounds
     try:
         for line in events:
             words = line.split()
@@ -200,7 +261,7 @@ def wanted(events, free, opens, depth, nodes, loads):
                 collections.pop()
             if loads:
                 if kind == 3:
-                    document = Document(nodes)
+                    document = Document(nodes, expanded, iter(sizes[ended]))
                 elif kind == 4:
                     ended += 1
                 elif kind in ENDS:
@@ -236,18 +297,19 @@ def cut(lines):
 def compare(scanner, what, events, free, *bounded):
     events, free = blocks(events), blocks(free)
     opens = {name: openers(name, getattr(yaml, scanner)) for name in free}
-    counts = {"too many levels": 0, "too many nodes": 0, "": 0}
+    sizes = {name: sizes_of(lines) for name, lines in events.items()}
+    counts = {"too many levels": 0, "too many nodes ": 0, "aliases written out": 0, "within the node": 0, "": 0}
     wrong = [] if list(events) == list(free) else ["other files"]
-    for depth, nodes, bound in zip(bounded[::3], bounded[1::3], bounded[2::3]):
+    for *bounds, bound in zip(*(bounded[place::4] for place in range(4))):
         found = blocks(bound)
         if list(found) != list(free):
             wrong.append(f"{bound}: other files")
         for name, lines in found.items():
-            here = wanted(events[name], cut(free[name]), opens[name], number(depth), number(nodes), what == "nodes")
+            here = wanted(events[name], cut(free[name]), opens[name], sizes[name], map(number, bounds), what == "nodes")
             lines = cut(lines)
             if lines != here:
                 at = next((n for n, pair in enumerate(zip(lines, here)) if pair[0] != pair[1]), min(len(lines), len(here)))
-                wrong.append(f"{name} within {depth} {nodes}: {lines[at:at + 1]}, wanted was {here[at:at + 1]}")
+                wrong.append(f"{name} within {' '.join(bounds)}: {lines[at:at + 1]}, wanted was {here[at:at + 1]}")
             counts[next(word for word in counts if word in (here or [""])[-1])] += 1
     if wrong:
         print("\n".join(wrong[:10]))
@@ -258,7 +320,8 @@ def compare(scanner, what, events, free, *bounded):
 
 
 def number(word):
-    return None if word == "-" else int(word)
+    """The bound of a word; the largest number of 64 bits with a sign is none."""
+    return None if word in ("-", str((1 << 63) - 1)) else int(word)
 
 
 if __name__ == "__main__":
@@ -266,6 +329,6 @@ if __name__ == "__main__":
     if command == "write":
         write(words[0], int(words[1]), words[2])
     elif command == "read":
-        read(*words[:2], *map(number, words[2:]))
+        read(*words[:2], *(None if word == "-" else int(word) for word in words[2:]))
     else:
         sys.exit(compare(*words))

@@ -1,9 +1,10 @@
-//! Reads the files that lines of standard input name within bounds, and prints the kinds and marks of `events` or `nodes`, and the
-//! fault, in lines that begin as those of events.c:
+//! Reads files within bounds, those that lines of standard input name where no words do, and prints the kinds and marks of `events` or
+//! `nodes`, or how many there are, and the fault, in lines that begin as those of events.c:
 //!
-//!     bounds events|nodes DEPTH NODES < NAMES
+//!     bounds events|nodes DEPTH NODES EXPANDED < NAMES
+//!     bounds count_events|count_nodes DEPTH NODES EXPANDED NAME..
 //!
-//! DEPTH and NODES are numbers, or `-` if there is no such bound. Run by clients.sh.
+//! DEPTH, NODES and EXPANDED are numbers, or `-` if there is no such bound. Run by clients.sh and hostile_texts.py.
 
 use std::ffi::{c_char, CStr};
 use std::mem::MaybeUninit;
@@ -45,16 +46,21 @@ unsafe fn put_nodes(document: &yaml_document_t) {
 unsafe fn put_fault(parser: *mut yaml_parser_t) {
     let (problem, context) = (text((*parser).problem.cast()), text((*parser).context.cast()));
     let (at, from) = (place((*parser).problem_mark), place((*parser).context_mark));
-    println!("error {} {problem} {at} {context} {from}", (*parser).error as u32);
+    let (offset, value) = ((*parser).problem_offset, (*parser).problem_value);
+    println!("error {} {problem} {at} {context} {from} {offset} {value}", (*parser).error as u32);
 }
 
-/// Puts the next event or document of a parser; returns whether there may be another.
-unsafe fn put_next(parser: *mut yaml_parser_t, loads: bool) -> bool {
+/// Counts the next event, or the next document's nodes, and puts them where they are told; returns whether there may be more.
+unsafe fn take_next(parser: *mut yaml_parser_t, loads: bool, tells: bool, count: &mut usize) -> bool {
     let (mut event, mut document) = (MaybeUninit::uninit(), MaybeUninit::uninit());
     let (given, is_last) = if loads {
         let given = yaml_parser_load(parser, document.as_mut_ptr()).ok;
         let is_last = !given || yaml_document_get_root_node(document.as_mut_ptr()).is_null();
-        if given && !is_last {
+        if given {
+            let nodes = &(*document.as_ptr()).nodes;
+            *count += nodes.top.offset_from(nodes.start) as usize;
+        }
+        if tells && given && !is_last {
             put_nodes(&*document.as_ptr());
         }
         if given {
@@ -63,7 +69,8 @@ unsafe fn put_next(parser: *mut yaml_parser_t, loads: bool) -> bool {
         (given, is_last)
     } else {
         let given = yaml_parser_parse(parser, event.as_mut_ptr()).ok;
-        if given {
+        *count += usize::from(given);
+        if tells && given {
             put_event(&*event.as_ptr());
         }
         let is_last = !given || (*event.as_ptr()).type_ == YAML_STREAM_END_EVENT;
@@ -84,17 +91,30 @@ fn main() -> io::Result<()> {
     if let Ok(nodes) = words[2].parse() {
         bounds::set_max_nodes(nodes);
     }
-    for name in io::stdin().lines() {
-        let name = name?;
+    if let Ok(nodes) = words[3].parse() {
+        bounds::set_max_expanded(nodes);
+    }
+    let (loads, tells) = (words[0].ends_with("nodes"), !words[0].starts_with("count"));
+    let names = match tells {
+        true => io::stdin().lines().collect::<Result<_, _>>()?,
+        false => words[4..].to_vec(),
+    };
+    for name in names {
         let text = fs::read(&name)?;
-        println!("file {name}");
+        if tells {
+            println!("file {name}");
+        }
+        let mut count = 0;
         let mut parser = MaybeUninit::<yaml_parser_t>::uninit();
         let parser = parser.as_mut_ptr();
         unsafe {
             assert!(yaml_parser_initialize(parser).ok);
             yaml_parser_set_input_string(parser, text.as_ptr(), text.len() as u64);
-            while put_next(parser, words[0] == "nodes") {}
+            while take_next(parser, loads, tells, &mut count) {}
             yaml_parser_delete(parser);
+        }
+        if !tells {
+            println!("{count}");
         }
     }
     Ok(())

@@ -2,7 +2,7 @@
  * deleted at each event, moved, used after an error or after the end, and by several threads; documents; more states, marks,
  * tag directives, texts and anchors than there was room for at first; drawn tag directives, beside pokhvizi_directive_fact and
  * pokhvizi_tag; the time that anchors and directives take. Says what was wrong, and exits with 1 if anything was. With the word
- * `bounds` it checks no more than those that the environment sets: a depth of 20 and 30 nodes. */
+ * `bounds` it checks no more than those that the environment sets: a depth of 20, 30 nodes, and 40 with aliases written out. */
 #include <pokhvizi/steps.h>
 #include <pthread.h>
 #include <stdio.h>
@@ -567,7 +567,9 @@ static const char *items(const char *item, int count)
 
 static void check_bounds(void)
 {
-    static const char deep[] = "[[[[[[[[[[[[[[[[[[[[]]]]]]]]]]]]]]]]]]]]", *levels = "found too many levels", *nodes = "found too many nodes";
+    static const char deep[] = "[[[[[[[[[[[[[[[[[[[[]]]]]]]]]]]]]]]]]]]]", *levels = "found too many levels", *nodes = "found too many nodes",
+                      *large = "found too many nodes, with aliases written out",
+                      *endless = "found an alias within the node that it names";
     static char brackets[100001];
 
     memset(brackets, '[', sizeof brackets - 1);
@@ -581,8 +583,16 @@ static void check_bounds(void)
     check_bound(items("b", 30), 1, 0, YAML_COMPOSER_ERROR, nodes, 92);
     check_bound(items("*a", 30), 1, 2, YAML_NO_ERROR, NULL, 0);
     check_bound(items("*a", 31), 1, 0, YAML_COMPOSER_ERROR, nodes, 124);
+    check_bound("[&a [b, c], *a, *a, *a, *a, *a, *a, *a, *a, *a, *a, *a, *a]", 1, 4, YAML_NO_ERROR, NULL, 0);
+    check_bound("[&a [b, c], *a, *a, *a, *a, *a, *a, *a, *a, *a, *a, *a, d, *a]", 1, 0, YAML_COMPOSER_ERROR, large, 59);
+    check_bound("[&a [&b [b, c, d, e], *b, *b, *b], &c [*a], f]", 1, 0, YAML_COMPOSER_ERROR, large, 39);
+    check_bound("[&a [b, b, b, b, b, b, b, b, b, b, b, b, b, b, b, b, b, b, b, b, b, b, b, b], *a]", 1, 0, YAML_COMPOSER_ERROR, large, 78);
+    check_bound("--- &a [x, y]\n--- [&a [x, *a]]\n", 1, 3, YAML_COMPOSER_ERROR, endless, 26);
+    check_bound("&a {k: *a}", 1, 0, YAML_COMPOSER_ERROR, endless, 7);
+    check_bound("&a {k: *a}", 0, 8, YAML_NO_ERROR, NULL, 0);
+    long refused = check_refused_loads(items("b", 29), 30);
     if (!wrong)
-        puts("bounds hold");
+        printf("bounds hold, %ld allocations refused within them\n", refused);
 }
 
 int main(int count, char **words)

@@ -149,36 +149,39 @@ def size_of(node, sizes):
     return sizes[id(node)]
 
 
-def place_of_error(text, **bounds):
+def place_of_error(base, text, **bounds):
     """The line and the column of the error that ends this text, and its words."""
     try:
-        yaml.compose(text, type("Bounded", (pokhvizi.CSafeLoader,), bounds))
+        yaml.compose(text, type("Bounded", (base,), bounds))
     except yaml.composer.ComposerError as failure:
         return failure.problem_mark.line, failure.problem_mark.column, failure.problem
 
 
 def expanded():
+    for base in pokhvizi.CSafeLoader, pokhvizi.SafeLoader:
+        expanded_by(base)
+
+
+def expanded_by(base):
     many = "found too many nodes, with aliases written out"
     for text in ("a", "[a, b]", "{a: b}", "- &a [x, y]\n- *a\n", "&k a: *k", bomb(3, 3), bomb(10, 2), bomb(40, 1), "[%s]" % ("a, " * 500)):
         size = size_of(yaml.compose(text, pokhvizi.CSafeLoader), {})
-        expect("as large as may be", bounded(pokhvizi.CSafeLoader, text, yaml.compose_all, max_expanded=size), 1)
-        expect("larger than may be", bounded(pokhvizi.CSafeLoader, text, yaml.compose_all, max_expanded=size - 1),
+        expect("as large as may be", bounded(base, text, yaml.compose_all, max_expanded=size), 1)
+        expect("larger than may be", bounded(base, text, yaml.compose_all, max_expanded=size - 1),
                "ComposerError: " + many)
-    expect("each document has the bound", bounded(pokhvizi.CSafeLoader, "[a]\n--- [b]\n", yaml.compose_all, max_expanded=2), 2)
-    expect("events have none", bounded(pokhvizi.CSafeLoader, "[a, b]", yaml.parse, max_expanded=0), 8)
-    expect("at an alias", place_of_error("- &a [x, y]\n- *a\n", max_expanded=6), (1, 2, many))
-    expect("at a node", place_of_error("- &a [x, y]\n- *a\n", max_expanded=3), (0, 9, many))
-    expect("within itself", place_of_error("- &a [x, *a]", max_expanded=100),
+    expect("each document has the bound", bounded(base, "[a]\n--- [b]\n", yaml.compose_all, max_expanded=2), 2)
+    expect("events have none", bounded(base, "[a, b]", yaml.parse, max_expanded=0), 8)
+    expect("at an alias", place_of_error(base, "- &a [x, y]\n- *a\n", max_expanded=6), (1, 2, many))
+    expect("at a node", place_of_error(base, "- &a [x, y]\n- *a\n", max_expanded=3), (0, 9, many))
+    expect("within itself", place_of_error(base, "- &a [x, *a]", max_expanded=100),
            (0, 9, "found an alias within the node that it names"))
-    expect("within itself, if there is no bound", place_of_error("- &a [x, *a]"), None)
+    expect("within itself, if there is no bound", place_of_error(base, "- &a [x, *a]"), None)
     begun = time.process_time()
-    expect("a bomb of ten levels of ten", place_of_error(bomb(10, 10), max_expanded=1000000), (5, 44, many))
+    expect("a bomb of ten levels of ten", place_of_error(base, bomb(10, 10), max_expanded=1000000), (5, 44, many))
     expect("its time, which is less than 10 ms", time.process_time() - begun < .1, True)
     for bound in (-1, "x", 1.5, 1 << 70):
-        expect("no bound", bounded(pokhvizi.CSafeLoader, "a", yaml.compose_all, max_expanded=bound),
+        expect("no bound", bounded(base, "a", yaml.compose_all, max_expanded=bound),
                "ValueError: max_expanded has to be None or a number from 0 on, and is %r" % (bound,))
-    expect("a loader in Python", bounded(pokhvizi.SafeLoader, "a", yaml.parse, max_expanded=1),
-           "ValueError: max_expanded is for the loaders in C, such as CSafeLoader")
 
 
 # ---- Loaders that are called while they are at work ----

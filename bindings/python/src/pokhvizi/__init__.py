@@ -21,8 +21,8 @@ Each event takes as many tokens of the scanner as PyYAML's parser takes. These d
 
 A loader is for one thread; several loaders may be used at once. An error is raised again by each later call for an event.
 
-`max_depth` of a loader's class bounds the collections that are open at once, and `max_nodes` the nodes of a document and the
-items or pairs of a node; None, the default, is no bound.
+`max_depth` of a loader's class bounds the collections that are open at once, `max_nodes` the nodes of a document and the items or
+pairs of a node, and `max_expanded` the nodes of a document with its aliases written out; None, the default, is no bound.
 
 `CSafeLoader` and the others of `pokhvizi.cyaml` are PyYAML's loaders in C, over an extension that is in the wheels.
 """
@@ -198,8 +198,6 @@ class Steps:
     def __init__(self, scanner):
         if getattr(scanner, "strict_libyaml", False):
             raise ValueError("strict_libyaml is for the loaders in C, such as CSafeLoader")
-        if getattr(scanner, "max_expanded", None) is not None:
-            raise ValueError("max_expanded is for the loaders in C, such as CSafeLoader")
         self.scanner, self.library, self.marks = scanner, Library.get(), Marks()
         self.directives = Directives(self.library)
         self.max_depth = bound_of(scanner, "max_depth", sys.maxsize)
@@ -389,10 +387,29 @@ class Steps:
 
 # ---- Loaders ----
 
+class Expansion:
+    """How many nodes a document has so far with its aliases written out."""
+
+    def __init__(self, most):
+        self.most, self.total, self.sizes = most, 0, {}  # the sizes are those of nodes that have ended, by their anchors
+
+    def put(self, event):
+        """Adds the node of an event, or the copy that an alias stands for."""
+        if self.most == sys.maxsize:
+            return
+        is_alias = isinstance(event, yaml.AliasEvent)
+        if is_alias and event.anchor not in self.sizes:
+            raise yaml.composer.ComposerError(None, None, "found an alias within the node that it names", event.start_mark)
+        total = self.total + (self.sizes[event.anchor] if is_alias else 1)
+        if total > self.most:
+            raise yaml.composer.ComposerError(None, None, "found too many nodes, with aliases written out", event.start_mark)
+        self.total = total
+
+
 class Parser:
     """This parser with the methods of `yaml.parser.Parser`, over the scanner of the same loader."""
 
-    max_depth = max_nodes = None
+    max_depth = max_nodes = max_expanded = None
     current_event = None
     failure = None
     events = None
@@ -427,22 +444,27 @@ class Parser:
 
     def compose_document(self):
         """As PyYAML's. Its composer calls itself, so nothing stands between its calls unless there is a bound."""
-        if self.max_nodes is not None:
+        if self.max_nodes is not None or self.max_expanded is not None:
             self.max_entries = self.nodes_left = bound_of(self, "max_nodes", (1 << 31) - 1)
+            self.expansion = Expansion(bound_of(self, "max_expanded", sys.maxsize))
             if "compose_node" not in vars(self):
                 self.compose_node = functools.partial(self.compose_bounded, self.compose_node)
         return super().compose_document()
 
     def compose_bounded(self, compose, parent, index):
-        """Composes the next node, unless a list of the document would then have more entries than it may."""
-        event = self.peek_event()
+        """Composes the next node, unless the document, or a list of it, would then be larger than it may."""
+        event, before = self.peek_event(), self.expansion.total
         is_alias = isinstance(event, yaml.AliasEvent)
         is_entry = parent is not None and not isinstance(index, yaml.Node)  # an item or a key, and no value
         if is_alias == (event.anchor in self.anchors):  # else PyYAML's composer has an error of its own
             if is_entry and len(parent.value) >= self.max_entries or not is_alias and self.nodes_left == 0:
                 raise yaml.composer.ComposerError(None, None, "found too many nodes", event.start_mark)
+            self.expansion.put(event)
         self.nodes_left -= not is_alias
-        return compose(parent, index)
+        node = compose(parent, index)
+        if not is_alias and event.anchor is not None:
+            self.expansion.sizes[event.anchor] = self.expansion.total - before
+        return node
 
     def dispose(self):
         """Gives back what the parser holds; it then has no further event."""

@@ -14,6 +14,7 @@ class LibraryError(Exception): ...
 class Parser(_Parser):
     max_depth: Optional[int]
     max_nodes: Optional[int]
+    max_expanded: Optional[int]
 
 class Loader(Parser, yaml.Loader): ...
 
