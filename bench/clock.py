@@ -14,14 +14,19 @@ RUN_TOKENS = 250000
 KEEPS_PAGES = {"GLIBC_TUNABLES": "glibc.malloc.trim_threshold=67108864:glibc.malloc.mmap_threshold=67108864"}
 
 PEERS = ("libyaml", "unsafe_libyaml")
+IN_PLACE = {"libyaml": ("libyaml", "events"), "unsafe_libyaml": ("unsafe_libyaml", "events")}
+NODES = {"libyaml": ("libyaml", "nodes"), "unsafe_libyaml": ("unsafe_libyaml", "nodes")}
 
-# The columns: their heads, the work of ours and of the peers, and the settings of glibc.
+# The columns: their heads, the work of ours, each peer's program and its work, and the settings of glibc.
 COLUMNS = (
-    ("events in place", "place-events", "events", {}),
-    ("events by iterator", "iterate-events", "events", {}),
-    ("events, texts kept", "reuse-events", "events", {}),
-    ("nodes in place", "place-nodes", "nodes", {}),
-    ("nodes in place, where glibc gives no page back", "place-nodes", "nodes", KEEPS_PAGES),
+    ("events in place", "place-events", IN_PLACE, {}),
+    ("events by iterator, the peer's in place", "iterate-events", IN_PLACE, {}),
+    ("events by iterator, the peer's moved", "iterate-events", {"unsafe_libyaml": ("unsafe_moved", "moved-events")}, {}),
+    ("the peer's copied", "iterate-events", {"unsafe_libyaml": ("unsafe_copied", "copied-events")}, {}),
+    ("the peer's as serde_yaml", "iterate-events", {"unsafe_libyaml": ("unsafe_serde", "serde-events")}, {}),
+    ("events, texts kept", "reuse-events", IN_PLACE, {}),
+    ("nodes in place", "place-nodes", NODES, {}),
+    ("nodes in place, where glibc gives no page back", "place-nodes", NODES, KEEPS_PAGES),
 )
 
 
@@ -73,16 +78,16 @@ def measured(bench, kind, ours, theirs, settings):
     count, turns = bench.token_count(kind), int(os.environ.get("TURNS", "24"))
     rounds = math.ceil(RUN_TOKENS / count)
     first = (bench.program("bench_lists"), ours)
-    peers = {peer: (bench.program(peer), theirs) for peer in PEERS if bench.has(peer)}
+    peers = {peer: (bench.program(name), work) for peer, (name, work) in theirs.items() if bench.has(name)}
     times = times_of([first, *peers.values()], bench.tokens(kind), rounds, turns, settings)
     ratios = {peer: ratio(times[work], times[first]) for peer, work in peers.items()}
     return lower_fifth(times[first]) * 1e9 / rounds / count, ratios
 
 
-def print_table(title, rows):
+def print_table(title, heads, rows):
     """A table: a line a kind, a column a work."""
-    print(f"\n| {title} | " + " | ".join(head for head, *_ in COLUMNS) + " |")
-    print("|---|" + "---|" * len(COLUMNS))
+    print(f"\n| {title} | " + " | ".join(heads) + " |")
+    print("|---|" + "---|" * len(heads))
     for kind, cells in rows.items():
         print(f"| {kind} | " + " | ".join(cells) + " |")
 
@@ -90,17 +95,19 @@ def print_table(title, rows):
 def print_lists(bench, kinds):
     """Ours in nanoseconds, and each peer's ratios, with their geometric means."""
     found = {kind: [measured(bench, kind, *column[1:]) for column in COLUMNS] for kind in kinds}
-    print_table("nanoseconds a token", {kind: [f"{ns:.1f}" for ns, _ in cells] for kind, cells in found.items()})
+    heads = [head for head, *_ in COLUMNS]
+    print_table("nanoseconds a token", heads, {kind: [f"{ns:.1f}" for ns, _ in cells] for kind, cells in found.items()})
     for peer in PEERS:
         if bench.has(peer):
-            ratios = {kind: [each[peer] for _, each in cells] for kind, cells in found.items()}
+            places = [place for place, (_, _, theirs, _) in enumerate(COLUMNS) if peer in theirs]
+            ratios = {kind: [cells[place][1][peer] for place in places] for kind, cells in found.items()}
             shown = {
                 kind: [f"{middle:.2f} ({low:.2f}–{high:.2f})" for middle, low, high in cells]
                 for kind, cells in ratios.items()
             }
             columns = [[middle for middle, _, _ in column] for column in zip(*ratios.values())]
             shown["geometric mean"] = [f"{math.exp(sum(map(math.log, column)) / len(column)):.2f}" for column in columns]
-            print_table(f"how many times as long {peer.replace('_', '-')} takes", shown)
+            print_table(f"how many times as long {peer.replace('_', '-')} takes", [heads[place] for place in places], shown)
 
 
 def print_program(bench, turns):

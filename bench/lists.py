@@ -1,9 +1,11 @@
 #!/usr/bin/env python3
 """The lists of tokens that the bench takes, as token lines: `lists.py DIR` writes DIR/NAME.tokens for each kind of list
-(`KINDS`), DIR/NAME-few.tokens and DIR/NAME-many.tokens for those of `GROWING`, and DIR/program.tokens.
+(`KINDS`), DIR/NAME-few.tokens and DIR/NAME-many.tokens for those of `GROWING`, DIR/NAME-LENGTH.tokens for those of
+`REPEATED`, and DIR/program.tokens.
 
 The mixes are those of crates/rows_yaml/data/real; each other list repeats one form and has some 4,000 tokens, or ten
-times as many."""
+times as many, or as many as `LENGTHS` says: glibc keeps and gives back blocks in another way at each length, so that a
+figure of one may be luck."""
 import os
 import sys
 
@@ -32,6 +34,8 @@ KINDS = {
 
 GROWING = {kind: KINDS[kind] for kind in ("documents", "mappings", "flow", "anchors", "aliases")}
 GROWING["handles"] = "tag directives of one document"
+REPEATED = [kind for kind in KINDS if kind not in ("mix", "services")]
+LENGTHS = (600, 5000, 40000)
 
 
 def shifted(mark, index, line):
@@ -148,6 +152,9 @@ def main():
     for kind in GROWING:
         write(sys.argv[1], kind + "-few", marked(tokens_of(kind, TOKENS)))
         write(sys.argv[1], kind + "-many", marked(tokens_of(kind, 10 * TOKENS)))
+    for kind in REPEATED:
+        for length in LENGTHS:
+            write(sys.argv[1], f"{kind}-{length}", marked(tokens_of(kind, length)))
     write(sys.argv[1], "program", program_lines())
 
 

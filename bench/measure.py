@@ -1,9 +1,9 @@
 #!/usr/bin/env python3
 """measure.py DIR [--clock] [--out FIGURES] KIND..: what a token takes in each list of DIR, and a line of the program.
 
-DIR has the lists of lists.py and the programs `bench_lists`, `yamltokens`, `libyaml`, `libyaml_lines` and, maybe,
-`unsafe_libyaml`. KIND is a kind of list, `growth` or `program`. Instructions are counted by valgrind's callgrind: of a list, the
-difference of two runs that differ in their rounds alone. All programs must agree in their counts and checksums.
+DIR has the lists of lists.py and the programs `bench_lists`, `yamltokens`, `libyaml`, `libyaml_lines` and, maybe, those of
+`unsafe_libyaml.rs`. KIND is a kind of list, `growth`, `lengths` or `program`. Instructions are counted by valgrind's callgrind: of
+a list, the difference of two runs that differ in their rounds alone. All programs must agree in their counts and checksums.
 `--clock` takes the time too (clock.py); FIGURES is written for chart.py. $JOBS runs go on at a time (2).
 
 Nodes are counted twice. As glibc is set, what a block costs hangs on where the blocks before it lie: it keeps seven freed
@@ -18,7 +18,7 @@ import sys
 from concurrent.futures import ThreadPoolExecutor
 
 from clock import print_clock
-from lists import GROWING, KINDS
+from lists import GROWING, KINDS, LENGTHS, REPEATED
 
 # glibc's malloc keeps every freed block for a request of its size, up to a size of 1,032 bytes.
 KEEPS_BLOCKS = {"GLIBC_TUNABLES": "glibc.malloc.tcache_count=65535"}
@@ -33,6 +33,9 @@ MEASURES = {
     "push events": ("bench_lists", "push-events"),
     "value events": ("bench_lists", "value-events"),
     "iterate events": ("bench_lists", "iterate-events"),
+    "moved events": ("unsafe_moved", "moved-events"),
+    "copied events": ("unsafe_copied", "copied-events"),
+    "serde events": ("unsafe_serde", "serde-events"),
     "list alone": ("bench_lists", "list-tokens"),
     "floor events": ("libyaml", "floor-events"),
     "libyaml nodes": ("libyaml", "nodes"),
@@ -52,12 +55,17 @@ EVENTS = {
     "`unsafe-libyaml`": "unsafe events",
     "ours, in place": "place events",
     "texts kept": "reuse events",
-    "by value": "value events",
-    "by iterator": "iterate events",
     "over a list": "list events",
     "pushed": "push events",
     "the list alone": "list alone",
     "floor": "floor events",
+}
+BY_VALUE = {
+    "`unsafe-libyaml`, moved": "moved events",
+    "copied": "copied events",
+    "as serde_yaml": "serde events",
+    "ours, by iterator": "iterate events",
+    "by value": "value events",
 }
 NODES = {
     "libyaml": "libyaml nodes",
@@ -72,6 +80,12 @@ KEPT_NODES = {
     "libyaml": "kept libyaml nodes",
     "`unsafe-libyaml`": "kept unsafe nodes",
     "ours, in place": "kept place nodes",
+}
+# The tables of lists of more than one length: what is counted, the peer and ours.
+BESIDE = {
+    "events in place": ("unsafe events", "place events"),
+    "events by iterator": ("moved events", "iterate events"),
+    "nodes in place": ("unsafe nodes", "place nodes"),
 }
 MEASURED_TOKENS = 40000
 
@@ -120,9 +134,9 @@ class Bench:
             return sum(1 for _ in lines)
 
     def measure(self, kind, measure):
-        """Instructions a token, and the count and checksum of a round; None for the one program that may be missing."""
+        """Instructions a token, and the count and checksum of a round; None for a program that may be missing."""
         name, work = MEASURES[measure]
-        if name == "unsafe_libyaml" and not self.has(name):
+        if name.startswith("unsafe") and not self.has(name):
             return None
         count, path = self.token_count(kind), self.tokens(kind)
         few = max(2, math.ceil(MEASURED_TOKENS / 4 / count))
@@ -139,7 +153,7 @@ class Bench:
         """Raises where two programs disagree about the events or the nodes of a list."""
         for what in ("events", "nodes"):
             seen = {m: r[1] for m, r in measured.items() if r is not None and m.endswith(what)}
-            if len(set(seen.values())) != 1:
+            if len(set(seen.values())) > 1:
                 raise Failed(f"{kind}: the programs disagree about its {what}: {seen}")
 
     def lines(self, what):
@@ -164,9 +178,9 @@ def print_table(what, columns, figures):
         print(f"| {kind} | " + " | ".join(shown(measured, m) for m in columns.values()) + " |")
 
 
-def measure_lists(bench, kinds):
+def measure_lists(bench, kinds, measures=tuple(MEASURES)):
     """The measures of each kind."""
-    jobs = [(kind, measure) for kind in kinds for measure in MEASURES]
+    jobs = [(kind, measure) for kind in kinds for measure in measures]
     with ThreadPoolExecutor(int(os.environ.get("JOBS", "2"))) as pool:
         results = list(pool.map(lambda job: bench.measure(*job), jobs))
     figures = {kind: {} for kind in kinds}
@@ -189,6 +203,18 @@ def print_growth(bench):
         print(f"| {kind} | " + " | ".join(cells) + " |")
 
 
+def print_lengths(bench):
+    """Instructions a token of lists of other lengths, of the peer and of ours."""
+    lists_ = {kind: [f"{kind}-{length}" for length in LENGTHS] for kind in REPEATED}
+    measures = [measure for pair in BESIDE.values() for measure in pair]
+    figures = measure_lists(bench, [name for names in lists_.values() for name in names], measures)
+    heads = [f"{who}{length:,}" for who in ("`unsafe-libyaml`, ", "ours, ") for length in LENGTHS]
+    for what, pair in BESIDE.items():
+        print(f"\n| {what}, by the list's length | " + " | ".join(heads) + " |\n|---|" + "---|" * len(heads))
+        for kind, names in lists_.items():
+            print(f"| {kind} | " + " | ".join(shown(figures[name], measure) for measure in pair for name in names) + " |")
+
+
 def print_program(bench):
     count = bench.token_count("program")
     print(f"\n| over {count:,} lines | instructions | a line | libyaml's are |\n|---|---|---|---|")
@@ -203,16 +229,17 @@ def main():
     clock = "--clock" in words
     out = words[words.index("--out") + 1] if "--out" in words else None
     words = [word for word in words if word not in ("--clock", "--out", out)]
-    growth, program = "growth" in words, "program" in words
+    growth, lengths, program = "growth" in words, "lengths" in words, "program" in words
     kinds = [kind for kind in KINDS if kind in words[1:]]
-    if len(words) != 1 + len(kinds) + growth + program or len(words) == 1:
-        sys.exit(f"usage: measure.py DIR [--clock] [--out FIGURES] KIND..: of {' '.join(KINDS)} growth program")
+    if len(words) != 1 + len(kinds) + growth + lengths + program or len(words) == 1:
+        sys.exit(f"usage: measure.py DIR [--clock] [--out FIGURES] KIND..: of {' '.join(KINDS)} growth lengths program")
     bench = Bench(words[0])
     if kinds:
         if not bench.has("unsafe_libyaml"):
-            print("The column of `unsafe-libyaml` is missing: UNSAFE_LIBYAML names no sources, or rustc is missing.")
+            print("The columns of `unsafe-libyaml` are missing: UNSAFE_LIBYAML names no sources, or rustc is missing.")
         figures = measure_lists(bench, kinds)
         print_table("events, instructions a token", EVENTS, figures)
+        print_table("events by value, instructions a token", BY_VALUE, figures)
         print_table("nodes, instructions a token", NODES, figures)
         print_table("nodes, where malloc keeps every freed block", KEPT_NODES, figures)
         if out is not None:
@@ -220,6 +247,8 @@ def main():
                 json.dump({k: {m: r and r[0] for m, r in v.items()} for k, v in figures.items()}, written)
     if growth:
         print_growth(bench)
+    if lengths:
+        print_lengths(bench)
     if program:
         print_program(bench)
     if clock:

@@ -3,9 +3,9 @@
 #
 #     sh bench/run.sh [clock] [KIND..]
 #
-# KIND is a kind of list that bench/lists.py names, `growth` or `program`; without one all are measured, and only then
-# the drawing is made. `clock` takes the time too: let nothing else run. UNSAFE_LIBYAML=DIR is the folder of the Rust
-# crate, version 0.2.11, with its src; without it that column is missing. Debian has it from release 13 on, as
+# KIND is a kind of list that bench/lists.py names, `growth`, `lengths` or `program`; without one all are measured, and only
+# then the drawing is made. `clock` takes the time too: let nothing else run. UNSAFE_LIBYAML=DIR is the folder of the Rust
+# crate, version 0.2.11, with its src; without it its columns are missing. Debian has it from release 13 on, as
 # librust-unsafe-libyaml-dev in /usr/share/cargo/registry. BENCH_LISTS and YAMLTOKENS may name programs that are built
 # already, such as earlier builds. JOBS=N counts go on at a time (2).
 #
@@ -22,11 +22,11 @@ if [ "${1-}" = clock ]; then
     clock=--clock
     shift
 fi
-known=$(cd "$top/bench" && python3 -c 'import lists; print(*lists.KINDS)')
+known="$(cd "$top/bench" && python3 -c 'import lists; print(*lists.KINDS)') growth lengths program"
 for word; do
-    case " $known growth program " in
+    case " $known " in
     *" $word "*) ;;
-    *) echo "usage: sh bench/run.sh [clock] [KIND..], where KIND is of: $known growth program" >&2; exit 2 ;;
+    *) echo "usage: sh bench/run.sh [clock] [KIND..], where KIND is of: $known" >&2; exit 2 ;;
     esac
 done
 for tool in rt valgrind python3 "${CC:=cc}"; do
@@ -53,14 +53,16 @@ flags='-std=gnu11 -O2 -Wall -Wextra'
 "$CC" $flags -o "$work/libyaml" libyaml.c "$work/read_tokens.o" -Wl,-Bstatic -lyaml -Wl,-Bdynamic
 "$CC" $flags -o "$work/libyaml_lines" libyaml_lines.c -Wl,-Bstatic -lyaml -Wl,-Bdynamic
 if [ -n "${UNSAFE_LIBYAML-}" ] && command -v rustc > /dev/null; then
-    rustc --edition 2021 -O -C codegen-units=1 -C panic=abort -o "$work/unsafe_libyaml" unsafe_libyaml.rs \
-        -C link-arg="$work/read_tokens.o" -C link-arg=-lyaml
+    for by in libyaml moved copied serde; do
+        rustc --edition 2021 -O -C codegen-units=1 -C panic=abort --cfg "$by" -o "$work/unsafe_$by" unsafe_libyaml.rs \
+            -C link-arg="$work/read_tokens.o" -C link-arg=-lyaml
+    done
 fi
 python3 lists.py "$work"
 
 if [ $# -gt 0 ]; then
     python3 measure.py "$work" $clock "$@"
 else
-    python3 measure.py "$work" $clock --out "$work/figures" $known growth program
+    python3 measure.py "$work" $clock --out "$work/figures" $known
     python3 chart.py "$work/figures" "$top/docs/performance.svg"
 fi

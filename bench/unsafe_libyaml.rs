@@ -1,4 +1,5 @@
-//! unsafe_libyaml events|nodes ROUNDS < token-lines: what `libyaml.c` does, by the Rust crate's parser and loader.
+//! unsafe_libyaml WORK ROUNDS < token-lines: what `libyaml.c` does, by the Rust crate's parser and loader. WORK is `events`
+//! or `nodes`. With `--cfg NAME` it is `NAME-events` alone, by that wrapper of `by_value.rs`.
 //!
 //! Of the crate's sources, `$UNSAFE_LIBYAML/src`, the files api, loader, parser and yaml are read when this is compiled.
 //! What they use of the crate's other files is written here, over the C library's allocator. In the scanner's place
@@ -91,8 +92,9 @@ pub use api::*;
 pub use loader::*;
 pub use parser::*;
 pub use yaml::*;
-pub use yaml::{yaml_encoding_t::*, yaml_error_type_t::*, yaml_mapping_style_t::*, yaml_node_type_t::*,
+pub use yaml::{yaml_encoding_t::*, yaml_error_type_t::*, yaml_event_type_t::*, yaml_mapping_style_t::*, yaml_node_type_t::*,
     yaml_parser_state_t::*, yaml_scalar_style_t::*, yaml_sequence_style_t::*, yaml_token_type_t::*};
+mod by_value;
 
 extern "C" {
     /// The tokens of standard input, in libyaml's layout, which the crate's is too.
@@ -178,10 +180,15 @@ impl Seen {
     }
 }
 
+#[cold]
+fn stop() -> ! {
+    eprintln!("unsafe_libyaml: a round failed");
+    std::process::exit(3);
+}
+
 fn check(success: success::Success) {
     if success.fail {
-        eprintln!("unsafe_libyaml: a round failed");
-        std::process::exit(3);
+        stop();
     }
 }
 
@@ -235,11 +242,26 @@ unsafe fn load(seen: &mut Seen, looks: bool) {
     yaml_parser_delete(parser);
 }
 
-unsafe fn run_rounds(work: &str, rounds: u64) {
+type Round = unsafe fn(&mut Seen, bool);
+
+/// What this program does: with more works in it, the compiler would not put the parser into its callers.
+const WORKS: &[(&str, Round)] = &[
+    #[cfg(not(any(moved, copied, serde)))]
+    ("events", parse),
+    #[cfg(not(any(moved, copied, serde)))]
+    ("nodes", load),
+    #[cfg(moved)]
+    ("moved-events", by_value::parse::<by_value::Moved>),
+    #[cfg(copied)]
+    ("copied-events", by_value::parse::<by_value::Copied>),
+    #[cfg(serde)]
+    ("serde-events", by_value::parse_as_serde),
+];
+
+unsafe fn run_rounds(work: &str, round: Round, rounds: u64) {
     let mut tokens = core::ptr::null_mut();
     let count = read_tokens(&mut tokens);
     TOKENS = std::slice::from_raw_parts(tokens, count);
-    let round = if work == "nodes" { load } else { parse };
     let (mut seen, mut counted) = (Seen::default(), Seen::default());
     for turn in 0..=rounds {
         round(if turn == 0 { &mut seen } else { &mut counted }, turn == 0);
@@ -249,14 +271,15 @@ unsafe fn run_rounds(work: &str, rounds: u64) {
 
 fn main() {
     let words: Vec<String> = std::env::args().skip(1).collect();
-    let rounds = words.get(1).and_then(|word| word.parse().ok());
-    match (words.first().map(String::as_str), rounds, words.len()) {
-        (Some(work @ ("events" | "nodes")), Some(rounds), 2) => unsafe {
+    let work = WORKS.iter().find(|(word, _)| words.first().is_some_and(|first| first == word));
+    match (work, words.get(1).and_then(|word| word.parse().ok()), words.len()) {
+        (Some((word, round)), Some(rounds), 2) => unsafe {
             assert_eq!(size_of_token(), core::mem::size_of::<yaml_token_t>());
-            run_rounds(work, rounds);
+            run_rounds(word, *round, rounds);
         },
         _ => {
-            eprintln!("usage: unsafe_libyaml events|nodes ROUNDS < token-lines");
+            let works = WORKS.iter().map(|(word, _)| *word).collect::<Vec<_>>().join("|");
+            eprintln!("usage: unsafe_libyaml {works} ROUNDS < token-lines");
             std::process::exit(2);
         }
     }
