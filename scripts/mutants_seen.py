@@ -34,11 +34,11 @@ PROGRAMS = {
     "libyaml_documents": ["rows_yaml", "example_outline", "rows_hostile"],
     "libyaml_composer": ["yamltokens", "rows_steps", "rows_yaml", "rows_hostile"],
     "libyaml_loader": ["yamltokens", "rows_yaml", "example_outline", "rows_hostile"],
-    "token_limits": ["rows_yaml"],
+    "token_limits": ["rows_yaml", "yamltokens"],
     "token_steps": ["rows_steps"],
     "token_steps_c": [],
     "document_steps": ["rows_steps"],
-    "document_sizes": [],
+    "document_sizes": ["rows_steps"],
     "document_steps_c": [],
     "unsafe_libyaml": ["rows_yaml", "rows_hostile"],
     "line_reading": ["yamltokens", "rows_lines", "rows_hostile"],
@@ -83,7 +83,7 @@ def lists():
     tables = [TOP / "crates/rows_yaml/data" / name for name in ("rows", "completed", "loads", "libyaml_differs", "suite", "real")]
     for table in [*tables, TOP / "crates/rows_lines/data/runs"]:
         for tokens in sorted(table.glob("*.tokens")):
-            for kind in ("events", "nodes"):
+            for kind in ("events", "nodes", "strict-events", "strict-nodes"):
                 wanted = tokens.with_suffix("." + kind)
                 if wanted.exists():
                     text = text_of(wanted)
