@@ -25,7 +25,7 @@ check() {
     fi
 }
 
-# Lays out a copy of each crate: `rt fmt` has to say nothing and to change nothing. It also says which edit of must-fail/
+# Lays out a copy of each crate: `rt fmt` has to say nothing and to change nothing. It also says which mutant of must-fail/
 # can't be applied.
 layout() {
     mkdir "$work/copy" && tar -cf - --exclude=out crates crates.txt | tar -xf - -C "$work/copy" || return 1

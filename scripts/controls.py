@@ -1,7 +1,7 @@
 #!/usr/bin/env python3
 """Tries the equivalent mutants, `crates/*/controls/*.edit`; fails if one is refused, or one by shape is proved.
 
-    python3 scripts/controls.py CRATE..        (no crate: each that has an edit in must-fail/)
+    python3 scripts/controls.py CRATE..        (no crate: each that has a mutant in must-fail/)
 
 An equivalent mutant has the form of those in must-fail/; it changes how a function is written, not what it does. Each
 is made in a copy, and `rt check --only` has to prove the function. One whose first line is `by shape` has to be refused:
@@ -20,10 +20,10 @@ from pathlib import Path
 from answers import TOP, answers, copied
 
 
-def edited(crate, edit):
-    """The files that an edit changes, with their texts, as `rt must-fail` makes them."""
+def mutated(crate, mutant):
+    """The files that a mutant changes, with their texts, as `rt must-fail` makes them."""
     path, old, texts = None, None, {}
-    for line in edit.read_text().splitlines():
+    for line in mutant.read_text().splitlines():
         key, _, text = line.partition(":")
         text = text.removeprefix(" ")
         if key == "file":
@@ -32,17 +32,17 @@ def edited(crate, edit):
         elif key == "old":
             old = text
             if texts[path].count(old) != 1:
-                sys.exit(f"{edit}: {old!r} is {texts[path].count(old)} times in {path.name}")
+                sys.exit(f"{mutant}: {old!r} is {texts[path].count(old)} times in {path.name}")
         elif key == "new":
             texts[path] = texts[path].replace(old, text)
     return texts
 
 
-def answered(crate, edit):
-    """The path of the function with answers that an edit is named after, None where it has none."""
-    begins = edit.stem.partition("-")[0]
+def answered(crate, mutant):
+    """The path of the function with answers that a mutant is named after, None where it has none."""
+    begins = mutant.stem.partition("-")[0]
     found = [name for name in answers(crate) if re.search(rf"(^|_){re.escape(begins)}$", name.replace("::", "_"))]
-    file = re.search(r"^file: src/(.*)\.rt$", edit.read_text(), flags=re.M)
+    file = re.search(r"^file: src/(.*)\.rt$", mutant.read_text(), flags=re.M)
     module = file[1].replace("/", "::") + "::" if file and file[1] != "lib" else ""
     named = [name for name in found if begins in (name.split("::")[-1], "_".join(name.split("::")[-2:]))]
     own = [name for name in named if name.startswith(module)]
@@ -52,8 +52,8 @@ def answered(crate, edit):
     return own[0] if own else None
 
 
-def is_by_shape(edit):
-    return edit.read_text().startswith("by shape\n")
+def is_by_shape(mutant):
+    return mutant.read_text().startswith("by shape\n")
 
 
 def proved(crate, function):
@@ -66,10 +66,10 @@ def proved(crate, function):
     return run.returncode == 0, said
 
 
-def tried(crate, edit):
-    """What an edit comes to: `proved`, `by shape`, or what is wrong with it."""
-    function = answered(crate, edit) or edit.stem.partition("-")[0]
-    texts = edited(crate, edit)
+def tried(crate, mutant):
+    """What a mutant comes to: `proved`, `by shape`, or what is wrong with it."""
+    function = answered(crate, mutant) or mutant.stem.partition("-")[0]
+    texts = mutated(crate, mutant)
     was = {path: path.read_text() for path in texts}
     if was == texts:
         return "wrong: it changes nothing"
@@ -81,15 +81,15 @@ def tried(crate, edit):
     if re.search(r"\berror\[[\w-]+\]", said):
         return f"wrong: it does not compile:\n{said[-1500:]}"
     if is_proved:
-        return "wrong: it is proved, so it is not by shape" if is_by_shape(edit) else "proved"
+        return "wrong: it is proved, so it is not by shape" if is_by_shape(mutant) else "proved"
     first = next((line for line in said.splitlines() if re.search(r":\d+:\d+:", line)), "")
-    return "by shape" if is_by_shape(edit) else f"wrong: refused: {first}"
+    return "by shape" if is_by_shape(mutant) else f"wrong: refused: {first}"
 
 
 def lacking(crate):
-    """The functions with answers and an edit of their code in must-fail/ that have no edit here."""
-    turned = {answered(crate, edit) for edit in crate.glob("must-fail/*.edit") if "file: src/" in edit.read_text()} - {None}
-    return sorted(turned - {answered(crate, edit) for edit in crate.glob("controls/*.edit")})
+    """The functions with answers and a mutant of their code in must-fail/ that have no mutant here."""
+    turned = {answered(crate, mutant) for mutant in crate.glob("must-fail/*.edit") if "file: src/" in mutant.read_text()} - {None}
+    return sorted(turned - {answered(crate, mutant) for mutant in crate.glob("controls/*.edit")})
 
 
 def main(names):
@@ -102,11 +102,11 @@ def main(names):
             if not crate.is_dir():
                 sys.exit(f"no crate {name}")
             for function in lacking(crate):
-                print(f"{name}: {function} has answers and no edit of equal meaning", flush=True)
+                print(f"{name}: {function} has answers and no mutant of equal meaning", flush=True)
                 wrong += 1
-            for edit in sorted(crate.glob("controls/*.edit")):
-                came = tried(crate, edit)
-                print(f"{name}/{edit.name}: {came}", flush=True)
+            for mutant in sorted(crate.glob("controls/*.edit")):
+                came = tried(crate, mutant)
+                print(f"{name}/{mutant.name}: {came}", flush=True)
                 wrong += came.startswith("wrong")
     if wrong:
         sys.exit(f"{wrong} not as they should be")

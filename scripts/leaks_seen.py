@@ -3,7 +3,7 @@
 
     python3 scripts/leaks_seen.py [LEAK..]        (no word: each of LEAKS)
 
-Each is made in a copy, and `rt run` proves and builds `rows_hostile` over it. Texts are let go of by hand in
+Each is made in a copy, and `rt run` proves and builds `vectors_hostile` over it. Texts are let go of by hand in
 `libyaml_events/src/states`, where `mem::forget` stands in place of a drop: LEAKS has one at each such place but
 `forget_anchor`, over which no run is known that holds an anchor, and one for the bound on what is kept, for handles, and for
 half a document. Some minutes each; needs `rt`, and GNU time.
@@ -66,8 +66,8 @@ def seen(leak):
         (room / "scripts/gate").mkdir(parents=True)
         shutil.copy2(TOP / "scripts/gate/flat_memory.sh", room / "scripts/gate")
         planted(room, leak)
-        run = subprocess.run(["rt", "run", "--", "work", "kept", "1"], cwd=room / "crates/rows_hostile", stdin=subprocess.DEVNULL, capture_output=True, text=True)
-        if not (room / "crates/rows_hostile/out/rows_hostile").exists():
+        run = subprocess.run(["rt", "run", "--", "work", "kept", "1"], cwd=room / "crates/vectors_hostile", stdin=subprocess.DEVNULL, capture_output=True, text=True)
+        if not (room / "crates/vectors_hostile/out/vectors_hostile").exists():
             return f"not built: {(run.stdout + run.stderr)[-1000:]}", False
         run = subprocess.run(["sh", "scripts/gate/flat_memory.sh"], cwd=room, capture_output=True, text=True)
         works = [line.partition(":")[0] for line in run.stdout.splitlines() if line.endswith(": not flat")]

@@ -5,11 +5,11 @@
     python3 scripts/mutants_seen.py none                                    runs the programs over no mutant
 
 Each mutant is made in a copy. The programs of its crate's line in PROGRAMS are run over it in turn, without proof (`rt try`),
-until one doesn't end as it should: `yamltokens` over the lists of `rows_yaml` and `rows_lines`, the programs of test vectors table
+until one doesn't end as it should: `yamltokens` over the lists of `vectors_yaml` and `vectors_lines`, the programs of test vectors table
 by table, other programs over what is stored beside them. For the Rust crate's definitions the test vectors are proved instead.
-None runs over the libraries for C. The program that WRONG_BODIES names goes first (`rows_yaml` if it names none); `PROGRAM failing`
+None runs over the libraries for C. The program that WRONG_BODIES names goes first (`vectors_yaml` if it names none); `PROGRAM failing`
 runs with the allocation failed that the page names, or with each of the first 60 in turn. With --write the place goes into
-WRONG_BODIES, without the name of that program's table `rows`; if there is none, what the page says after `Seen: nowhere` stays.
+WRONG_BODIES, without the name of that program's table `productions`; if there is none, what the page says after `Seen: nowhere` stays.
 Two mutants at a time (JOBS), half a minute to three minutes a program; needs `rt`.
 
 Run by hand, after mutants or test vectors changed.
@@ -27,27 +27,27 @@ from controls import edited
 
 PAGE = TOP / "docs" / "WRONG_BODIES.md"
 PROGRAMS = {
-    "libyaml_types": ["rows_yaml", "example_scanner", "rows_hostile", "example_outline"],
-    "libyaml_automaton": ["yamltokens", "rows_steps", "rows_yaml", "rows_lines", "rows_hostile"],
-    "libyaml_events": ["yamltokens", "rows_yaml", "rows_lines", "rows_hostile"],
-    "rust_original": ["rows"],
-    "libyaml_documents": ["rows_yaml", "example_outline", "rows_hostile"],
-    "libyaml_composer": ["yamltokens", "rows_steps", "rows_yaml", "rows_hostile"],
-    "libyaml_loader": ["yamltokens", "rows_yaml", "example_outline", "rows_hostile"],
-    "token_limits": ["rows_yaml", "yamltokens"],
-    "token_steps": ["rows_steps"],
+    "libyaml_types": ["vectors_yaml", "example_scanner", "vectors_hostile", "example_outline"],
+    "libyaml_automaton": ["yamltokens", "vectors_steps", "vectors_yaml", "vectors_lines", "vectors_hostile"],
+    "libyaml_events": ["yamltokens", "vectors_yaml", "vectors_lines", "vectors_hostile"],
+    "rust_original": ["vectors"],
+    "libyaml_documents": ["vectors_yaml", "example_outline", "vectors_hostile"],
+    "libyaml_composer": ["yamltokens", "vectors_steps", "vectors_yaml", "vectors_hostile"],
+    "libyaml_loader": ["yamltokens", "vectors_yaml", "example_outline", "vectors_hostile"],
+    "token_limits": ["vectors_yaml", "yamltokens"],
+    "token_steps": ["vectors_steps"],
     "token_steps_c": [],
-    "document_steps": ["rows_steps"],
-    "document_sizes": ["rows_steps"],
+    "document_steps": ["vectors_steps"],
+    "document_sizes": ["vectors_steps"],
     "document_steps_c": [],
-    "unsafe_libyaml": ["rows_yaml", "rows_hostile"],
-    "line_reading": ["yamltokens", "rows_lines", "rows_hostile"],
-    "line_writing": ["yamltokens", "rows_lines"],
-    "token_lines": ["yamltokens", "rows_lines"],
-    "yamltokens_program": ["yamltokens", "rows_lines"],
-    "example_source": ["rows_hostile"],
+    "unsafe_libyaml": ["vectors_yaml", "vectors_hostile"],
+    "line_reading": ["yamltokens", "vectors_lines", "vectors_hostile"],
+    "line_writing": ["yamltokens", "vectors_lines"],
+    "token_lines": ["yamltokens", "vectors_lines"],
+    "yamltokens_program": ["yamltokens", "vectors_lines"],
+    "example_source": ["vectors_hostile"],
     "yaml_path": ["example_paths"],
-    "yaml_expansion": ["example_sizes", "rows_hostile"],
+    "yaml_expansion": ["example_sizes", "vectors_hostile"],
 }
 # Tables that take minutes without proof: they are tried only for a mutant of which the page names them.
 SLOW = {
@@ -58,7 +58,7 @@ SLOW = {
     "drawn lists",
 }
 # The table that the page leaves unnamed.
-ROWS = '`rows_yaml`, "rows": '
+VECTORS = '`vectors_yaml`, "productions": '
 SECONDS = "240"
 
 
@@ -80,8 +80,8 @@ def text_of(path):
 
 def lists():
     """The runs of `yamltokens` over each list of tokens, by the list's table and name."""
-    tables = [TOP / "crates/rows_yaml/data" / name for name in ("rows", "completed", "loads", "libyaml_differs", "suite", "real")]
-    for table in [*tables, TOP / "crates/rows_lines/data/runs"]:
+    tables = [TOP / "crates/vectors_yaml/data" / name for name in ("productions", "completed", "loads", "libyaml_differs", "suite", "real")]
+    for table in [*tables, TOP / "crates/vectors_lines/data/runs"]:
         for tokens in sorted(table.glob("*.tokens")):
             for kind in ("events", "nodes", "strict-events", "strict-nodes"):
                 wanted = tokens.with_suffix("." + kind)
@@ -98,7 +98,7 @@ def cases_of(program, named):
         return dict(lists())
     stored = {name: text_of(home / name) for name in ("args", "stdin", "stdout", "status") if (home / name).exists()}
     if (home / "data").is_dir():
-        counts = r"(.*): \d+ (?:lists|rows|checks), .*\n"
+        counts = r"(.*): \d+ (?:lists|vectors|checks), .*\n"
         tables = re.findall(rf"(?m)^({counts})((?:(?!{counts}).*\n)*)", stored["stdout"])
         return {
             f'`{program}`, "{table}"': Case([table], stdout=line + more if more else None)
@@ -109,9 +109,9 @@ def cases_of(program, named):
     return {f"`{program}`": Case(words, stored.get("stdin", ""), stored.get("stdout", ""), int(stored.get("status", "0")))}
 
 
-def first_row(said):
+def first_vector(said):
     """The first test vector that a program tells as another, in words."""
-    named = re.search(r"^(?:.*?: this (?:row )?differs: (.*)|\w+/([\w.@-]+), (.*):)$", said, flags=re.M)
+    named = re.search(r"^(?:.*?: this (?:vector )?differs: (.*)|\w+/([\w.@-]+), (.*):)$", said, flags=re.M)
     if not named:
         return ""
     how = "" if named[3] == "a run over its lines" else f", {named[3]}"
@@ -147,9 +147,9 @@ def run_failing(room, program, nth):
         run = subprocess.run(command, cwd=home, stdin=subprocess.DEVNULL, capture_output=True, text=True, errors="replace")
         if "run=ended" not in run.stderr:
             raise NotRun(f"{program}: {run.stderr[-1500:]}")
-        row = first_row(run.stdout)
-        if row:
-            return f"`{program} failing`, allocation {n} failed{row}"
+        vector = first_vector(run.stdout)
+        if vector:
+            return f"`{program} failing`, allocation {n} failed{vector}"
     return None
 
 
@@ -171,7 +171,7 @@ def run_cases(room, program, cases):
                 run.wait()
                 texts.seek(0)
                 how = "" if "run=ended" in case[2] else f" (`{case[2].partition(' runners')[0]}`)"
-                return names[int(case[1])] + first_row(texts.read()) + how
+                return names[int(case[1])] + first_vector(texts.read()) + how
         run.wait()
     if ended < len(cases):
         raise NotRun(f"{program}: {''.join(lines)[-1500:]}")
@@ -181,34 +181,34 @@ def run_cases(room, program, cases):
 def run_laws(room, _):
     """Whether the test vectors of the Rust crate's definitions are proved no more."""
     home = room / "crates/rust_original"
-    run = subprocess.run(["rt", "check", "--only", "rows"], cwd=home, stdin=subprocess.DEVNULL, capture_output=True, text=True)
+    run = subprocess.run(["rt", "check", "--only", "vectors"], cwd=home, stdin=subprocess.DEVNULL, capture_output=True, text=True)
     said = run.stdout + run.stderr
     if not re.search(r"^only=[1-9]", said, flags=re.M):
         raise NotRun(f"rust_original: {said[-1500:]}")
     return None if run.returncode == 0 else "its test vectors"
 
 
-def tried(crate, edit):
+def tried(crate, mutant):
     """Where a mutant is seen, in words, and None where it is not; or why that is not known."""
     try:
-        return place(crate, edit)
+        return place(crate, mutant)
     except NotRun as why:
         return why
 
 
-def place(crate, edit):
+def place(crate, mutant):
     """Where a mutant is seen, in words; None where it is not."""
     with tempfile.TemporaryDirectory() as room:
         copied(Path(room))
-        for path, text in edited(Path(room) / "crates" / crate, edit).items():
+        for path, text in mutated(Path(room) / "crates" / crate, mutant).items():
             path.write_text(text)
-        named = line_of(crate, edit.stem)[2] or ""
+        named = line_of(crate, mutant.stem)[2] or ""
         failing = re.search(r"`(\w+) failing`(?:, allocation (\d+) failed)?", named)
         if failing:
             return run_failing(Path(room), failing[1], failing[2])
-        first = next((name for name in PROGRAMS[crate] if f"`{name}" in named), "rows_yaml")
+        first = next((name for name in PROGRAMS[crate] if f"`{name}" in named), "vectors_yaml")
         for program in sorted(PROGRAMS[crate], key=lambda name: name != first):
-            seen = run_laws(Path(room), program) if program == "rows" else run_cases(Path(room), program, cases_of(program, named))
+            seen = run_laws(Path(room), program) if program == "vectors" else run_cases(Path(room), program, cases_of(program, named))
             if seen:
                 return seen
     return None
@@ -218,24 +218,24 @@ def run_unedited():
     """Runs each program over no mutant, and fails where one ends otherwise than it should."""
     with tempfile.TemporaryDirectory() as room:
         copied(Path(room))
-        programs = sorted({program for named in PROGRAMS.values() for program in named} - {"rows"})
+        programs = sorted({program for named in PROGRAMS.values() for program in named} - {"vectors"})
         seen = {program: run_cases(Path(room), program, cases_of(program, "")) for program in programs}
     for program, where in seen.items():
         print(f"{program}: {'as it should' if where is None else 'not as it should in ' + where}")
     sys.exit(any(seen.values()))
 
 
-def line_of(crate, edit):
+def line_of(crate, mutant):
     """The line of a mutant in WRONG_BODIES: what it gets wrong, where it is seen, and what refuses it."""
     part = re.search(rf"(?ms)^## `{crate}`.*?(?=^## |\Z)", PAGE.read_text())
-    line = re.compile(rf"(?m)^(- `{re.escape(edit)}`[.:].*?)( Seen: [^\n]*?\.)?( Refused: [^\n]*)?$")
+    line = re.compile(rf"(?m)^(- `{re.escape(mutant)}`[.:].*?)( Seen: [^\n]*?\.)?( Refused: [^\n]*)?$")
     return part and line.search(PAGE.read_text(), *part.span())
 
 
-def write(crate, edit, seen):
+def write(crate, mutant, seen):
     """Puts into its line where a mutant is seen."""
-    line, page = line_of(crate, edit), PAGE.read_text()
-    now = f"{line[1]} Seen: {(seen or 'nowhere').removeprefix(ROWS)}.{line[3] or ''}"
+    line, page = line_of(crate, mutant), PAGE.read_text()
+    now = f"{line[1]} Seen: {(seen or 'nowhere').removeprefix(VECTORS)}.{line[3] or ''}"
     PAGE.write_text(page[: line.start()] + now + page[line.end() :])
 
 
@@ -244,16 +244,16 @@ def main(words):
     words = [word for word in words if word != "--write"]
     if words == ["none"]:
         run_unedited()
-    edits = [(path.parent.parent.name, path) for path in sorted(TOP.glob("crates/*/must-fail/*.edit"))]
-    unknown = sorted({crate for crate, _ in edits} - PROGRAMS.keys())
+    mutants = [(path.parent.parent.name, path) for path in sorted(TOP.glob("crates/*/must-fail/*.edit"))]
+    unknown = sorted({crate for crate, _ in mutants} - PROGRAMS.keys())
     if unknown:
         sys.exit(f"no line in PROGRAMS: {' '.join(unknown)}")
-    edits = [(crate, path) for crate, path in edits if not words or crate in words or f"{crate}/{path.stem}" in words]
-    if not edits:
+    mutants = [(crate, path) for crate, path in mutants if not words or crate in words or f"{crate}/{path.stem}" in words]
+    if not mutants:
         sys.exit(__doc__)
     wrong = 0
     with ThreadPoolExecutor(int(os.environ.get("JOBS", "2"))) as pool:
-        tries = {pool.submit(tried, *edit): edit for edit in edits}
+        tries = {pool.submit(tried, *mutant): mutant for mutant in mutants}
         for done in as_completed(tries):
             (crate, path), seen = tries[done], done.result()
             known = not isinstance(seen, NotRun)

@@ -63,16 +63,16 @@ def clause_of(crate, function, goal):
     return f"the lemma `{goal}`"
 
 
-def turned(edit):
+def turned(mutant):
     """The lines of functions that a mutant changes."""
-    lines = {line.strip() for line in re.findall(r"^old: (.*)$", edit.read_text(), flags=re.M)}
+    lines = {line.strip() for line in re.findall(r"^old: (.*)$", mutant.read_text(), flags=re.M)}
     return {line for line in lines if not line.startswith(("use ", "///", "const ", "pub const "))}
 
 
-def is_proved_over(crate, function, edit):
+def is_proved_over(crate, function, mutant):
     """Whether an equivalent mutant that changes the same lines is proved over the answers of this function."""
-    edits = [own for own in crate.glob("controls/*.edit") if answered(crate, own) == function and not is_by_shape(own)]
-    return any(turned(crate / "must-fail" / f"{edit}.edit") <= turned(own) for own in edits)
+    mutants = [own for own in crate.glob("controls/*.edit") if answered(crate, own) == function and not is_by_shape(own)]
+    return any(turned(crate / "must-fail" / f"{mutant}.edit") <= turned(own) for own in mutants)
 
 
 def without(text, names):
@@ -85,10 +85,10 @@ def without(text, names):
     return "".join(kept)
 
 
-def left_open(crate, function, edit):
+def left_open(crate, function, mutant):
     """The goals of a function that a mutant leaves open, where the parts of `Answers.antt` that it breaks are left out."""
     path = answers(crate)[function]
-    texts = edited(crate, crate / "must-fail" / f"{edit}.edit")
+    texts = mutated(crate, crate / "must-fail" / f"{mutant}.edit")
     was = {file: file.read_text() for file in [*texts, path]}
     try:
         for file, text in texts.items():
@@ -106,7 +106,7 @@ def left_open(crate, function, edit):
             file.write_text(text)
 
 
-def reason(crate, edit, said):
+def reason(crate, mutant, said):
     """What refused a mutant: a clause, or its shape; None where it was not refused or nothing tells what refused it."""
     if not said.startswith("refused, as it must be"):
         return None
@@ -121,7 +121,7 @@ def reason(crate, edit, said):
         return None
     if of_answers:
         function = of_answers[1].replace("/", "::")
-        goals = left_open(crate, function, edit) if is_proved_over(crate, function, edit) else []
+        goals = left_open(crate, function, mutant) if is_proved_over(crate, function, mutant) else []
         if not goals:
             return SHAPE
     else:
@@ -130,7 +130,7 @@ def reason(crate, edit, said):
     goals = goals if of_answers else [goal[1] or goal[2]]
     *most, last = dict.fromkeys(clause_of(crate, function, goal) for goal in goals)
     clause = f"{', '.join(most)} and {last}" if most else last
-    own = re.search(rf"(^|_){name}$", edit.partition("-")[0])
+    own = re.search(rf"(^|_){name}$", mutant.partition("-")[0])
     return clause if own else re.sub(r"\bits (?!type)", "the ", clause) + f" of `{name}`"
 
 
@@ -139,10 +139,10 @@ def written(page, reasons):
     lines, crate = [], ""
     for line in page.splitlines():
         crate = (re.match(r"## `(\w+)`", line) or [None, crate])[1]
-        edit = re.match(r"- `([^`]+)`[.:] ", line)
-        if edit and (crate, edit[1]) in reasons:
+        mutant = re.match(r"- `([^`]+)`[.:] ", line)
+        if mutant and (crate, mutant[1]) in reasons:
             line = re.sub(r" Refused: (?:[^.`]|`[^`]*`)*\.$", "", line)
-            line += f" Refused: {reasons[crate, edit[1]]}."
+            line += f" Refused: {reasons[crate, mutant[1]]}."
         lines.append(line)
     return "\n".join(lines) + "\n"
 
@@ -157,12 +157,12 @@ def main(words):
     else:
         sys.exit(__doc__)
     reasons, unknown = {}, []
-    for crate, edit, text in SAID.findall(said):
-        why = reason(TOP / "crates" / crate, edit, text)
+    for crate, mutant, text in SAID.findall(said):
+        why = reason(TOP / "crates" / crate, mutant, text)
         if why:
-            reasons[crate, edit] = why
+            reasons[crate, mutant] = why
         else:
-            unknown.append(f"{crate}/{edit}: {text[:200]}")
+            unknown.append(f"{crate}/{mutant}: {text[:200]}")
     page = PAGE.read_text()
     now = written(page, reasons)
     if not checks:

@@ -2,13 +2,13 @@
 # Runs test vectors without any proof: all of a program, those of one table, or one. Names each that differs and, if it has a
 # text, the first line that differs. The exit status is 0 if some ran and none differs.
 #
-#     scripts/vectors.sh CRATE [TABLE [ROW]]
+#     scripts/vectors.sh CRATE [TABLE [VECTOR]]
 #     scripts/vectors.sh --write CRATE
 #
-# CRATE is rows_yaml, rows_lines, rows_hostile or rows_steps; the names of tables are those that it prints. With --write all
+# CRATE is vectors_yaml, vectors_lines, vectors_hostile or vectors_steps; the names of tables are those that it prints. With --write all
 # run, and if none differs the counts of tables that the program printed become its `stdout`. Unproved, a program
-# runs with checks that make it many times slower: for rows_lines and rows_hostile ask for a table. Proved and built, they run
-# by `rt run -- [TABLE [ROW]]` in their folder.
+# runs with checks that make it many times slower: for vectors_lines and vectors_hostile ask for a table. Proved and built, they run
+# by `rt run -- [TABLE [VECTOR]]` in their folder.
 #
 # Run by hand, while test vectors are written.
 set -u
@@ -16,7 +16,7 @@ cd "$(dirname "$0")/../crates" || exit 2
 write=no
 [ "${1-}" != --write ] || { write=yes; shift; }
 crate=${1:-none}
-[ -d "$crate/data" ] || { echo 'usage: scripts/vectors.sh CRATE [TABLE [ROW]] | --write CRATE; no such program of rows' >&2; exit 2; }
+[ -d "$crate/data" ] || { echo 'usage: scripts/vectors.sh CRATE [TABLE [VECTOR]] | --write CRATE; no such program of test vectors' >&2; exit 2; }
 shift
 cd "$crate" || exit 2
 

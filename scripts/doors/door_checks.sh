@@ -6,7 +6,7 @@
 # DIR has the libraries that build_c.sh made there; without it, that is run first.
 #
 #     steps, compose   the structs of the header against those of the crates; the header in C of 1989 and in C++; the shared
-#                      library; events, or documents, beside libyaml's own over samples, rows and broken texts; calls that are
+#                      library; events, or documents, beside libyaml's own over samples, test vectors and broken texts; calls that are
 #                      wrong, and any bytes in the structs; all this plainly, under the address and undefined behaviour sanitizers
 #                      and under valgrind; eight threads at once; the example over the header
 #     yaml             examples/yaml.c: the samples and a file with each kind of broken text, under the sanitizers and under

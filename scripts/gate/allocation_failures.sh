@@ -9,7 +9,7 @@
 #
 #     sh scripts/gate/allocation_failures.sh [CRATE..]
 #
-# Without words: rows_hostile rows_lines rows_yaml.
+# Without words: vectors_hostile vectors_lines vectors_yaml.
 #
 # Run by check_programs.sh.
 set -u
@@ -55,7 +55,7 @@ fail_in_turn() {
         return
         ;;
     esac
-    if printf '%s\n' "$whole" | grep -Evq ' rows, 0 differ$'; then
+    if printf '%s\n' "$whole" | grep -Evq ' vectors, 0 differ$'; then
         complain "$1, no allocation failed:
 $whole"
     fi
@@ -71,7 +71,7 @@ $told"
     printf '%s\n' "$whole" "$1: $allocations allocations failed in turn, $own of them the program's own"
 }
 
-[ $# -gt 0 ] || set -- rows_hostile rows_lines rows_yaml
+[ $# -gt 0 ] || set -- vectors_hostile vectors_lines vectors_yaml
 work=$(mktemp -d) || exit 2
 trap 'rm -rf "$work"' EXIT
 shim=$work/fail_allocation.so

@@ -14,7 +14,7 @@ from pathlib import Path
 TOP = Path(__file__).resolve().parents[2]
 WORDS = "none one two three four five six seven eight nine ten eleven twelve".split()
 NUMBER = rf"(\d[\d,]*|{'|'.join(WORDS)})"
-COUNTED = re.compile(rf"\b(\d[\d,]*|{'|'.join(WORDS[4:])}) (?:crates|mutants|equivalent mutants|edits|test vectors|rows|broken texts)\b", re.IGNORECASE)
+COUNTED = re.compile(rf"\b(\d[\d,]*|{'|'.join(WORDS[4:])}) (?:crates|mutants|equivalent mutants|edits|test vectors|vectors|broken texts)\b", re.IGNORECASE)
 # made by other scripts, or of earlier states
 OTHERS = {"CHANGELOG.md", "WRONG_BODIES.md", "PERFORMANCE.md", "SURFACE.md"}
 MOST_WORDS = 800  # of README
@@ -61,8 +61,8 @@ FIGURES = [
     ("docs/CALLING.md", "and N from PyYAML's", lambda: texts_of("pyyaml")),
     ("docs/CALLING.md", "N ghost members", lambda: lines(r"^    ghost \w+:", "crates/libyaml_types/src/source.rt")),
     ("docs/PROVED.md", "hashes of the N enums", lambda: lines(r"^pub fn order_of_", "crates/libyaml_types/src/laws.rt")),
-    ("docs/PROVED.md", "`laws::rows`: N test vectors", lambda: lines(r"^ +ensures ", "crates/libyaml_graphs/src/laws/rows.rt")),
-    ("docs/PROVED.md", "N test vectors (`rows`)", lambda: lines(r"^Row\w* :|^abbrev pub Row\w* :", "crates/rust_original/specs/rows/*.antt")),
+    ("docs/PROVED.md", "`laws::vectors`: N test vectors", lambda: lines(r"^ +ensures ", "crates/libyaml_graphs/src/laws/vectors.rt")),
+    ("docs/PROVED.md", "N test vectors (`vectors`)", lambda: lines(r"^Vector\w* :|^abbrev pub Vector\w* :", "crates/rust_original/specs/vectors/*.antt")),
 ]
 
 

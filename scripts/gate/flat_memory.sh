@@ -1,21 +1,21 @@
 #!/bin/sh
-# Shows that memory goes back: does each work of `rows_hostile` (src/flat.rt) so many times and ten times as often, and
+# Shows that memory goes back: does each work of `vectors_hostile` (src/flat.rt) so many times and ten times as often, and
 # writes what it counted and the largest resident size of the run in KB. The second may be 512 KB more at most: a body that
 # never frees passes every proof. Then it holds 100 parsers and 1,000 that each gave a scalar longer than a text that a
-# parser keeps; each further one may take 8 KB at most. The program has to be built (`rt run` in crates/rows_hostile) and
+# parser keeps; each further one may take 8 KB at most. The program has to be built (`rt run` in crates/vectors_hostile) and
 # GNU time be there. `scripts/leaks_seen.py` shows that it fails where memory leaks.
 #
 #     scripts/gate/flat_memory.sh
 #
 # Run by check_programs.sh.
 set -u
-cd "$(dirname "$0")/../../crates/rows_hostile/data" || exit 2
+cd "$(dirname "$0")/../../crates/vectors_hostile/data" || exit 2
 time=$(mktemp) || exit 2
 trap 'rm -f "$time"' EXIT
 
 # The largest resident size of a work, done so many times.
 size() {
-    counted=$(command time -f %M -o "$time" ../out/rows_hostile work "$1" "$2") || exit 2
+    counted=$(command time -f %M -o "$time" ../out/vectors_hostile work "$1" "$2") || exit 2
     kb=$(tail -n 1 "$time")
     echo "$1 $2: $counted counted, $kb KB"
 }

@@ -99,10 +99,10 @@ def missing_blocks(text, code):
                 yield f"a clause that no file has: {clause.splitlines()[0]}"
 
 
-def wrong_edits():
+def wrong_mutants():
     listed = set(re.findall(r"^- `([^`]+)`", (TOP / "docs" / "WRONG_BODIES.md").read_text(), flags=re.M))
     there = {path.stem for path in TOP.glob("crates/*/must-fail/*.edit")}
-    yield from (f"docs/WRONG_BODIES.md: {name} is {'no edit' if name in listed else 'not listed'}" for name in sorted(listed ^ there))
+    yield from (f"docs/WRONG_BODIES.md: {name} is {'no mutant' if name in listed else 'not listed'}" for name in sorted(listed ^ there))
 
 
 def unlisted_scripts():
@@ -138,7 +138,7 @@ def problems():
         text = page.read_text()
         found = [*broken_links(page, text), *missing_paths(page, text), *missing_headings(text), *missing_blocks(text, code)]
         yield from (f"{page.relative_to(TOP)}: {problem}" for problem in found)
-    yield from [*wrong_edits(), *unlisted_scripts(), *other_versions()]
+    yield from [*wrong_mutants(), *unlisted_scripts(), *other_versions()]
     for path, text in comments():
         yield from (f"{path.relative_to(TOP)}: {problem}" for problem in missing_headings(text))
 

@@ -1,6 +1,6 @@
 #!/usr/bin/env python3
-"""Compares the test vectors that stand as definitions (`specs/rows` of three crates) with those that stand as files (`NAME.tokens`
-in `data` of crates/rows_* and in examples). A list has one name: that of the first definition which has it, `RowNextName` or
+"""Compares the test vectors that stand as definitions (`specs/vectors` of three crates) with those that stand as files (`NAME.tokens`
+in `data` of crates/vectors_* and in examples). A list has one name: that of the first definition which has it, `VectorNextName` or
 `next_name`. Fails, and names each case, if
 
 - a file has the list of a definition, and another name; or a definition's name, and another list;
@@ -26,13 +26,13 @@ from notation import Notation
 
 TOP = Path(__file__).resolve().parents[2]
 NOTATIONS = [
-    "libyaml_grammar/specs/rows/RowNotation", "libyaml_grammar/specs/rows/Rows", "libyaml_grammar/specs/rows/PartialRows",
-    "libyaml_graphs/specs/rows/LoadRows", "rust_original/specs/rows/Notation", "rust_original/specs/rows/ExampleRows",
-    "rust_original/specs/rows/AlikeRows", "rust_original/specs/rows/DifferenceRows", "rust_original/specs/rows/TextRows",
+    "libyaml_grammar/specs/vectors/VectorNotation", "libyaml_grammar/specs/vectors/Vectors", "libyaml_grammar/specs/vectors/PartialVectors",
+    "libyaml_graphs/specs/vectors/LoadVectors", "rust_original/specs/vectors/Notation", "rust_original/specs/vectors/ExampleVectors",
+    "rust_original/specs/vectors/AlikeVectors", "rust_original/specs/vectors/DifferenceVectors", "rust_original/specs/vectors/TextVectors",
 ]
-OTHERS = {"StackRows", "EmptyRows"}  # files of test vectors without lists
+OTHERS = {"StackVectors", "EmptyNodeVectors"}  # files of test vectors without lists
 CLAIMS = ("parse", "loads_within")  # left as they stand
-FILES = ["crates/rows_*/data/**/*.tokens", "examples/*.tokens"]
+FILES = ["crates/vectors_*/data/**/*.tokens", "examples/*.tokens"]
 SUITE = "suite"  # whose names are those of the YAML test suite
 BY_FORM = {  # named after what isn't compared: encodings, marks and how lines are written
     "encoding_any", "encoding_utf8", "encoding_utf16le", "encoding_utf16be", "index_out_of_range", "largest_column", "no_last_line_feed",
@@ -150,7 +150,7 @@ class Vector:
         self.tokens = [line(token) for token in tokens]
 
     def file_name(self):
-        return re.sub(r"(?<!^)(?=[A-Z])", "_", self.name.removeprefix("Row")).lower()
+        return re.sub(r"(?<!^)(?=[A-Z])", "_", self.name.removeprefix("Vector")).lower()
 
 
 def vector(name, value):
@@ -176,11 +176,11 @@ def vector(name, value):
 def vectors():
     """Those of all definitions, in their order."""
     files = [TOP / "crates" / f"{name}.antt" for name in NOTATIONS]
-    unread = {path for path in TOP.glob("crates/*/specs/rows/*Rows.antt") if path not in files and path.stem not in OTHERS}
+    unread = {path for path in TOP.glob("crates/*/specs/vectors/*Vectors.antt") if path not in files and path.stem not in OTHERS}
     if unread:
         sys.exit("not in NOTATIONS or OTHERS: " + ", ".join(str(path.relative_to(TOP)) for path in sorted(unread)))
     notation = Notation(files, CLAIMS)
-    found = {name: vector(name, notation.value(name)) for name in notation.equations if name.startswith("Row")}
+    found = {name: vector(name, notation.value(name)) for name in notation.equations if name.startswith("Vector")}
     if unknown := [name for name, one in found.items() if one is None and "list (" in notation.text(name)]:
         sys.exit("claims of a form that isn't known: " + ", ".join(unknown))
     return [one for one in found.values() if one]

@@ -1,4 +1,4 @@
-"""Evaluates the notation of test vectors in `specs/rows`: short definitions over numbers, texts, lists and records.
+"""Evaluates the notation of test vectors in `specs/vectors`: short definitions over numbers, texts, lists and records.
 
     Notation(files).value(NAME)
 

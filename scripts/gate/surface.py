@@ -4,7 +4,7 @@ what the doc of each says first if that has more than a few words and no public 
 by their crates; each with its signature, its fields or its variants.
 
     python3 scripts/gate/surface.py           fails if the page is stale, an item has no doc, one is `pub` for its crate alone, or
-                                         docs/PROVED.md doesn't name a law (those of `rows` and `productions` by their module)
+                                         docs/PROVED.md doesn't name a law (those of `productions` and `productions` by their module)
     python3 scripts/gate/surface.py --write   writes the page
 
 The examples and the programs of test vectors are left out.
@@ -22,13 +22,13 @@ ITEM = re.compile(r"pub (?:extern \"C\" )?(fn|struct|enum|trait|type|const) (\w+
 METHOD = re.compile(r"    (pub )?fn (\w+)")
 IMPL = re.compile(r"impl(<.*?>)? (?:(.+?) for )?(\w+)")
 USE = re.compile(r"pub use ([\w:]+?)(?:::\{([^}]*)\}| as (\w+))?;")
-LAWS = re.compile(r"(?:laws|rows)::")
+LAWS = re.compile(r"(?:laws|vectors)::")
 NAMED = (
     "unsafe_libyaml", "token_lines", "yaml_path", "yaml_expansion", "libyaml_composer", "token_steps", "token_steps_c",
     "document_steps", "document_sizes", "document_steps_c",
 )
 INNER = re.compile(r"putting::")  # a module for the crates above alone
-EXAMPLES = {"example_source", "example_theorems", "rows_common"}
+EXAMPLES = {"example_source", "example_theorems", "vectors_common"}
 WIDTH = 110
 
 HEAD = """# Every public item
@@ -287,12 +287,12 @@ def in_order(rows):
 
 
 def unnamed_laws(laws):
-    """The laws that PROVED doesn't name; of those that many enums have alike and of those in rows and productions no name is asked."""
+    """The laws that PROVED doesn't name; of those that many enums have alike and of those in vectors and productions no name is asked."""
     proved = set(re.findall(r"`(?:\w+::)*(\w+)`", (TOP / "docs" / "PROVED.md").read_text()))
     for crate, names in laws:
         for name in names:
             *modules, law = name.split("::")
-            if not {"rows", "productions", law} & {*modules, *(proved & {law})} and not re.match(r"(order|equality|hash)_of_", law):
+            if not {"vectors", "productions", law} & {*modules, *(proved & {law})} and not re.match(r"(order|equality|hash)_of_", law):
                 yield f"{crate}: docs/PROVED.md doesn't name the law {name}"
 
 

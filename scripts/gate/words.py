@@ -9,6 +9,9 @@ The words of a reader's own field stand in for those of OWN on each page but CHA
 first lines of scripts, and in the comments of the crates of RENAMED. STYLE, for examples and exceptions, holds there too, except
 in `specs` and `proofs`.
 
+Names of code and of files have the words of pages for test vectors and mutants, too (NAMED). Only `line_reading` has a `row`: the line
+that a mark counts, where a line is one of tokens.
+
 Run by check.sh.
 """
 import re
@@ -44,6 +47,7 @@ STYLE = {
     r", as (?:an?|the|by|that|in)\b": "such as, like, for example",
     r"\bbut for\b": "except",
 }
+NAMED = re.compile(r"\w*(?:(?<![A-Za-z])(?:row|edit)s?(?![a-z])|(?:Row|Edit)s?(?![a-z]))\w*")
 LEFT_OUT = {"SURFACE.md"}
 OLD_PAGES = {"CHANGELOG.md"}
 CALL = re.compile(r"\b\w+\([^()]*\);")
@@ -128,7 +132,7 @@ def files(crates):
                     yield path, comments_of(path), own if crate in RENAMED else INSTEAD
 
 
-def edits():
+def mutants():
     """The words given up that the name of a mutant has after its function's."""
     words = INSTEAD | OWN
     pattern = re.compile("|".join(f"({word})" for word in words), re.IGNORECASE)
@@ -137,13 +141,23 @@ def edits():
             yield path, list(words.values())[match.lastindex - 1]
 
 
+def names():
+    """Each name in code and of a file that has a word given up, with its file."""
+    for path in sorted(path for path in TOP.glob("crates/*/*/**/*") if path.is_file()):
+        crate, room = path.relative_to(TOP).parts[1:3]
+        if crate != "line_reading" and room != "out":
+            text = path.read_text() if path.suffix in (".rt", ".antt") else ""
+            yield from ((path, name) for name in sorted(set(NAMED.findall(path.stem.partition("-")[0]) + NAMED.findall(text))))
+
+
 def main():
     found = [
         f"{path.relative_to(TOP)}:{number}: {word}"
         for path, lines, words in files(sys.argv[1:] or sorted(crate.name for crate in TOP.glob("crates/*")))
         for number, word in given_up(lines, words)
     ]
-    found += [f"{path.relative_to(TOP)}: its name (now: {instead})" for path, instead in edits()]
+    found += [f"{path.relative_to(TOP)}: its name (now: {instead})" for path, instead in mutants()]
+    found += [f"{path.relative_to(TOP)}: {name} (now: test vector, mutant)" for path, name in names()]
     if found:
         sys.exit("\n".join(found))
 

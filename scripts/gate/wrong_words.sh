@@ -49,7 +49,7 @@ refuses scripts/build_c.sh "$work/built" no_such_word
 refuses scripts/doors/door_checks.sh no_such_door
 refuses scripts/parts/llvm_source.sh ''
 refuses scripts/parts/llvm_source.sh one two
-refuses scripts/vectors.sh no_such_rows
+refuses scripts/vectors.sh no_such_vectors
 refuses bench/run.sh clock no_such_word
 echo "$runs runs, $wrong wrong"
 [ "$wrong" = 0 ]

@@ -2,7 +2,7 @@
 use Rattle.std.specs.Prelude.{◌≡◌, ◌≢◌, ℕ, ◌+◌, ◌==◌, cond, List, [], ◌∷◌, drop, Option, Some, None, Ok, Err, codes}
 use Rattle.std.specs.Char.{is_ascii_alphabetic}
 use Rattle.unsafe_libyaml.specs.Fault.{SourceResult, Fault, memory_fault, scanner_fault}
-use Rattle.unsafe_libyaml.specs.RowNotation.{SCALAR, STREAM, place}
+use Rattle.unsafe_libyaml.specs.VectorNotation.{SCALAR, STREAM, place}
 use Rattle.unsafe_libyaml.specs.Source.{Coming, coming}
 use Rattle.unsafe_libyaml.specs.Tokens.{Content, Token, FlowEntry, FlowSequenceEnd, FlowSequenceStart, StreamEnd}
 

@@ -3,7 +3,7 @@
 ghost use Rattle.std.specs.Prelude.{◌≡◌, ◌≢◌, None, Some, Err, [], IfErr, IfOk, length};
 ghost use Rattle.std.specs.Prelude.{option_map};
 ghost use Rattle.unsafe_libyaml.specs.Fault.{memory_fault, source_fault};
-ghost use Rattle.unsafe_libyaml.specs.RowNotation.{place};
+ghost use Rattle.unsafe_libyaml.specs.VectorNotation.{place};
 ghost use Rattle.unsafe_libyaml.specs.Source.{coming};
 ghost use Rattle.example_source.specs.Letters.{LettersGive, all_tokens, letter_content, letter_token_at};
 ghost use Rattle.example_source.specs.LettersLaws.{letters_fall, letters_follow, letters_repeat};

@@ -1,5 +1,5 @@
 pub mod sources
 pub mod parsers
 pub mod machine
-pub mod rows
+pub mod vectors
 pub mod automaton

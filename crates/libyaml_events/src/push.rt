@@ -6,7 +6,8 @@ ghost use Rattle.libyaml_events.specs.machine.Outcomes.{wanted};
 ghost use Rattle.libyaml_events.specs.machine.Config.{ended_or_failed, is_fault};
 ghost use Rattle.libyaml_events.specs.machine.StepsOnto.{StepsOnto};
 ghost use Rattle.libyaml_events.specs.automaton.View.{InStep, Ready};
-ghost use Rattle.libyaml_events.specs.sources.Pushed.{new_push_parser, push_parser_at, ForPushed, Pushed, fault_in};
+ghost use Rattle.libyaml_events.specs.sources.Pushed.{new_push_parser, push_parser_at, ForPushed, Pushed};
+ghost use Rattle.libyaml_events.specs.sources.Pushed.{fault_in};
 ghost use Rattle.libyaml_events.specs.sources.Pushed.{RemembersPushes};
 ghost use Rattle.libyaml_events.specs.sources.Pushes.{Pushes, Takes, done_of};
 

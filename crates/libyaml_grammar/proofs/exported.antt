@@ -5,7 +5,7 @@ pub mod Given
 pub mod Positions
 pub mod Reading
 pub mod ReadSteps
-pub mod RowKinds
+pub mod VectorKinds
 pub mod PrefixTrees
 pub mod Headline
 pub mod Nesting

@@ -1,4 +1,4 @@
 pub mod grammar
 pub mod partial
 pub mod runs
-pub mod rows
+pub mod vectors

@@ -2,13 +2,14 @@
 //! contract is the law.
 
 pub mod productions;
-pub mod rows;
+pub mod vectors;
 
 ghost use Rattle.std.specs.Prelude.{◌≡◌, ◌++◌, ◌↔◌, ℕ, List, [], ◌∷◌, true, false};
 ghost use Rattle.libyaml_types.specs.declared.enums.yaml_error_type_t.TheVariants.{YAML_PARSER_ERROR};
 ghost use Rattle.libyaml_grammar.specs.partial.PartialEvents.{partial_events};
 ghost use Rattle.libyaml_grammar.specs.partial.PartialFaults.{fault};
-ghost use Rattle.libyaml_grammar.specs.partial.PartialTrees.{PartialTree, Place, partial_tokens, partial_in_order};
+ghost use Rattle.libyaml_grammar.specs.partial.PartialTrees.{PartialTree, Place, partial_tokens};
+ghost use Rattle.libyaml_grammar.specs.partial.PartialTrees.{partial_in_order};
 ghost use Rattle.libyaml_types.specs.Errors.{IsSourceError};
 ghost use Rattle.libyaml_grammar.specs.grammar.Events.{Event, before_events, block_slot_events};
 ghost use Rattle.libyaml_grammar.specs.grammar.Events.{document_start_at, documents_events};

@@ -1,5 +1,5 @@
 pub mod graphs
 pub mod machine
 pub mod loads
-pub mod rows
+pub mod vectors
 pub mod exported

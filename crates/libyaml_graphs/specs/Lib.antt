@@ -1,4 +1,4 @@
 pub mod graphs
 pub mod loads
 pub mod machine
-pub mod rows
+pub mod vectors

@@ -2,7 +2,7 @@
 //! contract is the law.
 
 pub mod machine;
-pub mod rows;
+pub mod vectors;
 
 ghost use Rattle.libyaml_graphs.specs.loads.Linear.{documents_size, size, total_size};
 ghost use Rattle.std.specs.Prelude.{◌≤◌, ◌*◌, length, map};

@@ -18,10 +18,10 @@ pub use Rattle.libyaml_grammar.specs.partial.FaultTexts
 pub use Rattle.libyaml_grammar.specs.partial.Fits
 pub use Rattle.libyaml_grammar.specs.partial.Rest
 pub use Rattle.libyaml_grammar.specs.partial.DeterminedEvents
-pub use Rattle.libyaml_grammar.specs.rows.PartialRows
-pub use Rattle.libyaml_grammar.specs.rows.EmptyRows
-pub use Rattle.libyaml_grammar.specs.rows.RowNotation
-pub use Rattle.libyaml_grammar.specs.rows.Rows
+pub use Rattle.libyaml_grammar.specs.vectors.PartialVectors
+pub use Rattle.libyaml_grammar.specs.vectors.EmptyNodeVectors
+pub use Rattle.libyaml_grammar.specs.vectors.VectorNotation
+pub use Rattle.libyaml_grammar.specs.vectors.Vectors
 pub use Rattle.libyaml_types.specs.Errors
 pub use Rattle.libyaml_types.specs.Fault
 pub use Rattle.libyaml_types.specs.Message
@@ -53,7 +53,7 @@ pub use Rattle.libyaml_events.specs.parsers.Lookahead
 pub use Rattle.libyaml_events.specs.parsers.OutsideEvents
 pub use Rattle.libyaml_events.specs.parsers.Pops
 pub use Rattle.libyaml_events.specs.parsers.Stages
-pub use Rattle.libyaml_events.specs.rows.StackRows
+pub use Rattle.libyaml_events.specs.vectors.StackVectors
 pub use Rattle.libyaml_events.specs.sources.Calls
 pub use Rattle.libyaml_events.specs.sources.CallsInTurn
 pub use Rattle.libyaml_events.specs.sources.Determined
@@ -84,7 +84,7 @@ pub use Rattle.libyaml_graphs.specs.loads.Bounds
 pub use Rattle.libyaml_graphs.specs.graphs.ComposerFaults
 pub use Rattle.libyaml_graphs.specs.loads.GraphLaws
 pub use Rattle.libyaml_graphs.specs.graphs.Graphs
-pub use Rattle.libyaml_graphs.specs.rows.LoadRows
+pub use Rattle.libyaml_graphs.specs.vectors.LoadVectors
 pub use Rattle.libyaml_graphs.specs.machine.Loader
 pub use Rattle.libyaml_graphs.specs.loads.Linear
 pub use Rattle.libyaml_graphs.specs.loads.Loads

@@ -4,6 +4,6 @@ pub mod determined;
 
 pub use libyaml_events::laws::{
     calls, determined_events, events_nest, headline, items, next_is_open, one_partial, one_prefix,
-    one_run, one_tree, own_directives, partial_begins, productions, pushes, rows, run_ends,
-    run_nests, run_of_tree, tag_places, tree_or_partial_tree,
+    one_run, one_tree, own_directives, partial_begins, productions, pushes, run_ends, run_nests,
+    run_of_tree, tag_places, tree_or_partial_tree, vectors,
 };

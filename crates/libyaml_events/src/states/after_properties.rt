@@ -11,7 +11,8 @@ ghost use Rattle.libyaml_events.specs.machine.Growth.{joins};
 ghost use Rattle.libyaml_events.specs.machine.Machine.{Progressed};
 ghost use Rattle.libyaml_events.specs.machine.Steps.{Steps};
 ghost use Rattle.libyaml_events.specs.machine.Want.{Texts};
-ghost use Rattle.libyaml_events.specs.automaton.AutomatonResults.{GrowsAfter, IsContent, IsOpening, Puts, PutsContent};
+ghost use Rattle.libyaml_events.specs.automaton.AutomatonResults.{GrowsAfter, IsContent, IsOpening, Puts};
+ghost use Rattle.libyaml_events.specs.automaton.AutomatonResults.{PutsContent};
 ghost use Rattle.libyaml_events.specs.automaton.AutomatonResults.{ReadsTag, RefusesTag, SaysContent};
 
 use crate::parser::TokenParser;

@@ -17,7 +17,8 @@ ghost use Rattle.libyaml_events.specs.machine.Machine.{is_accepted_in, step, was
 ghost use Rattle.libyaml_events.specs.machine.Steps.{Steps};
 ghost use Rattle.libyaml_events.specs.machine.Outcomes.{directive_texts, result_of, config_after, wanted};
 ghost use Rattle.libyaml_events.specs.machine.Growth.{may_grow};
-ghost use Rattle.libyaml_events.specs.automaton.AutomatonResults.{IsPutDocument, FollowsAutomatonInDocuments, PutsDocument};
+ghost use Rattle.libyaml_events.specs.automaton.AutomatonResults.{IsPutDocument, FollowsAutomatonInDocuments};
+ghost use Rattle.libyaml_events.specs.automaton.AutomatonResults.{PutsDocument};
 ghost use Rattle.libyaml_events.specs.automaton.View.{Ready};
 
 use crate::parser::TokenParser;

@@ -38,16 +38,16 @@ none_stops (done t) m n = absurd n
 none_stops _ m n = refl
 
 -- no ends_empty has it
-row_lacks : (p : Place) → ends_empty p NoToken ≡ false
-row_lacks (block (root (implicit_root f))) = refl
-row_lacks _ = refl
+vector_lacks : (p : Place) → ends_empty p NoToken ≡ false
+vector_lacks (block (root (implicit_root f))) = refl
+vector_lacks _ = refl
 
-not_in_row : (p : Place) → ends_empty p NoToken ≡ true → ⊥
-not_in_row p e = let f = row_lacks p in cc
+not_in_vector : (p : Place) → ends_empty p NoToken ≡ true → ⊥
+not_in_vector p e = let f = vector_lacks p in cc
 
 none_empty : (o : Option Place) → EndsEmpty o NoToken → o ≡ None
 none_empty None h = refl
-none_empty (Some p) h = absurd (not_in_row p h)
+none_empty (Some p) h = absurd (not_in_vector p h)
 
 prefix_place : (l : List Token) (c : PartialTree) → FitsDirective c NoToken → FitsTag l c NoToken → IsPrefixPlace c
 prefix_place l (at_directive b ds) d t = cc
@@ -56,7 +56,7 @@ prefix_place l (at_tag_after p a m) d t = t
 prefix_place l _ d t = tt
 
 wants_none : (c : PartialTree) → WantsContent c NoToken
-wants_none (content_due p) = row_lacks p
+wants_none (content_due p) = vector_lacks p
 wants_none _ = tt
 
 no_directive : (c : PartialTree) → IsPrefixPlace c → FitsDirective c NoToken
@@ -72,9 +72,9 @@ no_tag l (at_tag q) p = absurd p
 no_tag l (at_tag_after q a m) p = absurd p
 no_tag l _ p = λ u. u.unknown
 
-in_no_row : (o : Option Place) → o ≡ None → EndsEmpty o NoToken
-in_no_row None e = tt
-in_no_row (Some p) e = cc
+in_no_vector : (o : Option Place) → o ≡ None → EndsEmpty o NoToken
+in_no_vector None e = tt
+in_no_vector (Some p) e = cc
 
 abbrev nowhere : Token
 nowhere = tok NoToken (record {
@@ -107,7 +107,7 @@ prefix_fits l c f = record {
       (λ p e. not_then (reads (reached c) nowhere) (λ x. never_goes (reached c) x) p e)
       (reads_append l (nowhere ∷ []) unopened ∙ ap (λ (s : Step). then_all s (reads_all (nowhere ∷ [])))
       (prefix_reads l c f));
-  empty_end = in_no_row (last_empty c) f.full;
+  empty_end = in_no_vector (last_empty c) f.full;
   wants_content = wants_none c;
   directive = no_directive c f.place;
   tag = no_tag l c f.place;

@@ -1,4 +1,0 @@
-pub mod RowNotation
-pub mod Rows
-pub mod PartialRows
-pub mod EmptyRows

@@ -1,0 +1,4 @@
+pub mod VectorNotation
+pub mod Vectors
+pub mod PartialVectors
+pub mod EmptyNodeVectors

@@ -1,5 +1,0 @@
-pub mod Notation
-pub mod ExampleRows
-pub mod AlikeRows
-pub mod DifferenceRows
-pub mod TextRows

@@ -1,0 +1,209 @@
+//! Whole runs, from token lines to the lines of events or of documents.
+
+use std::alloc::Global;
+use std::io;
+use std::io::{BufRead, Write};
+use token_lines::{
+    Outcome, run_events, run_events_within, run_nodes, run_nodes_within, yaml_limits_t,
+};
+use vectors_common::{EVERY_CALL, PieceReader, PieceWriter, show_difference};
+
+/// Whose lines a run writes.
+#[derive(Copy, Clone)]
+pub enum LinesOf {
+    Events,
+    Documents,
+    /// Of libyaml's own language.
+    StrictEvents,
+    StrictDocuments,
+}
+
+/// A run over the lines of a reader.
+pub fn run_lines<R: BufRead + Drop, W: Write>(
+    of: LinesOf,
+    alloc: Global,
+    reader: R,
+    writer: &mut W,
+) -> Outcome {
+    let strict = yaml_limits_t::strict();
+    match of {
+        LinesOf::Events => run_events(alloc, reader, writer),
+        LinesOf::Documents => run_nodes(alloc, reader, writer),
+        LinesOf::StrictEvents => run_events_within(alloc, reader, strict, writer),
+        LinesOf::StrictDocuments => run_nodes_within(alloc, reader, strict, writer),
+    }
+}
+
+/// How a run came through a failed read or a failed allocation.
+#[derive(Copy, Clone, PartialEq)]
+pub enum Passage {
+    /// It is whole.
+    Whole,
+    /// It is cut where the failure is shown, and right before.
+    Cut,
+    /// It is neither.
+    Wrong,
+}
+
+/// A run: what it reads, whose lines it writes, which these are, and how it ends.
+#[derive(Copy, Clone)]
+pub struct Run<'a> {
+    pub tokens: &'a [u8],
+    pub of: LinesOf,
+    pub lines: &'a [u8],
+    pub outcome: Outcome,
+}
+
+/// How many bytes a call reads and writes at most.
+const PIECES: [usize; 6] = [1, 2, 3, 7, 4096, EVERY_CALL];
+
+impl Run<'_> {
+    /// Whether a run that wrote this and ended so is right.
+    pub fn is_whole(self, written: &[u8], ended: Outcome) -> bool {
+        [written == self.lines, ended == self.outcome] == [true; 2]
+    }
+
+    /// The same. If not, prints the first line that differs.
+    pub fn is_wanted(self, rt: &impl Print, written: &[u8], ended: Outcome) -> io::Result<bool> {
+        let is_whole = self.is_whole(written, ended);
+        if !is_whole {
+            show_difference(rt, self.lines, written)?;
+        }
+        Ok(is_whole)
+    }
+
+    /// Whether the run is right in pieces of so many bytes.
+    pub fn is_right(self, rt: &(impl Print + AllocGlobal), piece: usize) -> io::Result<bool> {
+        let reader = PieceReader::new(self.tokens, piece, EVERY_CALL);
+        let mut writer = PieceWriter::new(rt.alloc(), piece, EVERY_CALL);
+        let ended = run_lines(self.of, rt.alloc(), reader, &mut writer);
+        self.is_wanted(rt, writer.written(), ended)
+    }
+
+    /// Whether the run is right whole and in pieces.
+    pub fn is_right_in_pieces(self, rt: &(impl Print + AllocGlobal)) -> io::Result<bool> {
+        for piece in PIECES {
+            if !self.is_right(rt, piece)? {
+                return Ok(false);
+            }
+        }
+        Ok(true)
+    }
+
+    /// Whether this is what a run writes whose reader fails after so many bytes.
+    fn is_cut_front(self, alloc: Global, bytes: usize, written: &[u8]) -> bool {
+        let front = whole_lines(self.tokens.get(..bytes).unwrap_or(self.tokens));
+        let mut lines = Vec::new(alloc);
+        run_lines(self.of, alloc, front, &mut lines);
+        are_same_but_the_problem(written, lines.as_slice())
+    }
+
+    /// How a run whose reader failed after so many bytes came through, by what it wrote and returned. Where
+    /// that is wrong, prints the first line that differs.
+    fn passage_of(
+        self,
+        rt: &(impl Print + AllocGlobal),
+        bytes: usize,
+        written: &[u8],
+        ended: Outcome,
+    ) -> io::Result<Passage> {
+        if self.is_whole(written, ended) {
+            return Ok(Passage::Whole);
+        }
+        if ended == Outcome::Faulted && self.is_cut_front(rt.alloc(), bytes, written) {
+            return Ok(Passage::Cut);
+        }
+        show_difference(rt, self.lines, written)?;
+        Ok(Passage::Wrong)
+    }
+
+    /// The same of a run whose reader hands out a byte a call, and fails after so many calls.
+    fn comes_through(self, rt: &(impl Print + AllocGlobal), calls: usize) -> io::Result<Passage> {
+        let reader = PieceReader::new(self.tokens, 1, calls);
+        let mut writer = PieceWriter::new(rt.alloc(), 4096, EVERY_CALL);
+        let ended = run_lines(self.of, rt.alloc(), reader, &mut writer);
+        self.passage_of(rt, calls, writer.written(), ended)
+    }
+
+    /// Whether the run is cut at each read that fails, and at last comes through. There is a call for each
+    /// byte, and one for the end.
+    pub fn is_cut_at_each_read(self, rt: &(impl Print + AllocGlobal)) -> io::Result<bool> {
+        for calls in 0..self.tokens.len().saturating_add(2) {
+            let came = self.comes_through(rt, calls)?;
+            if came != Passage::Cut {
+                return Ok(came == Passage::Whole);
+            }
+        }
+        Ok(false)
+    }
+
+    /// How the run ends whose writer takes a byte a call, and so many calls. The last flush fails with no
+    /// call left.
+    fn end_at_write(self, calls: usize) -> Outcome {
+        if calls > self.lines.len() {
+            self.outcome
+        } else {
+            Outcome::OutputFailed
+        }
+    }
+
+    /// Whether the run fails where its writer does, and has written all before.
+    fn is_cut_at_write(self, rt: &(impl Print + AllocGlobal), calls: usize) -> io::Result<bool> {
+        let mut writer = PieceWriter::new(rt.alloc(), 1, calls);
+        let ended = run_lines(self.of, rt.alloc(), self.tokens, &mut writer);
+        let front = Run {
+            lines: self.lines.get(..calls).unwrap_or(self.lines),
+            outcome: self.end_at_write(calls),
+            ..self
+        };
+        front.is_wanted(rt, writer.written(), ended)
+    }
+
+    /// Whether the run is cut at each write that fails, and at the last flush.
+    pub fn is_cut_at_each_write(self, rt: &(impl Print + AllocGlobal)) -> io::Result<bool> {
+        for calls in 0..self.lines.len().saturating_add(2) {
+            if !self.is_cut_at_write(rt, calls)? {
+                return Ok(false);
+            }
+        }
+        Ok(true)
+    }
+
+    /// Whether all of that is right.
+    pub fn is_line_right(self, rt: &(impl Print + AllocGlobal)) -> io::Result<bool> {
+        Ok(
+            self.is_right_in_pieces(rt)?
+                && self.is_cut_at_each_read(rt)?
+                && self.is_cut_at_each_write(rt)?,
+        )
+    }
+}
+
+/// The lines that are whole, each with its LF.
+pub fn whole_lines(bytes: &[u8]) -> &[u8] {
+    let mut end = 0usize;
+    for (index, byte) in bytes.iter().enumerate() {
+        if *byte == b'\n' {
+            end = index.saturating_add(1);
+        }
+    }
+    bytes.get(..end).unwrap_or(bytes)
+}
+
+/// The bytes of the first line, with its LF.
+pub fn first_line(bytes: &[u8]) -> &[u8] {
+    let end = bytes.iter().position(|byte| *byte == b'\n');
+    let len = end.map_or(bytes.len(), |at| at.saturating_add(1));
+    bytes.get(..len).unwrap_or(bytes)
+}
+
+/// Whether a run whose reader failed wrote what it writes where the reader ends, with the other problem.
+fn are_same_but_the_problem(failed: &[u8], ended: &[u8]) -> bool {
+    match (
+        failed.strip_suffix(b"read failed\n"),
+        ended.strip_suffix(b"no more tokens\n"),
+    ) {
+        (Some(failed), Some(ended)) => failed == ended,
+        _ => false,
+    }
+}

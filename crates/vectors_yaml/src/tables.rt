@@ -1,0 +1,259 @@
+//! Tables of lists, read from files.
+
+use crate::{asked, composed, cuts, limits, lines, one_by_one};
+use anyhow::{Context, Result};
+use std::io;
+use std::rt::Files;
+use vectors_common::{Tables, read_text, show_difference};
+
+/// The tables whose lists libyaml reads alike.
+const SAME_IN_LIBYAML: [&str; 2] = ["suite", "real"];
+
+/// A text of a list.
+#[derive(Copy, Clone)]
+enum View {
+    /// What is parsed or loaded.
+    Given(Given),
+    /// What is parsed or loaded strictly.
+    Strict(Given),
+    /// How many tokens each call has asked for.
+    Asked,
+}
+
+/// What is read of a list.
+#[derive(Copy, Clone)]
+pub enum Given {
+    Events,
+    Nodes,
+    /// The nodes, where each list of a document has at most so many entries.
+    NodesWithin(i32),
+}
+
+impl Given {
+    /// How many entries a list of a document may have.
+    pub fn most_entries(self) -> i32 {
+        match self {
+            Given::NodesWithin(most) => most,
+            _ => i32::MAX,
+        }
+    }
+}
+
+/// A text of a list: its name, the list's token lines, and what is wanted.
+#[derive(Copy, Clone)]
+pub struct Text<'a> {
+    pub name: &'a str,
+    pub tokens: &'a str,
+    pub wanted: &'a str,
+}
+
+impl Text<'_> {
+    /// Whether this way to read the list gave the text that is wanted, and what else has to hold does. If
+    /// not, prints the first line that differs.
+    ///
+    /// # Errors
+    ///
+    /// Printing failed.
+    pub fn is_wanted(
+        self,
+        rt: &impl Print,
+        way: &str,
+        given: &[u8],
+        holds: bool,
+    ) -> io::Result<bool> {
+        let Text { name, wanted, .. } = self;
+        if given == wanted.as_bytes() && holds {
+            return Ok(true);
+        }
+        println!(rt; "{name}, {way}:")?;
+        show_difference(rt, wanted.as_bytes(), given)?;
+        Ok(false)
+    }
+}
+
+/// A text of events or nodes.
+#[derive(Copy, Clone)]
+pub struct Case<'a> {
+    pub text: Text<'a>,
+    pub given: Given,
+}
+
+/// How many lists and texts were compared, and how many texts differ.
+#[derive(Copy, Clone)]
+struct Count {
+    lists: u64,
+    texts: u64,
+    differ: u64,
+}
+
+/// Compares the texts of each list of a table that is asked for, says where they differ, and counts.
+///
+/// # Errors
+///
+/// A file that is missing, an index of another form, and a failed output or allocation.
+pub fn show_table(
+    rt: &(impl Files + Print + AllocGlobal),
+    tables: &mut Tables<'_>,
+    table: &str,
+) -> Result<()> {
+    if !tables.has(table) {
+        return Ok(());
+    }
+    let index = read_text(rt, format!(in rt.alloc(); "{table}/index")?.as_str())?;
+    show_lists(rt, tables, table, index.as_str())
+}
+
+fn show_lists(
+    rt: &(impl Files + Print + AllocGlobal),
+    tables: &mut Tables<'_>,
+    table: &str,
+    index: &str,
+) -> Result<()> {
+    let mut count = Count {
+        lists: 0,
+        texts: 0,
+        differ: 0,
+    };
+    for line in index.lines() {
+        show_list(rt, tables, table, line, &mut count)?;
+    }
+    let Count {
+        lists,
+        texts,
+        differ,
+    } = count;
+    tables.add(texts, differ);
+    println!(rt; "{table}: {lists} lists, {texts} texts, {differ} differ")?;
+    Ok(())
+}
+
+/// Compares the texts of the list that a line of an index names, where it is asked for.
+fn show_list(
+    rt: &(impl Files + Print + AllocGlobal),
+    tables: &Tables<'_>,
+    table: &str,
+    line: &str,
+    count: &mut Count,
+) -> Result<()> {
+    let (texts, _) = line
+        .split_once(": ")
+        .context("a line of an index without ': '")?;
+    let (name, others) = texts.split_once(' ').unwrap_or((texts, ""));
+    if !tables.has_vector(name) {
+        return Ok(());
+    }
+    count.lists = count.lists.wrapping_add(1);
+    show_text(rt, table, name, "events", count)?;
+    show_text(rt, table, name, "nodes", count)?;
+    for other in others.split_whitespace() {
+        show_text(rt, table, name, other, count)?;
+    }
+    Ok(())
+}
+
+/// Compares a text of a list.
+fn show_text(
+    rt: &(impl Files + Print + AllocGlobal),
+    table: &str,
+    name: &str,
+    text: &str,
+    count: &mut Count,
+) -> Result<()> {
+    count.texts = count.texts.wrapping_add(1);
+    if !is_right(rt, table, name, text)? {
+        count.differ = count.differ.wrapping_add(1);
+    }
+    Ok(())
+}
+
+fn is_right(
+    rt: &(impl Files + Print + AllocGlobal),
+    table: &str,
+    name: &str,
+    text: &str,
+) -> Result<bool> {
+    let view = view_of(text)?;
+    let is_same = SAME_IN_LIBYAML.contains(&table);
+    let tokens = read_part(rt, table, name, "tokens")?;
+    let wanted = read_part(rt, table, name, text)?;
+    let events = read_part(rt, table, name, "events")?;
+    let name = format!(in rt.alloc(); "{table}/{name}.{text}")?;
+    let text = Text {
+        name: name.as_str(),
+        tokens: tokens.as_str(),
+        wanted: wanted.as_str(),
+    };
+    Ok(is_text_right(rt, view, is_same, text)? && is_composed(rt, view, text, events.as_str())?)
+}
+
+/// Reads a text of a list.
+fn read_part(
+    rt: &(impl Files + AllocGlobal),
+    table: &str,
+    name: &str,
+    part: &str,
+) -> Result<String> {
+    read_text(
+        rt,
+        format!(in rt.alloc(); "{table}/{name}.{part}")?.as_str(),
+    )
+}
+
+/// Whether the list's events compose as far as its loads say, where the text is of these.
+fn is_composed(
+    rt: &(impl Print + AllocGlobal),
+    view: View,
+    text: Text<'_>,
+    events: &str,
+) -> io::Result<bool> {
+    match view {
+        View::Given(Given::Nodes) => {
+            let given = Given::Nodes;
+            composed::are_composed(rt, Case { text, given }, events)
+        }
+        View::Given(Given::NodesWithin(most)) => {
+            let given = Given::NodesWithin(most);
+            composed::are_composed(rt, Case { text, given }, events)
+        }
+        _ => Ok(true),
+    }
+}
+
+fn view_of(text: &str) -> Result<View> {
+    Ok(match text {
+        "events" => View::Given(Given::Events),
+        "nodes" => View::Given(Given::Nodes),
+        "strict-events" => View::Strict(Given::Events),
+        "strict-nodes" => View::Strict(Given::Nodes),
+        "asked" => View::Asked,
+        _ => {
+            let most = text.strip_prefix("nodes@").context("no text of a list")?;
+            View::Given(Given::NodesWithin(most.parse::<i32>()?))
+        }
+    })
+}
+
+fn is_text_right(
+    rt: &(impl Print + AllocGlobal),
+    view: View,
+    is_same: bool,
+    text: Text<'_>,
+) -> Result<bool> {
+    match view {
+        View::Asked => Ok(asked::is_counted(rt, text)?),
+        View::Strict(given) => limits::is_strict(rt, Case { text, given }),
+        View::Given(given) => {
+            let case = Case { text, given };
+            Ok(is_case_right(rt, case)? && (!is_same || limits::is_strict(rt, case)?))
+        }
+    }
+}
+
+fn is_case_right(rt: &(impl Print + AllocGlobal), case: Case<'_>) -> Result<bool> {
+    Ok(
+        lines::are_given_in_pieces(rt, case)?
+            && lines::are_given_at_once(rt, case)?
+            && one_by_one::is_right(rt, case)?
+            && cuts::are_right(rt, case)?,
+    )
+}
