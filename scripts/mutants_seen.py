@@ -23,7 +23,7 @@ from concurrent.futures import ThreadPoolExecutor, as_completed
 from pathlib import Path
 
 from answers import TOP, copied
-from controls import edited
+from controls import mutated
 
 PAGE = TOP / "docs" / "WRONG_BODIES.md"
 PROGRAMS = {

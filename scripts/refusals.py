@@ -18,7 +18,7 @@ import subprocess
 import sys
 
 from answers import TOP, answers
-from controls import answered, edited, is_by_shape
+from controls import answered, is_by_shape, mutated
 
 PAGE = TOP / "docs" / "WRONG_BODIES.md"
 SAID = re.compile(r"must-fail (\w+)/([\w.-]+)\.edit: (.*)")
