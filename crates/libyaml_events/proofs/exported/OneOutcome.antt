@@ -242,7 +242,7 @@ module _ {S : Type 0} (g : Ghosts S) where
       → (h : CarriesOn g.gives old e new asked given) → Stopped asked given (source_results h.more [])
   carried_stops old new e r asked given n h
       = at_token h.more refl (determined_needs_no_more (asked ++ h.more) given e
-      (n.begins (asked ++ h.more) (given ++ e ∷ []) h.history) (n.begins_run (asked ++ h.more) (given ++ e ∷ []) h.history))
+      (n.always.begins (asked ++ h.more) (given ++ e ∷ []) h.history) (n.always.begins_run (asked ++ h.more) (given ++ e ∷ []) h.history))
 
   -- both gave an event
   both_give : (old p q : Parser S) (e f : Event) (asked : List Token) (given : List Event) → Next old (Ok e) p
@@ -255,16 +255,16 @@ module _ {S : Type 0} (g : Ghosts S) where
       (carried_stops old p e (Ok e) asked given n v) (carried_stops old q f (Ok f) asked given o h) in
       let m : v.more ≡ h.more = same_tokens v.more h.more w in
       let (es, x, run) = some_run_proof (asked ++ v.more) no_fault in
-      let a = n.begins_run (asked ++ v.more) (given ++ e ∷ []) v.history [] no_fault es x
+      let a = n.always.begins_run (asked ++ v.more) (given ++ e ∷ []) v.history [] no_fault es x
       (run_here (asked ++ v.more) no_fault es x run) in
-      let b = o.begins_run (asked ++ h.more) (given ++ f ∷ []) h.history [] no_fault es x
+      let b = o.always.begins_run (asked ++ h.more) (given ++ f ∷ []) h.history [] no_fault es x
       (run_here (asked ++ h.more) no_fault es x
       (subst (λ (z : List Token). IsRun (asked ++ z) no_fault es x) m run)) in
       let same_event : e ≡ f = head_same e f a.0 b.0 (prefix_same given (e ∷ a.0) (f ∷ b.0)
       (sym (append_assoc given (e ∷ []) a.0) ∙ (sym a.1 ∙ (b.1 ∙ append_assoc given (f ∷ []) b.0)))) in
       let k = (ran_once v.history h.history [] [] (ap (λ (z : List Token). (asked ++ z) ++ []) m)
       (ap (λ (z : Event). given ++ z ∷ []) same_event)).0 in
-      alike w (record { result = ap Ok same_event; bound = n.bound ∙ sym o.bound; after_event = k; after_error = tt })
+      alike w (record { result = ap Ok same_event; bound = n.always.bound ∙ sym o.always.bound; after_event = k; after_error = tt })
 
   runs_out : (old new : Parser S) (x : yaml_error_type_t) (asked : List Token) (given : List Event) → Next old (Err x) new
       → (h : FailsBy g.gives old new asked given) (l : List Token) → h.more ≡ source_results l []
@@ -277,7 +277,7 @@ module _ {S : Type 0} (g : Ghosts S) where
         needed = subst (λ (z : List SourceResult). EachNeeded asked z given) e h.needed;
         may_take = take;
         meets = subst (λ (z : List SourceResult). MeetsRefusal old.config z) e meets;
-        error = ap Err (n.kept.0 ∙ ap (λ (z : Fault). z.error) f);
+        error = ap Err (n.error.kept.0 ∙ ap (λ (z : Fault). z.error) f);
         fault = f;
       }
 
@@ -303,7 +303,7 @@ module _ {S : Type 0} (g : Ghosts S) where
           let m : v.more ≡ l = same_tokens v.more l
           (alike_there (grammar_stops asked given h.more (kept_fault q) l i f) ∙ i) in
           let run = rw (← m) at (faulty_run (asked ++ l) given (kept_fault q) f no_fault) in
-          let b = n.begins_run (asked ++ v.more) (given ++ e ∷ []) v.history [] no_fault given (Fails (kept_fault q))
+          let b = n.always.begins_run (asked ++ v.more) (given ++ e ∷ []) v.history [] no_fault given (Fails (kept_fault q))
           (run_here (asked ++ v.more) no_fault given (Fails (kept_fault q)) run) in
           absurd (not_ahead given b.0 e b.1)
       go (of_source l i s f) = absurd (not_faulted v.more l (kept_fault q)
@@ -314,15 +314,15 @@ module _ {S : Type 0} (g : Ghosts S) where
       → Alike (Err x) p (Err y) q
   failed_alike old p q x y n o f
       = record {
-        result = ap Err (n.kept.0 ∙ (ap (λ (z : Fault). z.error) f ∙ sym o.kept.0));
-        bound = n.bound ∙ sym o.bound;
+        result = ap Err (n.error.kept.0 ∙ (ap (λ (z : Fault). z.error) f ∙ sym o.error.kept.0));
+        bound = n.always.bound ∙ sym o.always.bound;
         after_event = tt;
         after_error = record {
           fault = f;
-          failed = (n.failed, o.failed);
-          over = (n.kept.1, o.kept.1);
+          failed = (n.error.failed, o.error.failed);
+          over = (n.error.kept.1, o.error.kept.1);
           held =
-              (n.no_lookahead, o.no_lookahead);
+              (n.error.no_lookahead, o.error.no_lookahead);
         };
       }
 
@@ -376,8 +376,8 @@ module _ {S : Type 0} (g : Ghosts S) where
   pub outcome_of : (old new : Parser S) (r : EventOrError) (asked : List Token) (given : List Event)
       → History old asked given → is_over old ≡ false → Next old r new
       → CarriesOnOrFails g.gives old asked given r new
-  outcome_of old new (Ok e) asked given h running n = n.carries_on running asked given h
-  outcome_of old new (Err x) asked given h running n = n.fails asked given h
+  outcome_of old new (Ok e) asked given h running n = n.next.carries_on running asked given h
+  outcome_of old new (Err x) asked given h running n = n.error.fails asked given h
 
   outcome_gave : (old new : Parser S) (r : EventOrError) (asked : List Token) (given : List Event)
       → (a : CarriesOnOrFails g.gives old asked given r new)

@@ -48,7 +48,7 @@ module _ {S : Type 0} (g : Ghosts S)
   -- the event is the first of the run
   rest_of : (old new : Parser S) (e : Event) → YieldsEvent g old (Some (Ok e)) new → (events : List Event) (x : Ending)
       → RunToCome g.known old events x → RestOfRun g.known new (e ∷ []) events x
-  rest_of old new e y events x run = (took_one g follows old new e (y.1.carries_on y.0)).runs events x run
+  rest_of old new e y events x run = (took_one g follows old new e (y.1.next.carries_on y.0)).runs events x run
 
   stays : (new : Parser S) (n : ℕ) (here : State) (ending : Ending) (events : List Event) (x : Ending)
       → Stops n (g.may_break new.source) here ending events x → Composed g.may_break new n here [] ending events x
@@ -66,7 +66,7 @@ module _ {S : Type 0} (g : Ghosts S)
       → RunToCome g.known old.parser events x → YieldsFault g old f new
       → Stops n (g.may_break new.parser.source) here (Fails (fault_of f)) events x
   of_fault old new f n here events x most stands run (by_parser y) = go
-      (fails_here g follows old.parser new.parser events x run (y.1.fails run.asked run.given run.history))
+      (fails_here g follows old.parser new.parser events x run (y.1.error.fails run.asked run.given run.history))
     where
       go : FailsHere (g.may_break new.parser.source) (kept_fault new.parser) events x
           → Stops n (g.may_break new.parser.source) here (Fails (fault_of f)) events x

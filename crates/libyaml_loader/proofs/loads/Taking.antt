@@ -58,18 +58,18 @@ module _ {S : Type 0} (g : Ghosts S) where
         where
           go : (b : Bool) → is_over old ≡ b → is_over old ≡ false
           go false h = h
-          go true h = absurd (true≢false (sym an_event ∙ ap (λ (x : Event). is_event x.content) (same (c.ended h).0)))
+          go true h = absurd (true≢false (sym an_event ∙ ap (λ (x : Event). is_event x.content) (same (c.next.ended h).0)))
 
       carried : is_event e.content ≡ true → (asked : List Token) (given : List Event) → History old asked given
           → CarriesOn g.gives old e new asked given
-      carried an_event = rw is at (c.carries_on (running an_event))
+      carried an_event = rw is at (c.next.carries_on (running an_event))
 
       pub took_event : is_event e.content ≡ true → Took g old new (e ∷ [])
       took_event an_event = took_one g follows old new e (carried an_event)
 
       -- after a document's end the parser stands between documents
       pub after_close : (d : Closing) → closing_of e ≡ Some d → between_documents new ≡ true
-      after_close d closes = (rw is at c.outside) (outside_end e.content e.end_mark d closes)
+      after_close d closes = (rw is at c.always.outside) (outside_end e.content e.end_mark d closes)
 
       over : is_event e.content ≡ false → (asked : List Token) (given : List Event) → History old asked given
           → is_over old ≡ true
@@ -77,24 +77,24 @@ module _ {S : Type 0} (g : Ghosts S) where
         where
           go : (b : Bool) → is_over old ≡ b → is_over old ≡ true
           go true h = h
-          go false h = absurd (true≢false (sym ((rw is at (c.carries_on h)) asked given history).an_event ∙ empty))
+          go false h = absurd (true≢false (sym ((rw is at (c.next.carries_on h)) asked given history).an_event ∙ empty))
 
       pub finds_end : is_event e.content ≡ false → FindsEnd old new
       finds_end empty = record {
         took = record {
           history = λ asked given h. subst (λ (p : Parser S). CarriedOn g.gives old p asked given [])
-              (sym (c.ended (over empty asked given h)).1) ((took_none g old).history asked given h);
+              (sym (c.next.ended (over empty asked given h)).1) ((took_none g old).history asked given h);
           runs = λ events ending run. subst (λ (p : Parser S). RestOfRun g.known p [] events ending)
-              (sym (c.ended (over empty run.asked run.given run.history)).1) ((took_none g old).runs events ending run);
+              (sym (c.next.ended (over empty run.asked run.given run.history)).1) ((took_none g old).runs events ending run);
         };
         ends = λ (events : List Event) (ending : Ending) (run : RunToCome g.known old events ending).
             let h = over empty run.asked run.given run.history in
-            let s = (c.ended h).1 in
-            c.nothing_after_end (ap is_over s ∙ h) events ending
+            let s = (c.next.ended h).1 in
+            c.next.nothing_after_end (ap is_over s ∙ h) events ending
             (subst (λ (p : Parser S). RunToCome g.known p events ending) (sym s) run);
         stands = λ (asked : List Token) (given : List Event) (history : History old asked given).
             let h = over empty asked given history in
-            let s = (c.ended h).1 in
+            let s = (c.next.ended h).1 in
             let over : is_over new ≡ true = ap is_over s ∙ h in
             record {
               over = over;
@@ -105,9 +105,9 @@ module _ {S : Type 0} (g : Ghosts S) where
 
     pub parser_fails : Called → (x : yaml_error_type_t) → r ≡ Err x → ParserFails g old new
     parser_fails c x is = record {
-      history = rw is at c.fails;
-      no_lookahead = rw is at c.no_lookahead;
-      depth_left = rw is at c.depth_left;
+      history = rw is at c.error.fails;
+      no_lookahead = rw is at c.error.no_lookahead;
+      depth_left = rw is at c.error.depth_left;
       runs = λ events ending run. fails_here g follows old new events ending run
-          ((rw is at c.fails) run.asked run.given run.history);
+          ((rw is at c.error.fails) run.asked run.given run.history);
     }

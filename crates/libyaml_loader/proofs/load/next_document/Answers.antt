@@ -41,7 +41,7 @@ came g c u ok an_event =
       took = took_event t g.met.S.yaml_token_source_t.follows c.loop-composer.parser call.new.parser
           (event_result call.result call.new.event) call.ensures call.new.event is an_event;
       runs = run;
-      fell = rw ok at (call.ensures.falls run);
+      fell = rw ok at (call.ensures.next.falls run);
     }
 
 pub loop-composer-init : goal.loop-composer-init
@@ -74,7 +74,7 @@ loop-composer-preserved g c =
           (composer_state c.loop-composer.composer) i.0 call.new.parser (composer_state c.take_event.new.self) call.new.event
           k.took
           (rw i.2 at (rw c.in-Ok-None.field-0-is at c.in-Ok-None.ensures.composes))
-          call.ensures.bound,
+          call.ensures.always.bound,
       c.take_event.ensures.sound,
       c.take_event.ensures.bound ∙ i.2,
       (let low = i.3 in let fell = k.fell in omega (arith, low, fell)),
@@ -98,7 +98,7 @@ returns-in_err-yaml_parser_parse_into-clause-loads g c =
 pub returns-in_err-yaml_parser_parse_into-clause-ended : goal.returns-in_err-yaml_parser_parse_into-clause-ended
 returns-in_err-yaml_parser_parse_into-clause-ended g c ended =
     let call = c.yaml_parser_parse_into in
-    absurd (no_error (sym (call.ensures.ended
+    absurd (no_error (sym (call.ensures.next.ended
     (still_ended c.args.parser.now c.loop-composer.parser c.loop-composer.invariant.4 ended)).0
     ∙ (ap (λ r. event_result r call.new.event) c.in_err-yaml_parser_parse_into.was)))
 
@@ -119,7 +119,7 @@ returns-then-not-is_event-clause-ended g c ended =
     let call = c.yaml_parser_parse_into in
     let i = c.loop-composer.invariant.4 in (
       ap (λ (d : Document). Ok d) c.empty_document.ensures,
-      (call.ensures.ended (still_ended c.args.parser.now c.loop-composer.parser i ended)).1 ∙ i ended,
+      (call.ensures.next.ended (still_ended c.args.parser.now c.loop-composer.parser i ended)).1 ∙ i ended,
     )
 
 pub returns-in-Ok-Some-clause-loads : goal.returns-in-Ok-Some-clause-loads

@@ -11,13 +11,13 @@ loop-events-init g c =
 pub loop-events-smaller : goal.loop-events-smaller
 loop-events-smaller g c =
     let onto = rw c.in-Ok.is at c.in_ok-is_last.ensures in
-    onto.1.falls c.loop-events.invariant.1
+    onto.1.next.falls c.loop-events.invariant.1
 
 pub loop-events-preserved : goal.loop-events-preserved
 loop-events-preserved g c =
     let onto = rw c.in-Ok.is at c.in_ok-is_last.ensures in
     let old = c.loop-events.invariant in
-    let on = onto.1.carries_on old.1 old.0.more _ old.0.history in
+    let on = onto.1.next.carries_on old.1 old.0.more _ old.0.history in
     (rw onto.2 (gave_more _ _ _ _ _ _ old.0 on), on.ends ∙ sym onto.3 ∙ c.if-is_last.false)
 
 pub returns-then-is_last-clause-gathers : goal.returns-then-is_last-clause-gathers
@@ -26,7 +26,7 @@ returns-then-is_last-clause-gathers g c =
     let new = c.parse_onto.new.parser in
     let onto = rw c.in-Ok.is at c.in_ok-is_last.ensures in
     let old = c.loop-events.invariant in
-    let on = onto.1.carries_on old.1 old.0.more _ old.0.history in
+    let on = onto.1.next.carries_on old.1 old.0.more _ old.0.history in
     let all : GaveSoFar t.gives c.args.source new c.parse_onto.new.events.items = rw onto.2
     (gave_more _ _ _ _ _ _ old.0 on) in
     gathers_all t.gives c.args.source new _ all (on.ends ∙ sym onto.3 ∙ c.if-is_last.true) refl
@@ -55,7 +55,7 @@ returns-in-Err-clause-gathers g c =
     if_ok c.failed_run.result _ _ c.failed_run.ensures.ok
     (λ r h. gathers_some t.gives c.args.source old r
     (subst (λ v. GaveSoFar t.gives c.args.source old v.items) (sym h.0) gave)
-    c.parse_onto.new.parser onto.0.fails _
+    c.parse_onto.new.parser onto.0.error.fails _
     c.prefix.ensures.kept h.1 h.2)
 
 pub returns-in-Err-clause-of_list : goal.returns-in-Err-clause-of_list

@@ -5,5 +5,5 @@ use Rattle.libyaml_events.proofs.iterate.Yaml_parser_tIterator.next.Goals as goa
 pub returns-in-Err-clause-steps : goal.returns-in-Err-clause-steps
 returns-in-Err-clause-steps g c =
     let call = c.in-Err.ensures in
-    let same = call.kept.0 ∙ sym (ap (λ (f : Fault). f.error) c.prefix.ensures.kept) in
+    let same = call.error.kept.0 ∙ sym (ap (λ (f : Fault). f.error) c.prefix.ensures.kept) in
     rw c.put_fault.ensures (sym c.is_over.ensures ∙ c.if-is_over.false, rw same at call, c.prefix.ensures.kept)

@@ -16,25 +16,25 @@ returns-clause-falls g c written =
     let running = running_by c.args.parser.now call.new.parser
     (event_result call.result c.yaml_parser_parse_into-parsed.new.event) c.yaml_parser_parse_into-parsed.new.event
     (is_over c.args.parser.now) refl (ap (λ r. event_result r c.yaml_parser_parse_into-parsed.new.event) c.in-Ok.is)
-    an_event call.ensures.ended
+    an_event call.ensures.next.ended
     in
-    rw c.in-Ok.is at (call.ensures.falls running)
+    rw c.in-Ok.is at (call.ensures.next.falls running)
 
 pub returns-in_default-clause-turn : goal.returns-in_default-clause-turn
 returns-in_default-clause-turn g c running asked given h =
-    failed ((rw c.in_default.is at c.yaml_parser_parse_into-parsed.ensures.fails) asked given h)
+    failed ((rw c.in_default.is at c.yaml_parser_parse_into-parsed.ensures.error.fails) asked given h)
     (c.prefix.ensures.kept, Keeps-same _)
 
 pub returns-in_default-append_event-clause-turn : goal.returns-in_default-append_event-clause-turn
 returns-in_default-append_event-clause-turn g c running asked given h =
     gave_event c.yaml_parser_parse_into-parsed.new.event
-    ((rw c.in-Ok.is at (c.yaml_parser_parse_into-parsed.ensures.carries_on running)) asked given h)
+    ((rw c.in-Ok.is at (c.yaml_parser_parse_into-parsed.ensures.next.carries_on running)) asked given h)
     (refl, Keeps-same _)
 
 pub returns-in_default-write_line-clause-turn : goal.returns-in_default-write_line-clause-turn
 returns-in_default-write_line-clause-turn g c running asked given h =
     gave_event c.yaml_parser_parse_into-parsed.new.event
-    ((rw c.in-Ok.is at (c.yaml_parser_parse_into-parsed.ensures.carries_on running)) asked given h) tt
+    ((rw c.in-Ok.is at (c.yaml_parser_parse_into-parsed.ensures.next.carries_on running)) asked given h) tt
 
 pub returns-then-is_stream_end-clause-turn : goal.returns-then-is_stream_end-clause-turn
 returns-then-is_stream_end-clause-turn g c running asked given h =
@@ -42,13 +42,13 @@ returns-then-is_stream_end-clause-turn g c running asked given h =
     c.clear.ensures.bytes in
     let ended = sym c.is_stream_end.ensures ∙ c.if-is_stream_end.true in
     gave_event c.yaml_parser_parse_into-parsed.new.event
-    ((rw c.in-Ok.is at (c.yaml_parser_parse_into-parsed.ensures.carries_on running)) asked given h)
+    ((rw c.in-Ok.is at (c.yaml_parser_parse_into-parsed.ensures.next.carries_on running)) asked given h)
     (ended, subst (Appends _ _) line c.in-Ok-write_line.ensures.ok)
 
 pub returns-in_default-show-clause-turn : goal.returns-in_default-show-clause-turn
 returns-in_default-show-clause-turn g c running asked given h =
     gave_event c.yaml_parser_parse_into-parsed.new.event
-    ((rw c.in-Ok.is at (c.yaml_parser_parse_into-parsed.ensures.carries_on running)) asked given h) tt
+    ((rw c.in-Ok.is at (c.yaml_parser_parse_into-parsed.ensures.next.carries_on running)) asked given h) tt
 
 pub returns-clause-turn : goal.returns-clause-turn
 returns-clause-turn g c running asked given h =
@@ -56,5 +56,5 @@ returns-clause-turn g c running asked given h =
     c.clear.ensures.bytes in
     let more = sym c.is_stream_end.ensures ∙ c.if-is_stream_end.false in
     gave_event c.yaml_parser_parse_into-parsed.new.event
-    ((rw c.in-Ok.is at (c.yaml_parser_parse_into-parsed.ensures.carries_on running)) asked given h)
+    ((rw c.in-Ok.is at (c.yaml_parser_parse_into-parsed.ensures.next.carries_on running)) asked given h)
     (more, Appends-kept _ _ _ _ (subst (Appends _ _) line c.in-Ok-write_line.ensures.ok) c.show.ensures)
