@@ -1,5 +1,5 @@
-//! The calls of `libyaml_composer`, `document_steps` and `document_sizes` for C. `bindings/c/include/pokhvizi/compose.h`
-//! declares them, and says what a caller does.
+//! The calls of `libyaml_composer`, `document_steps` and `document_sizes` for C.
+//! `bindings/c/include/pokhvizi/compose.h` declares them, and says what a caller does.
 #![tactic(auto)]
 
 ghost use Rattle.std.specs.Prelude.{◌≡◌, ◌≤◌, ◌↔◌, List, [], length, true, false};

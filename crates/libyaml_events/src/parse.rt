@@ -37,8 +37,8 @@ impl TokenParser {
         ensures call { (max : ℤ) → Call S.gives
             (parser max source.old (with_lookahead lookahead.old self.old)) (event_result result event.new)
             (parser max source.new (with_lookahead lookahead.new self.new)) }
-        ensures left { IfErr (event_result result event.new) (λ e. Left (with_lookahead lookahead.old self.old) e
-            (with_lookahead lookahead.new self.new)) }
+        ensures left { IfErr (event_result result event.new)
+            (λ e. Left (with_lookahead lookahead.old self.old) e (with_lookahead lookahead.new self.new)) }
     {
         if self.is_over() {
             clear(event);

@@ -108,8 +108,8 @@ impl yaml_push_parser_t {
         Ok(())
     }
 
-    /// Takes the token in this variable, and returns the kind of an error: two scalars. The whole error is put
-    /// in its place by the caller's own code, into which `push` and `push_from` are inlined.
+    /// Takes the token in this variable, and returns the kind of an error: two scalars. The whole error is
+    /// put in its place by the caller's own code, into which `push` and `push_from` are inlined.
     fn take_from(
         &mut self,
         token: &mut yaml_token_t,

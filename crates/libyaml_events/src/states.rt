@@ -62,10 +62,10 @@ impl TokenParser {
     /// Takes one token in the function that `pending.reading` names, and returns what it led to. `out` gets
     /// the event. An error is kept.
     ///
-    /// `Caller` is a type for each caller, so that the step is compiled for it alone, and then inlined there as
-    /// a whole. Inlined into the loop of `parse_event` at once, flow collections take 9 in 100 instructions
-    /// more: the compiler moves a part of each step out of the loop. With one type for both callers in
-    /// `push.rt`, a push takes 6 in 100 more.
+    /// `Caller` is a type for each caller, so that the step is compiled for it alone, and then inlined
+    /// there as a whole. Inlined into the loop of `parse_event` at once, flow collections take 9 in 100
+    /// instructions more: the compiler moves a part of each step out of the loop. With one type for both
+    /// callers in `push.rt`, a push takes 6 in 100 more.
     ///
     /// libyaml: `yaml_parser_state_machine`.
     pub(crate) fn step<Caller>(
@@ -120,8 +120,8 @@ impl TokenParser {
     #[inline(always)]
     fn step_automaton(&mut self, token: &yaml_token_t, pending: &mut Pending) -> Action
         requires { Ready pending.old self.old }
-        ensures led { FollowsAutomaton (step (wanted pending.old) self.old token.now) (wanted pending.old).texts token.now
-            result pending.new self.new }
+        ensures led { FollowsAutomaton (step (wanted pending.old) self.old token.now)
+            (wanted pending.old).texts token.now result pending.new self.new }
         ensures fits { FitsStep result (token_type token.now.content) pending.new.reading self.new.state }
         ensures none { self.new.lookahead ≡ None }
         ensures texts { pending.new ≡ record pending.old { reading = pending.new.reading } }

@@ -47,9 +47,9 @@ pub fn loop_yields_loads<S: yaml_token_source_t>()
 {}
 
 /// What a whole loop over the composed events of a parser yielded, over a list of tokens from the start, or
-/// over events that are to come: exactly the run's events up to the first with which a load fails, and an error
-/// only if the run's loads end with it; or memory ran out, or the source failed early, after a prefix of these
-/// events.
+/// over events that are to come: exactly the run's events up to the first with which a load fails, and an
+/// error only if the run's loads end with it; or memory ran out, or the source failed early, after a prefix
+/// of these events.
 pub fn composed_events_are_loads<S: yaml_token_source_t>()
     ensures of_list { (n : ℕ) (old new : ComposedEvents S) (yielded : List Event) (ending : Ending)
         (l : List Token) (f : Fault) (e : List Event) (x : Ending) → old.composer ≡ new_event_composer n

@@ -89,11 +89,11 @@ pub fn strict()
         → StrictRun l f d y → (e ≡ d) × (x ≡ y) }
 {}
 
-/// The run of a parser over a source that a strict limiter stands before, and so what `yaml_parser_parse_all`
-/// gives over a `yaml_limited_source_t` of `token_limits`: where the strict run is over, the same run. At a
-/// token where the Rust crate does something else the limiter fails with that crate's words and marks, and the
-/// parser gives the events that the tokens before it determine. It also does so beside a tag whose handle
-/// isn't defined, where the Rust crate has the error of the tag.
+/// The run of a parser over a source that a strict limiter stands before, and so what
+/// `yaml_parser_parse_all` gives over a `yaml_limited_source_t` of `token_limits`: where the strict run is
+/// over, the same run. At a token where the Rust crate does something else the limiter fails with that
+/// crate's words and marks, and the parser gives the events that the tokens before it determine. It also
+/// does so beside a tag whose handle isn't defined, where the Rust crate has the error of the tag.
 pub fn strict_source()
     ensures ends { (l : List Token) (f : Fault) (e : List Event) → StrictFrom f AtState start l e (Over Ends)
         → PassedRun l f e Ends }

@@ -35,7 +35,8 @@ pub extern "C" fn pokhvizi_steps_new(steps: &mut steps_t)
 
 /// Returns whether libyaml does something else with a token of this kind, if it is handed in next, like
 /// `steps_t::differs`: 0 if it does the same; 1 after the KEY of a flow sequence's pair, where it loses the
-/// token; and if it has an error, 2 where a block mapping's KEY is due, and 3 after a document's explicit end.
+/// token; and if it has an error, 2 where a block mapping's KEY is due, and 3 after a document's explicit
+/// end.
 #[unsafe(no_mangle)]
 pub extern "C" fn pokhvizi_differs(steps: &steps_t, kind: u8) -> u8
     ensures { result ≡ difference_number (differs_in steps.now (kind_of kind)) }

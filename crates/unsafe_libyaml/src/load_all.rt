@@ -54,9 +54,9 @@ pub fn yaml_parser_load_all<S: yaml_token_source_t + Drop>(
         × LoadsTo S.yaml_token_source_t source all (loads_of n.texts (last_load Ends ∷ []))) }
     // a partial tree that fits gives those of its whole documents, and then the open one's composer error
     // or its own
-    ensures of_partial_tree { (before : List Token) (token : Token) (following : List Token) (c : PartialTree) (f : Fault)
-        → Fits before token c
-        → is_after_properties c following ≡ true → S.known source ≡ Some (coming (before ++ token ∷ following) f)
+    ensures of_partial_tree { (before : List Token) (token : Token) (following : List Token) (c : PartialTree)
+        (f : Fault) → Fits before token c → is_after_properties c following ≡ true
+        → S.known source ≡ Some (coming (before ++ token ∷ following) f)
         → IfOk result (λ all. (loads : List Load)
         × NestedLoads (partial_events c token) (Fails (fault c token.content token.start_mark)) loads
         × LoadsTo S.yaml_token_source_t source all loads) }

@@ -47,9 +47,9 @@ pub fn yaml_parser_parse_all<S: yaml_token_source_t + Drop>(
         → S.known source ≡ Some (coming (tokens t) f)
         → IfOk result (λ run. RunsTo S.yaml_token_source_t source run (events t) Ends) }
     // a partial tree that fits gives its events, and its error
-    ensures of_partial_tree { (before : List Token) (token : Token) (following : List Token) (c : PartialTree) (f : Fault)
-        → Fits before token c
-        → is_after_properties c following ≡ true → S.known source ≡ Some (coming (before ++ token ∷ following) f)
+    ensures of_partial_tree { (before : List Token) (token : Token) (following : List Token) (c : PartialTree)
+        (f : Fault) → Fits before token c → is_after_properties c following ≡ true
+        → S.known source ≡ Some (coming (before ++ token ∷ following) f)
         → IfOk result (λ run. RunsTo S.yaml_token_source_t source run (partial_events c token)
         (Fails (fault c token.content token.start_mark))) }
     // any list of tokens gives its run
