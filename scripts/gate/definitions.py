@@ -27,7 +27,7 @@ NAME = re.compile(r"`([A-Za-z_]\w*(?:(?:::|\.)\w+)*)`")
 WORD = re.compile(r"[^\s(){}\[\],;]+")
 USE = re.compile(r"^(?:ghost |pub )*use (Rattle\.[\w.]+?)(?:\.\{(.*)\})?(?: as (\w+))?;?$")
 HEAD = re.compile(r"^(?:(?:abbrev|unfoldable|pub|infix\w*) )*(?:(?:record|data) )?(mutual|[^\s:{(]+)")
-MEMBER = re.compile(r"^(?:pub )?(?:(?:data|record) )?([^\s:]+)\s*:?\s")
+MEMBER = re.compile(r"^(?:pub )?(?:(?:data|record) )?([^\s:→]+)\s*:?\s")
 
 
 def imports(text):
