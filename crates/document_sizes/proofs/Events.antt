@@ -13,6 +13,7 @@ use Rattle.libyaml_composer.specs.Composing.{Composer, deed_for, deed_in, holdin
 use Rattle.libyaml_composer.specs.Numbers.{is_set, is_id}
 use Rattle.libyaml_composer.specs.DocumentSoFar.{DocumentSoFar, applied_part, nodes_made, placed, with_made_node}
 use Rattle.libyaml_composer.specs.Represents.{Opens}
+use Rattle.libyaml_composer.proofs.exported.Deeds.{child_applied, child_put}
 use Rattle.document_sizes.specs.declared.counted.Counted.{Counted}
 use Rattle.document_sizes.specs.declared.counted.Counted.TheVariants as counted
 use Rattle.document_sizes.specs.Counting.{at_child, bound_of, count_of, counting, new_number, place_among, size_at, at_end}
@@ -26,14 +27,7 @@ bound_small max = omega arith
 -- a child, by what is around it
 pub child_nodes : (s : List open_t) (p : place_t) (q : Option Part) (m : Mark) (h : DocumentSoFar)
     → (applied_part (deed_for s) p q m h).nodes ≡ placed (deed_for s) p (with_made_node (is_id p.node) p.node q h).nodes
-child_nodes [] p q m h = refl
-child_nodes (o ∷ s) p q m h = go (is_set o.is_mapping) (is_id o.key)
-  where
-    go : (b w : Bool) → (applied_part (deed_in b w) p q m h).nodes
-        ≡ placed (deed_in b w) p (with_made_node (is_id p.node) p.node q h).nodes
-    go false w = refl
-    go true false = refl
-    go true true = refl
+child_nodes s p q m h = ap (λ (g : DocumentSoFar). g.nodes) (sym (child_applied (deed_for s) (child_put s) p q m h))
 
 pub counting_child : (s : List open_t) (max : ℕ) (start : Bool) (p : place_t) (total : ℕ) (sizes : List ℕ)
     → counting max (deed_for s) start p total sizes ≡ at_child max (is_id p.node) start p total sizes

@@ -1,5 +1,5 @@
 -- A child in the innermost open collection: what the nodes hold then.
-use Rattle.std.proofs.Common.{◌≡◌, ◌<◌, ◌≤◌, ◌∷◌, ◌++◌, ◌∙◌, ℕ, zero, suc, ℤ, pos, negsuc, List, [], length, map, Option, Some, None, Bool, true, false, refl, sym, ap, subst, arith, slice_get, option_map, append-nil, append_assoc}
+use Rattle.std.proofs.Common.{◌≡◌, ◌<◌, ◌∷◌, ◌++◌, ◌∙◌, ℕ, zero, suc, ℤ, pos, negsuc, List, [], length, map, Option, Some, None, Bool, true, false, refl, sym, ap, arith, slice_get, option_map, append-nil, append_assoc}
 use Rattle.libyaml_documents.specs.Nodes.{changed_at, ids_of, ids_of_pairs, with_changed, with_item, with_pair}
 use Rattle.libyaml_documents.specs.declared.node.unnamed_yaml_node_t_data.{unnamed_yaml_node_t_data}
 use Rattle.libyaml_documents.specs.declared.node.unnamed_yaml_node_t_data.TheVariants.{Scalar, Sequence, Mapping}
@@ -10,51 +10,10 @@ use Rattle.libyaml_composer.specs.Composing.{deed_for, deed_in, holding, holding
 use Rattle.libyaml_composer.specs.Numbers.{is_set, is_id}
 use Rattle.libyaml_composer.specs.DocumentSoFar.{placed}
 use Rattle.libyaml_composer.specs.Represents.{IsAlike, IsOpenBy, IsOpenNode, Opens}
+use Rattle.libyaml_composer.proofs.exported.Opens.{get_other, get_there, length_changed}
 use Rattle.yaml_expansion.specs.Expansion.{ids_at, ids_of_node}
 use Rattle.document_sizes.specs.RunLaws.{held_so_far, key_waiting}
 use Rattle.document_sizes.proofs.Trees.{Opened, with_child}
-
--- a node among others
-pub get_before : (f : yaml_node_t → yaml_node_t) (nodes : List yaml_node_t) (j k : ℕ) → (k ≡ j → ⊥)
-    → slice_get (changed_at j f nodes) k ≡ slice_get nodes k
-get_before f [] j k h = refl
-get_before f (x ∷ xs) zero zero h = absurd (h refl)
-get_before f (x ∷ xs) zero (suc k) h = refl
-get_before f (x ∷ xs) (suc j) zero h = refl
-get_before f (x ∷ xs) (suc j) (suc k) h = get_before f xs j k (λ e. h (ap (λ (n : ℕ). suc n) e))
-
-pub get_there : (f : yaml_node_t → yaml_node_t) (nodes : List yaml_node_t) (k : ℕ)
-    → slice_get (with_changed (pos (suc k)) f nodes) k ≡ option_map f (slice_get nodes k)
-get_there f [] k = refl
-get_there f (x ∷ xs) zero = refl
-get_there f (x ∷ xs) (suc k) = get_there f xs k
-
-pub get_among : {A : Type 0} (xs more : List A) (k : ℕ) → k < length xs → slice_get (xs ++ more) k ≡ slice_get xs k
-get_among [] more k h = absurd (omega arith)
-get_among (x ∷ xs) more zero h = refl
-get_among (x ∷ xs) more (suc k) h = get_among xs more k (omega arith)
-
-pub get_last : {A : Type 0} (xs : List A) (x : A) → slice_get (xs ++ x ∷ []) (length xs) ≡ Some x
-get_last [] x = refl
-get_last (y ∷ xs) x = get_last xs x
-
-pub length_changed : (k : ℕ) (f : yaml_node_t → yaml_node_t) (nodes : List yaml_node_t)
-    → length (with_changed (pos (suc k)) f nodes) ≡ length nodes
-length_changed k f [] = refl
-length_changed zero f (x ∷ nodes) = refl
-length_changed (suc k) f (x ∷ nodes) = ap suc (length_changed k f nodes)
-
-pub opens_more : (most : ℕ) (nodes l : List yaml_node_t) (n : ℕ) (s : List open_t) → n ≤ length nodes
-    → Opens most nodes n s → Opens most (nodes ++ l) n s
-opens_more most nodes l n [] le h = tt
-opens_more most nodes l n (o ∷ s) le (k, is, lt, here, key, rest) = (
-  k,
-  is,
-  lt,
-  subst (λ (x : Option yaml_node_t). IsOpenNode x o) (sym (get_among nodes l k (omega arith))) here,
-  key,
-  opens_more most nodes l k s (omega arith) rest,
-)
 
 -- the ids of a node with one more child
 pairs_more : (ps : List yaml_node_pair_t) (p : yaml_node_pair_t)
@@ -116,7 +75,7 @@ module _ (nodes : List yaml_node_t) (n i : ℤ) (some : is_id i ≡ true) (o : o
 
     changed_others : (f : yaml_node_t → yaml_node_t) (j : ℕ) → (j ≡ k → ⊥)
         → slice_get (with_changed o.node f nodes) j ≡ slice_get nodes j
-    changed_others f j h = ap (λ (l : List yaml_node_t). slice_get l j) (changes f) ∙ get_before f nodes k j h
+    changed_others f j h = ap (λ (l : List yaml_node_t). slice_get l j) (changes f) ∙ get_other f nodes k j h
 
     ids_here : (l : List yaml_node_t) → ids_at l o.node ≡ ids_of_node (slice_get l k)
     ids_here l = ap (λ (y : ℤ). ids_at l y) is

@@ -1,7 +1,5 @@
 -- A run keeps the numbers those of the trees.
 use Rattle.std.proofs.Common.{◌≡◌, ◌≤◌, ◌∷◌, ◌++◌, ◌∙◌, ℕ, suc, ℤ, pos, List, [], length, map, Option, None, Bool, inl, inr, refl, sym, ap, subst, arith, length-append}
-use Rattle.std.specs.Cmp.Lexicographic.{nat_list_cmp_total}
-use Rattle.std.specs.FinMap.{get, get-from_entries}
 use Rattle.libyaml_types.specs.Types.{event_type}
 use Rattle.libyaml_types.specs.declared.event.unnamed_yaml_event_t_data.TheVariants as ev
 use Rattle.libyaml_types.specs.declared.event.unnamed_yaml_event_t_data.{unnamed_yaml_event_t_data}
@@ -9,24 +7,25 @@ use Rattle.libyaml_grammar.specs.grammar.Events.{Event}
 use Rattle.libyaml_grammar.specs.grammar.Tokens.{Mark}
 use Rattle.libyaml_documents.specs.declared.node.yaml_node_t.{yaml_node_t}
 use Rattle.libyaml_graphs.specs.graphs.GraphParts.{Opening, Part, closing_in, closing_of, part_of}
-use Rattle.libyaml_graphs.specs.machine.Loader.{bounded_option, no_anchors}
 use Rattle.libyaml_composer.specs.declared.deed.Deed.{Deed}
 use Rattle.libyaml_composer.specs.declared.deed.Deed.TheVariants as deed
 use Rattle.libyaml_composer.specs.declared.records.open_t.{open_t}
 use Rattle.libyaml_composer.specs.declared.records.place_t.{place_t}
 use Rattle.libyaml_composer.specs.Composing.{Composer, Told, composer_step, deed_for, holding_top, is_start, place_in, step_in, waiting_in, within_step}
-use Rattle.libyaml_composer.specs.DocumentSoFar.{DocumentSoFar, IsRefused, applied, applied_part, event_fact, loader_by, nodes_made}
-use Rattle.libyaml_composer.specs.Represents.{IsCarried, IsPart, Opens, Represents}
-use Rattle.libyaml_composer.proofs.exported.Follows.{Follows, fails, follows, full, goes}
+use Rattle.libyaml_composer.specs.DocumentSoFar.{DocumentSoFar, applied, applied_part, event_fact, nodes_made}
+use Rattle.libyaml_composer.specs.Represents.{IsPart, Opens, Represents}
+use Rattle.libyaml_composer.proofs.exported.Deeds.{none_carried, not_part, part_applied, represents_roomy}
+use Rattle.libyaml_composer.proofs.exported.Follows.{goes_on}
+use Rattle.libyaml_composer.proofs.exported.Opens.{get_among}
 use Rattle.yaml_expansion.specs.Expansion.{HasExpandedSize, TreesHave}
 use Rattle.yaml_expansion.specs.Expansion as expansion
 use Rattle.document_sizes.specs.declared.counted.Counted.TheVariants as counted
 use Rattle.document_sizes.specs.Counting.{Count, bound_of, count_of, counting}
-use Rattle.document_sizes.specs.Runs.{CountRun, Counts, LosesNothing, document_begun}
+use Rattle.document_sizes.specs.Runs.{CountRun, Counts, LosesNothing}
 use Rattle.document_sizes.specs.Runs as run
 use Rattle.document_sizes.specs.RunLaws.{TotalIsSize}
 use Rattle.document_sizes.proofs.Trees.{Trees, first, none, says_same}
-use Rattle.document_sizes.proofs.Holding.{get_among, opened_of}
+use Rattle.document_sizes.proofs.Holding.{opened_of}
 use Rattle.document_sizes.proofs.Inverse.{limit}
 use Rattle.document_sizes.proofs.Steps.{SaysOf, state_of}
 use Rattle.document_sizes.proofs.Events.{Next, alias_next, closed_next, get_in, open_next, scalar_next}
@@ -86,25 +85,8 @@ module _ (max : ℕ) (c : Composer) (h : DocumentSoFar) (total : ℕ) (sizes : L
             (subst (λ (l : List ℕ). SaysOf limit h.nodes c.stack (get_in l) total) (sym g) stands.says),
       )
 
--- the deeds of parts
-part_applied : (d : Deed) → IsPart d → (p : place_t) (e : Event) (h : DocumentSoFar)
-    → applied d p e h ≡ applied_part d p (part_of e) e.end_mark h
-part_applied deed.Passes k p e h = refl
-part_applied deed.Root k p e h = refl
-part_applied deed.Item k p e h = refl
-part_applied deed.Key k p e h = refl
-part_applied deed.Value k p e h = refl
-part_applied deed.Closes k p e h = refl
-part_applied _ k p e h = absurd k
-
 not_full : (d : Deed) → IsPart d → d ≡ deed.FullStack → ⊥
 not_full d t e = subst IsPart e t
-
-not_refused : (d : Deed) → IsPart d → IsRefused d → ⊥
-not_refused deed.UndefinedAlias k r = k
-not_refused deed.RepeatedAnchor k r = k
-not_refused deed.FullList k r = k
-not_refused _ k r = r
 
 -- where the composer stands after an event
 module _ (c : Composer) (h : DocumentSoFar) (o : Opening) (stands : Represents c h o) (e : Event) (p : place_t)
@@ -126,19 +108,8 @@ module _ (c : Composer) (h : DocumentSoFar) (o : Opening) (stands : Represents c
       go _ part = refl
 
   pub stays : Represents step.composer (applied step.deed step.place e h) o
-  stays = subst (λ (t : Told). Represents t.composer (applied t.deed t.place e h) o) (sym inside)
-      (go (within_step (event_type e.content) (event_fact h e) p c) part_inside (follows c h o p stands e no_end))
-    where
-      go : (t : Told) → IsPart t.deed
-          → Follows c.most o h c.stack (part_of e) e.start_mark e.end_mark (bounded_option c.most (loader_by c h) (part_of e)) t
-          → Represents t.composer (applied t.deed t.place e h) o
-      go t part (goes k going there bound puts) = rw (sym (part_applied t.deed part t.place e h)) at there
-      go t part (fails refused failed) = absurd (not_refused t.deed part refused)
-      go t part (full is) = absurd (not_full t.deed part is)
-
--- a run
-none_carried : (a : List ℕ) → IsCarried 0 (get no_anchors a)
-none_carried a = subst (IsCarried 0) (sym (get-from_entries nat_list_cmp_total [] a)) tt
+  stays = subst (λ (g : DocumentSoFar). Represents step.composer g o) (part_applied step.deed part step.place e h)
+      (goes_on c h o stands e no_end p c.room step refl (λ r. not_part step.deed r part) (not_full step.deed part)).stands
 
 -- an event that is composed and counted
 module _ (max : ℕ) (c : Composer) (h : DocumentSoFar) (total : ℕ) (sizes : List ℕ) (s : Standing max c h total sizes) (e : Event) (t : Told)
@@ -149,7 +120,7 @@ module _ (max : ℕ) (c : Composer) (h : DocumentSoFar) (total : ℕ) (sizes : L
 
     pub same_nodes : (count : Count) → Counts max c h total sizes e t count
         → applied_part t.deed t.place (part_of e) e.end_mark h ≡ applied t.deed t.place e h
-    same_nodes n k = sym (part_applied t.deed k.part t.place e h)
+    same_nodes n k = part_applied t.deed k.part t.place e h
 
     pub represented : (count : Count) → Counts max c h total sizes e t count → Represents t.composer (applied t.deed t.place e h) s.opening
     represented n k = subst (λ (x : Told). Represents x.composer (applied x.deed x.place e h) s.opening) (sym k.composed)
@@ -187,13 +158,7 @@ standing max c h total sizes (run.moves c' h' total' room sizes' more r) =
     let n : c'.nodes ≡ length h'.nodes = s.represents.nodes in
     record {
       opening = s.opening;
-      represents = record {
-        is_within = s.represents.is_within;
-        opening = s.represents.opening;
-        nodes = s.represents.nodes;
-        opens = s.represents.opens;
-        carried = s.represents.carried;
-      };
+      represents = represents_roomy c' h' s.opening room s.represents;
       room = let a : c'.nodes ≤ length sizes' = s.room in omega (arith, a, length-append sizes' more);
       bound = s.bound;
       says = says_same limit (state_of h'.nodes (get_in sizes')) (state_of h'.nodes (get_in (sizes' ++ more)))

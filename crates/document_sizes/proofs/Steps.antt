@@ -12,7 +12,8 @@ use Rattle.libyaml_composer.specs.Represents.{IsKeyIn, IsOpenNode, Opens}
 use Rattle.yaml_expansion.specs.Expansion.{ids_at, ids_of_node}
 use Rattle.document_sizes.specs.RunLaws.{held_so_far, key_waiting}
 use Rattle.document_sizes.proofs.Trees.{State, Opened, Keeps, Says, Trees, first, with_child, new_at, says_alias, says_scalar, says_root, says_open, says_root_open, says_closed, some_is}
-use Rattle.document_sizes.proofs.Holding.{Hands, after, get_among, get_before, get_last, get_there, hands, index_of, length_changed, opened_as, opened_of, opened_same, top_after}
+use Rattle.libyaml_composer.proofs.exported.Opens.{get_among, get_last, get_other, get_there, length_changed}
+use Rattle.document_sizes.proofs.Holding.{Hands, after, hands, index_of, opened_as, opened_of, opened_same, top_after}
 
 abbrev pub state_of : List yaml_node_t → (ℕ → Option ℕ) → State
 state_of nodes g = record { held = ids_at nodes; size = g; nodes = length nodes }
@@ -182,7 +183,7 @@ module _ (limit : ℕ) where
     closed_count = ap length closed_is ∙ length_changed k (with_end m) nodes
 
     closed_others : (j : ℕ) → (j ≡ k → ⊥) → slice_get closed j ≡ slice_get nodes j
-    closed_others j e = ap (λ (l : List yaml_node_t). slice_get l j) closed_is ∙ get_before (with_end m) nodes k j e
+    closed_others j e = ap (λ (l : List yaml_node_t). slice_get l j) closed_is ∙ get_other (with_end m) nodes k j e
 
     same_ids : (x : Option yaml_node_t) → ids_of_node (option_map (with_end m) x) ≡ ids_of_node x
     same_ids None = refl

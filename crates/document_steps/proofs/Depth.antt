@@ -13,7 +13,7 @@ use Rattle.libyaml_composer.specs.declared.records.place_t.{place_t}
 use Rattle.libyaml_composer.specs.Composing.{Composer, Told, adding, at_anchored_node, at_start, between_step, composer_of, collection_ended, holding_top, handing, if_placed, is_start, is_list_full, new_id, with_open_node, stack_of, composer_step, step_in, unless, within_step}
 use Rattle.libyaml_composer.specs.DocumentSoFar.{DocumentSoFar, event_fact}
 use Rattle.libyaml_composer.specs.Numbers.{is_set, is_id}
-use Rattle.libyaml_composer.proofs.exported.Full.{full_starts}
+use Rattle.libyaml_composer.proofs.exported.Reasons.{full_starts}
 use Rattle.libyaml_composer.proofs.exported.Stacks.{depth_is}
 use Rattle.document_steps.specs.Open.{less_one, open_after, open_from, still_open, or_none}
 use Rattle.document_steps.specs.RunLaws.{FullWhereOpen, StackFits}

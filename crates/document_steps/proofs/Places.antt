@@ -6,6 +6,7 @@ use Rattle.libyaml_types.specs.declared.enums.yaml_event_type_t.TheVariants as e
 use Rattle.libyaml_grammar.specs.grammar.Events.{Event}
 use Rattle.libyaml_documents.specs.Documents.{Document}
 use Rattle.libyaml_composer.specs.declared.composer.composer_t.{composer_t}
+use Rattle.libyaml_composer.specs.declared.deed.Deed.{Deed}
 use Rattle.libyaml_composer.specs.declared.deed.Deed.TheVariants as deed
 use Rattle.libyaml_composer.specs.declared.records.open_t.{open_t}
 use Rattle.libyaml_composer.specs.declared.records.place_t.{place_t}
@@ -55,33 +56,24 @@ place_fits n i (o ∷ s) h = placed n i o s (is_set o.is_mapping) (is_id o.key) 
 handing_sound : (n i : ℤ) (c : Composer) → HaveNoKeys c.stack → IsSound (handing n i c)
 handing_sound n i c h = (place_fits n i c.stack h, handed_keys i c.stack h)
 
-full_list : (b : Bool) (p : place_t) (c : Composer) (t : Told) → HaveNoKeys c.stack → IsSound t
-    → IsSound (unless b deed.FullList p c t)
-full_list true p c t h g = (tt, h)
-full_list false p c t h g = g
-
-repeated : (b : Bool) (p : place_t) (c : Composer) (t : Told) → HaveNoKeys c.stack → IsSound t
-    → IsSound (unless b deed.RepeatedAnchor p c t)
-repeated true p c t h g = (tt, h)
-repeated false p c t h g = g
-
-full_stack : (b : Bool) (p : place_t) (c : Composer) (t : Told) → HaveNoKeys c.stack → IsSound t
-    → IsSound (unless b deed.FullStack p c t)
-full_stack true p c t h g = (tt, h)
-full_stack false p c t h g = g
+unless_sound : (b : Bool) (d : Deed) (p : place_t) (c : Composer) (t : Told) → UnusedAreZero d p → HaveNoKeys c.stack → IsSound t
+    → IsSound (unless b d p c t)
+unless_sound true d p c t z h g = (z, h)
+unless_sound false d p c t z h g = g
 
 if_sound : (f : ℤ) (p : place_t) (c : Composer) (t : Told) → HaveNoKeys c.stack → IsSound t → IsSound (if_placed f p c t)
-if_sound f p c t h g = full_list _ p c _ h (repeated (is_id f) p c _ h (full_list (is_list_full c.most c.stack) p c t h g))
+if_sound f p c t h g = unless_sound _ deed.FullList p c _ tt h
+    (unless_sound (is_id f) deed.RepeatedAnchor p c _ tt h (unless_sound (is_list_full c.most c.stack) deed.FullList p c t tt h g))
 
 alias_sound : (b : Bool) (i : ℤ) (p : place_t) (c : Composer) → HaveNoKeys c.stack → IsSound (at_anchored_node b i p c)
 alias_sound false i p c h = (tt, h)
-alias_sound true i p c h = full_list (is_list_full c.most c.stack) p c _ h (handing_sound (pos 0) i c h)
+alias_sound true i p c h = unless_sound (is_list_full c.most c.stack) deed.FullList p c _ tt h (handing_sound (pos 0) i c h)
 
 adding_sound : (c : Composer) → HaveNoKeys c.stack → IsSound (adding c)
 adding_sound c h = handing_sound (new_id c) (new_id c) (record c { nodes = suc c.nodes }) h
 
 start_sound : (m : ℕ) (f : ℤ) (p : place_t) (c : Composer) → HaveNoKeys c.stack → IsSound (at_start m f p c)
-start_sound m f p c h = if_sound f p c _ h (full_stack _ p c (with_open_node m (new_id c) (adding c)) h
+start_sound m f p c h = if_sound f p c _ h (unless_sound _ deed.FullStack p c (with_open_node m (new_id c) (adding c)) tt h
     (let s = adding_sound c h in (s.0, ((λ e. refl), s.1))))
 
 ended_sound : (s : List open_t) (p : place_t) (c : Composer) → HaveNoKeys c.stack → HaveNoKeys s → IsSound (collection_ended s p c)

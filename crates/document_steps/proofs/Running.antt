@@ -1,7 +1,5 @@
 -- A run of calls leads where the loader's machine does.
-use Rattle.std.proofs.Common.{◌≡◌, ◌++◌, ◌∷◌, List, [], ℕ, refl, sym, ap, subst, ◌∙◌, Option, Some, None, Bool, true, false, Err, true≢false, append-nil}
-use Rattle.std.specs.Cmp.Lexicographic.{nat_list_cmp_total}
-use Rattle.std.specs.FinMap.{get, get-from_entries}
+use Rattle.std.proofs.Common.{◌≡◌, ◌++◌, ◌∷◌, List, [], ℕ, refl, sym, ap, subst, ◌∙◌, Option, Some, None, Bool, true, false, Err, true≢false, append-nil, length}
 use Rattle.libyaml_types.specs.Types.{event_type}
 use Rattle.libyaml_types.specs.declared.event.unnamed_yaml_event_t_data.TheVariants as ev
 use Rattle.libyaml_types.specs.declared.event.unnamed_yaml_event_t_data.{unnamed_yaml_event_t_data}
@@ -11,7 +9,6 @@ use Rattle.libyaml_documents.specs.Documents.{Document}
 use Rattle.libyaml_graphs.specs.graphs.GraphParts.{Closing, Opening, closing_in, closing_of, opening_in, opening_of, part_of}
 use Rattle.libyaml_graphs.specs.loads.Bounds.{bounded_loads}
 use Rattle.libyaml_graphs.specs.loads.Loads.{Load, document, last_load}
-use Rattle.libyaml_graphs.specs.machine.Loader as loader
 use Rattle.libyaml_graphs.specs.machine.Loader.{State, between, bounded_option, no_anchors, within}
 use Rattle.libyaml_composer.specs.declared.composer.composer_t.{composer_t}
 use Rattle.libyaml_composer.specs.declared.deed.Deed.{Deed}
@@ -19,11 +16,12 @@ use Rattle.libyaml_composer.specs.declared.deed.Deed.TheVariants as deed
 use Rattle.libyaml_composer.specs.declared.records.open_t.{open_t}
 use Rattle.libyaml_composer.specs.declared.records.place_t.{place_t}
 use Rattle.libyaml_composer.specs.Composing.{Composer, Told, between_step, composer_of, composer_step, step_in, told, within_step}
-use Rattle.libyaml_composer.specs.DocumentSoFar.{DocumentSoFar, applied, applied_part, event_fact, deed_fault, given, loader_by, nothing_held, state_in, loader_state, IsRefused}
+use Rattle.libyaml_composer.specs.DocumentSoFar.{DocumentSoFar, applied, event_fact, deed_fault, given, loader_by, nothing_held, state_in, loader_state, IsRefused}
 use Rattle.libyaml_graphs.specs.loads.Leads.{Leads, as_loads, loads_from}
 use Rattle.document_steps.specs.Runs.{ComposeCalls, IsTaken, ComposerRun, begins, moves, takes}
-use Rattle.libyaml_composer.specs.Represents.{IsCarried, IsPart, Represents}
-use Rattle.libyaml_composer.proofs.exported.Follows.{Follows, fails, follows, full, goes}
+use Rattle.libyaml_composer.specs.Represents.{IsPart, Represents}
+use Rattle.libyaml_composer.proofs.exported.Deeds.{none_carried, part_applied, represents_roomy}
+use Rattle.libyaml_composer.proofs.exported.Follows.{Goes, fails_so, goes_on}
 use Rattle.libyaml_graphs.proofs.exported.Leading.{closes_there, from_none, goes_there, leads_both, leads_none, opens_there, passes_by, refused_there}
 
 -- where a caller stands after these events
@@ -39,16 +37,6 @@ pub record Steps (c : Composer) (h : DocumentSoFar) (e : Event) (t : Told) : Typ
   pub standing : t.composer.is_within ≡ true → (o : Opening) × Represents t.composer (applied t.deed t.place e h) o
 
 -- the deeds of parts
-part_applied : (d : Deed) → IsPart d → (p : place_t) (e : Event) (h : DocumentSoFar)
-    → applied_part d p (part_of e) e.end_mark h ≡ applied d p e h
-part_applied deed.Passes k p e h = refl
-part_applied deed.Root k p e h = refl
-part_applied deed.Item k p e h = refl
-part_applied deed.Key k p e h = refl
-part_applied deed.Value k p e h = refl
-part_applied deed.Closes k p e h = refl
-part_applied _ k p e h = absurd k
-
 part_gives : (d : Deed) → IsPart d → (e : Event) (h : DocumentSoFar) → [] ≡ given d e h
 part_gives deed.Passes k e h = refl
 part_gives deed.Root k e h = refl
@@ -67,15 +55,6 @@ not_both _ t r = r
 not_full : (d : Deed) → IsTaken d → d ≡ deed.FullStack → ⊥
 not_full d t e = subst IsTaken e t
 
-refused_full : (d : Deed) → IsRefused d → d ≡ deed.FullStack → ⊥
-refused_full d t e = subst IsRefused e t
-
-no_part : (d : Deed) → IsRefused d → IsPart d → ⊥
-no_part deed.UndefinedAlias r k = k
-no_part deed.RepeatedAnchor r k = k
-no_part deed.FullList r k = k
-no_part _ r k = r
-
 -- between documents
 module _ (c : Composer) (h : DocumentSoFar) (e : Event) (p : place_t) (out : c.is_within ≡ false) where
   state_out : between ≡ loader_state c h
@@ -87,9 +66,6 @@ module _ (c : Composer) (h : DocumentSoFar) (e : Event) (p : place_t) (out : c.i
     leads = subst (λ (s : State). Leads c.most s (e ∷ []) [] s) state_out (passes_by c.most e none);
     standing = λ w. absurd (true≢false (sym w ∙ out));
   }
-
-  none_carried : (a : List ℕ) → IsCarried 0 (get (no_anchors) a)
-  none_carried a = subst (IsCarried 0) (sym (get-from_entries nat_list_cmp_total [] a)) tt
 
   opens : (o : Opening) → opening_of e ≡ Some o
       → Steps c h e (told deed.Begins p (record c { is_within = true; nodes = 0; stack = [] }))
@@ -114,6 +90,9 @@ module _ (c : Composer) (h : DocumentSoFar) (e : Event) (p : place_t) (out : c.i
 -- within one
 module _ (c : Composer) (h : DocumentSoFar) (e : Event) (p : place_t) (inside : c.is_within ≡ true) (o : Opening)
     (stands : Represents c h o) where
+  abbrev step : Told
+  step = within_step (event_type e.content) (event_fact h e) p c
+
   state_inside : within o (loader_by c h) ≡ loader_state c h
   state_inside = ap (λ (x : Option Opening). state_in true x (loader_by c h)) (sym stands.opening)
       ∙ ap (λ (b : Bool). state_in b h.opening (loader_by c h)) (sym inside)
@@ -128,32 +107,29 @@ module _ (c : Composer) (h : DocumentSoFar) (e : Event) (p : place_t) (inside : 
       gives : document o h.nodes k ∷ [] ≡ given deed.Ends e h
       gives = rw (stands.opening, is) refl
 
-  parts : closing_of e ≡ None → IsTaken (within_step (event_type e.content) (event_fact h e) p c).deed
-      → Steps c h e (within_step (event_type e.content) (event_fact h e) p c)
-  parts without taken = go (within_step (event_type e.content) (event_fact h e) p c) taken (follows c h o p stands e without)
+  told_inside : step ≡ composer_step (event_type e.content) (event_fact h e) p c
+  told_inside = ap (λ (b : Bool). step_in b (event_type e.content) (event_fact h e) p c) (sym inside)
+
+  parts : closing_of e ≡ None → IsTaken step.deed → Steps c h e step
+  parts without taken = go step (goes_on c h o stands e without p c.room step told_inside (not_both step.deed taken) (not_full step.deed taken))
     where
-      go : (t : Told) → IsTaken t.deed
-          → Follows c.most o h c.stack (part_of e) e.start_mark e.end_mark (bounded_option c.most (loader_by c h) (part_of e)) t
+      go : (t : Told) → Goes c.most o h c.stack (part_of e) e.end_mark (bounded_option c.most (loader_by c h) (part_of e)) t
           → Steps c h e t
-      go t taken (goes part going there bound puts) =
-          let same = part_applied t.deed part t.place e h in
-          let there : Represents t.composer (applied t.deed t.place e h) o
-          = rw same at there in
+      go t g =
+          let same = part_applied t.deed g.part t.place e h in
+          let there : Represents t.composer (applied t.deed t.place e h) o = rw same at g.stands in
           record {
-            bound = bound;
-            leads = rw (part_gives t.deed part e h) at (rw state_inside at
+            bound = g.bound;
+            leads = rw (part_gives t.deed g.part e h) at (rw state_inside at
                 (rw (ap (λ (x : Option Opening). state_in true x (loader_by t.composer (applied t.deed t.place e h)))
                 (sym there.opening) ∙ ap (λ (b : Bool). state_in b (applied t.deed t.place e h).opening (loader_by
                 t.composer (applied t.deed t.place e h))) (sym there.is_within)) at
                 (goes_there c.most o (loader_by c h) (loader_by t.composer (applied t.deed t.place e h)) e without
-                (rw same at going))));
+                (rw same at g.leads))));
             standing = λ w. (o, there);
           }
-      go t taken (fails refused failed) = absurd (not_both t.deed taken refused)
-      go t taken (full is) = absurd (not_full t.deed taken is)
 
-  steps_within : IsTaken (within_step (event_type e.content) (event_fact h e) p c).deed
-      → Steps c h e (within_step (event_type e.content) (event_fact h e) p c)
+  steps_within : IsTaken step.deed → Steps c h e step
   steps_within taken = by (closing_of e) refl
     where
       ends : (k : unnamed_yaml_event_t_data) (x : Closing) → closing_in k e.end_mark ≡ Some x
@@ -161,13 +137,12 @@ module _ (c : Composer) (h : DocumentSoFar) (e : Event) (p : place_t) (inside : 
       ends (ev.DocumentEnd d) x is = refl
       ends _ x is = absurd cc
 
-      by : (x : Option Closing) → closing_of e ≡ x → Steps c h e (within_step (event_type e.content) (event_fact h e) p c)
+      by : (x : Option Closing) → closing_of e ≡ x → Steps c h e step
       by None is = parts is taken
       by (Some k) is = subst (Steps c h e) (ends e.content k is) (closes k is)
 
-  refused : IsRefused (within_step (event_type e.content) (event_fact h e) p c).deed
-      → (rest : List Event) (x : Ending) → loads_from c.most (loader_state c h) (e ∷ rest) x
-      ≡ Err (deed_fault (within_step (event_type e.content) (event_fact h e) p c).deed h e) ∷ []
+  refused : IsRefused step.deed → (rest : List Event) (x : Ending) → loads_from c.most (loader_state c h) (e ∷ rest) x
+      ≡ Err (deed_fault step.deed h e) ∷ []
   refused is rest x = by (closing_of e) refl
     where
       not_end : (k : unnamed_yaml_event_t_data) (y : Closing) → closing_in k e.end_mark ≡ Some y
@@ -175,17 +150,10 @@ module _ (c : Composer) (h : DocumentSoFar) (e : Event) (p : place_t) (inside : 
       not_end (ev.DocumentEnd d) y is r = r
       not_end _ y is r = absurd cc
 
-      go : closing_of e ≡ None → (t : Told) → IsRefused t.deed
-          → Follows c.most o h c.stack (part_of e) e.start_mark e.end_mark (bounded_option c.most (loader_by c h) (part_of e)) t
-          → loads_from c.most (loader_state c h) (e ∷ rest) x ≡ Err (deed_fault t.deed h e) ∷ []
-      go without t r (goes part going there bound puts) = absurd (no_part t.deed r part)
-      go without t r (fails refused failed) = subst (λ (s : State). loads_from c.most s (e ∷ rest) x ≡ Err (deed_fault t.deed h e) ∷ [])
-          state_inside (refused_there c.most o (loader_by c h) e (deed_fault t.deed h e) without failed rest x)
-      go without t r (full y) = absurd (refused_full t.deed r y)
-
       by : (y : Option Closing) → closing_of e ≡ y → loads_from c.most (loader_state c h) (e ∷ rest) x
-          ≡ Err (deed_fault (within_step (event_type e.content) (event_fact h e) p c).deed h e) ∷ []
-      by None y = go y (within_step (event_type e.content) (event_fact h e) p c) is (follows c h o p stands e y)
+          ≡ Err (deed_fault step.deed h e) ∷ []
+      by None y = subst (λ (s : State). loads_from c.most s (e ∷ rest) x ≡ Err (deed_fault step.deed h e) ∷ []) state_inside
+          (refused_there c.most o (loader_by c h) e (deed_fault step.deed h e) y (fails_so c h o stands e y p c.room step told_inside is) rest x)
       by (Some k) y = absurd (not_end e.content k y is)
 
 -- a call
@@ -239,17 +207,7 @@ stood {most} d' ss' h es ds (moves d _ ss _ _ _ _ run is) =
     subst (λ (c : Composer). Stood most c h es ds) (sym is) (record {
       bound = s.bound;
       leads = s.leads;
-      standing = λ w.
-          let (o, there) = s.standing w in (
-            o,
-            record {
-              is_within = there.is_within;
-              opening = there.opening;
-              nodes = there.nodes;
-              opens = there.opens;
-              carried = there.carried;
-            },
-          );
+      standing = λ w. let (o, there) = s.standing w in (o, represents_roomy (composer_of d ss) h o (length ss') there);
     })
 stood {most} _ _ _ _ _ (takes d d' ss ss' h es ds a e p p' run calls taken) =
     stands_on most (composer_of d ss) h es ds (stood d ss h es ds run) e p (told a p' (composer_of d' ss')) calls taken

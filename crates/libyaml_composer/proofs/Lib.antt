@@ -1,4 +1,3 @@
-pub mod Opens
 pub mod Children
 mod Handing
 pub mod Tops

@@ -1,4 +1,6 @@
 -- The theorems that crates above may name, and no others of these proofs.
+pub mod Deeds
 pub mod Follows
-pub mod Full
+pub mod Opens
+pub mod Reasons
 pub mod Stacks

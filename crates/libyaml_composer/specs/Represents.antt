@@ -1,5 +1,5 @@
 -- What the record says of the nodes and anchors that a caller holds, and what it may rely on where it puts a child.
-use Rattle.std.specs.Prelude.{◌≡◌, ◌<◌, ◌≤◌, ◌≤ℤ◌, ◌∷◌, ℕ, suc, ℤ, pos, List, [], length, Option, None, Some, Bool, true, false, slice_get}
+use Rattle.std.specs.Prelude.{◌≡◌, ◌<◌, ◌≤◌, ◌∷◌, ℕ, suc, ℤ, pos, List, [], length, map, Option, None, Some, Bool, true, false, slice_get}
 use Rattle.std.specs.FinMap.{get}
 use Rattle.libyaml_types.specs.declared.enums.yaml_node_type_t.TheVariants.{YAML_SEQUENCE_NODE, YAML_MAPPING_NODE}
 use Rattle.libyaml_documents.specs.Nodes.{IsIdUpTo, type_at}
@@ -14,7 +14,7 @@ use Rattle.libyaml_composer.specs.declared.deed.Deed.TheVariants as deed
 use Rattle.libyaml_composer.specs.declared.records.open_t.{open_t}
 use Rattle.libyaml_composer.specs.declared.records.place_t.{place_t}
 use Rattle.libyaml_composer.specs.Composing.{Composer}
-use Rattle.libyaml_composer.specs.DocumentSoFar.{DocumentSoFar}
+use Rattle.libyaml_composer.specs.DocumentSoFar.{DocumentSoFar, open_of, with_made_node}
 use Rattle.libyaml_composer.specs.Numbers.{is_set, is_id}
 
 -- An open collection is a node of its kind with so many children; a mapping in which a key waits has begun one pair more
@@ -109,3 +109,14 @@ TakesOneMore deed.Item (o ∷ s) nodes = type_at nodes o.node ≡ YAML_SEQUENCE_
 TakesOneMore deed.Value [] nodes = ⊥
 TakesOneMore deed.Value (o ∷ s) nodes = (type_at nodes o.node ≡ YAML_MAPPING_NODE) × ((k : ℤ) × (o.key ≡ Some k))
 TakesOneMore _ s nodes = Unit {0}
+
+-- what a caller may rely on where it does this: the node comes first
+pub record DeedFits (d : Deed) (p : place_t) (q : Option Part) (h : DocumentSoFar) (s : List open_t) : Type 0 where
+  pub fits : FitsParent d p (length (with_made_node (is_id p.node) p.node q h).nodes) (with_made_node (is_id p.node) p.node q h).nodes
+  pub takes : TakesOneMore d (map open_of s) (with_made_node (is_id p.node) p.node q h).nodes
+  pub node : PutsNode d → is_id p.node ≡ true → p.node ≡ pos (suc (length h.nodes))
+  pub child : PutsNode d → IsChild q
+  pub made : PutsNode d → is_id p.node ≡ true → IsNode q
+  pub closed : IsClosed d → IsIdUpTo (length h.nodes) p.parent
+  pub put : IsChild q → PutsNode d
+  pub numbered : IsNode q → p.node ≡ pos (suc (length h.nodes))

@@ -13,7 +13,6 @@ use Rattle.libyaml_documents.specs.declared.node.unnamed_yaml_node_t_data.TheVar
 use Rattle.libyaml_documents.specs.declared.node.yaml_node_t.{yaml_node_t}
 use Rattle.libyaml_documents.specs.declared.pairs.yaml_node_pair_t.{yaml_node_pair_t}
 use Rattle.libyaml_documents.specs.Documents.{Document}
-use Rattle.libyaml_documents.specs.Nodes.{node_at}
 
 -- whether a loaded node takes its kind's tag: where none is given, or `!`
 abbrev pub takes_default : Option (List ℕ) → Bool
@@ -61,13 +60,6 @@ abbrev pub children_of : unnamed_yaml_node_t_data → ℕ
 children_of (Scalar s) = 0
 children_of (Sequence s) = length s.items
 children_of (Mapping m) = length m.pairs
-
-abbrev pub children_of_node : Option yaml_node_t → ℕ
-children_of_node None = 0
-children_of_node (Some node) = children_of node.content
-
-abbrev pub children_at : List yaml_node_t → ℤ → ℕ
-children_at nodes id = children_of_node (node_at nodes id)
 
 -- the document that a start event begins: no nodes yet, and nothing known of its end
 abbrev pub begun_document : unnamed_yaml_event_t_data_document_start → yaml_mark_t → Document

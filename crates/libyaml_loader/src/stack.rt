@@ -87,7 +87,7 @@ impl OpenCollections {
     ///
     /// An allocation failed, at the start of a collection.
     #[inline(always)]
-    #[tactic(auto, using(libyaml_composer::proofs::exported::Full::full_starts))]
+    #[tactic(auto, using(libyaml_composer::proofs::exported::Reasons::full_starts))]
     pub(crate) fn take(
         &mut self,
         kind: yaml_event_type_t,
@@ -110,7 +110,7 @@ impl OpenCollections {
     /// # Errors
     ///
     /// An allocation failed, at the start of a collection.
-    #[tactic(auto, using(libyaml_composer::proofs::exported::Full::full_starts))]
+    #[tactic(auto, using(libyaml_composer::proofs::exported::Reasons::full_starts))]
     pub(crate) fn take_any(
         &mut self,
         kind: yaml_event_type_t,

@@ -1,5 +1,5 @@
 -- The stack that so many entries are.
-use Rattle.std.proofs.Common.{◌≡◌, ◌≤◌, ◌++◌, ◌∷◌, ℕ, List, [], suc, length, reverse, false, nat_le, arith, ap}
+use Rattle.std.proofs.Common.{◌≡◌, ◌≤◌, ◌++◌, ℕ, List, suc, length, reverse, false, nat_le, arith, ap}
 use Rattle.std.proofs.lemmas.List.{take-append-le}
 use Rattle.libyaml_composer.specs.declared.records.open_t.{open_t}
 use Rattle.libyaml_composer.specs.Composing.{stack_of}

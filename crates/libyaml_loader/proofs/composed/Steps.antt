@@ -1,7 +1,6 @@
 -- What composes events goes where the loader goes.
 use Rattle.std.proofs.Common.{map, ◌≡◌, ℕ, suc, zero, ℤ, pos, negsuc, List, [], length, Option, Some, None, Bool, true, false, refl, sym, ap, subst, ◌∙◌}
-use Rattle.std.specs.Cmp.Lexicographic.{nat_list_cmp_total}
-use Rattle.std.specs.FinMap.{get, get-from_entries}
+use Rattle.std.specs.FinMap.{get}
 use Rattle.libyaml_types.specs.Types.{event_type}
 use Rattle.libyaml_types.specs.declared.event.unnamed_yaml_event_t_data.TheVariants as ev
 use Rattle.libyaml_types.specs.declared.event.unnamed_yaml_event_t_data.{unnamed_yaml_event_t_data}
@@ -12,7 +11,7 @@ use Rattle.libyaml_grammar.specs.grammar.Tokens.{Mark}
 use Rattle.libyaml_graphs.specs.graphs.ComposerFaults.{repeated_anchor}
 use Rattle.libyaml_graphs.specs.graphs.Graphs.{id_or}
 use Rattle.libyaml_graphs.specs.graphs.GraphParts.{Closing, Opening, Part, alias_part, closing_in, closing_of, end_part, leaf_part, opening_in, opening_of, part_of, start_part}
-use Rattle.libyaml_graphs.specs.machine.Loader.{Anchors, Loader, State, between, bounded_option, failed, fresh, no_anchors, within}
+use Rattle.libyaml_graphs.specs.machine.Loader.{Anchors, Loader, State, between, failed, fresh, no_anchors, within}
 use Rattle.libyaml_graphs.proofs.exported.Leading.{closes_there, goes_there, opens_there, passes_by, refused_there}
 use Rattle.libyaml_composer.specs.declared.deed.Deed.{Deed}
 use Rattle.libyaml_composer.specs.declared.deed.Deed.TheVariants as deed
@@ -22,8 +21,9 @@ use Rattle.libyaml_composer.specs.Composing.{Composer, Told, between_step, compo
 use Rattle.libyaml_composer.specs.DocumentSoFar as so_far
 use Rattle.libyaml_composer.specs.DocumentSoFar.{DocumentSoFar, IsRefused, anchor_in, anchored_node_named, applied_part, event_fact, fault_part, loader_by, open_of, with_made_node}
 use Rattle.libyaml_composer.specs.Numbers.{is_id}
-use Rattle.libyaml_composer.specs.Represents.{IsCarried, IsChild, IsPart, Opens, Represents}
-use Rattle.libyaml_composer.proofs.exported.Follows.{Follows, Puts, fails, follows, full, goes}
+use Rattle.libyaml_composer.specs.Represents.{IsCarried, IsChild, IsPart, Opens, DeedFits, Represents}
+use Rattle.libyaml_composer.proofs.exported.Deeds.{none_carried}
+use Rattle.libyaml_composer.proofs.exported.Follows as follow
 use Rattle.libyaml_loader.specs.composed.Anchoring.{anchors_after, event_first_mark, event_node, registered_at}
 use Rattle.libyaml_loader.specs.composed.EventComposer.{EventComposer, IsComposed, EventRefused, StandsAt, by_loads, is_between, is_within}
 use Rattle.libyaml_loader.specs.document.Context.{refusal_of}
@@ -51,7 +51,7 @@ none_registered (pos (suc k)) (Some (leaf_part a x)) xs never = absurd (never tt
 none_registered (pos (suc k)) (Some (start_part a x)) xs never = absurd (never tt)
 
 module _ (p : place_t) (q : Option Part) (m : Mark) (h : DocumentSoFar) (s : List open_t) where
-  applied_anchors : (d : Deed) → IsPart d → Puts d p q h s → (applied_part d p q m h).anchors ≡ anchors_after d p.node q h.anchors
+  applied_anchors : (d : Deed) → IsPart d → DeedFits d p q h s → (applied_part d p q m h).anchors ≡ anchors_after d p.node q h.anchors
   applied_anchors deed.Root part puts = made_anchors p.node q h (length h.nodes) (puts.node tt)
   applied_anchors deed.Item part puts = made_anchors p.node q h (length h.nodes) (puts.node tt)
   applied_anchors deed.Key part puts = made_anchors p.node q h (length h.nodes) (puts.node tt)
@@ -65,12 +65,6 @@ pub registered_after : (d : Deed) (i : ℤ) (q : Option Part) (xs : Anchors) →
     → registered_at i q xs ≡ anchors_after d i q xs
 registered_after deed.Begins i q xs never = absurd (never refl)
 registered_after _ i q xs never = refl
-
-part_or : (d : Deed) → IsRefused d → IsPart d → ⊥
-part_or deed.UndefinedAlias r k = k
-part_or deed.RepeatedAnchor r k = k
-part_or deed.FullList r k = k
-part_or _ r k = r
 
 -- the kinds of the events that begin and end a document, and what other events do between documents
 closed_kind : (k : unnamed_yaml_event_t_data) (m : Mark) (y : Closing) → closing_in k m ≡ Some y
@@ -132,8 +126,7 @@ module _ (c : EventComposer) (e : Event) (room : ℕ) (before p : place_t) (d : 
             opening = refl;
             nodes = ap (λ (k : Composer). k.nodes) collections;
             opens = subst (λ (s : List open_t). Opens 0 [] 0 s) (sym (ap (λ (k : Composer). k.stack) collections)) tt;
-            carried = λ (a : List ℕ). subst (IsCarried 0)
-                (sym (ap (λ (x : Anchors). get x a) empty ∙ get-from_entries nat_list_cmp_total [] a)) tt;
+            carried = λ (a : List ℕ). subst (λ (x : Anchors). IsCarried 0 (get x a)) (sym empty) (none_carried a);
           }) refl (sym (ap (λ (l : Loader). within o l)
               (ap (λ (s : List open_t). record { nodes = []; stack = map open_of s; anchors = xs })
               (ap (λ (k : Composer). k.stack) collections)
@@ -174,42 +167,24 @@ module _ (c : EventComposer) (e : Event) (room : ℕ) (before p : place_t) (d : 
 
     -- any other event
     module _ (without : closing_of e ≡ None) where
-      abbrev AsTold : Told → Type 0
-      AsTold t = Follows c.collections.most o h c.collections.stack (part_of e) e.start_mark e.end_mark
-          (bounded_option c.collections.most (loader_by c.collections h) (part_of e)) t
-
-      fact_is : fact ≡ event_fact h e
-      fact_is = named
+      told_so : told d p new ≡ composer_step (event_type e.content) (event_fact h e) before (roomy room c.collections)
+      told_so = tells ∙ ap (λ (i : ℤ). composer_step (event_type e.content) i before (roomy room c.collections)) (named
           ∙ (ap (λ (a : Option (List ℕ)). pos (id_or (anchored_node_named c.anchors a)))
           (sym (anchor_at e.content e.start_mark e.end_mark))
-          ∙ ap (λ (x : Anchors). pos (id_or (anchored_node_named x (anchor_in (part_of e))))) (sym same))
-
-      as_told : AsTold (told d p new)
-      as_told = subst AsTold (sym (tells_in true stands.is_within
-          ∙ ap (λ (i : ℤ). within_step (event_type e.content) i before (roomy room c.collections)) fact_is))
-          (follows (roomy room c.collections) h o before (record {
-            is_within = stands.is_within;
-            opening = stands.opening;
-            nodes = stands.nodes;
-            opens = stands.opens;
-            carried = stands.carried;
-          }) e without)
+          ∙ ap (λ (x : Anchors). pos (id_or (anchored_node_named x (anchor_in (part_of e))))) (sym same)))
 
       goes_within : (IsRefused d → ⊥) → (d ≡ deed.FullStack → ⊥) → Goes here
-      goes_within sound room_left = go as_told
-        where
-          go : AsTold (told d p new) → Goes here
-          go (goes part leads there bound puts) = record {
+      goes_within sound room_left =
+          let g = follow.goes_on c.collections h o stands e without before room (told d p new) told_so sound room_left in
+          record {
             documents = [];
             there = within o (loader_by new (applied_part d p (part_of e) e.end_mark h));
-            leads = goes_there c.collections.most o (loader_by c.collections h) _ e without leads;
-            stands = is_within o (applied_part d p (part_of e) e.end_mark h) there
-                (applied_anchors p (part_of e) e.end_mark h c.collections.stack d part puts
+            leads = goes_there c.collections.most o (loader_by c.collections h) _ e without g.leads;
+            stands = is_within o (applied_part d p (part_of e) e.end_mark h) g.stands
+                (applied_anchors p (part_of e) e.end_mark h c.collections.stack d g.part g.puts
                 ∙ (ap (anchors_after d p.node (part_of e)) same ∙ sym anchors)) refl;
-            bound = bound;
+            bound = g.bound;
           }
-          go (fails refused fault) = absurd (sound refused)
-          go (full f) = absurd (room_left f)
 
       marks : (d : Deed) → IsRefused d → fault_part d h (part_of e) e.start_mark
           ≡ fault_by (refusal_of d) (event_first_mark c.anchors e) e.start_mark
@@ -222,13 +197,8 @@ module _ (c : EventComposer) (e : Event) (room : ℕ) (before p : place_t) (d : 
       marks _ r = absurd r
 
       fails_within : IsRefused d → Fails here
-      fails_within r = go as_told
-        where
-          go : AsTold (told d p new) → Fails here
-          go (goes part leads there bound puts) = absurd (part_or d r part)
-          go (fails refused fault) = by_loads (refused_there c.collections.most o (loader_by c.collections h) e _ without
-              (fault ∙ ap failed (marks d r)))
-          go (full f) = absurd (subst IsRefused f r)
+      fails_within r = by_loads (refused_there c.collections.most o (loader_by c.collections h) e _ without
+          (follow.fails_so c.collections h o stands e without before room (told d p new) told_so r ∙ ap failed (marks d r)))
 
   pub goes_on : (IsRefused d → ⊥) → (d ≡ deed.FullStack → ⊥) → (here : State) → StandsAt c here → Goes here
   goes_on sound room_left s (is_between none at) = subst Goes (sym at) (goes_between none)

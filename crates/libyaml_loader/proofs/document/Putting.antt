@@ -8,12 +8,12 @@ use Rattle.libyaml_documents.specs.declared.node.yaml_node_t.{yaml_node_t}
 use Rattle.libyaml_graphs.specs.graphs.GraphParts.{Part, alias_part, closing_in, end_part, leaf_part, start_part}
 use Rattle.libyaml_graphs.specs.machine.Loader.{going}
 use Rattle.libyaml_composer.specs.declared.deed.Deed.{Deed}
-use Rattle.libyaml_composer.specs.declared.deed.Deed.TheVariants as deed
 use Rattle.libyaml_composer.specs.declared.records.place_t.{place_t}
 use Rattle.libyaml_composer.specs.DocumentSoFar as so_far
-use Rattle.libyaml_composer.specs.DocumentSoFar.{DocumentSoFar, anchored_by, applied_part, nodes_made, natural, placed, with_child_placed, with_made_node}
+use Rattle.libyaml_composer.specs.DocumentSoFar.{DocumentSoFar, anchored_by, applied_part, nodes_made, natural, placed, with_made_node}
 use Rattle.libyaml_composer.specs.Numbers.{is_id}
-use Rattle.libyaml_composer.specs.Represents.{FitsParent, IsChild, IsNode, PutsNode, Represents}
+use Rattle.libyaml_composer.specs.Represents.{FitsParent, IsChild, IsNode, Represents}
+use Rattle.libyaml_composer.proofs.exported.Deeds.{child_applied}
 use Rattle.libyaml_loader.specs.declared.context.loader_ctx.{loader_ctx}
 use Rattle.libyaml_loader.specs.document.Context.{Composed, Decided, ComposerMatches, IsEvent, held_of, opening_of_document, with_nodes}
 
@@ -30,14 +30,6 @@ if_err (Err x) P Q f h = f x h
 pub is_event : (k : unnamed_yaml_event_t_data) (m n : yaml_mark_t) {a : Option (List ℕ)} → event_anchor k ≡ a
     → closing_in k n ≡ None → IsEvent (event_type k) a m (event k m n)
 is_event k m n named without = record { kind_is = refl; anchor_is = named; mark_is = refl; not_end = without }
-
-child_applied : (d : Deed) → PutsNode d → (p : place_t) (q : Option Part) (m : yaml_mark_t) (h : DocumentSoFar)
-    → with_child_placed d p q h ≡ applied_part d p q m h
-child_applied deed.Root k p q m h = refl
-child_applied deed.Item k p q m h = refl
-child_applied deed.Key k p q m h = refl
-child_applied deed.Value k p q m h = refl
-child_applied _ k p q m h = absurd k
 
 node_child : (q : Option Part) → IsNode q → IsChild q
 node_child None h = absurd h
@@ -67,11 +59,11 @@ module _ (old mid : loader_ctx) (q : Option Part) (end : yaml_mark_t) (d : Deed)
       )
 
   with_it : IsNode q → with_made_node true p.node q (held_of old) ≡ with_made_node (is_id p.node) p.node q (held_of old)
-  with_it n = ap (λ (b : Bool). with_made_node b p.node q (held_of old)) (sym (ap is_id (at.numbered n)))
+  with_it n = ap (λ (b : Bool). with_made_node b p.node q (held_of old)) (sym (ap is_id (at.puts.numbered n)))
 
   pub node_fits : IsNode q → FitsParent d p (length (mid.document.nodes ++ nodes_made q)) (mid.document.nodes ++ nodes_made q)
   node_fits n = subst (λ (x : loader_ctx). FitsParent d p (length (x.document.nodes ++ nodes_made q)) (x.document.nodes ++ nodes_made q))
-      (sym at.context) (subst (λ (h : DocumentSoFar). FitsParent d p (length h.nodes) h.nodes) (sym (with_it n)) at.fits)
+      (sym at.context) (subst (λ (h : DocumentSoFar). FitsParent d p (length h.nodes) h.nodes) (sym (with_it n)) at.puts.fits)
 
   pub node_done : IsNode q → (new : loader_ctx)
       → new ≡ record mid { document = with_nodes (placed d p (mid.document.nodes ++ nodes_made q)) mid.document }
@@ -81,8 +73,8 @@ module _ (old mid : loader_ctx) (q : Option Part) (end : yaml_mark_t) (d : Deed)
         opening = Some (opening_of_document old.document);
         nodes = placed d p (old.document.nodes ++ nodes_made q);
         anchors = anchored_by i q old.anchors;
-      }) (sym (ap natural (at.numbered n)))
-      ∙ (ap (λ (h : DocumentSoFar). so_far.held_with_nodes (placed d p h.nodes) h) (with_it n) ∙ child_applied d (at.put (node_child q n)) p q end (held_of old)))
+      }) (sym (ap natural (at.puts.numbered n)))
+      ∙ (ap (λ (h : DocumentSoFar). so_far.held_with_nodes (placed d p h.nodes) h) (with_it n) ∙ child_applied d (at.puts.put (node_child q n)) p q end (held_of old)))
       new
       (is ∙ ap (λ (x : loader_ctx). record mid {
         document = with_nodes (placed d p (x.document.nodes ++ nodes_made q)) mid.document;
@@ -108,12 +100,12 @@ module _ (old mid : loader_ctx) (a : List ℕ) (m end : yaml_mark_t) (d : Deed) 
     (at : Decided old mid (Some (alias_part a m)) end d p) where
   pub alias_fits : FitsParent d p (length mid.document.nodes) mid.document.nodes
   alias_fits = subst (λ (x : loader_ctx). FitsParent d p (length x.document.nodes) x.document.nodes) (sym at.context)
-      (subst (λ (h : DocumentSoFar). FitsParent d p (length h.nodes) h.nodes) (alias_held (is_id p.node) p.node a m (held_of old)) at.fits)
+      (subst (λ (h : DocumentSoFar). FitsParent d p (length h.nodes) h.nodes) (alias_held (is_id p.node) p.node a m (held_of old)) at.puts.fits)
 
   pub alias_done : (new : loader_ctx) → new ≡ record mid { document = with_nodes (placed d p mid.document.nodes) mid.document }
       → Composed old new (Some (alias_part a m)) × ComposerMatches new
   alias_done new is = done old mid (Some (alias_part a m)) end d p at (placed d p old.document.nodes)
       (ap (λ (h : DocumentSoFar). so_far.held_with_nodes (placed d p h.nodes) h) (sym (alias_held (is_id p.node) p.node a m (held_of old)))
-      ∙ child_applied d (at.put tt) p (Some (alias_part a m)) end (held_of old))
+      ∙ child_applied d (at.puts.put tt) p (Some (alias_part a m)) end (held_of old))
       new
       (is ∙ ap (λ (x : loader_ctx). record mid { document = with_nodes (placed d p x.document.nodes) mid.document }) at.context)

@@ -7,7 +7,6 @@ use Rattle.libyaml_types.specs.declared.enums.yaml_event_type_t.{yaml_event_type
 use Rattle.libyaml_grammar.specs.grammar.Events.{Event}
 use Rattle.libyaml_documents.specs.declared.node.yaml_node_t.{yaml_node_t}
 use Rattle.libyaml_documents.specs.Documents.{Document}
-use Rattle.libyaml_documents.specs.Nodes.{IsIdUpTo}
 use Rattle.libyaml_graphs.specs.machine.Loader.{Loader, Loading, bounded_option, failed, going}
 use Rattle.libyaml_graphs.specs.graphs.Graphs.{id_or}
 use Rattle.libyaml_graphs.specs.graphs.GraphParts.{Opening, Part, closing_of}
@@ -15,8 +14,8 @@ use Rattle.libyaml_composer.specs.declared.deed.Deed.{Deed}
 use Rattle.libyaml_composer.specs.declared.deed.Deed.TheVariants as deed
 use Rattle.libyaml_composer.specs.declared.records.place_t.{place_t}
 use Rattle.libyaml_composer.specs.DocumentSoFar as so_far
-use Rattle.libyaml_composer.specs.DocumentSoFar.{DocumentSoFar, anchored, anchored_by, applied_part, anchored_node_named, first_mark, with_made_node}
-use Rattle.libyaml_composer.specs.Represents.{FitsParent, IsChild, IsClosed, IsNode, IsPart, PutsNode, Represents}
+use Rattle.libyaml_composer.specs.DocumentSoFar.{DocumentSoFar, anchored, anchored_by, applied_part, anchored_node_named, first_mark}
+use Rattle.libyaml_composer.specs.Represents.{IsPart, DeedFits, PutsNode, Represents}
 use Rattle.libyaml_composer.specs.Numbers.{is_id}
 use Rattle.libyaml_loader.specs.declared.context.loader_ctx.{loader_ctx}
 use Rattle.libyaml_loader.specs.declared.refusal.Refusal.{Refusal}
@@ -96,12 +95,7 @@ pub record Decided (old new : loader_ctx) (q : Option Part) (end : yaml_mark_t) 
     anchors = anchored_by (suc (length old.document.nodes)) q old.anchors;
     first_mark = new.first_mark;
   }
-  pub fits : FitsParent d p (length (with_made_node (is_id p.node) p.node q (held_of old)).nodes)
-      (with_made_node (is_id p.node) p.node q (held_of old)).nodes
-  pub node : PutsNode d → is_id p.node ≡ true → p.node ≡ pos (suc (length old.document.nodes))
-  pub closed : IsClosed d → IsIdUpTo (length old.document.nodes) p.parent
-  pub put : IsChild q → PutsNode d
-  pub numbered : IsNode q → p.node ≡ pos (suc (length old.document.nodes))
+  pub puts : DeedFits d p q (held_of old) old.collections.stack
   pub grows : Grows d p → load_may_grow (loader_of old) q ≡ true
 
 -- an allocation failed, where there may be one, or the machine fails by this error

@@ -2,7 +2,7 @@ use Rattle.std.proofs.Common.{◌≡◌, ◌<◌, ◌-◌, ◌∙◌, ◌∷◌,
 use Rattle.std.proofs.lemmas.Int.{to_z-of_z}
 use Rattle.libyaml_composer.specs.declared.deed.Deed.TheVariants as deed
 use Rattle.libyaml_composer.specs.declared.records.open_t.{open_t}
-use Rattle.libyaml_composer.specs.Composing.{deed_for, holding_top, is_list_full, most_of, place_in, stack_of}
+use Rattle.libyaml_composer.specs.Composing.{deed_for, holding_top, is_list_full, most_of, stack_of}
 use Rattle.libyaml_composer.proofs.Tops.{top_below, top_set}
 use Rattle.libyaml_composer.proofs.composer.composer_t.place_child.Goals as goal
 
