@@ -26,10 +26,10 @@ LEAKS = {
     "alias_is_light": (CONTENTS, "is_light", "unnamed_yaml_event_t_data::Alias(_) => return false", "unnamed_yaml_event_t_data::Alias(_) => return true"),
     "texts_of_a_kept_content_forgotten": (CONTENTS, "drop_option", "*text = None;", "mem::forget(text.take());"),
     "directives_forgotten": (CONTENTS, "let_go_texts", "_ => *content = unnamed_yaml_event_t_data::NoEvent,", "_ => mem::forget(mem::replace(content, unnamed_yaml_event_t_data::NoEvent)),"),
-    "text_kept_before_forgotten": (CONTENTS, "let_go", "*spare = taken;", "mem::forget(mem::replace(spare, taken));"),
-    "long_text_kept": (CONTENTS, "let_go", " && room <= MAX_SPARE", ""),
-    "properties_forgotten": (CONTENTS, "drop_text", "let_go(spare, text);", "mem::forget(mem::replace(text, String::new(*spare.allocator())));"),
-    "tag_forgotten": (CONTENTS, "put_text", "let_go(spare, earlier);", "let _ = earlier.len().max(spare.len());"),
+    "text_kept_before_forgotten": (CONTENTS, "release", "*spare = taken;", "mem::forget(mem::replace(spare, taken));"),
+    "long_text_kept": (CONTENTS, "release", " && room <= MAX_SPARE", ""),
+    "properties_forgotten": (CONTENTS, "drop_text", "release(spare, text);", "mem::forget(mem::replace(text, String::new(*spare.allocator())));"),
+    "tag_forgotten": (CONTENTS, "put_text", "release(spare, earlier);", "let _ = earlier.len().max(spare.len());"),
     "alias_before_a_scalar_forgotten": (CONTENTS, "replace_by_scalar", "take_memory(alloc, &mut event.anchor)", "String::new(*event.anchor.allocator())"),
     "scalar_before_an_alias_forgotten": (CONTENTS, "replace_by_alias", "take_memory(alloc, &mut event.value)", "String::new(*event.value.allocator())"),
     **{
@@ -45,17 +45,17 @@ LEAKS = {
 }
 
 
-def planted(room, leak):
-    """Makes a leak in a copy of the crates."""
+def planted(leak, crates):
+    """The file of a leak in this folder of crates, and its text with the leak."""
     name, function, old, new = LEAKS[leak]
-    path = room / "crates" / name
+    path = crates / name
     text = path.read_text()
-    start = text.index(f"fn {function}(")
+    start = text.find(f"fn {function}(")
     place = text.find(old, start)
     end = text.find("\nfn ", start)
-    if place < 0 or -1 < end < place:
+    if start < 0 or place < 0 or -1 < end < place:
         sys.exit(f"{leak}: `{old}` stands not in {function} of {name}")
-    path.write_text(text[:place] + new + text[place + len(old) :])
+    return path, text[:place] + new + text[place + len(old) :]
 
 
 def seen(leak):
@@ -65,7 +65,8 @@ def seen(leak):
         copied(room)
         (room / "scripts/gate").mkdir(parents=True)
         shutil.copy2(TOP / "scripts/gate/flat_memory.sh", room / "scripts/gate")
-        planted(room, leak)
+        path, text = planted(leak, room / "crates")
+        path.write_text(text)
         run = subprocess.run(["rt", "run", "--", "work", "kept", "1"], cwd=room / "crates/vectors_hostile", stdin=subprocess.DEVNULL, capture_output=True, text=True)
         if not (room / "crates/vectors_hostile/out/vectors_hostile").exists():
             return f"not built: {(run.stdout + run.stderr)[-1000:]}", False
