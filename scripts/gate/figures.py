@@ -53,7 +53,6 @@ FIGURES = [
     ("docs/GATE.md", "N crates,", crates),
     ("docs/GATE.md", "tries N mutants", mutants),
     ("docs/GATE.md", "N equivalent mutants", lambda: files("crates/*/controls/*.edit")),
-    ("docs/GATE.md", "today's N mutants", mutants),
     ("docs/GATE.md", "now N in one crate", most_mutants),
     ("docs/CALLING.md", "without the other N crates below `unsafe_libyaml`", lambda: crates_below("unsafe_libyaml") - 2),
     ("docs/CALLING.md", "N broken texts", lambda: files("scripts/parts/broken/*.yaml")),
