@@ -12,17 +12,13 @@ cd "$(dirname "$0")/.." || exit 2
 work=$(mktemp -d) || exit 2
 trap 'rm -rf "$work"' EXIT
 export PYTHONDONTWRITEBYTECODE=1
-passed=0
-failed=0
+count=0
 
+# Begins a check beside the others.
 check() {
-    if "$@" > "$work/said" 2>&1; then
-        passed=$((passed + 1))
-    else
-        cat "$work/said"
-        echo "failed: $*"
-        failed=$((failed + 1))
-    fi
+    count=$((count + 1))
+    echo "$*" > "$work/$count.words"
+    { "$@" > "$work/$count.said" 2>&1; echo $? > "$work/$count.status"; } &
 }
 
 # Lays out a copy of each crate: `rt fmt` has to say nothing and to change nothing. It also says which mutant of must-fail/
@@ -51,5 +47,17 @@ check python3 scripts/gate/plantable.py
 check python3 scripts/doors/abi.py
 check sh scripts/gate/wrong_words.sh
 check layout
+wait
+passed=0
+failed=0
+for number in $(seq "$count"); do
+    if [ "$(cat "$work/$number.status")" = 0 ]; then
+        passed=$((passed + 1))
+    else
+        cat "$work/$number.said"
+        echo "failed: $(cat "$work/$number.words")"
+        failed=$((failed + 1))
+    fi
+done
 echo "$passed passed, $failed failed"
 [ "$failed" -eq 0 ]
