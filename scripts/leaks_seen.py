@@ -19,6 +19,7 @@ from pathlib import Path
 from answers import TOP, copied
 
 CONTENTS = "libyaml_events/src/states/contents.rt"
+HANDLES = "libyaml_events/src/handle_table.rt"
 # name: the file, the function, what stands in it, and what comes in its place
 LEAKS = {
     "content_with_properties_is_light": (CONTENTS, "is_light", "anchor.is_none() && tag.is_none()", "anchor.is_none() || tag.is_none() || true"),
@@ -30,17 +31,18 @@ LEAKS = {
     "long_text_kept": (CONTENTS, "release", " && room <= MAX_SPARE", ""),
     "properties_forgotten": (CONTENTS, "drop_text", "release(spare, text);", "mem::forget(mem::replace(text, String::new(*spare.allocator())));"),
     "tag_forgotten": (CONTENTS, "put_text", "release(spare, earlier);", "let _ = earlier.len().max(spare.len());"),
-    "alias_before_a_scalar_forgotten": (CONTENTS, "replace_by_scalar", "take_memory(alloc, &mut event.anchor)", "String::new(*event.anchor.allocator())"),
+    "alias_before_a_scalar_forgotten": (CONTENTS, "put_scalar_in_place", "take_memory(alloc, &mut event.anchor)", "String::new(*event.anchor.allocator())"),
     "scalar_before_an_alias_forgotten": (CONTENTS, "replace_by_alias", "take_memory(alloc, &mut event.value)", "String::new(*event.value.allocator())"),
     **{
         f"content_forgotten_{function}": (CONTENTS, function, "make_light(spare, content);", "let _ = spare.len();")
         for function in (
-            "replace_by_scalar", "put_scalar", "replace_by_empty_scalar", "replace_by_sequence_start", "replace_by_mapping_start",
+            "put_scalar_in_place", "put_scalar", "replace_by_empty_scalar", "replace_by_sequence_start", "replace_by_mapping_start",
             "replace_by_sequence_end", "replace_by_mapping_end", "replace_by_alias",
         )
     },
     "content_forgotten_put_node": ("libyaml_events/src/states/after_properties.rt", "put_node", "make_light(&mut self.spare, &mut out.content);", "let _ = self.spare.len();"),
-    "handles_forgotten": ("libyaml_events/src/parser/handles.rt", "forget_handles", "self.handles = BTreeMap::new(self.alloc);", "mem::forget(mem::replace(&mut self.handles, BTreeMap::new(self.alloc)));"),
+    "handles_forgotten": (HANDLES, "clear", "self.first.clear();", "std::mem::forget(std::mem::replace(&mut self.first, Vec::new(*self.first.allocator())));"),
+    "later_handles_forgotten": (HANDLES, "clear", "self.others = BTreeMap::new(*self.first.allocator());", "std::mem::forget(std::mem::replace(&mut self.others, BTreeMap::new(*self.first.allocator())));"),
     "half_a_document_forgotten": ("libyaml_loader/src/composer.rt", "keep", "self.ctx = loader_ctx::new(self.ctx.alloc, self.max_entries);", "let fresh = loader_ctx::new(self.ctx.alloc, self.max_entries); mem::forget(mem::replace(&mut self.ctx, fresh));"),
 }
 

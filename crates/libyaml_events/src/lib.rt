@@ -4,6 +4,7 @@
 mod automaton;
 mod entries;
 mod event_kinds;
+mod handle_table;
 mod iterate;
 pub mod laws;
 mod lookahead;

@@ -21,6 +21,7 @@ mod tokens;
 
 use crate::automaton::AutomatonWithStacks;
 use crate::entries::MaxEntries;
+use crate::handle_table::HandleTable;
 use crate::lookahead::Lookahead;
 use crate::pending::Pending;
 use libyaml_types::{
@@ -28,7 +29,6 @@ use libyaml_types::{
     yaml_token_t,
 };
 use std::alloc::Global;
-use std::collections::BTreeMap;
 use std::marker::Model;
 
 /// A parser over a source of tokens.
@@ -71,7 +71,7 @@ impl<S> Model for yaml_parser_t<S> {
 #[derive(Drop)]
 pub(crate) struct TokenParser {
     pub(crate) automaton: AutomatonWithStacks,
-    handles: BTreeMap<String, String>,
+    handles: HandleTable,
     /// A text of an earlier event, whose memory a later token's text or full tag may take. Its value has no
     /// meaning.
     pub(crate) spare: String,
@@ -83,13 +83,13 @@ impl Model for TokenParser {
     ghost use Rattle.std.specs.Coded.{codes};
     ghost use Rattle.std.specs.Prelude.{None};
     ghost use Rattle.libyaml_types.specs.Fault.{fault_of};
-    ghost use Rattle.libyaml_events.specs.machine.Config.{Config, handles_code, handles_of, config_with};
+    ghost use Rattle.libyaml_events.specs.machine.Config.{Config, handles_code, config_with};
 
     ghost Value = { Config };
 
     ghost coded = { Prim.hlevel (codes, handles_code) };
 
-    ghost view = { λ p. config_with p.automaton (handles_of p.handles.entries) (fault_of p.prefix) None };
+    ghost view = { λ p. config_with p.automaton p.handles (fault_of p.prefix) None };
 }
 
 /// Returns a parser at the start of this source's stream, without an allocation.
@@ -225,7 +225,7 @@ impl TokenParser {
     {
         TokenParser {
             automaton: AutomatonWithStacks::new(alloc),
-            handles: BTreeMap::new(alloc),
+            handles: HandleTable::new(alloc),
             spare: String::new(alloc),
             prefix: NO_FAULT,
             alloc,

@@ -22,9 +22,10 @@ use crate::states::node_events::{collection_start, is_missing, plain_scalar, seq
 use crate::states::properties::{forget_earlier, take_anchor};
 use crate::step::Step;
 use libyaml_automaton::Action;
+use libyaml_types::yaml_token_type_t::*;
 use libyaml_types::{
     unnamed_yaml_event_t_data, unnamed_yaml_token_t_data, yaml_error_type_t, yaml_event_t,
-    yaml_mark_t, yaml_sequence_style_t, yaml_token_t,
+    yaml_mark_t, yaml_sequence_style_t, yaml_token_t, yaml_token_type_t,
 };
 
 impl TokenParser {
@@ -67,7 +68,8 @@ impl TokenParser {
         self.put_content(None, token, pending, out)
     }
 
-    /// Puts the content of a node after its properties, with its tag in full.
+    /// Puts the content of a node after its properties, with its tag in full. A scalar's kind is named here, so
+    /// that its step is compiled by itself: without a further jump, and without what other contents need.
     #[inline(always)]
     fn put_content(
         &mut self,
@@ -87,18 +89,62 @@ impl TokenParser {
             → opens_at (place_of pending.old.reading.place) (token_type token.old.content) ≡ true }
     {
         forget_earlier(pending);
-        let start_mark = pending.reading.start_mark;
+        out.start_mark = pending.reading.start_mark;
+        match token.type_() {
+            YAML_SCALAR_TOKEN => self.put_content_of(YAML_SCALAR_TOKEN, tag, token, pending, out),
+            kind => self.put_other_content(kind, tag, token, pending, out),
+        }
+    }
+
+    /// Puts a content that doesn't begin with a scalar.
+    #[inline(never)]
+    fn put_other_content(
+        &mut self,
+        kind: yaml_token_type_t,
+        tag: Option<String>,
+        token: &mut yaml_token_t,
+        pending: &mut Pending,
+        out: &mut yaml_event_t,
+    ) -> Step
+        requires none { self.old.lookahead ≡ None }
+        requires kind { kind ≡ token_type token.old.content }
+        requires start { out.old.start_mark ≡ pending.old.reading.start_mark }
+        ensures puts { (o : Progressed) (h : Texts) → IsContent o h pending.old.properties.anchor
+            (option_map string_bytes tag) token.old pending.old.reading self.old
+            → Steps o self.old (result_of result pending.new out.new self.new)
+            (config_after result token.new self.new)
+            × (result ≡ Step.Wants → ⊥) }
+        ensures grows { result ≡ Step.Failed → self.new.fault.error ≡ yaml_error_type_t.YAML_MEMORY_ERROR
+            → opens_at (place_of pending.old.reading.place) (token_type token.old.content) ≡ true }
+    {
+        self.put_content_of(kind, tag, token, pending, out)
+    }
+
+    /// Puts the content that begins with a token of this kind. Its start is in the event already.
+    #[inline(always)]
+    fn put_content_of(
+        &mut self,
+        kind: yaml_token_type_t,
+        tag: Option<String>,
+        token: &mut yaml_token_t,
+        pending: &mut Pending,
+        out: &mut yaml_event_t,
+    ) -> Step
+        requires none { self.old.lookahead ≡ None }
+        requires kind { kind ≡ token_type token.old.content }
+        requires start { out.old.start_mark ≡ pending.old.reading.start_mark }
+        ensures puts { (o : Progressed) (h : Texts) → IsContent o h pending.old.properties.anchor
+            (option_map string_bytes tag) token.old pending.old.reading self.old
+            → Steps o self.old (result_of result pending.new out.new self.new)
+            (config_after result token.new self.new)
+            × (result ≡ Step.Wants → ⊥) }
+        ensures grows { result ≡ Step.Failed → self.new.fault.error ≡ yaml_error_type_t.YAML_MEMORY_ERROR
+            → opens_at (place_of pending.old.reading.place) (token_type token.old.content) ≡ true }
+    {
         let end_mark = pending.reading.end_mark;
-        match self.lead_content(token, pending) {
-            Action::FullMarks => self.put_content_again(
-                tag,
-                &start_mark,
-                &end_mark,
-                token,
-                pending,
-                out,
-            ),
-            led => self.put_head(led, tag, &start_mark, &end_mark, token, pending, out),
+        match self.lead_content(kind, token, pending) {
+            Action::FullMarks => self.put_content_again(kind, tag, &end_mark, token, pending, out),
+            led => self.put_head(led, tag, &end_mark, token, pending, out),
         }
     }
 
@@ -107,15 +153,16 @@ impl TokenParser {
     #[inline(never)]
     fn put_content_again(
         &mut self,
+        kind: yaml_token_type_t,
         tag: Option<String>,
-        start_mark: &yaml_mark_t,
         end_mark: &yaml_mark_t,
         token: &mut yaml_token_t,
         pending: &mut Pending,
         out: &mut yaml_event_t,
     ) -> Step
         requires none { self.old.lookahead ≡ None }
-        requires start { start_mark.now ≡ pending.old.reading.start_mark }
+        requires kind { kind ≡ token_type token.old.content }
+        requires start { out.old.start_mark ≡ pending.old.reading.start_mark }
         requires end { end_mark.now ≡ pending.old.reading.end_mark }
         ensures puts { (o : Progressed) (h : Texts) → IsContent o h pending.old.properties.anchor
             (option_map string_bytes tag) token.old pending.old.reading self.old
@@ -126,9 +173,9 @@ impl TokenParser {
         if !self.automaton.grow(Action::FullMarks) {
             return self.fail_out_of_memory();
         }
-        match self.lead_content(token, pending) {
+        match self.lead_content(kind, token, pending) {
             Action::FullMarks => self.fail_out_of_memory(),
-            led => self.put_head(led, tag, start_mark, end_mark, token, pending, out),
+            led => self.put_head(led, tag, end_mark, token, pending, out),
         }
     }
 
@@ -158,8 +205,14 @@ impl TokenParser {
 
     /// Does a step of the parser without texts, after a node's properties.
     #[inline(always)]
-    fn lead_content(&mut self, token: &yaml_token_t, pending: &mut Pending) -> Action
+    fn lead_content(
+        &mut self,
+        kind: yaml_token_type_t,
+        token: &yaml_token_t,
+        pending: &mut Pending,
+    ) -> Action
         requires none { self.old.lookahead ≡ None }
+        requires kind { kind ≡ token_type token.now.content }
         ensures led { (o : Progressed) (h : Texts) (a g : Option (List ℕ))
             → IsContent o h a g token.now pending.old.reading self.old
             → SaysContent o h a g token.now result pending.old.reading pending.new.reading self.new }
@@ -172,7 +225,7 @@ impl TokenParser {
     {
         self.automaton.content_after(
             &mut pending.reading,
-            token.type_(),
+            kind,
             &token.start_mark,
             &token.end_mark,
         )
@@ -184,7 +237,6 @@ impl TokenParser {
         &mut self,
         led: Action,
         tag: Option<String>,
-        start_mark: &yaml_mark_t,
         end_mark: &yaml_mark_t,
         token: &mut yaml_token_t,
         pending: &mut Pending,
@@ -193,22 +245,22 @@ impl TokenParser {
         requires none { self.old.lookahead ≡ None }
         requires fits { FitsContent led (token_type token.old.content) pending.old.reading }
         requires done { IsFull led → ⊥ }
-        ensures puts { PutsContent pending.old.properties.anchor (option_map string_bytes tag) start_mark.now
-            end_mark.now led token.old pending.old.reading self.old result token.new pending.new out.new
-            self.new }
+        ensures puts { PutsContent pending.old.properties.anchor (option_map string_bytes tag)
+            out.old.start_mark end_mark.now led token.old pending.old.reading self.old result token.new
+            pending.new out.new self.new }
         ensures error { result ≡ Step.Failed → self.new.fault.error ≡ yaml_error_type_t.YAML_PARSER_ERROR }
     {
         match led {
             Action::Scalar => {
-                self.put_scalar_after(tag, start_mark, end_mark, token, pending, out);
+                self.put_scalar_after(tag, end_mark, token, pending, out);
                 Step::Given
             }
             Action::EmptyHead => {
-                self.put_empty_after(tag, start_mark, end_mark, token, pending, out);
+                self.put_empty_after(tag, end_mark, token, pending, out);
                 Step::GivenBefore
             }
             Action::IndentlessSequence => {
-                self.put_indentless(tag, start_mark, end_mark, token, pending, out);
+                self.put_indentless(tag, end_mark, token, pending, out);
                 Step::GivenBefore
             }
             Action::Failed => self.set_problem(
@@ -217,7 +269,7 @@ impl TokenParser {
                 &token.start_mark,
             ),
             _ => {
-                self.put_opening(led, tag, start_mark, end_mark, token, pending, out);
+                self.put_opening(led, tag, end_mark, token, pending, out);
                 Step::Given
             }
         }
@@ -228,7 +280,6 @@ impl TokenParser {
     fn put_scalar_after(
         &mut self,
         tag: Option<String>,
-        start_mark: &yaml_mark_t,
         end_mark: &yaml_mark_t,
         token: &mut yaml_token_t,
         pending: &mut Pending,
@@ -236,11 +287,10 @@ impl TokenParser {
     )
         requires none { self.old.lookahead ≡ None }
         requires scalar { token_type token.old.content ≡ YAML_SCALAR_TOKEN }
-        ensures puts { PutsContent pending.old.properties.anchor (option_map string_bytes tag) start_mark.now
-            end_mark.now Action.Scalar token.old pending.old.reading self.old Step.Given token.new
-            pending.new out.new self.new }
+        ensures puts { PutsContent pending.old.properties.anchor (option_map string_bytes tag)
+            out.old.start_mark end_mark.now Action.Scalar token.old pending.old.reading self.old Step.Given
+            token.new pending.new out.new self.new }
     {
-        out.start_mark = *start_mark;
         out.end_mark = token.end_mark;
         if let unnamed_yaml_token_t_data::Scalar(scalar) = &mut token.content {
             let anchor = &mut pending.properties.anchor;
@@ -257,16 +307,14 @@ impl TokenParser {
     fn put_node(
         &mut self,
         content: unnamed_yaml_event_t_data,
-        start_mark: &yaml_mark_t,
         end_mark: &yaml_mark_t,
         out: &mut yaml_event_t,
     )
         ensures same { self.new ≡ self.old }
-        ensures put { out.new ≡ event content start_mark.now end_mark.now }
+        ensures put { out.new ≡ event content out.old.start_mark end_mark.now }
     {
         make_light(&mut self.spare, &mut out.content);
         put_over(&mut out.content, content);
-        out.start_mark = *start_mark;
         out.end_mark = *end_mark;
     }
 
@@ -275,22 +323,21 @@ impl TokenParser {
     fn put_empty_after(
         &mut self,
         tag: Option<String>,
-        start_mark: &yaml_mark_t,
         end_mark: &yaml_mark_t,
         token: &yaml_token_t,
         pending: &mut Pending,
         out: &mut yaml_event_t,
     )
         requires none { self.old.lookahead ≡ None }
-        ensures puts { PutsContent pending.old.properties.anchor (option_map string_bytes tag) start_mark.now
-            end_mark.now Action.EmptyHead token.now pending.old.reading self.old Step.GivenBefore token.now
-            pending.new out.new self.new }
+        ensures puts { PutsContent pending.old.properties.anchor (option_map string_bytes tag)
+            out.old.start_mark end_mark.now Action.EmptyHead token.now pending.old.reading self.old
+            Step.GivenBefore token.now pending.new out.new self.new }
     {
         let implicit = is_missing(&tag);
         let text = String::new(self.allocator());
         let anchor = take_anchor(pending);
         let content = plain_scalar(anchor, tag, text, implicit);
-        self.put_node(content, start_mark, end_mark, out);
+        self.put_node(content, end_mark, out);
     }
 
     /// Puts the start of an indentless sequence after properties.
@@ -298,21 +345,20 @@ impl TokenParser {
     fn put_indentless(
         &mut self,
         tag: Option<String>,
-        start_mark: &yaml_mark_t,
         end_mark: &yaml_mark_t,
         token: &yaml_token_t,
         pending: &mut Pending,
         out: &mut yaml_event_t,
     )
         requires none { self.old.lookahead ≡ None }
-        ensures puts { PutsContent pending.old.properties.anchor (option_map string_bytes tag) start_mark.now
-            end_mark.now Action.IndentlessSequence token.now pending.old.reading self.old Step.GivenBefore
-            token.now pending.new out.new self.new }
+        ensures puts { PutsContent pending.old.properties.anchor (option_map string_bytes tag)
+            out.old.start_mark end_mark.now Action.IndentlessSequence token.now pending.old.reading self.old
+            Step.GivenBefore token.now pending.new out.new self.new }
     {
         let style = yaml_sequence_style_t::YAML_BLOCK_SEQUENCE_STYLE;
         let anchor = take_anchor(pending);
         let content = sequence_start(anchor, tag, style);
-        self.put_node(content, start_mark, &token.end_mark, out);
+        self.put_node(content, &token.end_mark, out);
     }
 
     /// Puts the start of a collection after properties.
@@ -321,7 +367,6 @@ impl TokenParser {
         &mut self,
         led: Action,
         tag: Option<String>,
-        start_mark: &yaml_mark_t,
         end_mark: &yaml_mark_t,
         token: &yaml_token_t,
         pending: &mut Pending,
@@ -330,12 +375,12 @@ impl TokenParser {
         requires none { self.old.lookahead ≡ None }
         requires fits { FitsContent led (token_type token.now.content) pending.old.reading }
         requires opening { IsOpening led }
-        ensures puts { PutsContent pending.old.properties.anchor (option_map string_bytes tag) start_mark.now
-            end_mark.now led token.now pending.old.reading self.old Step.Given token.now pending.new
-            out.new self.new }
+        ensures puts { PutsContent pending.old.properties.anchor (option_map string_bytes tag)
+            out.old.start_mark end_mark.now led token.now pending.old.reading self.old Step.Given token.now
+            pending.new out.new self.new }
     {
         let anchor = take_anchor(pending);
         let content = collection_start(anchor, tag, &token.content);
-        self.put_node(content, start_mark, &token.end_mark, out);
+        self.put_node(content, &token.end_mark, out);
     }
 }

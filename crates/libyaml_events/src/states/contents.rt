@@ -188,6 +188,19 @@ fn replace_by_scalar(
     ensures { content.new ≡ scalar_with None None token.old.value (plain_flag None token.old.style)
         (quoted_flag None token.old.style) token.old.style }
 {
+    put_scalar_in_place(spare, token, content);
+}
+
+/// Puts a scalar without properties in place of `content`, inlined.
+#[inline(always)]
+fn put_scalar_in_place(
+    spare: &mut String,
+    token: &mut unnamed_yaml_token_t_data_scalar,
+    content: &mut unnamed_yaml_event_t_data,
+)
+    ensures { content.new ≡ scalar_with None None token.old.value (plain_flag None token.old.style)
+        (quoted_flag None token.old.style) token.old.style }
+{
     let alloc = *spare.allocator();
     if let unnamed_yaml_event_t_data::Alias(event) = content {
         let text = take_memory(alloc, &mut event.anchor);
@@ -295,7 +308,11 @@ pub(super) fn put_anchored_scalar(
     ensures { content.new ≡ scalar_with (option_map string_bytes anchor.old) None token.old.value
         (plain_flag None token.old.style) (quoted_flag None token.old.style) token.old.style }
 {
-    put_bare_scalar(spare, token, content);
+    if let unnamed_yaml_event_t_data::Alias(_) = content {
+        put_scalar_in_place(spare, token, content);
+    } else {
+        put_bare_scalar(spare, token, content);
+    }
     if let unnamed_yaml_event_t_data::Scalar(event) = content {
         mem::forget(mem::replace(&mut event.anchor, anchor.take()));
     }

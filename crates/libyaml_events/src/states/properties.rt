@@ -15,19 +15,17 @@ use libyaml_types::{
 use std::alloc::Global;
 use std::mem;
 
-/// Puts the anchor of a token, moved out of it, into `held`. The text that is kept goes into the token's
-/// place.
+/// Puts the anchor of a token, moved out of it, into `held`, which holds none. The text that is kept goes into
+/// the token's place.
 #[inline(always)]
 fn put_anchor(
     spare: &mut String,
     anchor: &mut unnamed_yaml_token_t_data_anchor,
     held: &mut Option<String>,
 )
+    requires { held.old ≡ None }
     ensures { option_map string_bytes held.new ≡ Some anchor.old.value }
 {
-    if held.is_some() {
-        forget_anchor(held);
-    }
     let text = take_memory(*spare.allocator(), spare);
     let name = in_words(mem::replace(&mut anchor.value, text));
     mem::forget(mem::replace(held, Some(name)));
@@ -104,6 +102,23 @@ impl TokenParser {
         ensures held { (a : unnamed_yaml_token_t_data_anchor) → token.old.content ≡ tok.Anchor a
             → pending.new ≡ with_anchor a.value pending.old }
     {
+        if pending.properties.anchor.is_some() {
+            return self.hold_anchor_anew(token, pending);
+        }
+        if let unnamed_yaml_token_t_data::Anchor(anchor) = &mut token.content {
+            put_anchor(&mut self.spare, anchor, &mut pending.properties.anchor);
+        }
+    }
+
+    /// Forgets the anchor of an earlier node, and holds the name of this one.
+    #[cold]
+    #[inline(never)]
+    fn hold_anchor_anew(&mut self, token: &mut yaml_token_t, pending: &mut Pending)
+        ensures same { self.new ≡ self.old }
+        ensures held { (a : unnamed_yaml_token_t_data_anchor) → token.old.content ≡ tok.Anchor a
+            → pending.new ≡ with_anchor a.value pending.old }
+    {
+        forget_anchor(&mut pending.properties.anchor);
         if let unnamed_yaml_token_t_data::Anchor(anchor) = &mut token.content {
             put_anchor(&mut self.spare, anchor, &mut pending.properties.anchor);
         }

@@ -1,29 +1,25 @@
-use Rattle.std.proofs.Common.{◌∙◌, option_map, string_bytes, refl, ap}
-use Rattle.libyaml_events.proofs.layer.Contents.{content_put, content_again}
-use Rattle.libyaml_events.specs.declared.pending.Pending.{Pending}
+use Rattle.std.proofs.Common.{option_map, refl, string_bytes}
+use Rattle.libyaml_events.proofs.layer.Contents.{content_again}
 use Rattle.libyaml_events.specs.machine.Outcomes.{only_if}
 use Rattle.libyaml_automaton.specs.Numbers.{flag}
 use Rattle.libyaml_events.proofs.parser.TokenParser.put_content.Goals as goal
 
-pub returns-in-FullMarks-clause-puts : goal.returns-in-FullMarks-clause-puts
-returns-in-FullMarks-clause-puts c =
-    let u = c.lead_content.ensures.undone c.in-FullMarks.is in
-    λ o h. content_again o h (option_map string_bytes c.args.tag) c.args.token.now c.args.self.now c.lead_content.new.self
-    c.lead_content.new.self c.args.pending.now.reading c.lead_content.new.pending.reading
-    (only_if (flag c.args.pending.now.reading.has_anchor) c.args.pending.now.properties.anchor) c.lead_content.new.pending.properties.anchor
-    c.put_content_again.result c.put_content_again.new.token c.put_content_again.new.pending c.put_content_again.new.out
-    c.put_content_again.new.self u.0 (ap (λ (x : Pending). x.properties.anchor) u.1 ∙ c.forget_earlier.ensures.anchor)
-    (ap (λ (x : Pending). x.reading) u.1 ∙ c.forget_earlier.ensures.reading) (c.put_content_again.ensures.puts o h)
+pub returns-in-YAML_SCALAR_TOKEN-clause-puts : goal.returns-in-YAML_SCALAR_TOKEN-clause-puts
+returns-in-YAML_SCALAR_TOKEN-clause-puts c = λ o h.
+    content_again o h (option_map string_bytes c.args.tag) c.args.token.now c.args.self.now c.args.self.now
+    c.args.self.now c.args.pending.now.reading c.forget_earlier.new.pending.reading
+    (only_if (flag c.args.pending.now.reading.has_anchor) c.args.pending.now.properties.anchor)
+    c.forget_earlier.new.pending.properties.anchor
+    c.put_content_of.result c.put_content_of.new.token c.put_content_of.new.pending c.put_content_of.new.out
+    c.put_content_of.new.self refl c.forget_earlier.ensures.anchor c.forget_earlier.ensures.reading
+    (c.put_content_of.ensures.puts o h)
 
-pub returns-in_default : goal.returns-in_default
-returns-in_default c = record {
-  puts = λ o h. content_put o h (option_map string_bytes c.args.tag) c.args.token.now c.args.self.now c.args.self.now c.lead_content.new.self
-      c.args.pending.now.reading c.forget_earlier.new.pending.reading
-      (only_if (flag c.args.pending.now.reading.has_anchor) c.args.pending.now.properties.anchor) c.forget_earlier.new.pending.properties.anchor
-      c.put_head.result c.put_head.new.token c.put_head.new.pending c.put_head.new.out c.put_head.new.self refl c.forget_earlier.ensures.anchor c.forget_earlier.ensures.reading c.lead_content.result
-      c.lead_content.new.pending.reading c.lead_content.new.pending.properties.anchor c.forget_earlier.new.pending.reading.start_mark
-      c.forget_earlier.new.pending.reading.end_mark
-      (ap (λ (x : Pending). x.properties.anchor) c.lead_content.ensures.texts) refl refl
-      (c.lead_content.ensures.led o h c.forget_earlier.new.pending.properties.anchor (option_map string_bytes c.args.tag)) c.put_head.ensures.puts;
-  grows = λ f m. let e = c.put_head.ensures.error f in absurd cc;
-}
+pub returns-in_default-clause-puts : goal.returns-in_default-clause-puts
+returns-in_default-clause-puts c = λ o h.
+    content_again o h (option_map string_bytes c.args.tag) c.args.token.now c.args.self.now c.args.self.now
+    c.args.self.now c.args.pending.now.reading c.forget_earlier.new.pending.reading
+    (only_if (flag c.args.pending.now.reading.has_anchor) c.args.pending.now.properties.anchor)
+    c.forget_earlier.new.pending.properties.anchor
+    c.put_other_content.result c.put_other_content.new.token c.put_other_content.new.pending c.put_other_content.new.out
+    c.put_other_content.new.self refl c.forget_earlier.ensures.anchor c.forget_earlier.ensures.reading
+    (c.put_other_content.ensures.puts o h)

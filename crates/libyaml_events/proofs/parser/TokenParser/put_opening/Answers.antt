@@ -11,8 +11,8 @@ pub returns : goal.returns
 returns c = record {
   puts = λ out h r es ee s. (
     opening_put out h c.args.pending.now.properties.anchor (option_map string_bytes c.args.tag) c.args.token.now c.args.led r c.args.pending.now.reading c.args.self.now
-        c.args.start_mark.now c.requires.opening c.requires.fits es s ∙ (ap (λ (e : Event). Ok (Given e, c.args.self.now))
-        (sym (c.put_node.ensures.put ∙ ap (λ (x : unnamed_yaml_event_t_data). event x c.args.start_mark.now c.args.token.now.end_mark)
+        c.args.out.now.start_mark c.requires.opening c.requires.fits es s ∙ (ap (λ (e : Event). Ok (Given e, c.args.self.now))
+        (sym (c.put_node.ensures.put ∙ ap (λ (x : unnamed_yaml_event_t_data). event x c.args.out.now.start_mark c.args.token.now.end_mark)
         (c.collection_start-content.ensures
         ∙ ap (λ (a : Option (List ℕ)). collection_start a (option_map string_bytes c.args.tag) c.args.token.now.content)
         c.take_anchor-anchor.ensures)))

@@ -1,12 +1,12 @@
 use Rattle.std.proofs.Common.{None, ap}
 use Rattle.libyaml_types.specs.Fault.{fault_of}
-use Rattle.libyaml_events.specs.machine.Config.{Config, handles_of}
+use Rattle.libyaml_events.specs.machine.Config.{Config}
 use Rattle.libyaml_events.proofs.layer.StepWithTexts.{still_ready}
 use Rattle.libyaml_events.proofs.layer.Directives.{document_grows, document_leads, handle_grows}
 use Rattle.libyaml_events.proofs.parser.TokenParser.step_automaton_in_documents.Goals as goal
 
 pub returns-clause-led : goal.returns-clause-led
-returns-clause-led c = document_leads (handles_of c.self.inside.handles.entries) (fault_of c.self.inside.prefix)
+returns-clause-led c = document_leads c.self.inside.handles (fault_of c.self.inside.prefix)
     None c.self.inside.automaton c.document_step.new.self
     c.args.self.now c.args.token.now c.args.pending.now c.document_step.new.read c.document_step.result c.type_.result
     c.self.view_is c.type_.ensures c.requires.declared (c.document_step.ensures.steps c.args.token.now.end_mark)
@@ -24,7 +24,7 @@ returns-clause-grows c = λ h. document_grows c.args.pending.now c.args.self.now
     (rw (ap (λ (y : Config). y.behind_document_end) c.self.view_is) at (c.document_step.ensures.full h))
 
 pub returns-clause-handle : goal.returns-clause-handle
-returns-clause-handle c = handle_grows (handles_of c.self.inside.handles.entries) (fault_of c.self.inside.prefix)
+returns-clause-handle c = handle_grows c.self.inside.handles (fault_of c.self.inside.prefix)
     None c.self.inside.automaton c.document_step.new.self
     c.args.self.now c.args.token.now c.args.pending.now c.document_step.new.read c.document_step.result c.type_.result
     c.self.view_is c.requires.ready c.type_.ensures c.document_step.ensures.fits c.requires.documents

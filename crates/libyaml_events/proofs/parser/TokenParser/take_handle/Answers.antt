@@ -4,7 +4,7 @@ use Rattle.libyaml_automaton.specs.Automaton as automaton
 use Rattle.libyaml_automaton.specs.Purposes.{purpose_of}
 use Rattle.libyaml_events.specs.declared.pending.Pending.{Pending}
 use Rattle.libyaml_events.specs.machine.Outcomes.{directive_texts}
-use Rattle.libyaml_events.specs.machine.Config.{Config, config_of, config_with, handles_of}
+use Rattle.libyaml_events.specs.machine.Config.{Config, config_of, config_with}
 use Rattle.libyaml_events.specs.machine.Machine.{put, seen}
 use Rattle.libyaml_events.proofs.layer.Putting.{directive_held, directive_wants, fails_as, handle_of, refused, wants_or_fails}
 use Rattle.libyaml_events.proofs.parser.TokenParser.take_handle.Goals as goal
@@ -24,7 +24,7 @@ returns-in-Wants c = record {
       wants_or_fails out c.args.self.now c.hold_directive.result c.hold_directive.new.token c.hold_directive.new.pending e
       c.hold_directive.new.self c.hold_directive.ensures.given c.hold_directive.ensures.before (λ w.
       let held = c.hold_directive.ensures.held g.0 g.1 w in
-      let made : config_with c.tag_directive.new.self (handles_of c.self.inside.handles.entries)
+      let made : config_with c.tag_directive.new.self c.self.inside.handles
       (fault_of c.self.inside.prefix) None
       ≡ c.declare_handle.new.self = rw c.tag_directive.ensures.kept c.self.view_is in
       directive_wants out c.args.self.now c.args.token.now c.hold_directive.new.pending h (config_of c.args.self.now)
