@@ -2,26 +2,23 @@
 ghost use Rattle.std.specs.Prelude.{◌≡◌, ◌++◌, All, List, ℕ, [], true};
 ghost use Rattle.libyaml_types.specs.declared.mark.yaml_mark_t.{yaml_mark_t};
 ghost use Rattle.libyaml_automaton.specs.Config.{first_stacks};
-ghost use Rattle.libyaml_automaton.specs.Numbers.{next_of, place_of, flag, IsBackByte};
-ghost use Rattle.libyaml_automaton.specs.Purposes.{purpose_of, properties, kind_and_marks, IsAt};
-ghost use Rattle.libyaml_automaton.specs.Fits.{FitsStep, FitsContent, FitsDocument, FitsAtDirective};
-ghost use Rattle.libyaml_automaton.specs.Fits.{SameReading, IsFull, IsNothingDone, Documents, opens_at};
-ghost use Rattle.libyaml_automaton.specs.Growth.{opens, pushes, stack_part_of, pushes_in_documents};
-ghost use Rattle.libyaml_automaton.specs.Automaton.{AtState, KindAndMarks};
+ghost use Rattle.libyaml_automaton.specs.Numbers.{flag, IsBackByte};
+ghost use Rattle.libyaml_automaton.specs.Fits.{FitsAtDirective};
+ghost use Rattle.libyaml_automaton.specs.Automaton.{KindAndMarks};
 ghost use Rattle.libyaml_automaton.specs.Automaton as automaton;
 ghost use Rattle.libyaml_automaton.specs.Outcomes.{IsOutcome, outcome};
 
 use libyaml_automaton::{Action, Automaton, Reading, state_of_number};
-use libyaml_types::{ZERO_MARK, yaml_mark_t, yaml_parser_state_t, yaml_token_type_t};
+use libyaml_types::{ZERO_MARK, yaml_mark_t, yaml_parser_state_t};
 use std::alloc::Global;
 use std::marker::Model;
 
 /// The parser without texts, with its stacks.
 #[derive(Drop)]
 pub(crate) struct AutomatonWithStacks {
-    automaton: Automaton,
-    states: Vec<u8>,
-    marks: Vec<yaml_mark_t>,
+    pub(crate) automaton: Automaton,
+    pub(crate) states: Vec<u8>,
+    pub(crate) marks: Vec<yaml_mark_t>,
 }
 
 impl Model for AutomatonWithStacks {
@@ -77,59 +74,6 @@ impl AutomatonWithStacks {
         }
     }
 
-    /// Takes a token. If a stack has no room, nothing changes.
-    #[inline(always)]
-    pub(crate) fn step(
-        &mut self,
-        read: &mut Reading,
-        kind: yaml_token_type_t,
-        start: &yaml_mark_t,
-        end: &yaml_mark_t,
-    ) -> Action
-        requires at { IsAt (next_of read.old.next) self.old.state }
-        ensures steps { IsOutcome (automaton.step (purpose_of read.old) self.old (kind_and_marks kind
-            start.now end.now) kind) (outcome result (automaton.no_properties (kind_and_marks kind
-            start.now end.now)) (kind_and_marks kind start.now end.now) read.new self.new) }
-        ensures fits { FitsStep result kind read.new self.new.state }
-        ensures full_states { result ≡ Action.FullStates → pushes (next_of read.old.next) kind ≡ true }
-        ensures full_marks { result ≡ Action.FullMarks → opens (next_of read.old.next) kind ≡ true }
-        ensures documents { result ≡ Action.Document → stack_part_of (next_of read.old.next) ≡ Documents }
-        ensures undone { IsNothingDone result → (self.new ≡ self.old) × SameReading read.old read.new }
-        ensures asked { result ≡ Action.AsksContent → read.new ≡ read.old }
-    {
-        self.automaton.step(
-            read,
-            self.states.as_mut_slice(),
-            self.marks.as_mut_slice(),
-            kind,
-            start,
-            end,
-        )
-    }
-
-    /// Takes a token of the stream or its documents, after `step` returned `Document`. If the stack of states
-    /// has no room, nothing changes.
-    #[inline(always)]
-    pub(crate) fn document_step(
-        &mut self,
-        read: &mut Reading,
-        kind: yaml_token_type_t,
-        start: &yaml_mark_t,
-    ) -> Action
-        requires at { IsAt (next_of read.old.next) self.old.state }
-        requires documents { stack_part_of (next_of read.old.next) ≡ Documents }
-        ensures steps { (end : yaml_mark_t) → IsOutcome (automaton.step (purpose_of read.old) self.old
-            (kind_and_marks kind start.now end) kind) (outcome result (automaton.no_properties
-            (kind_and_marks kind start.now end)) (kind_and_marks kind start.now end) read.new self.new) }
-        ensures fits { FitsDocument result kind read.new self.new.state }
-        ensures full { result ≡ Action.FullStates
-            → pushes_in_documents (next_of read.old.next) self.old.behind_document_end kind ≡ true }
-        ensures undone { result ≡ Action.FullStates → (self.new ≡ self.old) × SameReading read.old read.new }
-    {
-        self.automaton
-            .document_step(read, self.states.as_mut_slice(), kind, start)
-    }
-
     /// Goes on after `document_step` returned `AsksVersion`.
     #[inline(always)]
     pub(crate) fn version_directive(&mut self, read: &mut Reading, is_accepted: bool) -> Action
@@ -153,49 +97,12 @@ impl AutomatonWithStacks {
         self.automaton.tag_directive(read, was_declared)
     }
 
-    /// Takes the content after properties, after `step` returned `AsksContent`, if the tag's handle is
-    /// defined. If the stack of marks has no room, nothing changes.
-    #[inline(always)]
-    pub(crate) fn content_after(
-        &mut self,
-        read: &mut Reading,
-        kind: yaml_token_type_t,
-        start: &yaml_mark_t,
-        end: &yaml_mark_t,
-    ) -> Action
-        ensures steps { IsOutcome (automaton.node_content (place_of read.old.place) (properties read.old)
-            self.old (kind_and_marks kind start.now end.now) kind) (outcome result (properties read.old)
-            (kind_and_marks kind start.now end.now) read.new self.new) }
-        ensures fits { FitsContent result kind read.new }
-        ensures full { result ≡ Action.FullMarks → opens_at (place_of read.old.place) kind ≡ true }
-        ensures undone { result ≡ Action.FullMarks → (self.new ≡ self.old) × (read.new ≡ read.old) }
-    {
-        self.automaton.content_after(
-            read,
-            self.states.as_slice(),
-            self.marks.as_mut_slice(),
-            kind,
-            start,
-            end,
-        )
-    }
-
     /// Returns the state.
     #[inline(always)]
     pub(crate) fn state(&self) -> yaml_parser_state_t
         ensures { result ≡ self.now.state }
     {
         state_of_number(self.automaton.state)
-    }
-
-    /// Has the function of the state take the next token.
-    #[inline(always)]
-    pub(crate) fn begin_call(&self, read: &mut Reading)
-        ensures wanted { purpose_of read.new ≡ AtState }
-        ensures at { IsAt (next_of read.new.next) self.now.state }
-        ensures kept { read.new ≡ record read.old { next = read.new.next } }
-    {
-        read.at_state_of(&self.automaton);
     }
 
     /// Makes room after a step returned this, and returns whether there was memory. A step that pushes a mark

@@ -133,8 +133,10 @@ impl TokenParser {
         ensures content { result ≡ Action.AsksContent → GrowsAfter pending.new self.new token.now
             → may_grow (wanted pending.old) self.old token.now.content ≡ true }
     {
-        self.automaton.step(
+        self.automaton.automaton.step(
             &mut pending.reading,
+            self.automaton.states.as_mut_slice(),
+            self.automaton.marks.as_mut_slice(),
             token.type_(),
             &token.start_mark,
             &token.end_mark,

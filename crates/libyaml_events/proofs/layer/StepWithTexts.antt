@@ -28,10 +28,10 @@ use Rattle.libyaml_events.specs.declared.pending.Pending.{Pending}
 use Rattle.libyaml_events.specs.machine.Outcomes.{property_texts, texts_for, wanted}
 use Rattle.libyaml_events.specs.machine.Config.{Config, Handles, config_of, config_with}
 use Rattle.libyaml_events.specs.machine.Growth.{grows_for, joins, joins_before, joins_after_anchor, may_grow}
-use Rattle.libyaml_events.specs.machine.Machine.{content_after, content_resolved, put, resolve, step, with_texts}
+use Rattle.libyaml_events.specs.machine.Machine.{Progressed, content_after, content_resolved, put, resolve, step, with_texts}
 use Rattle.libyaml_events.specs.machine.Read.{PropertyTexts, DirectiveTexts}
 use Rattle.libyaml_events.specs.machine.Want.{Texts}
-use Rattle.libyaml_events.specs.automaton.AutomatonResults.{GrowsAfter, IsHeld, IsPlain, FollowsAutomaton, SaysIn}
+use Rattle.libyaml_events.specs.automaton.AutomatonResults.{GrowsAfter, IsHeld, IsPlain, FollowsAutomaton, PutIn, SaysIn}
 use Rattle.libyaml_events.specs.automaton.View.{Ready}
 
 -- What a step does with texts hangs on the handles, the error and the lookahead, which the automaton leaves alone.
@@ -68,6 +68,15 @@ pub says_texts : (hs : Handles) (f : Fault) (o : Option yaml_token_t) (a b : aut
 says_texts hs f o a b h t s NothingDone e = tt
 says_texts hs f o a b h t s (Does x) e
     = ap (λ (y : automaton.Step). with_texts h (config_with a hs f o) t t.content y) e ∙ with_same hs f o a b h t t.content x
+
+-- and for the content after properties
+pub says_content : (hs : Handles) (f : Fault) (o : Option yaml_token_t) (a b : automaton_config.Stacks) (c : Config) (h : Texts)
+    (t : yaml_token_t) (anchor tag : Option (List ℕ)) (out : Progressed) (s : automaton.Step) (x : Outcome)
+    → config_with a hs f o ≡ c → IsOutcome s x → out ≡ put h anchor tag c t t.content s
+    → PutIn out h anchor tag (config_with b hs f o) t x
+says_content hs f o a b c h t anchor tag out s NothingDone ec e i = tt
+says_content hs f o a b c h t anchor tag out s (Does y) ec e i = i ∙ ap (put h anchor tag c t t.content) e
+    ∙ sym (ap (λ (z : Config). put h anchor tag z t t.content y) ec) ∙ put_same hs f o a b h t t.content anchor tag y
 
 -- A property is read: it is held with the other one, where that is this node's.
 abbrev AnchorIn : PropertyTexts → DirectiveTexts → List ℕ → Texts → automaton.Step → Type 0

@@ -16,7 +16,7 @@ impl TokenParser {
         ensures wanted { wanted pending.new ≡ AtState }
         ensures ready { Ready pending.new self.now }
     {
-        self.automaton.begin_call(&mut pending.reading);
+        pending.reading.at_state_of(&self.automaton.automaton);
     }
 
     /// Does nothing. The lookahead is not in the machine.

@@ -34,7 +34,9 @@ impl TokenParser {
         }
     }
 
-    /// Puts the call's first token into `lookahead`: the one that stays there, or else the source's.
+    /// Puts the call's first token into `lookahead`: the one that stays there, or else the source's. For a
+    /// further token the loop calls `ask_source`: to ask at each token whether one stays takes 1 in 100
+    /// instructions more.
     pub(crate) fn next_token<S: yaml_token_source_t>(
         &mut self,
         source: &mut S,

@@ -223,8 +223,10 @@ impl TokenParser {
             → opens_at (place_of pending.old.reading.place) (token_type token.now.content) ≡ true }
         ensures undone { result ≡ Action.FullMarks → (self.new ≡ self.old) × (pending.new ≡ pending.old) }
     {
-        self.automaton.content_after(
+        self.automaton.automaton.content_after(
             &mut pending.reading,
+            self.automaton.states.as_slice(),
+            self.automaton.marks.as_mut_slice(),
             kind,
             &token.start_mark,
             &token.end_mark,

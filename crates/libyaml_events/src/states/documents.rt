@@ -241,8 +241,12 @@ impl TokenParser {
         ensures handle { result ≡ Action.AsksHandle
             → may_grow (wanted pending.old) self.old token.now.content ≡ true }
     {
-        self.automaton
-            .document_step(&mut pending.reading, token.type_(), &token.start_mark)
+        self.automaton.automaton.document_step(
+            &mut pending.reading,
+            self.automaton.states.as_mut_slice(),
+            token.type_(),
+            &token.start_mark,
+        )
     }
 
     /// Puts the event that the step led to, with its texts.
