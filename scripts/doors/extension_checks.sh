@@ -8,8 +8,8 @@
 # Tokens, events, nodes, values and errors beside those of PyYAML's C loaders, with all fields and marks: over the repository's
 # own texts, and YAML files below /usr and /opt; how much of a stream has been read when each comes; each allocation of Python's and
 # of libc's refused in turn; deep texts and bounds, drawn tag directives, calls in any order, loaders that are called while they
-# are at work, a second interpreter, cycles and leaks. With `all` there are
-# more files, deeper texts, and each text has its allocations refused. The status is 0 if all is as it should be.
+# are at work, a second interpreter, cycles and leaks; what others put in the place of PyYAML's functions. With `all` there are more
+# files, deeper texts, and each text has its allocations refused. The status is 0 if all is as it should be.
 #
 # PYTHON is python3 if it isn't set. Needs what build_extension.sh needs, and PyYAML with its C form for that Python. If the
 # Python has no _testcapi, its allocations are not refused, and the script says so.
@@ -102,5 +102,10 @@ check "one of libc's allocations refused" env LD_PRELOAD="$work/fail_allocation.
 
 check "deep texts, calls from within, cycles, leaks" "$python" $here/hostile.py $levels
 check_turned "bad hands" "$python" $here/hostile.py --turned 100
+
+# ---- In the place of PyYAML's functions ----
+
+check "others' classes, functions, rules and tags" "$python" $here/shortcuts.py
+check_turned "others' classes" "$python" $here/shortcuts.py --turned
 echo "$wrong wrong"
 [ $wrong -eq 0 ]

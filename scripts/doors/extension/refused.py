@@ -36,6 +36,7 @@ TEXTS = [
 ]
 READINGS = {
     "node": (lambda source: [pokhvizi.CBaseLoader(source).get_single_node()], nodes),
+    "tags": (lambda source: [pokhvizi.CSafeLoader(source).get_single_node()], nodes),
     "events": (lambda source: list(iter(pokhvizi.CBaseLoader(source).get_event, None)), fields),
     "tokens": (lambda source: list(iter(pokhvizi.CBaseLoader(source).get_token, None)), fields),
 }

@@ -238,7 +238,6 @@ static void begin_document(struct document *document, parser_object *parser)
     document->count = 0;
     document->anchors = NULL;
     document->hooks = (struct hooks){0};
-    document->resolved = (struct resolved){0};
     pokhvizi_composer_new(&document->composer, (uint32_t)parser->max_nodes);
     pokhvizi_size_new(&document->size, parser->max_expanded);
 }
@@ -247,16 +246,13 @@ static void begin_document(struct document *document, parser_object *parser)
 static void end_document(struct document *document)
 {
     forget_nodes(document);
-    forget_resolved(&document->resolved);
     if (document->stack != document->first_stack)
         PyMem_Free(document->stack);
     if (document->entries != document->first_entries)
         PyMem_Free(document->entries);
     if (document->sizes != document->first_sizes)
         PyMem_Free(document->sizes);
-    Py_XDECREF(document->hooks.resolve);
-    Py_XDECREF(document->hooks.descend);
-    Py_XDECREF(document->hooks.ascend);
+    forget_hooks(&document->hooks);
 }
 
 static PyObject *compose_events(struct document *document)

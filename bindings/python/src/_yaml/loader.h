@@ -7,7 +7,9 @@
  *     tokens.c     libyaml's tokens: their facts, what is held of them, PyYAML's objects
  *     events.c     steps from tokens to events, and PyYAML's objects
  *     documents.c  events composed to a document
- *     nodes.c      PyYAML's nodes, and their tags
+ *     nodes.c      PyYAML's nodes
+ *     tags.c       their tags, where a text has none
+ *     known.c      functions of PyYAML's that the two files above need not call
  *     marks.c      the type Mark
  *     faults.c     PyYAML's errors
  *     objects.c    what the C API of Python takes more than a line for
@@ -37,7 +39,13 @@
 enum {
     TOKENS = YAML_SCALAR_TOKEN + 1,
     EVENTS = YAML_MAPPING_END_EVENT + 1,
-    STYLES = YAML_FOLDED_SCALAR_STYLE + 1
+    STYLES = YAML_FOLDED_SCALAR_STYLE + 1,
+    NODE_FIELDS = 5
+};
+
+/* A function of PyYAML's that does what is known of it, and its code; NULL if PyYAML has another. */
+struct known {
+    PyObject *function, *code;
 };
 
 /* What is of PyYAML, and what is made once. Nothing of it is let go. */
@@ -46,15 +54,23 @@ struct kept {
     PyObject *yaml_error, *reader_error, *scanner_error, *parser_error, *composer_error;
     PyObject *scalar_node, *sequence_node, *mapping_node;
     PyObject *tokens[TOKENS], *events[EVENTS]; /* classes, by libyaml's numbers */
-    PyObject *resolve, *descend_resolver, *ascend_resolver; /* BaseResolver's own */
+    PyObject *resolver, *resolve, *descend_resolver, *ascend_resolver; /* BaseResolver, and its own */
+    struct known known_resolve, known_scalar_init, known_collection_init;
+    newfunc plain_new; /* those of a class that has no such methods of its own */
+    setattrofunc plain_setattr;
+    PyObject *pattern; /* re.Pattern */
+    PyObject *no_arguments;
     PyObject *styles[STYLES]; /* texts, by yaml_scalar_style_t */
     PyObject *implicits[2][2]; /* pairs of truth values: plain, quoted */
     /* Names of attributes, made once, since Python's cache of attributes goes by their addresses. */
     struct {
         PyObject *read, *name, *resolve, *descend_resolver, *ascend_resolver, *yaml_path_resolvers, *function,
-            *start_mark, *end_mark, *max_depth, *max_nodes, *max_expanded, *strict_libyaml;
+            *start_mark, *end_mark, *max_depth, *max_nodes, *max_expanded, *strict_libyaml, *init, *code,
+            *match, *yaml_implicit_resolvers, *default_scalar_tag, *default_sequence_tag, *default_mapping_tag;
     } names;
+    PyObject *scalar_names[NODE_FIELDS], *collection_names[NODE_FIELDS]; /* of what nodes have, in order */
     int is_new; /* Python is 3.9 or later */
+    int has_late_collector; /* Python is 3.12 or later: it collects garbage between steps of its own code alone */
 };
 
 extern struct kept its;
@@ -103,6 +119,21 @@ PyObject *give_none(PyObject *object, PyObject *nothing);
  * or NULL. */
 int grow(void *array, void *first, size_t *room, size_t least, size_t size);
 
+/* ---- Known functions ---- */
+
+/* Finds which of PyYAML's functions are those that are known. */
+int find_known(void);
+
+/* Whether a function is a known one, as it was found. */
+int is_known(const struct known *known, PyObject *function);
+
+/* Whether an object of a class may be made of its attributes: a call of the class does `known`, and no more. */
+int is_plain_class(PyObject *class, const struct known *known);
+
+/* Makes an object of such a class, with `count` attributes, which it takes. One that is NULL is an error that
+ * is set. */
+PyObject *make_plain(PyObject *class, size_t count, PyObject *const *names, PyObject *const *values);
+
 /* ---- The parser ---- */
 
 /* A text, bytes, or a file. */
@@ -129,6 +160,15 @@ struct directives {
     size_t count, room, length, texts_room;
 };
 
+/* A plain scalar, and the tag that the loader resolves for it by these rules. */
+struct resolved {
+    PyObject *value;  /* NULL where there is none */
+    PyObject *tag;    /* NULL: that of each scalar to which no rule applies */
+    PyObject *rules;  /* a tuple of those for its first character, or NULL if there are none */
+    size_t length;
+    char text[24];
+};
+
 /* Whether a call may begin: no stream yet; yes; another call is at work; one has failed. */
 enum standing { UNBORN, READY, BUSY, BROKEN };
 
@@ -151,6 +191,7 @@ typedef struct {
     size_t states_room, marks_room;
     size_t max_depth, max_nodes; /* what may be open at once; what each list of a document may have */
     size_t max_expanded; /* how many nodes a document may have with its aliases written out */
+    struct resolved *resolved; /* scalars, each at the place that its text says; NULL before the first */
 } parser_object;
 
 extern PyType_Spec parser_spec;
@@ -240,24 +281,13 @@ struct entry {
     PyObject *node, *children;
 };
 
-/* A plain scalar of the document, and the tag that the loader has resolved for it. */
-struct known {
-    PyObject *value, *tag; /* NULL where there is none */
-    size_t length;
-    char text[24];
-};
-
 /* What the loader does about nodes. */
 struct hooks {
     PyObject *resolve;
     PyObject *descend, *ascend; /* NULL where they have nothing to do */
-    int is_pure; /* `resolve` is PyYAML's own, and goes by its arguments alone */
-};
-
-/* What `resolve` has said, where it goes by its arguments alone. */
-struct resolved {
-    PyObject *tags[EVENTS]; /* of a node that is no plain scalar, by kinds of events, or NULL */
-    struct known *known; /* scalars, each at the place that its text says; NULL before the first */
+    int scalars_are_plain, collections_are_plain; /* their `__init__` need not be called */
+    PyObject *rules; /* a dict of `resolve`'s rules; NULL if that has to be called */
+    PyObject *tags[EVENTS]; /* of nodes to which no rule applies, by kinds of events; NULL before the first */
 };
 
 /* What is kept while a document is composed. */
@@ -272,7 +302,6 @@ struct document {
     size_t sizes_room;
     PyObject *anchors; /* ids by texts, or NULL before the first */
     struct hooks hooks;
-    struct resolved resolved;
 };
 
 /* Composes the events up to a document's end, or the stream's. Returns the document's root, or None. */
@@ -280,12 +309,24 @@ PyObject *compose_document(parser_object *parser);
 
 /* ---- Nodes ---- */
 
-int find_hooks(struct document *document);
-
 /* The node of the event at hand; of a collection without children, and their list. */
 PyObject *make_node(struct document *document, PyObject **children);
 
-/* Gives back what resolving took. */
-void forget_resolved(struct resolved *resolved);
+/* ---- Tags ---- */
+
+/* Finds the loader's hooks. PyYAML's own ones go by its resolvers of paths, if it has any. */
+int find_hooks(struct document *document);
+
+/* Lets them go. */
+void forget_hooks(struct hooks *hooks);
+
+/* The tag of the collection at hand, of this class. */
+PyObject *collection_tag(struct document *document, PyObject *class);
+
+/* Puts the tag and the value of the scalar at hand. */
+int find_scalar(struct document *document, PyObject **tag, PyObject **value);
+
+/* Gives back what the parser has kept of tags. */
+void forget_resolved(parser_object *parser);
 
 #endif
