@@ -6,9 +6,10 @@
 # DIR has the libraries that build_c.sh made there. Each line has the median of the ratios of TURNS turns (21; of PyYAML a
 # third as many), in which the two run one after another, by processor time: best if nothing else runs. The text has 350 KB,
 # examples/compose.yaml as many documents. psych reads the YAML files of this machine, SAMPLE at most (2000), and then that
-# text ten times.
+# text ten times. PyYAML's C loaders load ten times that text, by a loader for all documents and by one for each, and a text
+# that has the same in one document, by nodes alone too.
 #
-# Needs a C compiler, cargo, Debian's libyaml-dev, ruby and python3-yaml, and the crate unsafe-libyaml 0.2.11 in the folder
+# Needs a C compiler, cargo, Debian's libyaml-dev, python3-dev, ruby and python3-yaml, and the crate unsafe-libyaml 0.2.11 in the folder
 # that CLIENT_CRATES names, /usr/share/cargo/registry if it isn't set. PYTHON and RUBY are Debian's.
 set -eu
 case ${1-} in '' | -*) echo "usage: sh bench/clients.sh DIR [TURNS]" >&2; exit 2 ;; esac
@@ -81,3 +82,32 @@ PYTHON
 cp -R bindings/python/src/pokhvizi "$work"
 "$python" bench/paired.py "$(((turns + 2) / 3))" "PyYAML's loader in Python" "$python $work/load.py proved $work/text.yaml" \
     "$python $work/load.py plain $work/text.yaml"
+
+PYTHON_INCLUDE=${PYTHON_INCLUDE:-$("$python" -c 'import sysconfig; print(sysconfig.get_path("include"))')} \
+    sh bindings/python/build_extension.sh "$dir"
+cp "$dir/_yaml.abi3.so" "$work/pokhvizi"
+cat > "$work/load_c.py" << 'PYTHON'
+import sys
+import yaml
+import pokhvizi
+loader = {"proved": pokhvizi.CSafeLoader, "plain": yaml.CSafeLoader}[sys.argv[1]]
+with open(sys.argv[3]) as file:
+    text = file.read()
+acts = {
+    "documents": lambda: list(yaml.load_all(text, Loader=loader)),
+    "loaders": lambda: [yaml.load(document, Loader=loader) for document in text.split("---\n")],
+    "list": lambda: yaml.load(text, Loader=loader),
+    "nodes": lambda: yaml.compose(text, Loader=loader).value,
+}
+for _ in range(10):
+    assert len(acts[sys.argv[2]]()) >= 600
+PYTHON
+for number in $(seq 600); do
+    echo "- # $number"
+    sed "/^#/d; s/logging/logging$number/g; s/^/  /" examples/compose.yaml
+done > "$work/list.yaml"
+for what in documents loaders list nodes; do
+    case $what in list | nodes) text=$work/list.yaml ;; *) text=$work/text.yaml ;; esac
+    "$python" bench/paired.py "$(((turns + 2) / 3))" "PyYAML's C loader, $what" \
+        "$python $work/load_c.py proved $what $text" "$python $work/load_c.py plain $what $text"
+done
