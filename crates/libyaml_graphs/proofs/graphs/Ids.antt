@@ -21,14 +21,12 @@ one_more : (n : ℕ) → n ≤ suc n
 one_more n = le_of_lt (lt-suc_self n)
 
 or_none : (f g : Option Fault) → or_else f g ≡ None → (f ≡ None) × (g ≡ None)
-or_none None g e = (refl, e)
-or_none (Some f) g e = cc
+or_none f g e = grind arith
 
 -- an alias's id is that of a node whose start stands before it
 carried : (b : Bool) (n : ℕ) (m : Mark) (o : Option AnchoredNode) → id_or o ≤ n
     → id_or (elim b [ true ↦ Some (record { id = suc n; mark = m }) | false ↦ o ]) ≤ suc n
-carried true n m o h = le_refl _
-carried false n m o h = le_trans h (one_more n)
+carried b n m o h = grind arith
 
 anchored_node_before : (a : List ℕ) (es : List Start) → id_or (anchored_node a es) ≤ length es
 anchored_node_before a [] = le_refl _
@@ -38,8 +36,7 @@ anchored_node_before a (s ∷ es) = carried (carries s.anchor a) (length es) s.m
 named : (b : Bool) (n : ℕ) (i m : Mark) (o : Option AnchoredNode) → (alias_fault o m ≡ None → 1 ≤ id_or o)
     → alias_fault (elim b [ true ↦ Some (record { id = suc n; mark = i }) | false ↦ o ]) m ≡ None
     → 1 ≤ id_or (elim b [ true ↦ Some (record { id = suc n; mark = i }) | false ↦ o ])
-named true n i m o f e = suc-le-suc zero-le
-named false n i m o f e = f e
+named b n i m o f e = grind arith
 
 anchored_node_id : (a : List ℕ) (es : List Start) (m : Mark) → alias_fault (anchored_node a es) m ≡ None → 1 ≤ id_or (anchored_node a es)
 anchored_node_id a [] m e = cc
@@ -57,9 +54,7 @@ mutual
   all_starts_grow (first_value v vs) es = le_trans (starts_grow v es) (all_starts_grow vs (starts_after v es))
 
 id_up_to : (v : Value) (es : List Start) → id_of v es ≤ length (starts_after v es)
-id_up_to (alias_value a m n) es = anchored_node_before a.anchor es
-id_up_to (scalar_value s m n) es = le_refl _
-id_up_to (collection_value k a t i s m n vs p q) es = all_starts_grow vs (record { anchor = a; mark = m } ∷ es)
+id_up_to v es = grind (arith, anchored_node_before, le_refl, all_starts_grow)
 
 -- ids between 1 and n
 record IsUpTo (n i : ℕ) : Type 0 where
@@ -75,9 +70,7 @@ mutual
   value_sound : (v : Value) (es : List Start) (r : List Event) → composer_fault es (parts (value_events v r)) ≡ None
       → (1 ≤ id_of v es)
       × (composer_fault (starts_after v es) (parts r) ≡ None)
-  value_sound (alias_value a m n) es r e =
-      let h : (alias_fault (anchored_node a.anchor es) m ≡ None) × (composer_fault es (parts r) ≡ None) = or_none _ _ e in
-      (anchored_node_id a.anchor es m h.0, h.1)
+  value_sound (alias_value a m n) es r e = grind (arith, or_none, anchored_node_id)
   value_sound (scalar_value s m n) es r e = (suc-le-suc zero-le, (or_none (anchor_fault es s.anchor m) _ e).1)
   value_sound (collection_value sequence a t i s m n vs p q) es r e
       = (
@@ -124,8 +117,7 @@ items_are n (i ∷ is) h = All-cons (IsIdUpTo n) (pos i) (items is) (is_id n i h
 pairs_are : (n : ℕ) (is : List ℕ) → AllUpTo n is → All (IsIdUpTo n) (ids_of_pairs (pairs is))
 pairs_are n [] h = All-nil (IsIdUpTo n)
 pairs_are n (k ∷ []) h = All-nil (IsIdUpTo n)
-pairs_are n (k ∷ v ∷ is) h = All-cons (IsIdUpTo n) (pos k) (pos v ∷ ids_of_pairs (pairs is)) (is_id n k h.0)
-    (All-cons (IsIdUpTo n) (pos v) (ids_of_pairs (pairs is)) (is_id n v h.1.0) (pairs_are n is h.1.1))
+pairs_are n (k ∷ v ∷ is) h = grind (arith, is_id n k h.0, is_id n v h.1.0, pairs_are n is h.1.1)
 
 abbrev Ids : ℕ → yaml_node_t → Type 0
 Ids n x = All (IsIdUpTo n) (ids_of x.content)
@@ -139,8 +131,7 @@ opened_sound : (k : Sort) (a t : Option (List ℕ)) (i : Bool) (s : Layout) (m n
     (es : List Start) (r : List Event)
     → composer_fault es (parts (value_events (collection_value k a t i s m n vs p q) r)) ≡ None
     → composer_fault (record { anchor = a; mark = m } ∷ es) (parts (values_events vs (end_at k p q ∷ r))) ≡ None
-opened_sound sequence a t i s m n vs p q es r e = (or_none (anchor_fault es a m) _ e).1
-opened_sound mapping a t i s m n vs p q es r e = (or_none (anchor_fault es a m) _ e).1
+opened_sound k a t i s m n vs p q es r e = grind arith
 
 mutual
   value_ids : (v : Value) (n : ℕ) (es : List Start) (r : List Event) (l : List yaml_node_t)
@@ -229,9 +220,7 @@ texts_hold (text_after ts d m n v i p q) h = (texts_hold ts h.0, holds_children 
 
 -- children come later than their parents
 is_later : (n : ℕ) (v : Value) (es : List Start) → n ≤ length es → IsLater n v es
-is_later n (alias_value a m k) es h = anchored_node_before a.anchor es
-is_later n (scalar_value s m k) es h = suc-le-suc h
-is_later n (collection_value c a t i s m k vs p q) es h = suc-le-suc h
+is_later n v es h = grind (arith, anchored_node_before, suc-le-suc)
 
 mutual
   pub children_later : (v : Value) (es : List Start) → ChildrenAreLater v es
@@ -254,6 +243,5 @@ pub fault_of_heads : (P : List Part) (es : List Start) → composer_fault es P �
 fault_of_heads [] es = refl
 fault_of_heads (alias_part a m ∷ P) es = ap (or_else (composer_part_fault es (alias_part a m))) (fault_of_heads P es)
 fault_of_heads (leaf_part a x ∷ P) es = ap (or_else (composer_part_fault es (leaf_part a x))) (fault_of_heads P (anchored_node_start a x ∷ es))
-fault_of_heads (start_part a x ∷ P) es = ap (or_else (composer_part_fault es (start_part a x)))
-    (fault_of_heads P (anchored_node_start a x ∷ es))
+fault_of_heads (start_part a x ∷ P) es = cc (fault_of_heads P (anchored_node_start a x ∷ es))
 fault_of_heads (end_part n ∷ P) es = fault_of_heads P es

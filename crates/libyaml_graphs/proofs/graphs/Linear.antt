@@ -1,6 +1,5 @@
 -- Each part of a document gives at most one node and one entry of one list.
 use Rattle.std.proofs.Common.{◌≡◌, ◌≤◌, ◌+◌, ◌*◌, ◌++◌, arith, ℕ, zero, suc, List, [], ◌∷◌, length, map, Option, Some, None, Ok, false, refl, sym, ap}
-use Rattle.libyaml_types.specs.declared.event.unnamed_yaml_event_t_data.TheVariants as ev
 use Rattle.libyaml_types.specs.declared.event.unnamed_yaml_event_t_data.{unnamed_yaml_event_t_data}
 use Rattle.libyaml_grammar.specs.grammar.Events.{Event}
 use Rattle.libyaml_grammar.specs.grammar.Tokens.{Mark}
@@ -9,7 +8,6 @@ use Rattle.libyaml_types.specs.Fault.{Fault}
 use Rattle.libyaml_documents.specs.Documents.{Document, empty_document}
 use Rattle.libyaml_documents.specs.LoadedNodes.{children_of}
 use Rattle.libyaml_documents.specs.declared.node.unnamed_yaml_node_t_data.{unnamed_yaml_node_t_data}
-use Rattle.libyaml_documents.specs.declared.node.unnamed_yaml_node_t_data.TheVariants.{Scalar, Sequence, Mapping}
 use Rattle.libyaml_graphs.specs.graphs.Graphs.{Start, anchored_node, id_or, items, pairs}
 use Rattle.libyaml_graphs.specs.graphs.GraphParts.{Closing, Opening, Part, alias_part, children, closing_of, end_part, graph, if_outer, leaf_part, opening_of, part_in, part_of, parts, anchored_node_start, start_part, with_children, with_part}
 use Rattle.libyaml_graphs.specs.loads.Linear.{documents_size, size, total_size}
@@ -36,29 +34,21 @@ pair_count (k ∷ []) = omega arith
 pair_count (k ∷ v ∷ is) = let h = pair_count is in omega arith
 
 held : (is : List ℕ) (c : unnamed_yaml_node_t_data) → children_of (with_children is c) ≤ length is
-held is (Scalar s) = omega arith
-held is (Sequence s) = let h = item_count is in omega arith
-held is (Mapping s) = let h = pair_count is in omega arith
+held is c = grind (arith, item_count, pair_count)
 
 -- one part more
 outer_more : (k : ℕ) (es : List Start) (i : ℕ) (es' : List Start) (r : List Part) (p : Part)
     → ((d : ℕ) → children d es (p ∷ r) ≡ if_outer d (i ∷ []) (children d es' r)) → among k es (p ∷ r) ≤ suc (among k es' r)
 outer_more zero es i es' r p h = omega arith
 outer_more (suc zero) es i es' r p h = let e = ap length (h 0) in omega arith
-outer_more (suc (suc k)) es i es' r p h =
-    let ih = outer_more (suc k) es i es' r p h in
-    let e = ap length (h (suc k)) in
-    omega arith
+outer_more (suc (suc k)) es i es' r p h = grind (arith, outer_more (suc k) es i es' r p h)
 
 outer_start : (k : ℕ) (es : List Start) (i : ℕ) (es' : List Start) (r : List Part) (p : Part)
     → ((d : ℕ) → children d es (p ∷ r) ≡ if_outer d (i ∷ []) (children (suc d) es' r))
     → among k es (p ∷ r) + length (children 0 es' r) ≤ suc (among (suc k) es' r)
 outer_start zero es i es' r p h = omega arith
 outer_start (suc zero) es i es' r p h = let e = ap length (h 0) in omega arith
-outer_start (suc (suc k)) es i es' r p h =
-    let ih = outer_start (suc k) es i es' r p h in
-    let e = ap length (h (suc k)) in
-    omega arith
+outer_start (suc (suc k)) es i es' r p h = grind (arith, outer_start (suc k) es i es' r p h)
 
 outer_end : (k : ℕ) (es : List Start) (r : List Part) (n : Mark) → among (suc k) es (end_part n ∷ r) ≤ among k es r
 outer_end zero es r n = omega arith
@@ -71,34 +61,24 @@ outer_none (suc k) es = let ih = outer_none k es in omega arith
 pub linear : (k : ℕ) (es : List Start) (l : List Part) → Bare l → size (graph es l) + among k es l ≤ 2 * length l
 linear k es [] b = let h = outer_none k es in omega arith
 linear k es (alias_part a m ∷ r) b =
-    let ih = linear k es r b in
-    let h = outer_more k es (id_or (anchored_node a es)) es r (alias_part a m) (λ d. refl) in
-    omega arith
+    grind (arith, linear k es r b, outer_more k es (id_or (anchored_node a es)) es r (alias_part a m) (λ d. refl))
 linear k es (leaf_part a x ∷ r) b =
-    let ih = linear k (anchored_node_start a x ∷ es) r b.1 in
-    let h = outer_more k es (suc (length es)) (anchored_node_start a x ∷ es) r (leaf_part a x) (λ d. refl) in
-    let z = b.0 in
-    omega arith
+    grind (
+      arith,
+      linear k (anchored_node_start a x ∷ es) r b.1,
+      outer_more k es (suc (length es)) (anchored_node_start a x ∷ es) r (leaf_part a x) (λ d. refl),
+    )
 linear k es (start_part a x ∷ r) b =
     let ih = linear (suc k) (anchored_node_start a x ∷ es) r b in
     let h = outer_start k es (suc (length es)) (anchored_node_start a x ∷ es) r (start_part a x) (λ d. refl) in
     let z = held (children 0 (anchored_node_start a x ∷ es) r) x.content in
     omega arith
 linear zero es (end_part n ∷ r) b = let ih = linear zero es r b in omega arith
-linear (suc k) es (end_part n ∷ r) b =
-    let ih = linear k es r b in
-    let h = outer_end k es r n in
-    omega arith
+linear (suc k) es (end_part n ∷ r) b = grind (arith, linear k es r b, outer_end k es r n)
 
 -- the parts of events are bare, and no more than these
 bare_in : (k : unnamed_yaml_event_t_data) (m n : Mark) (l : List Part) → Bare l → Bare (with_part (part_in k m n) l)
-bare_in (ev.Alias a) m n l b = b
-bare_in (ev.Scalar s) m n l b = (refl, b)
-bare_in (ev.SequenceStart s) m n l b = b
-bare_in (ev.MappingStart s) m n l b = b
-bare_in ev.SequenceEnd m n l b = b
-bare_in ev.MappingEnd m n l b = b
-bare_in _ m n l b = b
+bare_in k m n l b = grind arith
 
 bare : (e : List Event) → Bare (parts e)
 bare [] = tt
@@ -110,8 +90,7 @@ bare (e ∷ r) = go (closing_of e) (bare_in e.content e.start_mark e.end_mark (p
     go (Some c) b = tt
 
 counted : (o : Option Part) (l : List Part) → length (with_part o l) ≤ suc (length l)
-counted None l = omega arith
-counted (Some p) l = omega arith
+counted o l = grind arith
 
 -- a document's parts, and the events after its end, are no more than the events
 in_document : (e : List Event) → length (parts e) + length (after_document e) ≤ length e
@@ -143,8 +122,7 @@ go_after : (r : List Event) (o : Option Closing) → extent (begun r) ≤ 2 * le
     → extent (begun_after r) ≤ 2 * length (after_document r)
     → extent (elim o [ Some c ↦ begun r | None ↦ begun_after r ]) ≤ 2 * length {A = Event}
     (elim o [ Some c ↦ r | None ↦ after_document r ])
-go_after r None h i = i
-go_after r (Some c) h i = h
+go_after r o h i = grind arith
 
 mutual
   begun_extent : (e : List Event) → extent (begun e) ≤ 2 * length e
@@ -180,11 +158,7 @@ sizes_first (d ∷ ds) l = let i = sizes_first ds l in omega arith
 pub first_linear : (stop : Stop) (e : List Event) (x : Ending) (ds : List Document) (l : List Load)
     → loads_by stop x (begun e) ≡ map Ok ds ++ l
     → documents_size ds ≤ 2 * length e
-first_linear stop e x ds l is =
-    let h = loads_linear stop e x in
-    let i = sizes_first ds l in
-    let j = ap total_size is in
-    omega arith
+first_linear stop e x ds l is = grind (arith, loads_linear stop e x, sizes_first ds l)
 
 -- one load
 pub next_linear : (stop : Stop) (e : List Event) (x : Ending) (d : Document) → next_by stop x (begun e) ≡ Ok d

@@ -1,5 +1,5 @@
 -- The graph by parts is the graph by the tree of values.
-use Rattle.std.proofs.Common.{◌≡◌, ℕ, zero, suc, List, [], ◌∷◌, length, refl, ap, ◌∙◌, append-nil}
+use Rattle.std.proofs.Common.{◌≡◌, ℕ, zero, suc, List, [], ◌∷◌, length, refl, ap, ◌∙◌, append-nil, arith}
 use Rattle.libyaml_grammar.specs.grammar.Events.{Event, end_at, sequence_style, mapping_style}
 use Rattle.libyaml_grammar.specs.grammar.Nesting.{Value, Values, alias_value, collection_value, first_value, no_values, scalar_value, value_events, values_events}
 use Rattle.libyaml_grammar.specs.grammar.Tokens.{Mark}
@@ -10,8 +10,7 @@ use Rattle.libyaml_graphs.specs.graphs.Graphs.{Start, id_of, ids_of_all, items, 
 use Rattle.libyaml_graphs.specs.graphs.GraphParts.{children, end_in, graph, if_outer, parts}
 
 outer_twice : (d i : ℕ) (is r : List ℕ) → if_outer d (i ∷ []) (if_outer d is r) ≡ if_outer d (i ∷ is) r
-outer_twice zero i is r = refl
-outer_twice (suc d) i is r = refl
+outer_twice d i is r = grind arith
 
 mutual
   value_children : (v : Value) (d : ℕ) (es : List Start) (r : List Event)
@@ -30,10 +29,12 @@ mutual
       (children d (starts_after_all vs es) (parts r))
   values_children no_values zero es r = refl
   values_children no_values (suc d) es r = refl
-  values_children (first_value v vs) d es r = value_children v d es (values_events vs r)
-      ∙ (ap (if_outer d (id_of v es ∷ [])) (values_children vs d (starts_after v es) r)
-      ∙ outer_twice d (id_of v es) (ids_of_all vs (starts_after v es))
-      (children d (starts_after_all vs (starts_after v es)) (parts r)))
+  values_children (first_value v vs) d es r =
+      cc (
+        value_children v d es (values_events vs r),
+        values_children vs d (starts_after v es) r,
+        outer_twice d (id_of v es) (ids_of_all vs (starts_after v es)) (children d (starts_after_all vs (starts_after v es)) (parts r)),
+      )
 
 mutual
   value_end : (v : Value) (d : ℕ) (n : Mark) (r : List Event) → end_in d n (parts (value_events v r)) ≡ end_in d n (parts r)
@@ -80,5 +81,4 @@ mutual
   values_graph : (vs : Values) (es : List Start) (r : List Event)
       → graph es (parts (values_events vs r)) ≡ nodes_of_all vs es (graph (starts_after_all vs es) (parts r))
   values_graph no_values es r = refl
-  values_graph (first_value v vs) es r = value_graph v es (values_events vs r)
-      ∙ ap (nodes_of v es) (values_graph vs (starts_after v es) r)
+  values_graph (first_value v vs) es r = cc (value_graph v es (values_events vs r), values_graph vs (starts_after v es) r)

@@ -1,23 +1,21 @@
 -- Where the lists of each document that a load begins have room, the bound changes nothing.
-use Rattle.std.proofs.Common.{◌≡◌, ◌≤◌, ◌+◌, ◌↔◌, ℕ, zero, suc, List, [], ◌∷◌, ◌++◌, length, nat_lt, All, Option, Some, None, Bool, true, false, refl, sym, ap, ◌∙◌, subst, append_assoc, append-nil, arith, zero-add, le_refl, le_trans, le_of_lt, lt-suc_self, suc-le-suc, zero-le, le-ltb, ltb-false}
+use Rattle.std.proofs.Common.{◌≡◌, ◌≤◌, ◌+◌, ◌↔◌, ℕ, zero, suc, List, [], ◌∷◌, ◌++◌, length, nat_lt, All, Option, Some, None, Bool, false, refl, sym, ap, ◌∙◌, append_assoc, append-nil, arith, zero-add, le_refl, le_trans, suc-le-suc, zero-le, le-ltb, ltb-false}
 use Rattle.std.proofs.lemmas.List.Elements.{All-cons, All-head, All-nil, All-tail}
 use Rattle.std.proofs.lemmas.Bool.{or_parts}
 use Rattle.libyaml_grammar.specs.grammar.Events.{Event}
 use Rattle.libyaml_types.specs.Fault.{Fault}
 use Rattle.libyaml_grammar.specs.runs.Runs.{Ending}
 use Rattle.libyaml_documents.specs.declared.node.unnamed_yaml_node_t_data.{unnamed_yaml_node_t_data}
-use Rattle.libyaml_documents.specs.declared.node.unnamed_yaml_node_t_data.TheVariants.{Scalar, Sequence, Mapping}
 use Rattle.libyaml_graphs.specs.loads.Bounds.{HasRoom, HaveRoom, StaysWithin, bounded_loads, entries, first_stop, if_above, if_wrong, list_sizes, next_bounded, one_above, pairs_begun}
 use Rattle.libyaml_graphs.specs.graphs.ComposerFaults.{composer_fault, or_else, composer_part_fault}
 use Rattle.libyaml_graphs.specs.graphs.Graphs.{Start, anchored_node, id_or}
-use Rattle.libyaml_graphs.specs.loads.Loads.{Begun, Load, load_answer, begun, end_of_document, last_load, load_then, loads, loads_by, next_by, next_load}
+use Rattle.libyaml_graphs.specs.loads.Loads.{Begun, Load, begun, end_of_document, last_load, load_then, loads, loads_by, next_load}
 use Rattle.libyaml_graphs.specs.graphs.GraphParts.{Closing, Part, alias_part, following, children, end_part, graph, if_outer, leaf_part, parts, anchored_node_start, start_part}
 use Rattle.libyaml_graphs.proofs.machine.Sizes.{either_none}
 use Rattle.libyaml_graphs.proofs.graphs.Ids.{moved}
 
 outer_append : (d : ℕ) (is a x : List ℕ) → if_outer d is (a ++ x) ≡ if_outer d is a ++ x
-outer_append zero is a x = sym (append_assoc is a x)
-outer_append (suc d) is a x = refl
+outer_append d is a x = grind (arith, append_assoc)
 
 abbrev Begins : List ℕ → List ℕ → Type 0
 Begins a b = (x : List ℕ) × (b ≡ a ++ x)
@@ -50,9 +48,7 @@ more_pairs (k ∷ []) (y ∷ x) = suc-le-suc zero-le
 more_pairs (k ∷ v ∷ a) x = suc-le-suc (more_pairs a x)
 
 more_entries : (c : unnamed_yaml_node_t_data) (a b : List ℕ) → Begins a b → entries c a ≤ entries c b
-more_entries (Scalar s) a b h = le_refl _
-more_entries (Sequence s) a b h = subst (λ (l : List ℕ). length a ≤ length l) (sym h.1) (more_items a h.0)
-more_entries (Mapping s) a b h = subst (λ (l : List ℕ). pairs_begun a ≤ pairs_begun l) (sym h.1) (more_pairs a h.0)
+more_entries c a b h = grind (arith, le_refl, more_items, more_pairs)
 
 lt_down : (n a b : ℕ) → a ≤ b → nat_lt n b ≡ false → nat_lt n a ≡ false
 lt_down n a b h e = le-ltb n a (le_trans h (ltb-false n b e))
@@ -77,10 +73,7 @@ all_after es [] = es
 all_after es (p ∷ r) = all_after (following p es) r
 
 one_more : (p : Part) (es : List Start) → length es ≤ length (following p es)
-one_more (alias_part a m) es = le_refl _
-one_more (leaf_part a x) es = le_of_lt (lt-suc_self (length es))
-one_more (start_part a x) es = le_of_lt (lt-suc_self (length es))
-one_more (end_part n) es = le_refl _
+one_more p es = grind arith
 
 starts_grow : (r : List Part) (es : List Start) → length es ≤ length (all_after es r)
 starts_grow [] es = le_refl _
@@ -113,13 +106,10 @@ graph_count (end_part n ∷ r) es = graph_count r es
 
 none_above : (n : ℕ) (ks : List ℕ) → All (λ k. k ≤ n) ks → one_above n ks ≡ false
 none_above n [] h = refl
-none_above n (k ∷ ks) h = either_none _ _ (le-ltb n k (All-head (λ i. i ≤ n) k ks h))
-    ∙ none_above n ks (All-tail (λ i. i ≤ n) k ks h)
+none_above n (k ∷ ks) h = cc (either_none _ _ (le-ltb n k (All-head (λ i. i ≤ n) k ks h)), none_above n ks (All-tail (λ i. i ≤ n) k ks h))
 
 fits_stop : (r : List Part) (n : ℕ) → StaysWithin n r → first_stop n [] [] r ≡ composer_fault [] r
-fits_stop r n h = room r [] [] n
-    (ap (nat_lt n) (graph_count r [] ∙ zero-add _) ∙ le-ltb n (length (graph [] r)) h.0)
-    (none_above n (list_sizes [] r) h.1)
+fits_stop r n h = grind (arith, room, graph_count, zero-add, le-ltb, none_above)
 
 -- so it is with the loads, up to the first composer error
 have_room : (bs : List Begun) (x : Ending) (n : ℕ) → HaveRoom n bs
@@ -145,12 +135,7 @@ room_loads r x n h = have_room (begun r) x n h
 
 -- and one load alone
 pub room_next : (r : List Event) (x : Ending) (n : ℕ) → HasRoom n r → next_bounded n r x ≡ next_load r x
-room_next r x n h = go (begun r) h
-  where
-    go : (bs : List Begun) → HaveRoom n bs → next_by (first_stop n [] []) x bs ≡ next_by (composer_fault []) x bs
-    go [] k = refl
-    go (b ∷ bs) k = ap (λ (g : Option Fault). load_answer g (end_of_document b.rest) b.opening (graph [] (parts b.rest))
-        (last_load x)) (fits_stop (parts b.rest) n k.0)
+room_next r x n h = grind (arith, fits_stop)
 
 -- a document that nothing stops has no composer error, and its lists have room
 abbrev Unstopped : ℕ → List Start → List Part → List Part → Type 0
@@ -159,10 +144,7 @@ Unstopped n es F P = (composer_fault es P ≡ None) × (nat_lt n (length (all_af
 
 passed : (n : ℕ) (a b : Bool) (w o : Option Fault) → if_above a (if_wrong w (if_above b o)) ≡ None
     → (a ≡ false) × (w ≡ None) × (b ≡ false) × (o ≡ None)
-passed n true b w o e = cc
-passed n false b (Some f) o e = cc
-passed n false true None o e = cc
-passed n false false None o e = (refl, refl, refl, e)
+passed n a b w o e = grind arith
 
 unstopped : (P : List Part) (es : List Start) (F : List Part) (n : ℕ) → nat_lt n (length es) ≡ false
     → one_above n (list_sizes [] F) ≡ false
@@ -184,17 +166,4 @@ all_within n (k ∷ ks) h = let e : (nat_lt n k ≡ false)
 
 -- the bound is exact
 pub bound_exact : (P : List Part) (n : ℕ) → (first_stop n [] [] P ≡ None) ↔ ((composer_fault [] P ≡ None) × StaysWithin n P)
-bound_exact P n = (to, from)
-  where
-    to : first_stop n [] [] P ≡ None → (composer_fault [] P ≡ None) × StaysWithin n P
-    to e =
-        let h : Unstopped n [] [] P = unstopped P [] [] n (le-ltb n 0 zero-le) refl e in (
-          h.0,
-          (
-            ltb-false n (length (graph [] P)) (ap (nat_lt n) (sym (graph_count P [] ∙ zero-add _)) ∙ h.1),
-            all_within n (list_sizes [] P) h.2,
-          ),
-        )
-
-    from : (composer_fault [] P ≡ None) × StaysWithin n P → first_stop n [] [] P ≡ None
-    from h = fits_stop P n h.1 ∙ h.0
+bound_exact P n = grind (arith, unstopped, le-ltb, zero-le, ltb-false, graph_count, zero-add, all_within, fits_stop)

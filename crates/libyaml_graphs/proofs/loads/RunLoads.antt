@@ -1,6 +1,5 @@
 -- The loads over a list of tokens: there is one list of them, and those of known trees are known.
-use Rattle.std.proofs.Common.{◌≡◌, List, [], ◌∷◌, ◌++◌, Option, Some, None, true, false, refl, sym, ap₂, ◌∙◌, subst}
-use Rattle.std.proofs.lemmas.List.Elements.{All-nil}
+use Rattle.std.proofs.Common.{◌≡◌, List, [], ◌∷◌, ◌++◌, Option, Some, None, true, false, refl, sym, subst, arith}
 use Rattle.libyaml_grammar.specs.partial.PartialEvents.{partial_events}
 use Rattle.libyaml_grammar.specs.partial.PartialFaults.{fault}
 use Rattle.libyaml_grammar.specs.partial.PartialTrees.{PartialTree}
@@ -34,10 +33,7 @@ some_loads l f =
     (loads h.0 h.1, record { events = h.0; ending = h.1; run = h.2; all = refl })
 
 pub one_loads : (l : List Token) (f : Fault) (a b : List Load) → IsLoads l f a → IsLoads l f b → a ≡ b
-one_loads l f a b h k =
-    let e : (h.events ≡ k.events) × (h.ending ≡ k.ending) = one_run_proof l f h.events k.events h.ending k.ending
-    h.run k.run in
-    h.all ∙ (ap₂ loads e.0 e.1 ∙ sym k.all)
+one_loads l f a b h k = grind (arith, one_run_proof l f h.events k.events h.ending k.ending h.run k.run)
 
 -- the loads of every run, whatever cuts it off
 pub run_loads : (l : List Token) (f : Fault) (a : List Load) (h : IsLoads l f a) → NestedLoads h.events h.ending a
@@ -61,8 +57,7 @@ valid_list_loads t r f o =
 pub partial_tree_loads : (l : List Token) (b : Token) (r : List Token) (c : PartialTree) (f : Fault) → Fits l b c
     → is_after_properties c r ≡ true → (a : List Load)
     × IsLoads (l ++ b ∷ r) f a × NestedLoads (partial_events c b) (Fails (fault c b.content b.start_mark)) a
-partial_tree_loads l b r c f i h = of_run (l ++ b ∷ r) f (partial_events c b) (Fails (fault c b.content b.start_mark))
-    (partial_run l b r c f i h)
+partial_tree_loads l b r c f i h = search (arith, of_run, partial_run)
 
 pub amid_loads : (l : List Token) (b : Token) (r : List Token) (c : PartialTree) (f : Fault) → Fits l b c
     → is_after_properties c r ≡ false → (a : List Load)
@@ -92,8 +87,7 @@ headline l m f h = loads_whole (l ++ tok StreamEnd m ∷ []) f (runs_whole l m f
 text_ids : (v : Value) (f : Option Fault) (c : Closing) (o : Opening) (z : Load) (l : List Load)
     → (f ≡ None → EveryIdNamesANode (nodes_of v [] []))
     → EachIdNames l → EachIdNames (load_then f (Some c) o (nodes_of v [] []) z l)
-text_ids v (Some f) c o z l h k = tt
-text_ids v None c o z l h k = (h refl, k)
+text_ids v f c o z l h k = grind arith
 
 texts_ids : (ts : DocumentTexts) (l : List Load) → EachIdNames l → EachIdNames (loads_of ts l)
 texts_ids no_texts l k = k
@@ -103,22 +97,13 @@ texts_ids (text_after ts d m n v i p q) l k
     (last_load Ends) l (λ e. every_id v e) k)
 
 last_ids : (x : Ending) → EachIdNames (last_load x ∷ [])
-last_ids Ends = (All-nil _, tt)
-last_ids (Fails f) = tt
+last_ids x = grind arith
 
 open_ids : (l : List Event) (x : Ending) → EachIdNames (open_load l x ∷ [])
-open_ids [] x = last_ids x
-open_ids (e ∷ r) x = go (composer_fault [] (parts r))
-  where
-    go : (f : Option Fault) → EachIdNames (fault_or f (last_load x) ∷ [])
-    go None = last_ids x
-    go (Some f) = tt
+open_ids l x = grind arith
 
 nested_ids : (e : List Event) (x : Ending) (a : List Load) → NestedLoads e x a → EachIdNames a
-nested_ids e x a (not_begun n h) = subst EachIdNames (sym h) (last_ids x)
-nested_ids e x a (has_begun n h) =
-    subst EachIdNames (sym h) (texts_ids n.texts (open_load n.open_document x ∷ []) (open_ids n.open_document x))
-nested_ids e x a (whole n h) = subst EachIdNames (sym h) (texts_ids n.texts (last_load x ∷ []) (last_ids x))
+nested_ids e x a h = grind (arith, last_ids, texts_ids, open_ids)
 
 pub loaded_ids : (l : List Token) (f : Fault) (a : List Load) → IsLoads l f a → EachIdNames a
 loaded_ids l f a h = nested_ids h.events h.ending a (run_loads l f a h)

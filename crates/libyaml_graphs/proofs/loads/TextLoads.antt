@@ -1,19 +1,19 @@
 -- What documents load as, by the trees of their values: whole ones, and one whose end is missing.
-use Rattle.std.proofs.Common.{◌≡◌, ◌++◌, List, [], ◌∷◌, Option, Some, None, Bool, refl, sym, ap, ◌∙◌}
+use Rattle.std.proofs.Common.{◌≡◌, ◌++◌, List, [], ◌∷◌, Option, Some, None, Bool, refl, sym, ap, ◌∙◌, arith}
 use Rattle.libyaml_types.specs.declared.event.unnamed_yaml_event_t_data.TheVariants as ev
 use Rattle.libyaml_graphs.specs.loads.GraphLaws as law
 use Rattle.libyaml_graphs.specs.loads.GraphLaws.{NestedLoads, fault_or, open_load}
 use Rattle.libyaml_types.specs.declared.event.unnamed_yaml_event_t_data_document_start.{unnamed_yaml_event_t_data_document_start}
 use Rattle.libyaml_grammar.specs.grammar.Events.{Event, document_end_at, event, stream_end_at}
 use Rattle.libyaml_types.specs.Fault.{Fault}
-use Rattle.libyaml_grammar.specs.grammar.Nesting.{BeginsValue, HasBegun, IsNested, IsOpenDocument, NestsSoFar, DocumentTexts, Value, has_begun, no_texts, none_open, not_begun, one_open, text_after, texts_events, value_events, whole}
+use Rattle.libyaml_grammar.specs.grammar.Nesting.{BeginsValue, HasBegun, IsNested, NestsSoFar, DocumentTexts, Value, has_begun, no_texts, not_begun, text_after, texts_events, value_events, whole}
 use Rattle.libyaml_grammar.specs.runs.Runs.{Ending, Ends}
 use Rattle.libyaml_grammar.specs.grammar.Tokens.{Mark}
 use Rattle.libyaml_documents.specs.declared.node.yaml_node_t.{yaml_node_t}
 use Rattle.libyaml_graphs.specs.graphs.ComposerFaults.{composer_fault}
 use Rattle.libyaml_graphs.specs.graphs.Graphs.{nodes_of}
-use Rattle.libyaml_graphs.specs.graphs.GraphParts.{Closing, Opening, Part, closing_of, graph, part_of, parts, with_part}
-use Rattle.libyaml_graphs.specs.loads.Loads.{Begun, Load, begun, begun_after, end_of_document, last_load, load_then, loads, loads_by, loads_of}
+use Rattle.libyaml_graphs.specs.graphs.GraphParts.{Closing, Opening, Part, closing_of, part_of, parts, with_part}
+use Rattle.libyaml_graphs.specs.loads.Loads.{Load, begun, begun_after, end_of_document, last_load, load_then, loads, loads_of}
 use Rattle.libyaml_grammar.proofs.exported.Splits.{value_splits}
 use Rattle.libyaml_graphs.proofs.graphs.TreeGraphs.{value_graph}
 use Rattle.libyaml_graphs.proofs.exported.Roots.{value_keeps}
@@ -34,14 +34,12 @@ prefix_parts (x ∷ l) r s e
     = ap (λ (P : List Part). elim (closing_of x) [ Some c ↦ [] | None ↦ with_part (part_of x) P ]) (prefix_parts l r s e)
 
 value_parts : (v : Value) (r s : List Event) → parts r ≡ parts s → parts (value_events v r) ≡ parts (value_events v s)
-value_parts v r s e = ap parts ((value_splits v).splits r)
-    ∙ (prefix_parts (value_events v []) r s e ∙ ap parts (sym ((value_splits v).splits s)))
+value_parts v r s e = grind (arith, value_splits v, prefix_parts (value_events v []) r s e)
 
 -- a load that has an end doesn't look at the run's ending
 ends_itself : (f : Option Fault) (c : Closing) (o : Opening) (ns : List yaml_node_t) (y z : Load) (l : List Load)
     → load_then f (Some c) o ns y l ≡ load_then f (Some c) o ns z l
-ends_itself (Some f) c o ns y z l = refl
-ends_itself None c o ns y z l = refl
+ends_itself f c o ns y z l = grind arith
 
 text_loads : (d : unnamed_yaml_event_t_data_document_start) (m n : Mark) (v : Value) (i : Bool) (p q : Mark)
     (r : List Event) (x : Ending)
@@ -49,30 +47,13 @@ text_loads : (d : unnamed_yaml_event_t_data_document_start) (m n : Mark) (v : Va
     ≡ load_then (composer_fault [] (parts (value_events v []))) (Some (record { is_implicit = i; mark = q }))
     (record { start = d; mark = m })
     (nodes_of v [] []) (last_load Ends) (loads r x)
-text_loads d m n v i p q r x =
-    let o : Opening = record { start = d; mark = m } in
-    let w : List Event = document_end_at i p q ∷ r in
-    let c : Closing = record { is_implicit = i; mark = q } in
-    ap (λ (l : List Part). load_then (composer_fault [] l) (end_of_document (value_events v w)) o (graph [] l)
-    (last_load x) (loads_by (composer_fault []) x (begun_after (value_events v w))))
-    (value_parts v w [] refl)
-    ∙ (ap (λ (y : Option Closing). load_then (composer_fault [] (parts (value_events v []))) y o
-    (graph [] (parts (value_events v []))) (last_load x)
-    (loads_by (composer_fault []) x (begun_after (value_events v w)))) (value_closing v w)
-    ∙ (ap (λ (l : List Begun). load_then (composer_fault [] (parts (value_events v []))) (Some c) o
-    (graph [] (parts (value_events v []))) (last_load x)
-    (loads_by (composer_fault []) x l)) (value_after v w)
-    ∙ (ap (λ (ns : List yaml_node_t). load_then (composer_fault [] (parts (value_events v []))) (Some c) o ns
-    (last_load x) (loads r x)) (value_graph v [] [])
-    ∙ ends_itself (composer_fault [] (parts (value_events v []))) c o (nodes_of v [] []) (last_load x)
-    (last_load Ends) (loads r x))))
+text_loads d m n v i p q r x = grind (arith, value_parts, value_closing, value_after, value_graph, ends_itself)
 
 -- the loads of whole documents are their graphs by their values, up to the first composer error
 texts_load : (ts : DocumentTexts) (r : List Event) (x : Ending) → loads (texts_events ts r) x ≡ loads_of ts (loads r x)
 texts_load no_texts r x = refl
 texts_load (text_after ts d m n v i p q) r x =
-    texts_load ts (event (ev.DocumentStart d) m n ∷ value_events v (document_end_at i p q ∷ r)) x
-    ∙ ap (loads_of ts) (text_loads d m n v i p q r x)
+    cc (texts_load ts (event (ev.DocumentStart d) m n ∷ value_events v (document_end_at i p q ∷ r)) x, text_loads d m n v i p q r x)
 
 pub whole_loads : (l : List Event) (n : IsNested l) (x : Ending) → loads l x ≡ loads_of n.texts (last_load x ∷ [])
 whole_loads l n x = ap (λ (k : List Event). loads k x) n.all ∙ texts_load n.texts (stream_end_at n.end n.end_end ∷ []) x
@@ -95,27 +76,11 @@ prefix_closes f b = none_closes f b.rest (ap end_of_document (sym b.all) ∙ val
 open_loads : (d : unnamed_yaml_event_t_data_document_start) (m n : Mark) (f : List Event) (x : Ending)
     → end_of_document f ≡ None
     → loads (event (ev.DocumentStart d) m n ∷ f) x ≡ open_load (event (ev.DocumentStart d) m n ∷ f) x ∷ []
-open_loads d m n f x e =
-    ap (λ (c : Option Closing). load_then (composer_fault [] (parts f)) c (record { start = d; mark = m })
-    (graph [] (parts f)) (last_load x)
-    (loads_by (composer_fault []) x (begun_after f))) e
-    ∙ go (composer_fault [] (parts f))
-  where
-    go : (g : Option Fault) → load_then g None (record { start = d; mark = m }) (graph [] (parts f)) (last_load x)
-        (loads_by (composer_fault []) x (begun_after f)) ≡ fault_or g (last_load x)
-        ∷ []
-    go (Some g) = refl
-    go None = refl
+open_loads d m n f x e = grind arith
 
 pub begun_loads : (l : List Event) (n : HasBegun l) (x : Ending)
     → loads l x ≡ loads_of n.texts (open_load n.open_document x ∷ [])
-begun_loads l n x = ap (λ (k : List Event). loads k x) n.all
-    ∙ (texts_load n.texts n.open_document x ∙ ap (loads_of n.texts) (go n.open_document n.is_open))
-  where
-    go : (k : List Event) → IsOpenDocument k → loads k x ≡ open_load k x ∷ []
-    go k (none_open e) = ap (λ (j : List Event). loads j x) e ∙ ap (λ (j : List Event). open_load j x ∷ []) (sym e)
-    go k (one_open d m o f e b) = ap (λ (j : List Event). loads j x) e
-        ∙ (open_loads d m o f x (prefix_closes f b) ∙ ap (λ (j : List Event). open_load j x ∷ []) (sym e))
+begun_loads l n x = grind (arith, texts_load, open_loads, prefix_closes)
 
 -- the loads of events that nest as far as they go
 pub nested_loads : (l : List Event) (x : Ending) → NestsSoFar l → NestedLoads l x (loads l x)

@@ -1,6 +1,6 @@
 -- A graph as it is built, part by part: the nodes so far, each with the key that waits in it, and the places of those that
 -- are open, the innermost first.
-use Rattle.std.proofs.Common.{◌≡◌, ℕ, zero, suc, ℤ, pos, List, [], ◌∷◌, ◌++◌, length, refl, sym, ap, ◌∙◌, append_assoc, append-nil, Option, None}
+use Rattle.std.proofs.Common.{◌≡◌, ℕ, zero, suc, ℤ, pos, List, [], ◌∷◌, ◌++◌, length, refl, sym, ap, ◌∙◌, append_assoc, append-nil, Option, None, arith}
 use Rattle.libyaml_types.specs.declared.enums.yaml_mapping_style_t.{yaml_mapping_style_t}
 use Rattle.libyaml_types.specs.declared.enums.yaml_sequence_style_t.{yaml_sequence_style_t}
 use Rattle.libyaml_grammar.specs.grammar.Tokens.{Mark}
@@ -105,12 +105,10 @@ pub all_change : (s : List ℕ) (q : ℕ) (f : Held → Held) (hs : List Held) �
 all_change s q f hs h = all_of (λ p. Has p hs) (λ p. Has p (change q f hs)) s (λ p k. has_change p q f hs k) h
 
 pub all_hold : (s t : List ℕ) (i : ℕ) (hs : List Held) → AllHas s hs → AllHas s (hold_top i t hs)
-all_hold s [] i hs h = h
-all_hold s (p ∷ t) i hs h = all_change s p (hold i) hs h
+all_hold s t i hs h = grind (arith, all_change)
 
 pub all_end : (n : Mark) (s : List ℕ) (hs : List Held) → AllHas s hs → AllHas (below s) (end_top n s hs)
-all_end n [] hs h = tt
-all_end n (p ∷ s) hs h = all_change s p (end_at n) hs h.1
+all_end n s hs h = grind (arith, all_change)
 
 change_append : (p : ℕ) (f : Held → Held) (hs r : List Held) → Has p hs → change p f (hs ++ r) ≡ change p f hs ++ r
 change_append p f [] r h = absurd h
@@ -128,9 +126,7 @@ change_change zero f g (x ∷ hs) = refl
 change_change (suc p) f g (x ∷ hs) = ap (λ (l : List Held). x ∷ l) (change_change p f g hs)
 
 change_same : (p : ℕ) (f g : Held → Held) (hs : List Held) → ((x : Held) → f x ≡ g x) → change p f hs ≡ change p g hs
-change_same p f g [] e = refl
-change_same zero f g (x ∷ hs) e = ap (λ (y : Held). y ∷ hs) (e x)
-change_same (suc p) f g (x ∷ hs) e = ap (λ (l : List Held). x ∷ l) (change_same p f g hs e)
+change_same p f g hs e = grind arith
 
 change_not : (p : ℕ) (f : Held → Held) (hs : List Held) → ((x : Held) → f x ≡ x) → change p f hs ≡ hs
 change_not p f [] e = refl
@@ -143,20 +139,17 @@ length_change zero f (x ∷ hs) = refl
 length_change (suc p) f (x ∷ hs) = ap (λ (n : ℕ). suc n) (length_change p f hs)
 
 pub length_hold : (i : ℕ) (s : List ℕ) (hs : List Held) → length (hold_top i s hs) ≡ length hs
-length_hold i [] hs = refl
-length_hold i (p ∷ s) hs = length_change p (hold i) hs
+length_hold i s hs = grind (arith, length_change)
 
 pub length_end : (n : Mark) (s : List ℕ) (hs : List Held) → length (end_top n s hs) ≡ length hs
-length_end n [] hs = refl
-length_end n (p ∷ s) hs = length_change p (end_at n) hs
+length_end n s hs = grind (arith, length_change)
 
 pub length_more : (hs : List Held) (x : Held) → length (hs ++ x ∷ []) ≡ suc (length hs)
 length_more [] x = refl
 length_more (y ∷ hs) x = ap (λ (n : ℕ). suc n) (length_more hs x)
 
 hold_append : (i : ℕ) (s : List ℕ) (hs r : List Held) → AllHas s hs → hold_top i s (hs ++ r) ≡ hold_top i s hs ++ r
-hold_append i [] hs r h = refl
-hold_append i (p ∷ s) hs r h = change_append p (hold i) hs r h.0
+hold_append i s hs r h = grind (arith, change_append)
 
 -- a change at each place, by how many collections are open within it
 abbrev pub applied : List ℕ → (ℕ → Held → Held) → List Held → List Held
@@ -165,32 +158,23 @@ applied (p ∷ s) f hs = applied s (λ (d : ℕ). f (suc d)) (change p (f 0) hs)
 
 applied_same : (s : List ℕ) (f g : ℕ → Held → Held) (hs : List Held) → ((d : ℕ) (x : Held) → f d x ≡ g d x)
     → applied s f hs ≡ applied s g hs
-applied_same [] f g hs e = refl
-applied_same (p ∷ s) f g hs e = ap (λ (l : List Held). applied s (λ (d : ℕ). f (suc d)) l)
-    (change_same p (f 0) (g 0) hs (e 0))
-    ∙ applied_same s (λ (d : ℕ). f (suc d)) (λ (d : ℕ). g (suc d)) (change p (g 0) hs) (λ d x. e (suc d) x)
+applied_same s f g hs e = grind arith
 
 pub applied_not : (s : List ℕ) (f : ℕ → Held → Held) (hs : List Held) → ((d : ℕ) (x : Held) → f d x ≡ x)
     → applied s f hs ≡ hs
 applied_not [] f hs e = refl
-applied_not (p ∷ s) f hs e = ap (λ (l : List Held). applied s (λ (d : ℕ). f (suc d)) l) (change_not p (f 0) hs (e 0))
-    ∙ applied_not s (λ (d : ℕ). f (suc d)) hs (λ d x. e (suc d) x)
+applied_not (p ∷ s) f hs e = cc (change_not p (f 0) hs (e 0), applied_not s (λ (d : ℕ). f (suc d)) hs (λ d x. e (suc d) x))
 
 applied_append : (s : List ℕ) (f : ℕ → Held → Held) (hs r : List Held) → AllHas s hs
     → applied s f (hs ++ r) ≡ applied s f hs ++ r
 applied_append [] f hs r h = refl
-applied_append (p ∷ s) f hs r h = ap (λ (l : List Held). applied s (λ (d : ℕ). f (suc d)) l)
-    (change_append p (f 0) hs r h.0)
-    ∙ applied_append s (λ (d : ℕ). f (suc d)) (change p (f 0) hs) r (all_change s p (f 0) hs h.1)
+applied_append (p ∷ s) f hs r h =
+    cc (change_append p (f 0) hs r h.0, applied_append s (λ (d : ℕ). f (suc d)) (change p (f 0) hs) r (all_change s p (f 0) hs h.1))
 
 -- a child handed over now, or with the rest
 applied_hold : (i : ℕ) (s : List ℕ) (f g : ℕ → Held → Held) (hs : List Held) → ((x : Held) → f 0 (hold i x) ≡ g 0 x)
     → ((d : ℕ) (x : Held) → f (suc d) x ≡ g (suc d) x) → applied s f (hold_top i s hs) ≡ applied s g hs
-applied_hold i [] f g hs e h = refl
-applied_hold i (p ∷ s) f g hs e h =
-    ap (λ (l : List Held). applied s (λ (d : ℕ). f (suc d)) l)
-    (change_change p (f 0) (hold i) hs ∙ change_same p (λ (x : Held). f 0 (hold i x)) (g 0) hs e)
-    ∙ applied_same s (λ (d : ℕ). f (suc d)) (λ (d : ℕ). g (suc d)) (change p (g 0) hs) h
+applied_hold i s f g hs e h = grind (arith, change_change, change_same, applied_same)
 
 -- children, one after the other: what a node holds after them, and the key that waits then
 abbrev pub grown : Option ℤ → unnamed_yaml_node_t_data → List ℕ → unnamed_yaml_node_t_data
@@ -224,9 +208,7 @@ grown_scalar b k [] = refl
 grown_scalar b k (i ∷ is) = grown_scalar b k is
 
 grown_empty : (c : unnamed_yaml_node_t_data) (is : List ℕ) → grown None (with_children [] c) is ≡ with_children is c
-grown_empty (Scalar b) is = grown_scalar b None is
-grown_empty (Sequence b) is = add_items [] is b.style
-grown_empty (Mapping b) is = add_pairs [] is b.style
+grown_empty c is = grind (arith, grown_scalar, add_items, add_pairs)
 
 -- of a node that begins without children
 pub grown_from : (c : unnamed_yaml_node_t_data) (is : List ℕ) → with_children [] c ≡ c
@@ -303,32 +285,11 @@ start_finished : (a : Option (List ℕ)) (x : yaml_node_t) (es : List Start) (P 
     → AllHas b.places b.held → finished (anchored_node_start a x ∷ es) P (build es (start_part a x) b) ≡ finished es
     (start_part a x ∷ P) b
 start_finished a x es P b e h =
-    let fs : List Start = anchored_node_start a x ∷ es in
-    let F : ℕ → Held → Held = rested fs P in
-    let G : ℕ → Held → Held = rested es (start_part a x ∷ P) in
-    let R : List Held = held_graph fs P in
-    let i : ℕ = suc (length es) in
-    let M : List Held = hold_top i b.places b.held in
-    let k : Option ℤ = grown_key None x.content (children 0 fs P) in
-    ap (λ (l : List Held). applied (length b.held ∷ b.places) F l ++ R) (hold_append i b.places b.held (bare x ∷ []) h)
-    ∙ (ap (λ (j : ℕ). applied (j ∷ b.places) F (M ++ bare x ∷ []) ++ R) (sym (length_hold i b.places b.held))
-    ∙ (ap (λ (l : List Held). applied b.places (λ (d : ℕ). F (suc d)) l ++ R) (change_last (F 0) M (bare x))
-    ∙ (ap (λ (l : List Held). l ++ R)
-    (applied_append b.places (λ (d : ℕ). F (suc d)) M (F 0 (bare x) ∷ []) (all_hold b.places b.places i b.held h))
-    ∙ (ap (λ (l : List Held). (l ++ F 0 (bare x) ∷ []) ++ R)
-    (applied_hold i b.places (λ (d : ℕ). F (suc d)) G b.held (λ y. refl) (λ d y. refl))
-    ∙ (ap (λ (c : unnamed_yaml_node_t_data). (applied b.places G b.held ++ with_content x (end_in 0 x.end_mark P) k c ∷ [])
-    ++ R) (grown_from x.content (children 0 fs P) e)
-    ∙ append_assoc (applied b.places G b.held)
-    (with_content x (end_in 0 x.end_mark P) k (with_children (children 0 fs P) x.content) ∷ []) R)))))
+    grind (arith, hold_append, length_hold, change_last, applied_append, all_hold, applied_hold, grown_from, append_assoc)
 
 end_finished : (n : Mark) (es : List Start) (P : List Part) (b : Built)
     → finished es P (build es (end_part n) b) ≡ finished es (end_part n ∷ P) b
-end_finished n es P b = ap (λ (l : List Held). l ++ held_graph es P) (go b.places)
-  where
-    go : (s : List ℕ) → applied (below s) (rested es P) (end_top n s b.held) ≡ applied s (rested es (end_part n ∷ P)) b.held
-    go [] = refl
-    go (p ∷ s) = refl
+end_finished n es P b = grind arith
 
 -- a part built, or left to the rest, makes the same graph
 pub build_finished : (p : Part) (es : List Start) (P : List Part) (b : Built) → BeginsEmpty p → AllHas b.places b.held
@@ -342,5 +303,4 @@ build_finished (start_part a x) es P b e h = start_finished a x es P b e h
 build_finished (end_part n) es P b e h = end_finished n es P b
 
 pub finished_none : (es : List Start) (b : Built) → finished es [] b ≡ b.held
-finished_none es b = append-nil (applied b.places (rested es []) b.held)
-    ∙ applied_not b.places (rested es []) b.held (λ d x. refl)
+finished_none es b = grind (arith, append-nil, applied_not)

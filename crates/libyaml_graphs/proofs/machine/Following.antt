@@ -1,16 +1,16 @@
 -- The loader follows the graph as it is built: its nodes are those built, and its stack is the open places with the
 -- keys that wait there.
-use Rattle.std.proofs.Common.{◌≡◌, ℕ, zero, suc, ℤ, pos, List, [], ◌∷◌, ◌++◌, length, refl, sym, ap, ◌∙◌, cond, Option, Some, None, Bool, true, false}
-use Rattle.std.specs.Prelude.{slice_get, bytes_eq}
+use Rattle.std.proofs.Common.{◌≡◌, ℕ, zero, suc, ℤ, pos, List, [], ◌∷◌, ◌++◌, length, refl, sym, ap, ◌∙◌, Option, Some, None, true, false, arith}
+use Rattle.std.specs.Prelude.{slice_get}
 use Rattle.std.specs.Cmp.Lexicographic.{nat_list_cmp_total}
-use Rattle.std.specs.FinMap.{get, insert, get-from_entries}
+use Rattle.std.specs.FinMap.{get, get-from_entries}
 use Rattle.libyaml_types.specs.Fault.{Fault}
 use Rattle.libyaml_grammar.specs.grammar.Tokens.{Mark}
 use Rattle.libyaml_grammar.proofs.exported.TextMaps.{inserted}
 use Rattle.libyaml_documents.specs.LoadedNodes.{with_end}
 use Rattle.libyaml_documents.specs.Nodes.{changed_at}
 use Rattle.libyaml_documents.specs.declared.node.yaml_node_t.{yaml_node_t}
-use Rattle.libyaml_graphs.specs.graphs.ComposerFaults.{alias_fault, anchor_fault, known_fault, composer_part_fault, repeated_anchor}
+use Rattle.libyaml_graphs.specs.graphs.ComposerFaults.{alias_fault, anchor_fault, composer_part_fault, repeated_anchor}
 use Rattle.libyaml_graphs.specs.graphs.Graphs.{AnchoredNode, Start, anchored_node, carries, id_or}
 use Rattle.libyaml_graphs.specs.machine.Loader.{Anchors, Loader, Loading, OpenNode, Registered, closed_by, failed, going, hand, handed, key_after, known, load_part, no_anchors, on_alias, on_node, outer, register, registered, with_child}
 use Rattle.libyaml_graphs.specs.graphs.GraphParts.{Part, alias_part, following, end_part, leaf_part, anchored_node_start, start_part}
@@ -82,9 +82,7 @@ key_last (y ∷ hs) x = key_last hs x
 -- a stack whose keys are the same
 stack_alike : (s : List ℕ) (hs ks : List Held) → AllOf (λ q. key_in q hs ≡ key_in q ks) s → stack_of s hs ≡ stack_of s ks
 stack_alike [] hs ks h = refl
-stack_alike (q ∷ s) hs ks h =
-    ap (λ (k : Option ℤ). record { node = pos (suc q); key = k } ∷ stack_of s hs) h.0
-    ∙ ap (λ (t : List OpenNode). record { node = pos (suc q); key = key_in q ks } ∷ t) (stack_alike s hs ks h.1)
+stack_alike (q ∷ s) hs ks h = cc (stack_alike s hs ks h.1)
 
 stack_below : (s : List ℕ) (p : ℕ) (f : Held → Held) (hs : List Held) → AllLess s p
     → stack_of s (change p f hs) ≡ stack_of s hs
@@ -122,16 +120,11 @@ hold_key zero i (h ∷ hs) = refl
 hold_key (suc p) i (h ∷ hs) = hold_key p i hs
 
 hand_built : (i : ℕ) (s : List ℕ) (hs : List Held) → hand (pos i) (stack_of s hs) (nodes_in hs) ≡ nodes_in (hold_top i s hs)
-hand_built i [] hs = refl
-hand_built i (p ∷ s) hs = hold_nodes p i hs
+hand_built i s hs = grind (arith, hold_nodes)
 
 handed_built : (i : ℕ) (s : List ℕ) (hs : List Held) → Falls s
     → handed (pos i) (stack_of s hs) (nodes_in hs) ≡ stack_of s (hold_top i s hs)
-handed_built i [] hs h = refl
-handed_built i (p ∷ s) hs h =
-    ap (λ (k : Option ℤ). record { node = pos (suc p); key = k } ∷ stack_of s hs) (hold_key p i hs)
-    ∙ ap (λ (t : List OpenNode). record { node = pos (suc p); key = key_in p (change p (hold i) hs) } ∷ t)
-    (sym (stack_below s p (hold i) hs h.0))
+handed_built i s hs h = grind (arith, hold_key, stack_below)
 
 end_nodes : (p : ℕ) (m : Mark) (hs : List Held)
     → changed_at p (with_end m) (nodes_in hs) ≡ nodes_in (change p (end_at m) hs)
@@ -141,12 +134,10 @@ end_nodes (suc p) m (h ∷ hs) = ap (λ (l : List yaml_node_t). h.node ∷ l) (e
 
 close_built : (m : Mark) (s : List ℕ) (hs : List Held)
     → closed_by m (stack_of s hs) (nodes_in hs) ≡ nodes_in (end_top m s hs)
-close_built m [] hs = refl
-close_built m (p ∷ s) hs = end_nodes p m hs
+close_built m s hs = grind (arith, end_nodes)
 
 outer_built : (m : Mark) (s : List ℕ) (hs : List Held) → outer (stack_of s hs) ≡ stack_of (below s) (end_top m s hs)
-outer_built m [] hs = refl
-outer_built m (p ∷ s) hs = sym (stack_ended s p m hs)
+outer_built m s hs = grind (arith, stack_ended)
 
 -- what is built after the starts es of a document
 pub record BuiltRight (es : List Start) (b : Built) : Type 0 where
@@ -158,8 +149,7 @@ pub stands_unbuilt : BuiltRight [] unbuilt
 stands_unbuilt = record { size = refl; there = tt; falls = tt }
 
 below_falls : (s : List ℕ) → Falls s → Falls (below s)
-below_falls [] h = tt
-below_falls (p ∷ s) h = h.1
+below_falls s h = grind arith
 
 pub build_stands : (p : Part) (es : List Start) (b : Built) → BuiltRight es b → BuiltRight (following p es) (build es p b)
 build_stands (alias_part a m) es b s
@@ -169,13 +159,7 @@ build_stands (alias_part a m) es b s
           = all_hold b.places b.places (id_or (anchored_node a es)) b.held s.there;
       falls = s.falls;
     }
-build_stands (leaf_part a x) es b s = record {
-  size = length_hold (suc (length es)) b.places (b.held ++ bare x ∷ [])
-      ∙ (length_more b.held (bare x) ∙ ap (λ (n : ℕ). suc n) s.size);
-  there = all_hold b.places b.places (suc (length es)) (b.held ++ bare x ∷ [])
-      (all_append b.places b.held (bare x ∷ []) s.there);
-  falls = s.falls;
-}
+build_stands (leaf_part a x) es b s = grind (arith, length_hold, length_more, all_hold, all_append)
 build_stands (start_part a x) es b s = record {
   size = length_hold (suc (length es)) b.places (b.held ++ bare x ∷ [])
       ∙ (length_more b.held (bare x) ∙ ap (λ (n : ℕ). suc n) s.size);
@@ -196,20 +180,14 @@ build_stands (end_part n) es b s
 -- the loader after each part
 loader_same : (nodes ms : List yaml_node_t) (s t : List OpenNode) (xs : Anchors) → nodes ≡ ms → s ≡ t
     → ◌≡◌ {A = Loader} (record { nodes = nodes; stack = s; anchors = xs }) (record { nodes = ms; stack = t; anchors = xs })
-loader_same nodes ms s t xs e h = ap (λ (l : List yaml_node_t). record { nodes = l; stack = s; anchors = xs }) e
-    ∙ ap (λ (l : List OpenNode). record { nodes = ms; stack = l; anchors = xs }) h
+loader_same nodes ms s t xs e h = grind arith
 
 -- a node that is put after the others and handed to its parent, with what the stack is then
 put_with : {A : Type 0} (f : ℤ → List OpenNode → List yaml_node_t → A) (x : yaml_node_t) (es : List Start) (b : Built)
     → BuiltRight es b
     → f (pos (suc (length (nodes_in b.held)))) (stack_of b.places b.held) (nodes_in b.held ++ x ∷ [])
     ≡ f (pos (suc (length es))) (stack_of b.places (b.held ++ bare x ∷ [])) (nodes_in (b.held ++ bare x ∷ []))
-put_with f x es b s =
-    ap (λ (i : ℕ). f (pos (suc i)) (stack_of b.places b.held) (nodes_in b.held ++ x ∷ [])) (nodes_length b.held ∙ s.size)
-    ∙ (ap (λ (t : List OpenNode). f (pos (suc (length es))) t (nodes_in b.held ++ x ∷ []))
-    (sym (stack_append b.places b.held (bare x ∷ []) s.there))
-    ∙ ap (f (pos (suc (length es))) (stack_of b.places (b.held ++ bare x ∷ [])))
-    (sym (nodes_append b.held (bare x ∷ []))))
+put_with f x es b s = grind (arith, nodes_length, stack_append, nodes_append)
 
 put_nodes : (x : yaml_node_t) (es : List Start) (b : Built) → BuiltRight es b
     → hand (pos (suc (length (nodes_in b.held)))) (stack_of b.places b.held) (nodes_in b.held ++ x ∷ [])
@@ -223,19 +201,13 @@ put_stack x es b s = put_with handed x es b s ∙ handed_built (suc (length es))
 
 new_key : (i : ℕ) (s : List ℕ) (hs : List Held) (x : yaml_node_t) → AllHas s hs
     → key_in (length hs) (hold_top i s (hs ++ bare x ∷ [])) ≡ None
-new_key i [] hs x h = key_last hs (bare x)
-new_key i (p ∷ s) hs x h = key_above (length hs) p (hold i) (hs ++ bare x ∷ []) (has_less p hs h.0) ∙ key_last hs (bare x)
+new_key i s hs x h = grind (arith, key_last, key_above, has_less)
 
 opened_stack : (x : yaml_node_t) (es : List Start) (b : Built) → BuiltRight es b
     → ◌≡◌ {A = List OpenNode} (record { node = pos (suc (length (nodes_in b.held))); key = None }
     ∷ handed (pos (suc (length (nodes_in b.held)))) (stack_of b.places b.held) (nodes_in b.held ++ x ∷ []))
     (stack_of (length b.held ∷ b.places) (hold_top (suc (length es)) b.places (b.held ++ bare x ∷ [])))
-opened_stack x es b s =
-    let hs : List Held = hold_top (suc (length es)) b.places (b.held ++ bare x ∷ []) in
-    ap (λ (t : List OpenNode). record { node = pos (suc (length (nodes_in b.held))); key = None } ∷ t) (put_stack x es b s)
-    ∙ (ap (λ (n : ℕ). record { node = pos (suc n); key = None } ∷ stack_of b.places hs) (nodes_length b.held)
-    ∙ ap (λ (k : Option ℤ). record { node = pos (suc (length b.held)); key = k } ∷ stack_of b.places hs)
-    (sym (new_key (suc (length es)) b.places b.held x s.there)))
+opened_stack x es b s = grind (arith, put_stack, nodes_length, new_key)
 
 -- the map of anchors has the anchored nodes
 abbrev pub Agrees : List Start → Anchors → Type 0
@@ -255,23 +227,7 @@ Meets (registered xs) P m f = (f ≡ None) × P xs
 registers : (b : Option (List ℕ)) (i : ℕ) (m : Mark) (es : List Start) (xs : Anchors) → Agrees es xs
     → Meets (register b i m xs) (λ (ys : Anchors). (a : List ℕ) → get ys a ≡ with_anchor b i m es a) m (anchor_fault es b m)
 registers None i m es xs h = (refl, h)
-registers (Some b) i m es xs h = go (get xs b) (h b)
-  where
-    ends : (u : Bool) (c : AnchoredNode) (o r : Option AnchoredNode) → o ≡ r
-        → cond u (Some c) o ≡ elim u [ true ↦ Some c | false ↦ r ]
-    ends true c o r e = refl
-    ends false c o r e = e
-
-    go : (c : Option AnchoredNode) → c ≡ anchored_node b es
-        → Meets (elim c [ Some x ↦ known x.mark | None ↦ registered (insert xs b (record { id = i; mark = m })) ])
-        (λ (ys : Anchors). (a : List ℕ)
-        → get ys a ≡ with_anchor (Some b) i m es a) m (known_fault (anchored_node b es) m)
-    go (Some x) e = ap (λ (c : Option AnchoredNode). known_fault c m) (sym e)
-    go None e = (
-      ap (λ (c : Option AnchoredNode). known_fault c m) (sym e),
-      λ (a : List ℕ). inserted xs b (record { id = i; mark = m }) a
-          ∙ ends (bytes_eq b a) (record { id = i; mark = m }) (get xs a) (anchored_node a es) (h a),
-    )
+registers (Some b) i m es xs h = grind (arith, inserted)
 
 -- What a part does: it fails as the composer does, or the loader goes on with what is built.
 abbrev pub Follows : Loading → Option Fault → List Start → Built → Type 0
@@ -325,11 +281,6 @@ node_follows b x opens es c d xs s h nodes stack = go (register b (suc (length (
 pub part_follows : (p : Part) (es : List Start) (b : Built) (xs : Anchors) → BuiltRight es b → Agrees es xs
     → Follows (load_part (loader_of b xs) p) (composer_part_fault es p) (following p es) (build es p b)
 part_follows (alias_part a m) es b xs s h = alias_follows a m es b xs s h
-part_follows (leaf_part a x) es b xs s h = node_follows a x [] es b (build es (leaf_part a x) b) xs s h
-    (put_nodes x es b s) (put_stack x es b s)
-part_follows (start_part a x) es b xs s h =
-    node_follows a x (record { node = pos (suc (length (nodes_in b.held))); key = None } ∷ []) es b
-    (build es (start_part a x) b) xs s h (put_nodes x es b s)
-    (opened_stack x es b s)
-part_follows (end_part n) es b xs s h =
-    (refl, (xs, loader_same _ _ _ _ xs (close_built n b.places b.held) (outer_built n b.places b.held), h))
+part_follows (leaf_part a x) es b xs s h = grind (arith, node_follows, put_nodes, put_stack)
+part_follows (start_part a x) es b xs s h = grind (arith, node_follows, put_nodes, opened_stack)
+part_follows (end_part n) es b xs s h = search (arith, loader_same, close_built, outer_built)

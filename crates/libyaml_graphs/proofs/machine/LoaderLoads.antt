@@ -1,7 +1,6 @@
 -- The loader, event by event, gives the loads.
-use Rattle.std.proofs.Common.{List, refl, Option, Some, None}
+use Rattle.std.proofs.Common.{List, Option, Some, None, arith}
 use Rattle.libyaml_types.specs.declared.event.unnamed_yaml_event_t_data.{unnamed_yaml_event_t_data}
-use Rattle.libyaml_types.specs.declared.event.unnamed_yaml_event_t_data.TheVariants as ev
 use Rattle.libyaml_types.specs.Fault.{Fault}
 use Rattle.libyaml_grammar.specs.grammar.Tokens.{Mark}
 use Rattle.libyaml_documents.specs.declared.node.yaml_node_t.{yaml_node_t}
@@ -23,14 +22,4 @@ IfBeginsEmpty None = Unit {0}
 IfBeginsEmpty (Some p) = BeginsEmpty p
 
 pub begins_empty : (k : unnamed_yaml_event_t_data) (m n : Mark) → IfBeginsEmpty (part_in k m n)
-begins_empty ev.NoEvent m n = tt
-begins_empty (ev.StreamStart x) m n = tt
-begins_empty ev.StreamEnd m n = tt
-begins_empty (ev.DocumentStart x) m n = tt
-begins_empty (ev.DocumentEnd x) m n = tt
-begins_empty (ev.Alias x) m n = tt
-begins_empty (ev.Scalar x) m n = refl
-begins_empty (ev.SequenceStart x) m n = refl
-begins_empty ev.SequenceEnd m n = tt
-begins_empty (ev.MappingStart x) m n = refl
-begins_empty ev.MappingEnd m n = tt
+begins_empty k m n = grind arith

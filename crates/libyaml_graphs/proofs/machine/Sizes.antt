@@ -1,5 +1,5 @@
 -- How long the lists of what is built are: a pair counts from its key on.
-use Rattle.std.proofs.Common.{◌≡◌, ℕ, zero, suc, ℤ, pos, List, [], ◌∷◌, ◌++◌, length, nat_lt, le-ltb, zero-le, refl, sym, ap, ◌∙◌, Option, Some, None, Bool, false}
+use Rattle.std.proofs.Common.{◌≡◌, ℕ, zero, suc, ℤ, pos, List, [], ◌∷◌, ◌++◌, length, nat_lt, le-ltb, zero-le, refl, ap, ◌∙◌, Option, Some, None, Bool, false, arith}
 use Rattle.std.specs.Prelude.{slice_get, ◌||◌}
 use Rattle.std.proofs.lemmas.Bool.{or_parts}
 use Rattle.std.proofs.Math.Bool.{or-false}
@@ -10,7 +10,7 @@ use Rattle.libyaml_documents.specs.declared.node.unnamed_yaml_node_t_data.TheVar
 use Rattle.libyaml_documents.specs.declared.node.yaml_node_t.{yaml_node_t}
 use Rattle.libyaml_documents.specs.declared.pairs.yaml_node_pair_t.{yaml_node_pair_t}
 use Rattle.libyaml_graphs.specs.loads.Bounds.{entries, list_sizes, one_above, pairs_begun}
-use Rattle.libyaml_graphs.specs.graphs.Graphs.{Start, anchored_node, id_or, items, pairs}
+use Rattle.libyaml_graphs.specs.graphs.Graphs.{Start, items, pairs}
 use Rattle.libyaml_graphs.specs.machine.Loader.{Anchors, content_full, content_and_child, key_after_child, list_full, node_full, parent_full}
 use Rattle.libyaml_graphs.specs.graphs.GraphParts.{Part, alias_part, children, end_part, leaf_part, anchored_node_start, start_part, with_children}
 use Rattle.libyaml_graphs.proofs.machine.Built.{AllHas, BeginsEmpty, Built, Has, Held, bare, build, change, end_at, end_top, grown_key, held_graph, hold, hold_top, nodes_in, paired}
@@ -44,27 +44,19 @@ one_pair (q ∷ ps) p = ap (λ (n : ℕ). suc n) (one_pair ps p)
 
 content_grows : (n i : ℕ) (k : Option ℤ) (c : unnamed_yaml_node_t_data) → nat_lt n (begun k c) ≡ false
     → nat_lt n (begun (key_after_child k (pos i) c) (content_and_child k (pos i) c)) ≡ content_full n k c
-content_grows n i k (Scalar s) h = h
-content_grows n i k (Sequence s) h = ap (nat_lt n) (one_item s.items (pos i))
-content_grows n i None (Mapping s) h = refl
-content_grows n i (Some k) (Mapping s) h = ap (nat_lt n) (one_pair s.pairs (record { key = k; value = pos i })) ∙ h
+content_grows n i k c h = grind (arith, one_item, one_pair)
 
 change_grows : (p n i : ℕ) (hs : List Held) → one_above n (sizes hs) ≡ false
     → one_above n (sizes (change p (hold i) hs)) ≡ node_full n (key_in p hs) (slice_get (nodes_in hs) p)
 change_grows p n i [] e = refl
-change_grows zero n i (h ∷ hs) e =
-    let k : (nat_lt n (begun h.key h.node.content) ≡ false) × (one_above n (sizes hs) ≡ false) = or_parts _ _ e in
-    ap (λ (b : Bool). (nat_lt n (begun (key_after_child h.key (pos i) h.node.content) (content_and_child h.key (pos i) h.node.content)) || b)) k.1
-    ∙ (or-false (nat_lt n (begun (key_after_child h.key (pos i) h.node.content) (content_and_child h.key (pos i) h.node.content)))
-    ∙ content_grows n i h.key h.node.content k.0)
+change_grows zero n i (h ∷ hs) e = grind (arith, or_parts, or-false, content_grows)
 change_grows (suc p) n i (h ∷ hs) e =
     let k : (nat_lt n (begun h.key h.node.content) ≡ false) × (one_above n (sizes hs) ≡ false) = or_parts _ _ e in
     either_none _ _ k.0 ∙ change_grows p n i hs k.1
 
 hold_grows : (s : List ℕ) (n i : ℕ) (hs : List Held) → one_above n (sizes hs) ≡ false
     → one_above n (sizes (hold_top i s hs)) ≡ parent_full n (stack_of s hs) (nodes_in hs)
-hold_grows [] n i hs e = e
-hold_grows (p ∷ s) n i hs e = change_grows p n i hs e
+hold_grows s n i hs e = grind (arith, change_grows)
 
 end_sizes : (p : ℕ) (m : Mark) (hs : List Held) → sizes (change p (end_at m) hs) ≡ sizes hs
 end_sizes p m [] = refl
@@ -73,17 +65,11 @@ end_sizes (suc p) m (h ∷ hs) = ap (λ (l : List ℕ). begun h.key h.node.conte
 
 ended_grows : (s : List ℕ) (m : Mark) (n : ℕ) (hs : List Held) → one_above n (sizes hs) ≡ false
     → one_above n (sizes (end_top m s hs)) ≡ false
-ended_grows [] m n hs e = e
-ended_grows (p ∷ s) m n hs e = ap (one_above n) (end_sizes p m hs) ∙ e
+ended_grows s m n hs e = grind (arith, end_sizes)
 
 -- a node without children has no entries
 no_entries : (c : unnamed_yaml_node_t_data) → with_children [] c ≡ c → begun None c ≡ 0
-no_entries c e = ap (begun None) (sym e) ∙ go c
-  where
-    go : (c : unnamed_yaml_node_t_data) → begun None (with_children [] c) ≡ 0
-    go (Scalar s) = refl
-    go (Sequence s) = refl
-    go (Mapping s) = refl
+no_entries c e = grind arith
 
 more_grows : (n : ℕ) (hs : List Held) (x : yaml_node_t) → begun None x.content ≡ 0 → one_above n (sizes hs) ≡ false
     → one_above n (sizes (hs ++ bare x ∷ [])) ≡ false
@@ -102,32 +88,24 @@ parent_append : (s : List ℕ) (n : ℕ) (hs : List Held) (x : yaml_node_t) → 
     → parent_full n (stack_of s (hs ++ bare x ∷ [])) (nodes_in (hs ++ bare x ∷ [])) ≡ parent_full n (stack_of s hs)
     (nodes_in hs)
 parent_append [] n hs x h = refl
-parent_append (p ∷ s) n hs x h = ap (λ (k : Option ℤ). node_full n k (slice_get (nodes_in (hs ++ bare x ∷ [])) p))
-    (key_append p hs (bare x ∷ []) h.0)
-    ∙ full_append p n (key_in p hs) hs x h.0
+parent_append (p ∷ s) n hs x h = grind (arith, key_append, full_append)
 
 node_grows : (n i : ℕ) (x : yaml_node_t) (b : Built) → with_children [] x.content ≡ x.content
     → AllHas b.places b.held → one_above n (sizes b.held) ≡ false
     → one_above n (sizes (hold_top i b.places (b.held ++ bare x ∷ []))) ≡ parent_full n (stack_of b.places b.held)
     (nodes_in b.held)
-node_grows n i x b e h s = hold_grows b.places n i (b.held ++ bare x ∷ [])
-    (more_grows n b.held x (no_entries x.content e) s)
-    ∙ parent_append b.places n b.held x h
+node_grows n i x b e h s = grind (arith, hold_grows, more_grows, no_entries, parent_append)
 
 -- with a part a list is too long exactly where the parent's was full
 pub list_grows : (p : Part) (n : ℕ) (es : List Start) (b : Built) (xs : Anchors) → BeginsEmpty p
     → AllHas b.places b.held → one_above n (sizes b.held) ≡ false
     → one_above n (sizes (build es p b).held) ≡ list_full n (loader_of b xs) p
-list_grows (alias_part a m) n es b xs e h s = hold_grows b.places n (id_or (anchored_node a es)) b.held s
-list_grows (leaf_part a x) n es b xs e h s = node_grows n (suc (length es)) x b e h s
-list_grows (start_part a x) n es b xs e h s = node_grows n (suc (length es)) x b e h s
-list_grows (end_part m) n es b xs e h s = ended_grows b.places m n b.held s
+list_grows p n es b xs e h s = grind (arith, hold_grows, node_grows, ended_grows)
 
 -- the lists of a graph with the keys that wait in it
 suc_begun : (k : Option ℤ) (p : yaml_node_pair_t) (ps : List yaml_node_pair_t) (s : yaml_mapping_style_t)
     → begun k (paired s (p ∷ ps)) ≡ suc (begun k (paired s ps))
-suc_begun None p ps s = refl
-suc_begun (Some k) p ps s = refl
+suc_begun k p ps s = grind arith
 
 pairs_left : (l : List yaml_node_pair_t) (js : List ℕ) (s : yaml_mapping_style_t)
     → begun (grown_key None (paired s l) js) (paired s (pairs js)) ≡ pairs_begun js
@@ -144,12 +122,7 @@ length_items (i ∷ is) = ap (λ (n : ℕ). suc n) (length_items is)
 
 key_left : (is : List ℕ) (c : unnamed_yaml_node_t_data) → with_children [] c ≡ c
     → begun (grown_key None c is) (with_children is c) ≡ entries c is
-key_left is c e = ap (λ (d : unnamed_yaml_node_t_data). begun (grown_key None d is) (with_children is c)) (sym e) ∙ go c
-  where
-    go : (c : unnamed_yaml_node_t_data) → begun (grown_key None (with_children [] c) is) (with_children is c) ≡ entries c is
-    go (Scalar s) = refl
-    go (Sequence s) = length_items is
-    go (Mapping s) = pairs_left [] is s.style
+key_left is c e = grind (arith, length_items, pairs_left)
 
 abbrev pub AllBegin : List Part → Type 0
 AllBegin [] = Unit {0}
@@ -164,8 +137,10 @@ graph_sizes (leaf_part a x ∷ P) es n e =
     (no_entries x.content e.0)
     ∙ (either_none _ _ (none_below n) ∙ graph_sizes P (anchored_node_start a x ∷ es) n e.1)
 graph_sizes (start_part a x ∷ P) es n e =
-    ap (λ (i : ℕ). (nat_lt n i || (one_above n (sizes (held_graph (anchored_node_start a x ∷ es) P)))))
-    (key_left (children 0 (anchored_node_start a x ∷ es) P) x.content e.0)
-    ∙ ap (λ (b : Bool). (nat_lt n (entries x.content (children 0 (anchored_node_start a x ∷ es) P)) || b))
-    (graph_sizes P (anchored_node_start a x ∷ es) n e.1)
+    grind (
+      arith,
+      held_graph (anchored_node_start a x ∷ es) P,
+      key_left (children 0 (anchored_node_start a x ∷ es) P) x.content e.0,
+      graph_sizes P (anchored_node_start a x ∷ es) n e.1,
+    )
 graph_sizes (end_part m ∷ P) es n e = graph_sizes P es n e.1

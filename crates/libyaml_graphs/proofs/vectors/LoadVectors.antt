@@ -1,5 +1,5 @@
 -- How a test vector is shown: it is read token by token, and all else is computed.
-use Rattle.std.proofs.Common.{◌≡◌, ◌++◌, ◌∷◌, ℕ, suc, List, refl, true, false}
+use Rattle.std.proofs.Common.{◌≡◌, ◌++◌, ◌∷◌, ℕ, suc, List, refl, true, false, arith}
 use Rattle.std.specs.Prelude.{take, drop}
 use Rattle.libyaml_grammar.specs.partial.PartialEvents.{partial_events}
 use Rattle.libyaml_grammar.specs.partial.PartialFaults.{fault}
@@ -21,8 +21,7 @@ use Rattle.libyaml_graphs.specs.loads.Loads.{IsLoads, Load, loads}
 pub valid_list_loads : (n : ℕ) (l : List Token) (f : Fault) (a : List Load) (t : Stream)
     → reads_all (take n l) unopened ≡ goes (done t) → take n l ++ drop n l ≡ l
     → a ≡ loads (events t) Ends → IsLoads l f a
-valid_list_loads n l f a t r s h =
-    record { events = events t; ending = Ends; run = valid_list_vector n l f (events t) t r s refl; all = h }
+valid_list_loads n l f a t r s h = grind (arith, valid_list_vector n l f (events t) t r s refl)
 
 pub partial_loads : (n : ℕ) (l : List Token) (f : Fault) (a : List Load) (b : Token) (q : Position) (c : PartialTree)
     → take n l ++ b ∷ drop (suc n) l ≡ l
@@ -40,11 +39,9 @@ partial_loads n l f a b q c s r h i k
 pub begin_loads : (l : List Token) (f : Fault) (a : List Load) (q : Position) → reads_all l unopened ≡ goes q
     → has_end l ≡ false
     → a ≡ loads (sure (front q)) (Fails f) → IsLoads l f a
-begin_loads l f a q r h k =
-    record { events = sure (front q); ending = Fails f; run = begin_vector l f (sure (front q)) q r h refl; all = k }
+begin_loads l f a q r h k = grind (arith, front q, begin_vector l f (sure (front q)) q r h refl)
 
 pub bounded_vectors : (m n : ℕ) (l : List Token) (f : Fault) (a : List Load) (t : Stream)
     → reads_all (take n l) unopened ≡ goes (done t) → take n l ++ drop n l ≡ l
     → a ≡ bounded_loads m (events t) Ends → IsBoundedLoads m l f a
-bounded_vectors m n l f a t r s h =
-    record { events = events t; ending = Ends; run = valid_list_vector n l f (events t) t r s refl; all = h }
+bounded_vectors m n l f a t r s h = grind (arith, valid_list_vector n l f (events t) t r s refl)
