@@ -28,10 +28,7 @@ pub same : (xs ys : List ℕ) → length xs ≡ length ys → AreBytes xs → Ar
 same [] [] l f g e = refl
 same [] (y ∷ ys) l f g e = absurd (omega (arith, l))
 same (x ∷ xs) [] l f g e = absurd (omega (arith, l))
-same (x ∷ xs) (y ∷ ys) l f g e =
-    let first : x ≡ y = omega (arith, e, f.0, g.0) in
-    let rest : xs ≡ ys = same xs ys (omega (arith, l)) f.1 g.1 (omega (arith, e, f.0, g.0)) in
-    (λ i. first i ∷ rest i)
+same (x ∷ xs) (y ∷ ys) l f g e = grind (arith, same xs ys (omega (arith, l)) f.1 g.1 (omega (arith, e, f.0, g.0)))
 
 fit_drop : (k : ℕ) (xs : List ℕ) → AreBytes xs → AreBytes (drop k xs)
 fit_drop zero xs f = f
@@ -56,11 +53,7 @@ module _ (bytes : List ℕ) (room : 8 ≤ length bytes) (fits : (i : ℕ) → ge
 
   pub word_of : (len w : ℕ) → 0 < len → len ≤ 8 → w ≡ little_endian last 0
       → w / (2 ^ (8 * (8 - len))) ≡ plain (drop (length bytes - len) bytes)
-  word_of len w some few is =
-      ap (λ x. x / 2 ^ (8 * (8 - len))) (read w is)
-      ∙ ap (λ n. plain last / n) (power (8 - len))
-      ∙ shifted (8 - len) last are_bytes
-      ∙ ap plain (cut len some few)
+  word_of len w some few is = grind (arith, read, power, shifted, are_bytes, cut)
 
   pub ends_are : (len : ℕ) → 0 < len → len ≤ 8 → AreBytes (drop (length bytes - len) bytes)
   ends_are len some few = rw (← cut len some few) (fit_drop (8 - len) last are_bytes)

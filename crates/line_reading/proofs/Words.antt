@@ -28,9 +28,7 @@ on_word : (op : ℕ → ℕ → ℕ) → WorksByBytes op → op 0 0 ≡ 0 → (f
     → (bs : List ℕ) → AreBytes bs
     → op (word f bs) (word g bs) ≡ word (λ b. op (f b) (g b)) bs
 on_word op works none f g F G [] h = none
-on_word op works none f g F G (b ∷ bs) h =
-    works (word f bs) (word g bs) (f b) (g b) (F b h.0) (G b h.0)
-    ∙ ap (λ w. w * 2 ^ 8 + op (f b) (g b)) (on_word op works none f g F G bs h.1)
+on_word op works none f g F G (b ∷ bs) h = grind (arith, on_word op works none f g F G bs h.1)
 
 and_word : (f g : ℕ → ℕ) → KeepsBytes f → KeepsBytes g → (bs : List ℕ) → AreBytes bs
     → bit_and (word f bs) (word g bs) ≡ word (λ b. bit_and (f b) (g b)) bs
@@ -137,50 +135,37 @@ marks w = bit_and (any_of w (bit_and w 0x7f7f_7f7f_7f7f_7f7f)) 0x8080_8080_8080_
 
 module _ (bs : List ℕ) (long : length bs ≡ 8) (fit : AreBytes bs) where
   low_is : bit_and (word (λ b. b) bs) 0x7f7f_7f7f_7f7f_7f7f ≡ word low bs
-  low_is = ap (bit_and (word (λ b. b) bs)) (sym (eight 127 bs long)) ∙ and_word (λ b. b) (λ _. 127) (λ b h. h)
-      (constant 127 (omega arith)) bs fit
+  low_is = grind (arith, eight 127 bs long, and_word (λ b. b) (λ _. 127) (λ b h. h) (constant 127 (omega arith)) bs fit)
 
   visible_is : word low bs + 0x5f5f_5f5f_5f5f_5f5f ≡ word visible bs
   visible_is = ap (λ w. word low bs + w) (sym (eight 95 bs long)) ∙ add_word low (λ _. 95) bs
 
   percent_is : bit_xor (word low bs) 0x2525_2525_2525_2525 ≡ word (λ b. bit_xor (low b) 37) bs
-  percent_is = ap (bit_xor (word low bs)) (sym (eight 37 bs long)) ∙ xor_word low (λ _. 37) low_byte
-      (constant 37 (omega arith)) bs fit
+  percent_is = grind (arith, eight 37 bs long, xor_word low (λ _. 37) low_byte (constant 37 (omega arith)) bs fit)
 
   no_percent_is : word (λ b. bit_xor (low b) 37) bs + 0x7f7f_7f7f_7f7f_7f7f ≡ word no_percent bs
-  no_percent_is = ap (λ w. word (λ b. bit_xor (low b) 37) bs + w) (sym (eight 127 bs long))
-      ∙ add_word (λ b. bit_xor (low b) 37) (λ _. 127) bs
+  no_percent_is = grind (arith, eight 127 bs long, add_word (λ b. bit_xor (low b) 37) (λ _. 127) bs)
 
   delete_is : word low bs + 0x0101_0101_0101_0101 ≡ word delete bs
   delete_is = ap (λ w. word low bs + w) (sym (eight 1 bs long)) ∙ add_word low (λ _. 1) bs
 
   other_is : bit_xor (word both bs) 0x8080_8080_8080_8080 ≡ word other bs
-  other_is = ap (bit_xor (word both bs)) (sym (eight 128 bs long)) ∙ xor_word both (λ _. 128) both_byte
-      (constant 128 (omega arith)) bs fit
+  other_is = grind (arith, eight 128 bs long, xor_word both (λ _. 128) both_byte (constant 128 (omega arith)) bs fit)
 
   any_is : any_of (word (λ b. b) bs) (word low bs) ≡ word any bs
   any_is =
-      let both_is = and_word visible no_percent visible_byte no_percent_byte bs fit in
-      let either_is = or_word other delete other_byte delete_byte bs fit in
-      rw (visible_is, percent_is, no_percent_is, delete_is, both_is, other_is, either_is)
-      (or_word either (λ b. b) either_byte (λ b h. h) bs fit)
+      grind (arith, and_word, visible_byte, no_percent_byte, or_word, other_byte, delete_byte, visible_is, percent_is, no_percent_is, delete_is, other_is, either_byte)
 
   pub marks_are : marks (word (λ b. b) bs) ≡ word marked bs
-  marks_are =
-      rw (low_is, any_is) (
-      ap (bit_and (word any bs)) (sym (eight 128 bs long)) ∙ and_word any (λ _. 128) any_byte
-      (constant 128 (omega arith)) bs fit
-      )
+  marks_are = grind (arith, low_is, any_is, eight 128 bs long, and_word any (λ _. 128) any_byte (constant 128 (omega arith)) bs fit)
 
 -- a byte is marked where it is odd
 
 true_not : (x : Bool) → not x ≡ true → x ≡ false
-true_not true e = sym e
-true_not false e = refl
+true_not x e = grind arith
 
 false_not : (x : Bool) → not x ≡ false → x ≡ true
-false_not true e = refl
-false_not false e = sym e
+false_not x e = grind arith
 
 is_marked : (b : ℕ) → b < 2 ^ 8 → (marked b == 0) ≡ not (is_odd b)
 is_marked b small = agree_below_at (λ b. marked b == 0) (λ b. not (is_odd b)) 256 b tried small

@@ -1,5 +1,5 @@
 -- what a piece of an input says of its lines
-use Rattle.std.proofs.Common.{◌≡◌, ◌≢◌, ℕ, ◌+◌, ◌<◌, ◌≤◌, ◌==◌, All, List, [], ◌∷◌, ◌++◌, length, Option, Some, None, refl, ap, sym, ◌∙◌, arith, ne_eqb, append_assoc, OnSome, drop}
+use Rattle.std.proofs.Common.{◌≡◌, ◌≢◌, ℕ, ◌+◌, ◌<◌, ◌≤◌, ◌==◌, All, List, [], ◌∷◌, ◌++◌, length, Option, refl, ap, ◌∙◌, arith, ne_eqb, append_assoc, OnSome}
 use Rattle.std.proofs.Transfers.{drop-appended}
 use Rattle.std.proofs.lemmas.List.{append-nil, length-append}
 use Rattle.std.proofs.lemmas.List.Elements.{All-head, All-tail}
@@ -8,7 +8,6 @@ use Rattle.std.specs.List.{slice_split}
 use Rattle.std.specs.Io.KnownBytes.{Consumes, IsAtEnd}
 use Rattle.line_reading.specs.sources.ReadLines.{longest_line, last_line, lines_of_pieces, lines, after_line}
 use Rattle.line_reading.specs.sources.NextLine.{TakesLine, TakesNoLine, BeginsTooLong, IsWithinLine}
-use Rattle.line_reading.specs.tokens.Prefixes.{before_byte}
 use Rattle.line_reading.specs.declared.line_problem.LineProblem.TheVariants.{LineTooLong}
 use Rattle.line_reading.specs.sources.LineLaws.{has_pieces, lines_of_more}
 use Rattle.line_reading.proofs.tokens.Split.{no_separator, before-append}
@@ -21,8 +20,7 @@ lines-line l rest clean =
 
 behind-line : (l rest : List ℕ) → All (λ x. x ≢ 10) l → after_line (l ++ 10 ∷ rest) ≡ rest
 behind-line [] rest clean = refl
-behind-line (b ∷ l) rest clean = rw (ne_eqb b 10 (All-head (λ x. x ≢ 10) b l clean))
-    (behind-line l rest (All-tail (λ x. x ≢ 10) b l clean))
+behind-line (b ∷ l) rest clean = cc (ne_eqb b 10 (All-head (λ x. x ≢ 10) b l clean), behind-line l rest (All-tail (λ x. x ≢ 10) b l clean))
 
 -- a line without an LF
 lines-last : (l : List ℕ) → All (λ x. x ≢ 10) l → lines l ≡ last_line l
@@ -30,12 +28,10 @@ lines-last l clean = ap lines_of_pieces (slice_split_none (λ b. b == 10) l (no_
 
 behind-last : (l : List ℕ) → All (λ x. x ≢ 10) l → after_line l ≡ []
 behind-last [] clean = refl
-behind-last (b ∷ l) clean = rw (ne_eqb b 10 (All-head (λ x. x ≢ 10) b l clean))
-    (behind-last l (All-tail (λ x. x ≢ 10) b l clean))
+behind-last (b ∷ l) clean = grind (arith, ne_eqb b 10 (All-head (λ x. x ≢ 10) b l clean), behind-last l (All-tail (λ x. x ≢ 10) b l clean))
 
 last-some : (l : List ℕ) → 0 < length l → last_line l ≡ l ∷ []
-last-some [] h = absurd (omega (arith, h))
-last-some (b ∷ l) h = refl
+last-some l h = grind arith
 
 -- a line of which a prefix is known
 LongPiece : ℕ → List (List ℕ) → Type 0
@@ -48,60 +44,27 @@ long_piece (b ∷ l) rest clean =
     let h = long_piece l rest (All-tail (λ x. x ≢ 10) b l clean) in
     rw (ne_eqb b 10 (All-head (λ x. x ≢ 10) b l clean), h.1.1.0) (b ∷ h.0, (h.1.0, (refl, omega (arith, h.1.1.1))))
 
-begins_long : (f : List ℕ) (r : List (List ℕ)) → longest_line < length f → BeginsTooLong (lines_of_pieces (f ∷ r))
-begins_long [] [] h = absurd (omega (arith, h))
-begins_long (b ∷ bs) [] h = h
-begins_long f (g ∷ r) h = h
-
 too_long : (l rest : List ℕ) → All (λ x. x ≢ 10) l → length l ≡ longest_line + 1 → BeginsTooLong (lines (l ++ rest))
 unfolding LongPiece
-too_long l rest clean e =
-    let h = long_piece l rest clean in
-    rw h.1.1.0 (begins_long h.0 h.1.0 (omega (arith, h.1.1.1)))
+too_long l rest clean e = grind (arith, long_piece l rest clean)
 
 -- the same of a reader
 
 pub takes_line : (before after : Option (List ℕ)) (l : List ℕ) → All (λ x. x ≢ 10) l
     → Consumes before after (l ++ 10 ∷ []) → TakesLine before l after
-takes_line None after l clean h = tt
-takes_line (Some bytes) None l clean h = absurd h
-takes_line (Some bytes) (Some rest) l clean h =
-    let whole : bytes ≡ l ++ 10 ∷ rest = h ∙ append_assoc l (10 ∷ []) rest in
-    rw whole (
-      lines-line l rest clean ∙ ap (λ r. l ∷ lines r) (sym (behind-line l rest clean)),
-      ap Some (sym (behind-line l rest clean)),
-    )
+takes_line before after l clean h = grind (arith, append_assoc, lines-line, behind-line)
 
 pub takes_last : (before after : Option (List ℕ)) (l : List ℕ) → All (λ x. x ≢ 10) l → 0 < length l
     → Consumes before after (l ++ [])
     → OnSome before (IsAtEnd after) → TakesLine before l after
-takes_last None after l clean some h end = tt
-takes_last (Some bytes) None l clean some h end = absurd h
-takes_last (Some bytes) (Some rest) l clean some h end =
-    let whole : bytes ≡ l = h ∙ ap (λ r. (l ++ []) ++ r) end ∙ append-nil (l ++ []) ∙ append-nil l in
-    rw whole (
-      lines-last l clean ∙ last-some l some ∙ ap (λ r. l ∷ lines r) (sym (behind-last l clean)),
-      ap Some (end ∙ sym (behind-last l clean)),
-    )
+takes_last before after l clean some h end = grind (arith, append-nil, lines-last, last-some, behind-last)
 
 pub takes_too_long : (before after : Option (List ℕ)) (l : List ℕ) → All (λ x. x ≢ 10) l
     → length l ≡ longest_line + 1 → Consumes before after (l ++ [])
     → TakesNoLine before LineTooLong
-takes_too_long None after l clean e h = tt
-takes_too_long (Some bytes) None l clean e h = absurd h
-takes_too_long (Some bytes) (Some rest) l clean e h =
-    let whole : bytes ≡ l ++ rest = h ∙ ap (λ x. x ++ rest) (append-nil l) in
-    rw whole (too_long l rest clean e)
+takes_too_long before after l clean e h = grind (arith, append-nil, too_long)
 
 pub takes_within : (before after : Option (List ℕ)) (l : List ℕ) (n : ℕ) → All (λ x. x ≢ 10) l → length l ≡ n
     → Consumes before after (l ++ [])
     → IsWithinLine n before after
-takes_within None after l n clean e h = tt
-takes_within (Some bytes) None l n clean e h = absurd h
-takes_within (Some bytes) (Some rest) l n clean e h =
-    let whole : bytes ≡ l ++ rest = h ∙ ap (λ x. x ++ rest) (append-nil l) in
-    let line : before_byte 10 bytes ≡ l ++ before_byte 10 rest = ap (before_byte 10) whole
-    ∙ before-append 10 l rest clean in (
-      omega (arith, e, ap length line, length-append l (before_byte 10 rest)),
-      ap Some (sym (ap (λ k. drop k bytes) (sym e) ∙ drop-appended l bytes rest whole)),
-    )
+takes_within before after l n clean e h = grind (arith, append-nil, before-append, length-append, drop-appended)

@@ -6,26 +6,18 @@ use Rattle.std.specs.List.{onto_first, slice_split}
 use Rattle.libyaml_types.specs.declared.token.yaml_token_t.{yaml_token_t}
 use Rattle.libyaml_types.specs.Fault.{SourceResult, Fault}
 use Rattle.line_reading.specs.declared.line_cause.LineCause.{LineCause}
-use Rattle.line_reading.specs.declared.line_problem.LineProblem.TheVariants.{BadTokenLine, LineTooLong, TooManyTokens}
+use Rattle.line_reading.specs.declared.line_problem.LineProblem.TheVariants.{BadTokenLine, LineTooLong}
 use Rattle.line_reading.specs.sources.LineFault.{line_fault}
-use Rattle.line_reading.specs.sources.LineLaws.{HasPieces, has_pieces, lines_of_more}
-use Rattle.line_reading.specs.sources.LineSource.{Gives, GivesBy, GivesNext, LineSource, answer_fault, answer_tokens}
+use Rattle.line_reading.specs.sources.LineLaws.{HasPieces, has_pieces}
+use Rattle.line_reading.specs.sources.LineSource.{Gives, GivesBy, GivesNext, LineSource}
 use Rattle.line_reading.specs.sources.NextLine.{IsAfterLine, IsWithinLine, KnownAnswer, LineAnswer, first_answer}
 use Rattle.line_reading.specs.sources.OneLine.{LineBreaksOff, LineOutcome, OneLine, SourcesAlike, alike, first_breaks, second_breaks}
 use Rattle.line_reading.specs.sources.ReadLines.{after_line, line_answer, lines, lines_of_pieces, longest_line, token_or_fault}
-use Rattle.line_reading.specs.tokens.LineCause.{cause_of_line}
-use Rattle.line_reading.specs.tokens.TokenLine.{token_of_line}
 
 -- an input without a line has no byte
 none_or_more : (b : ℕ) (bs : List ℕ) (t : Bool) (pieces : List (List ℕ)) → HasPieces pieces
     → lines_of_pieces (cond t ([] ∷ pieces) (onto_first b pieces)) ≡ [] → ⊥
-none_or_more b bs true pieces h e = absurd (never (lines_of_pieces pieces) (sym (lines_of_more [] pieces h) ∙ e))
-  where
-    never : (ls : List (List ℕ)) → ◌≡◌ {A = List (List ℕ)} ([] ∷ ls) [] → ⊥
-    never ls i = cc
-none_or_more b bs false [] (f, (r, is)) e = cc
-none_or_more b bs false (p ∷ []) h e = cc
-none_or_more b bs false (p ∷ q ∷ ps) h e = cc
+none_or_more b bs t pieces h e = grind arith
 
 no_byte : (bytes : List ℕ) → lines bytes ≡ [] → bytes ≡ []
 no_byte [] e = refl
@@ -36,9 +28,6 @@ consumed_none None taken h = absurd h
 consumed_none (Some []) taken h = refl
 consumed_none (Some (b ∷ bs)) [] h = cc
 consumed_none (Some (b ∷ bs)) (c ∷ taken) h = cc
-
-ok_no_err : (t : yaml_token_t) (f : Fault) → ◌≡◌ {A = SourceResult} (Ok t) (Err f) → ⊥
-ok_no_err t f e = cc
 
 module _ {R : Type 0} (remaining : R → Option (List ℕ)) where
   -- what a result leaves of known bytes, where n tokens were given
@@ -52,27 +41,19 @@ module _ {R : Type 0} (remaining : R → Option (List ℕ)) where
   left_by_token : (bytes : List ℕ) (n : ℕ) (o : Option yaml_token_t) (c : LineCause) (a b : SourceResult) (x y : Option (List ℕ))
       → token_or_fault o c n ≡ a → a ≡ b
       → Leaves bytes n a x → Leaves bytes n b y → x ≡ y
-  left_by_token bytes n (Some t) c a b x y e i h k = h.token t (sym e) ∙ sym (k.token t (sym (e ∙ i)))
-  left_by_token bytes n None c a b x y e i h k = h.bad_line c (sym e) ∙ sym (k.bad_line c (sym (e ∙ i)))
+  left_by_token bytes n o c a b x y e i h k = grind arith
 
   left_by_line : (bytes line : List ℕ) (n : ℕ) (a b : SourceResult) (x y : Option (List ℕ)) (is_long : Bool)
       → nat_lt longest_line (length line) ≡ is_long
       → line_answer n line ≡ a → a ≡ b → Leaves bytes n a x → Leaves bytes n b y → x ≡ y
-  left_by_line bytes line n a b x y true l e i h k =
-      let long : Err (line_fault LineTooLong n) ≡ a =
-      sym (ap (λ (c : Bool). cond c (Err (line_fault LineTooLong n)) (token_or_fault (token_of_line line) (cause_of_line line) n)) l) ∙ e in
-      h.too_long (sym long) ∙ sym (k.too_long (sym (long ∙ i)))
-  left_by_line bytes line n a b x y false l e i h k =
-      let short : token_or_fault (token_of_line line) (cause_of_line line) n ≡ a =
-      sym (ap (λ (c : Bool). cond c (Err (line_fault LineTooLong n)) (token_or_fault (token_of_line line) (cause_of_line line) n)) l) ∙ e in
-      left_by_token bytes n (token_of_line line) (cause_of_line line) a b x y short i h k
+  left_by_line bytes line n a b x y true l e i h k = grind (arith, h, k)
+  left_by_line bytes line n a b x y false l e i h k = grind (arith, left_by_token, h, k)
 
   left_by : (bytes : List ℕ) (n : ℕ) (ls : List (List ℕ)) (a b : SourceResult) (x y : Option (List ℕ)) → lines bytes ≡ ls
       → first_answer n ls ≡ a → a ≡ b
       → Leaves bytes n a x → Leaves bytes n b y → x ≡ y
   left_by bytes n [] a b x y l e i h k = h.none (no_byte bytes l) ∙ sym (k.none (no_byte bytes l))
-  left_by bytes n (line ∷ more) a b x y l e i h k = left_by_line bytes line n a b x y
-      (nat_lt longest_line (length line)) refl e i h k
+  left_by bytes n (line ∷ more) a b x y l e i h k = cc (left_by_line bytes line n a b x y (nat_lt longest_line (length line)) refl e i h k)
 
   -- what was said of a result
   data Came (s : LineSource R) (bytes : List ℕ) (answer : SourceResult) : Type 0 where
@@ -81,25 +62,20 @@ module _ {R : Type 0} (remaining : R → Option (List ℕ)) where
 
   came : (s : LineSource R) (bytes : List ℕ) (answer : SourceResult) (after : Option (List ℕ))
       → KnownAnswer bytes s.given answer after → Came s bytes answer
-  came s bytes (Ok t) after h = of_line h.0
-  came s bytes (Err f) after (inl h) = of_line h
-  came s bytes (Err f) after (inr h) = broke (record { fault = f; result = refl; breaks_off = h })
+  came s bytes answer after h = grind arith
 
   after_token : (s : LineSource R) (bytes : List ℕ) (answer : SourceResult) (after : Option (List ℕ))
       → KnownAnswer bytes s.given answer after
       → (t : yaml_token_t) → answer ≡ Ok t → after ≡ Some (after_line bytes)
-  after_token s bytes (Ok u) after h t e = h.1
-  after_token s bytes (Err f) after h t e = absurd (ok_no_err t f (sym e))
+  after_token s bytes answer after h t e = grind arith
 
   known_after : (before after : Option (List ℕ)) (bytes : List ℕ) → before ≡ Some bytes → IsAfterLine before after
       → after ≡ Some (after_line bytes)
-  known_after None after bytes e h = cc
-  known_after (Some x) after bytes e h = let same : x ≡ bytes = cc in h ∙ ap (λ (y : List ℕ). Some (after_line y)) same
+  known_after before after bytes e h = grind arith
 
   known_within : (n : ℕ) (before after : Option (List ℕ)) (bytes : List ℕ) → before ≡ Some bytes
       → IsWithinLine n before after → after ≡ Some (drop n bytes)
-  known_within n None after bytes e h = cc
-  known_within n (Some x) after bytes e h = let same : x ≡ bytes = cc in h.1 ∙ ap (λ (y : List ℕ). Some (drop n y)) same
+  known_within n before after bytes e h = grind arith
 
   leaves : (s t : LineSource R) (bytes : List ℕ) (answer : SourceResult) → remaining s.reader ≡ Some bytes
       → s.fault ≡ None → LineOutcome remaining s answer t
@@ -120,21 +96,14 @@ module _ {R : Type 0} (remaining : R → Option (List ℕ)) where
   known_answer : (s : LineSource R) (answer : SourceResult) (t : LineSource R) (bytes : List ℕ) → remaining s.reader ≡ Some bytes
       → LineAnswer (remaining s.reader) s.given answer (remaining t.reader)
       → KnownAnswer bytes s.given answer (remaining t.reader)
-  known_answer s answer t bytes known h =
-      subst (λ (b : Option (List ℕ)). LineAnswer b s.given answer (remaining t.reader)) known h
+  known_answer s answer t bytes known h = grind arith
 
   module _ (s u : LineSource R) (a b : SourceResult) (t v : LineSource R) (bytes : List ℕ)
       (known : remaining s.reader ≡ Some bytes)
       (same : SourcesAlike remaining s u) (first : LineOutcome remaining s a t) (second : LineOutcome remaining u b v) where
     left_alike : a ≡ b → remaining t.reader ≡ remaining v.reader → GivesNext remaining s a t
         → GivesNext remaining u b v → SourcesAlike remaining t v
-    left_alike e r h k = record {
-      given = h.given ∙ (ap (λ (n : ℕ). n + answer_tokens a) same.given
-          ∙ (ap (λ (x : SourceResult). u.given + answer_tokens x) e ∙ sym k.given));
-      max_tokens = h.max_tokens ∙ (same.max_tokens ∙ sym k.max_tokens);
-      fault = h.fault ∙ (ap answer_fault e ∙ sym k.fault);
-      bytes = r;
-    }
+    left_alike e r h k = grind arith
 
     also_known : remaining u.reader ≡ Some bytes
     also_known = sym same.bytes ∙ known
@@ -170,11 +139,7 @@ module _ {R : Type 0} (remaining : R → Option (List ℕ)) where
     -- no token may be given
     at_bound : s.max_tokens ≤ s.given → u.max_tokens ≤ u.given → s.fault ≡ None → u.fault ≡ None
         → OneLine remaining s u a t b v
-    at_bound l m f g =
-        let h = gives_next s a t f first.gives in
-        let k = gives_next u b v g second.gives in
-        let e : a ≡ b = h.at_bound l ∙ (ap (λ (n : ℕ). Err (line_fault TooManyTokens n)) same.given ∙ sym (k.at_bound m)) in
-        alike e (left_alike e (ap remaining (h.unread l) ∙ (same.bytes ∙ sym (ap remaining (k.unread m)))) h k)
+    at_bound l m f g = grind arith
 
     by_fault : (f : Option Fault) → s.fault ≡ f → OneLine remaining s u a t b v
     by_fault (Some f) e =

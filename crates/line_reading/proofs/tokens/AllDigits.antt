@@ -1,15 +1,13 @@
 -- Whether all bytes are digits, byte by byte.
-use Rattle.std.proofs.Common.{◌≡◌, ◌+◌, ◌<◌, ◌&&◌, ℕ, zero, suc, List, [], ◌∷◌, Bool, true, false, length, take, slice_index_or, refl, subst, arith}
+use Rattle.std.proofs.Common.{◌≡◌, ◌+◌, ◌<◌, ◌&&◌, ℕ, zero, suc, List, [], ◌∷◌, Bool, true, false, length, take, slice_index_or, refl, arith}
 use Rattle.std.specs.Char.{is_ascii_digit}
 use Rattle.std.specs.Str.{all_ascii_digits}
 
 both : (a b : Bool) → (a && b) ≡ true → (a ≡ true) × (b ≡ true)
-both true b h = (refl, h)
-both false b h = cc
+both a b h = grind arith
 
 join : (a b : Bool) → a ≡ true → b ≡ true → (a && b) ≡ true
-join true b h k = k
-join false b h k = cc
+join a b h k = grind arith
 
 further : (bs : List ℕ) (n : ℕ) → n < length bs → all_ascii_digits (take n bs) ≡ true
     → is_ascii_digit (slice_index_or bs n 0) ≡ true → all_ascii_digits (take (suc n) bs) ≡ true
@@ -23,9 +21,7 @@ further (b ∷ bs) (suc n) h all digit =
 -- a further digit
 pub one_more : (bs : List ℕ) (n : ℕ) → n < length bs → all_ascii_digits (take n bs) ≡ true
     → is_ascii_digit (slice_index_or bs n 0) ≡ true → all_ascii_digits (take (n + 1) bs) ≡ true
-one_more bs n h all digit =
-    let next : suc n ≡ n + 1 = omega arith in
-    subst (λ (m : ℕ). all_ascii_digits (take m bs) ≡ true) next (further bs n h all digit)
+one_more bs n h all digit = grind (arith, further)
 
 -- a byte that is none
 pub not_all : (bs : List ℕ) (n : ℕ) → n < length bs → is_ascii_digit (slice_index_or bs n 0) ≡ false

@@ -1,6 +1,5 @@
 -- a number that begins some bytes
-use Rattle.std.proofs.Common.{◌≡◌, leb, ◌==◌, ℕ, ◌+◌, ◌-◌, ◌*◌, ◌%◌, ◌<◌, ◌≤◌, ◌^◌, true, false, List, [], ◌∷◌, ◌++◌, length, take, drop, get_or, None, refl, ap, sym, ◌∙◌, arith, append_assoc, min}
-use Rattle.std.proofs.lemmas.Bool.{cond_both, leb-true, le-leb, and_parts}
+use Rattle.std.proofs.Common.{◌≡◌, ℕ, ◌+◌, ◌-◌, ◌*◌, ◌%◌, ◌<◌, ◌≤◌, ◌^◌, true, false, List, [], ◌∷◌, ◌++◌, length, take, drop, get_or, None, refl, ap, sym, ◌∙◌, arith, append_assoc, min}
 use Rattle.std.proofs.lemmas.List.{at_drop_more, at_drop_all, take_more, append-nil, get_or-take, length-take, length-drop}
 use Rattle.std.proofs.Math.Nat.{pow-suc, pow-le-pow_right}
 use Rattle.std.proofs.Math.Numerals.{add-one}
@@ -33,20 +32,12 @@ behind-no : (b : ℕ) (bs : List ℕ) → is_ascii_digit b ≡ false → after_d
 behind-no b bs d = rw d refl
 
 pub no_value : (ds : List ℕ) → value_of ds ≡ None → number_of ds ≡ None
-no_value [] h = refl
-no_value (d ∷ []) h = h
-no_value (d ∷ e ∷ ds) h = cond_both (d == 48) None (value_of (d ∷ e ∷ ds)) (λ o. o ≡ None) (λ _. refl) (λ _. h)
+no_value ds h = grind arith
 
 -- the digits end at i
 ends : (bytes : List ℕ) (i n : ℕ) → HasRead bytes i n → digits_of (drop i bytes) ≡ []
     → after_digits (drop i bytes) ≡ drop i bytes → HasDigits bytes i n
-ends bytes i n h none rest =
-    let all : digits_of bytes ≡ take i bytes = h.digits ∙ ap (λ x. take i bytes ++ x) none ∙ append-nil (take i bytes) in
-    record {
-      digits = all;
-      behind = h.behind ∙ rest;
-      value_is = ap value_of (sym all) ∙ h.value ∙ ap (value_after n) none ∙ value_after-end n h.fits;
-    }
+ends bytes i n h none rest = grind (arith, append-nil, value_after-end)
 
 pub ends_at_end : (bytes : List ℕ) (i n : ℕ) → HasRead bytes i n → length bytes ≤ i → HasDigits bytes i n
 ends_at_end bytes i n h large =
@@ -63,9 +54,7 @@ module _ (bytes : List ℕ) (k i n : ℕ) (h : HasRead bytes i n) (small : i < l
   rest = drop (i + 1) bytes
 
   within : (i < length bytes) × (byte ≡ get_or bytes i 0)
-  within =
-      let below : i < min k (length bytes) = rw (sym (length-take k bytes)) small in
-      (omega (arith, below), get_or-take k bytes i 0 (omega (arith, below)))
+  within = grind (arith, length-take, get_or-take)
 
   whole : drop i bytes ≡ byte ∷ rest
   whole = at_drop_more (λ x. x) bytes i 0 within.0 ∙ ap (λ b. b ∷ rest) (sym within.1)
@@ -85,11 +74,7 @@ module _ (bytes : List ℕ) (k i n : ℕ) (h : HasRead bytes i n) (small : i < l
       }
 
   pub too_much_within : is_ascii_digit byte ≡ true → 2 ^ 64 ≤ n * 10 + (byte - 48) → number_at bytes ≡ None
-  too_much_within d large =
-      let none : value_of (digits_of bytes) ≡ None = h.value
-      ∙ ap (value_after n) (ap digits_of whole ∙ digits-yes byte rest d)
-      ∙ value_after-digit n byte (digits_of rest) d ∙ value_after-large _ (digits_of rest) large in
-      rw (no_value (digits_of bytes) none) refl
+  too_much_within d large = grind (arith, whole, digits-yes, value_after-digit, value_after-large, no_value)
 
   pub ends_within : is_ascii_digit byte ≡ false → HasDigits bytes i n
   ends_within d
@@ -99,18 +84,13 @@ module _ (bytes : List ℕ) (k i n : ℕ) (h : HasRead bytes i n) (small : i < l
 pub ends_with_line : (line : List ℕ) (at end i n : ℕ) → end ≡ length line → HasRead (drop at line) i n
     → i ≤ length (take (end - at) (drop at line))
     → length (take (end - at) (drop at line)) ≤ i → HasDigits (drop at line) (end - at) n
-ends_with_line line at end i n e h most least =
-    let size : length (take (end - at) (drop at line)) ≡ end - at = length-take (end - at) (drop at line)
-    ∙ omega (arith, e, length-drop at line) in
-    let all : i ≡ end - at = omega (arith, most, least, size) in
-    rw (← all) (ends_at_end (drop at line) i n h (omega (arith, all, e, length-drop at line)))
+ends_with_line line at end i n e h most least = grind (arith, length-take, length-drop, ends_at_end)
 
 -- the number that is there, or that there is none
 
 pub no_number_read : (line : List ℕ) (at : ℕ) (read : NumberRead) → read.end ≡ 0 → number_at (drop at line) ≡ None
     → IsNumberRead line at read
-no_number_read line at read e none =
-    record { within = omega (arith, e); none = λ _. none; some = λ some. absurd (omega (arith, e, some)) }
+no_number_read line at read e none = grind arith
 
 -- the same, with a value that i digits can have
 pub record HasReadFew (bytes : List ℕ) (i n : ℕ) : Type 0 where
@@ -119,19 +99,13 @@ pub record HasReadFew (bytes : List ℕ) (i n : ℕ) : Type 0 where
 
 -- so after fewer than 19 digits one more fits into 64 bits
 pub few_fit : (i n : ℕ) → n < 10 ^ i → i < 19 → n * 10 + 57 < 2 ^ 64
-few_fit i n h small =
-    let most : 10 ^ i ≤ 10 ^ 18 = pow-le-pow_right {n = 10} (omega arith) {i = i} {j = 18} (omega arith) in
-    omega (arith, most, h)
+few_fit i n h small = grind (arith, pow-le-pow_right)
 
 digit_within : (b : ℕ) → is_ascii_digit b ≡ true → (48 ≤ b) × (b ≤ 57)
-digit_within b d =
-    let k = and_parts (leb 48 b) (leb b 57) d in
-    (leb-true 48 b k.0, leb-true b 57 k.1)
+digit_within b d = grind arith
 
 few_below : (i n b : ℕ) → n < 10 ^ i → b ≤ 57 → 48 ≤ b → n * 10 + (b - 48) < 10 ^ (i + 1)
-few_below i n b h high low =
-    let more : 10 ^ (i + 1) ≡ 10 ^ i * 10 = ap (λ x. 10 ^ x) (add-one i) ∙ pow-suc 10 i in
-    rw more (omega (arith, h, high, low))
+few_below i n b h high low = grind (arith, add-one i, pow-suc 10 i)
 
 pub few_room : (bytes : List ℕ) (k i n : ℕ) → k ≤ 19 → HasReadFew bytes i n → i < length (take k bytes)
     → is_ascii_digit (get_or (take k bytes) i 0) ≡ true
@@ -156,10 +130,5 @@ few_more_within bytes k i n short few small d =
 abbrev ones : ℕ → ℕ
 ones b = (b + 18446744073709551568) % 18446744073709551616
 
-ones_within : (b : ℕ) → b < 18446744073709551616 → ones b ≤ 9 → (48 ≤ b) × (b ≤ 57) × (ones b ≡ b - 48)
-ones_within b fits few = (omega (arith, few), omega (arith, few), omega (arith, few))
-
 pub ones_digit : (b : ℕ) → b < 18446744073709551616 → ones b ≤ 9 → (is_ascii_digit b ≡ true) × (ones b ≡ b - 48)
-ones_digit b fits few =
-    let bounds = ones_within b fits few in
-    (rw (le-leb 48 b bounds.0, le-leb b 57 bounds.1) refl, bounds.2)
+ones_digit b fits few = grind arith

@@ -1,11 +1,10 @@
 -- a line's token from its name and from the marks at their indices
-use Rattle.std.proofs.Common.{◌≡◌, ◌≢◌, ◌+◌, ◌<◌, ◌≤◌, ℕ, All, List, length, take, drop, get_or, Option, Some, None, Result, Ok, Err, refl, ap, sym}
+use Rattle.std.proofs.Common.{◌≡◌, ◌≢◌, ◌+◌, ◌<◌, ◌≤◌, ℕ, All, List, length, take, drop, get_or, Option, Some, None, Result, refl, ap, sym, arith}
 use Rattle.std.proofs.lemmas.List.{at_drop_more}
 use Rattle.libyaml_types.specs.declared.mark.yaml_mark_t.{yaml_mark_t}
 use Rattle.libyaml_types.specs.declared.token.yaml_token_t.{yaml_token_t}
 use Rattle.libyaml_types.specs.declared.token.unnamed_yaml_token_t_data.{unnamed_yaml_token_t_data}
 use Rattle.line_reading.specs.declared.token_line_error.TokenLineError.{TokenLineError}
-use Rattle.line_reading.specs.declared.token_line_error.TokenLineError.TheVariants.{Memory, Bad}
 use Rattle.line_reading.specs.tokens.Field.{◌>>=◌}
 use Rattle.line_reading.specs.tokens.Reading.{IsReadInto}
 use Rattle.line_reading.specs.tokens.Pieces.{pieces_of}
@@ -23,9 +22,7 @@ some_further line at h = ap further (at_drop_more (λ x. x) line at 0 h)
 pub named : (line : List ℕ) (n : ℕ) → n < length line → All (λ x. x ≢ 32) (take n line)
     → (n < length line → get_or line n 0 ≡ 32)
     → (before_byte 32 line ≡ take n line) × (after_byte 32 line ≡ Some (drop (n + 1) line))
-named line n small clean found =
-    let both = cut_here 32 line n small clean (found small) in
-    (sym both.0, sym both.1)
+named line n small clean found = grind (arith, cut_here 32 line n small clean (found small))
 
 pub no_marks : (line : List ℕ) (n : ℕ) → length line ≤ n → All (λ x. x ≢ 32) (take n line) → line_token_at line ≡ None
 no_marks line n all clean = rw (sym (cut_nowhere 32 line n all clean).1) refl
@@ -52,6 +49,4 @@ pub with_marks : (result : Result (Unit {0}) TokenLineError) (content : unnamed_
     (start end : yaml_mark_t) → IsReadInto result content there
     → IsReadInto {A = yaml_token_t} result (record { content = content; start_mark = start; end_mark = end })
     (there >>= (λ content. Some (record { content = content; start_mark = start; end_mark = end })))
-with_marks (Ok u) content there start end h = rw h refl
-with_marks (Err Bad) content there start end h = rw h refl
-with_marks (Err Memory) content there start end h = tt
+with_marks result content there start end h = grind arith

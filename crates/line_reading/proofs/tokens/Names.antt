@@ -11,10 +11,4 @@ begun line start e = sym (take-append-drop (length start) line) ∙ ap (λ x. x 
 pub is_named : (line start : List ℕ) (name : NameRead) → take (length start) line ≡ start → length start ≡ name.end + 1
     → ((rest : List ℕ) → token_type_of (before_byte 32 (start ++ rest)) ≡ Some name.type_)
     → ((rest : List ℕ) → after_byte 32 (start ++ rest) ≡ Some rest) → IsNameRead line name
-is_named line start name e n type behind =
-    let is = begun line start e in
-    record {
-      within = omega (arith, ap length is, length-append start (drop (length start) line), n);
-      type = ap (λ l. token_type_of (before_byte 32 l)) is ∙ type _;
-      behind = ap (after_byte 32) is ∙ behind _ ∙ ap (λ k. Some (drop k line)) n;
-    }
+is_named line start name e n type behind = grind (arith, begun line start e, length-append start (drop (length start) line))

@@ -1,17 +1,12 @@
 -- what one more digit does to a value
-use Rattle.std.proofs.Common.{◌≡◌, ℕ, ◌+◌, ◌-◌, ◌*◌, ◌<◌, ◌≤◌, ◌^◌, ◌&&◌, true, false, ltb, leb, List, [], ◌∷◌, Some, None, refl, arith}
-use Rattle.std.proofs.lemmas.Bool.{le-ltb, lt-ltb, leb-true, and_parts, and_right}
+use Rattle.std.proofs.Common.{◌≡◌, ℕ, ◌+◌, ◌-◌, ◌*◌, ◌<◌, ◌≤◌, ◌^◌, true, List, [], ◌∷◌, Some, None, refl, arith}
+use Rattle.std.proofs.lemmas.Bool.{le-ltb, lt-ltb, and_right}
 use Rattle.std.specs.Char.{is_ascii_digit, digit_value}
-use Rattle.std.specs.Str.{all_ascii_digits}
 use Rattle.std.specs.Str.Parse.{digits_value_after}
 use Rattle.line_reading.specs.tokens.Number.{value_after}
 
 digit_value_is : (d : ℕ) → is_ascii_digit d ≡ true → digit_value d ≡ d - 48
-digit_value_is d e =
-    let k = and_parts (leb 48 d) (leb d 57) e in
-    let low : 48 ≤ d = leb-true 48 d k.0 in
-    let high : d ≤ 57 = leb-true d 57 k.1 in
-    rw (le-ltb d 48 low, lt-ltb d 58 (omega arith)) refl
+digit_value_is d e = grind arith
 
 le_value_after : (n : ℕ) (ds : List ℕ) → n ≤ digits_value_after 10 n ds
 le_value_after n [] = omega arith
@@ -25,8 +20,4 @@ pub value_after-digit : (n d : ℕ) (ds : List ℕ) → is_ascii_digit d ≡ tru
 value_after-digit n d ds e = rw (e, digit_value_is d e) refl
 
 pub value_after-large : (n : ℕ) (ds : List ℕ) → 2 ^ 64 ≤ n → value_after n ds ≡ None
-value_after-large n ds h =
-    let large : 2 ^ 64 ≤ digits_value_after 10 n ds = omega (arith, le_value_after n ds) in
-    let no : (all_ascii_digits ds && ltb (digits_value_after 10 n ds) (2 ^ 64)) ≡ false
-    = and_right (all_ascii_digits ds) _ (le-ltb (digits_value_after 10 n ds) (2 ^ 64) large) in
-    rw no refl
+value_after-large n ds h = grind (arith, le_value_after, and_right, le-ltb)

@@ -2,7 +2,7 @@
 use Rattle.std.proofs.Common.{◌≡◌, ◌≢◌, ℕ, ◌==◌, All, Bool, true, false, cond, List, [], ◌∷◌, ◌++◌, Option, Some, None, option_map, refl, ap, sym, ◌∙◌, subst, arith, inl, inr}
 use Rattle.std.proofs.lemmas.Bool.{cases_Bool, and_left, and_right, eqb-true}
 use Rattle.std.proofs.lemmas.List.{append-nil}
-use Rattle.std.proofs.lemmas.List.Elements.{All-nil, All-cons, All-head, All-tail}
+use Rattle.std.proofs.lemmas.List.Elements.{All-nil, All-head, All-tail}
 use Rattle.std.proofs.lemmas.List.Splits.{slice_split_at, slice_split_none}
 use Rattle.std.specs.List.{slice_split}
 use Rattle.std.specs.Char.{is_ascii_digit}
@@ -22,8 +22,7 @@ use Rattle.line_reading.proofs.tokens.Split.{no_separator, split_first, before-a
 -- bytes are digits and what follows them
 digits_cond : (t : Bool) (b : ℕ) (bs : List ℕ) → bs ≡ digits_of bs ++ after_digits bs
     → b ∷ bs ≡ cond t (b ∷ digits_of bs) [] ++ cond t (after_digits bs) (b ∷ bs)
-digits_cond true b bs h = ap (λ x. b ∷ x) h
-digits_cond false b bs h = refl
+digits_cond t b bs h = grind arith
 
 pub digits_after : (bs : List ℕ) → bs ≡ digits_of bs ++ after_digits bs
 digits_after [] = refl
@@ -35,8 +34,7 @@ ne_digit c b other digit e = cc
 
 clean_cond : (c : ℕ) (t : Bool) (b : ℕ) (bs : List ℕ) → (t ≡ true → b ≢ c) → All (λ x. x ≢ c) (digits_of bs)
     → All (λ x. x ≢ c) (cond t (b ∷ digits_of bs) [])
-clean_cond c true b bs ne h = All-cons (λ x. x ≢ c) b (digits_of bs) (ne refl) h
-clean_cond c false b bs ne h = All-nil (λ x. x ≢ c)
+clean_cond c t b bs ne h = grind arith
 
 digits_clean : (c : ℕ) → is_ascii_digit c ≡ false → (bs : List ℕ) → All (λ x. x ≢ c) (digits_of bs)
 digits_clean c other [] = All-nil (λ x. x ≢ c)
@@ -49,8 +47,7 @@ BeginsOther (b ∷ bs) = is_ascii_digit b ≡ false
 
 other_cond : (t : Bool) (b : ℕ) (bs : List ℕ) → is_ascii_digit b ≡ t → BeginsOther (after_digits bs)
     → BeginsOther (cond t (after_digits bs) (b ∷ bs))
-other_cond true b bs e h = h
-other_cond false b bs e h = e
+other_cond t b bs e h = grind arith
 
 pub begins_other : (bs : List ℕ) → BeginsOther (after_digits bs)
 begins_other [] = tt
@@ -112,12 +109,7 @@ no_number p e = no_value p (rw e refl)
 shape_last : (d t : List ℕ) → before_byte 32 t ≡ [] → after_first 58 t ≡ None
     → after_field t ≡ Some (after_byte 32 t) → All (λ x. x ≢ 32) d
     → All (λ x. x ≢ 58) d → Shape (d ++ t) d t
-shape_last d t none colon field c32 c58 = last (record {
-  pieces = ap S (before-append 32 d t c32 ∙ ap (λ x. d ++ x) none ∙ append-nil d)
-      ∙ slice_split_none (λ b. b == 58) d (no_separator 58 d c58);
-  colon = colon;
-  field = field ∙ ap Some (sym (behind-append 32 d t c32));
-})
+shape_last d t none colon field c32 c58 = grind (arith, before-append, append-nil, slice_split_none, no_separator, behind-append)
 
 shape_colon : (d r : List ℕ) → All (λ x. x ≢ 32) d → All (λ x. x ≢ 58) d → Shape (d ++ 58 ∷ r) d (58 ∷ r)
 shape_colon d r c32 c58 = goes_on r (record {
@@ -167,9 +159,6 @@ shape bytes =
 abbrev never : {A B : Type 0} → A → Option B
 never x = None
 
-none_after : {A B : Type 0} (o : Option A) → (o >>= never {B = B}) ≡ None
-none_after o = grind arith
-
 abbrev with_number : {A : Type 0} → (ℕ → List (List ℕ) → Option A) → List (List ℕ) → Option A
 with_number K [] = None
 with_number K (p ∷ ps) = number_of p >>= (λ n. K n ps)
@@ -204,8 +193,7 @@ last_step : {A : Type 0} (k : ℕ → Option (List ℕ) → Option A) (bytes : L
     → Shape bytes (digits_of bytes) (after_digits bytes)
     → (number_at bytes >>= (λ r. after_field r.1 >>= (λ f. k r.0 f))) ≡ with_last (λ n. k n (after_byte 32 bytes))
     (S (before_byte 32 bytes))
-last_step k bytes (last h) =
-    rw (h.pieces) (the_last (number_of (digits_of bytes)) (after_digits bytes) (after_byte 32 bytes) k h.field)
+last_step k bytes (last h) = grind (arith, the_last)
 last_step k bytes (goes_on r h)
     = rw (h.pieces) (nothing_last (number_of (digits_of bytes)) (after_digits bytes) k h.field
     ∙ not_last (λ n. k n (after_byte 32 bytes)) (digits_of bytes) (before_byte 32 r))
@@ -213,39 +201,13 @@ last_step k bytes (other p more h)
     = rw (h.pieces) (nothing_last (number_of (digits_of bytes)) (after_digits bytes) k h.field
     ∙ no_last (λ n. k n (after_byte 32 bytes)) p more h.number)
 
-nothing_next : {A : Type 0} (o : Option ℕ) (t : List ℕ) (k : ℕ → List ℕ → Option A) → after_first 58 t ≡ None
-    → (with_rest o t >>= (λ x. after_first 58 x.1 >>= (λ r. k x.0 r))) ≡ None
-nothing_next o t k e = grind arith
-
-the_next : {A : Type 0} (o : Option ℕ) (t r : List ℕ) (k : ℕ → List ℕ → Option A) → after_first 58 t ≡ Some r
-    → (with_rest o t >>= (λ x. after_first 58 x.1 >>= (λ r. k x.0 r))) ≡ (o >>= (λ n. k n r))
-the_next o t r k e = grind arith
-
-same_after : {A B : Type 0} (o : Option A) (f g : A → Option B) → ((x : A) → f x ≡ g x) → (o >>= f) ≡ (o >>= g)
-same_after o f g h = grind arith
-
-no_next : {A : Type 0} (K : ℕ → List (List ℕ) → Option A) (p : List ℕ) (more : List (List ℕ)) → number_of p ≡ None
-    → None ≡ with_number K (p ∷ more)
-no_next K p more e = rw e refl
-
 number_step : {A : Type 0} (k : ℕ → List ℕ → Option A) (K : Option (List ℕ) → ℕ → List (List ℕ) → Option A)
     → ((f : Option (List ℕ)) (n : ℕ) → K f n [] ≡ None)
     → ((n : ℕ) (r : List ℕ) → k n r ≡ K (after_byte 32 r) n (S (before_byte 32 r))) → (bytes : List ℕ)
     → Shape bytes (digits_of bytes) (after_digits bytes)
     → (number_at bytes >>= (λ x. after_first 58 x.1 >>= (λ r. k x.0 r))) ≡ with_number (K (after_byte 32 bytes))
     (S (before_byte 32 bytes))
-number_step k K none same bytes (last h) =
-    let o = number_of (digits_of bytes) in
-    rw (h.pieces) (nothing_next o (after_digits bytes) k h.colon ∙ sym (none_after o)
-    ∙ same_after o never (λ n. K (after_byte 32 bytes) n []) (λ n. sym (none (after_byte 32 bytes) n)))
-number_step k K none same bytes (goes_on r h) =
-    let o = number_of (digits_of bytes) in
-    rw (h.pieces) (the_next o (after_digits bytes) r k h.colon
-    ∙ same_after o (λ n. k n r) (λ n. K (after_byte 32 bytes) n (S (before_byte 32 r))) (λ n. same n r
-    ∙ ap (λ f. K f n (S (before_byte 32 r))) (sym h.further)))
-number_step k K none same bytes (other p more h) =
-    let o = number_of (digits_of bytes) in
-    rw (h.pieces) (nothing_next o (after_digits bytes) k h.colon ∙ no_next (K (after_byte 32 bytes)) p more h.number)
+number_step k K none same bytes h = grind arith
 
 -- a mark
 
@@ -276,35 +238,14 @@ line_at : (i : ℕ) (bytes : List ℕ)
     → (number_at bytes >>= (λ l. after_first 58 l.1 >>=
     (λ r. number_at r >>= (λ c. after_field c.1 >>= (λ f. Some (mark i l.0 c.0, f))))))
     ≡ line_with (after_byte 32 bytes) i (S (before_byte 32 bytes))
-line_at i bytes = number_step
-    (λ l r. number_at r >>= (λ c. after_field c.1 >>= (λ f. Some (taken (mark i l c.0) f))))
-    (λ f l. column_with f i l) (λ f l. refl)
-    (column_at i) bytes (shape bytes)
+line_at i bytes = grind (arith, number_step, column_at, shape)
 
 index_at : (bytes : List ℕ) → mark_at bytes ≡ with_number (line_with (after_byte 32 bytes)) (S (before_byte 32 bytes))
-index_at bytes = number_step (λ i r. number_at r
-    >>= (λ l. after_first 58 l.1 >>=
-    (λ r. number_at r >>= (λ c. after_field c.1 >>= (λ f. Some (mark i l.0 c.0, f)))))) (λ f i. line_with f i)
-    (λ f i. refl) line_at bytes (shape bytes)
-
-one_too_few : (f : Option (List ℕ)) (o : Option ℕ) → (o >>= (λ i. line_with f i [])) ≡ None
-one_too_few f o = grind arith
-
-two_too_few : (f : Option (List ℕ)) (o p : Option ℕ) → (o >>= (λ i. p >>= (λ l. column_with f i l []))) ≡ None
-two_too_few f o p = grind arith
-
-three : (f : Option (List ℕ)) (o p q : Option ℕ)
-    → (o >>= (λ i. p >>= (λ l. q >>= (λ c. Some (taken (mark i l c) f))))) ≡ with_further
-    (o >>= (λ i. p >>= (λ l. q >>= (λ c. Some (mark i l c))))) f
-three f o p q = grind arith
+index_at bytes = grind (arith, number_step, line_at, shape)
 
 numbers_with : (f : Option (List ℕ)) (ps : List (List ℕ))
     → with_number (line_with f) ps ≡ with_further (mark_of_numbers ps) f
-numbers_with f [] = refl
-numbers_with f (i ∷ []) = one_too_few f (number_of i)
-numbers_with f (i ∷ l ∷ []) = two_too_few f (number_of i) (number_of l)
-numbers_with f (i ∷ l ∷ c ∷ []) = three f (number_of i) (number_of l) (number_of c)
-numbers_with f (i ∷ l ∷ c ∷ d ∷ more) = two_too_few f (number_of i) (number_of l)
+numbers_with f ps = grind arith
 
 -- the mark that begins the bytes is that of the first field
 mark_at-is : (bytes : List ℕ) → mark_at bytes ≡ with_further (mark_of (before_byte 32 bytes)) (after_byte 32 bytes)

@@ -1,5 +1,5 @@
 -- digits that stand again
-use Rattle.std.proofs.Common.{◌≡◌, ℕ, zero, suc, ◌+◌, ◌-◌, ◌<◌, ◌≤◌, Bool, true, false, List, [], ◌∷◌, length, length-drop, take, drop, Option, Some, None, option_map, refl, ap, sym, ◌∙◌, arith, min}
+use Rattle.std.proofs.Common.{◌≡◌, ℕ, zero, suc, ◌+◌, ◌-◌, ◌<◌, ◌≤◌, Bool, true, false, List, [], ◌∷◌, length, length-drop, take, drop, Some, refl, ap, sym, ◌∙◌, arith}
 use Rattle.std.proofs.lemmas.List.{drop-drop, drop-take, length-take}
 use Rattle.std.specs.Char.{is_ascii_digit}
 use Rattle.line_reading.specs.tokens.Number.{number_of}
@@ -12,11 +12,7 @@ use Rattle.line_reading.specs.declared.marks.RowRead.{RowRead}
 pub number_read : (line : List ℕ) (at : ℕ) (read : NumberRead) (value : ℕ) → read.value ≡ value → 0 < read.end
     → read.end ≤ length line
     → number_at (drop at line) ≡ Some (value, drop read.end line) → IsNumberRead line at read
-number_read line at read value same some within is = record {
-  within = within;
-  none = λ none. absurd (omega (arith, some, none));
-  some = λ _. is ∙ ap (λ v. Some (v, drop read.end line)) (sym same);
-}
+number_read line at read value same some within is = grind arith
 
 -- digits that stand again, with the byte after them
 
@@ -50,34 +46,15 @@ again n (x ∷ xs) (y ∷ ys) l h e = go (is_ascii_digit x) refl n l h (cc) (cc)
         let none : n ≡ 0 = sym (rw d at l) in
         rw (none, ← e, d) (refl, refl)
 
-pair_in : (x y : ℕ × List ℕ) → Some x ≡ Some y → x ≡ y
-pair_in x y h = cc
-
 digits_there : (bytes rest : List ℕ) (value : ℕ) → number_at bytes ≡ Some (value, rest)
     → (number_of (digits_of bytes) ≡ Some value) × (after_digits bytes ≡ rest)
-digits_there bytes rest value h = go (number_of (digits_of bytes)) refl h
-  where
-    go : (o : Option ℕ) → number_of (digits_of bytes) ≡ o
-        → option_map {U = ℕ × List ℕ} (λ n. (n, after_digits bytes)) o ≡ Some (value, rest)
-        → (number_of (digits_of bytes) ≡ Some value) × (after_digits bytes ≡ rest)
-    go None is h = cc
-    go (Some n) is h =
-        let pair = pair_in (n, after_digits bytes) (value, rest) h in
-        (is ∙ ap (λ (p : ℕ × List ℕ). Some (p.0)) pair, ap (λ (p : ℕ × List ℕ). p.1) pair)
-
-some_digit : (ds : List ℕ) (value : ℕ) → number_of ds ≡ Some value → 0 < length ds
-some_digit [] value h = cc
-some_digit (d ∷ ds) value h = omega arith
+digits_there bytes rest value h = grind arith
 
 pub digits_before : (line : List ℕ) (at end value : ℕ) → at ≤ length line → end ≤ length line
     → number_at (drop at line) ≡ Some (value, drop end line)
     → (at < end) × (length (digits_of (drop at line)) ≡ end - at)
 digits_before line at end value h k is =
-    let there = digits_there (drop at line) (drop end line) value is in
-    let some = some_digit (digits_of (drop at line)) value there.0 in
-    let sum = lengths (drop at line) in
-    let rest : length (after_digits (drop at line)) ≡ length line - end = ap length there.1 ∙ length-drop end line in
-    (omega (arith, some, sum, rest, length-drop at line, h, k), omega (arith, some, sum, rest, length-drop at line, h, k))
+    grind (arith, digits_there (drop at line) (drop end line) value is, lengths (drop at line), length-drop end line, length-drop)
 
 pub number_again : (line : List ℕ) (row : RowRead) (at : ℕ) → IsRowRead line row → 0 < row.end
     → at + (row.end - row.at) < length line
@@ -98,8 +75,4 @@ number_again line row at h some within same =
 
 pub ends_of : (line : List ℕ) (at end n : ℕ) → at + n ≡ end → end < length line
     → drop (length (take (end + 1) line) - (n + 1)) (take (end + 1) line) ≡ take (n + 1) (drop at line)
-ends_of line at end n e h =
-    let size : length (take (end + 1) line) ≡ min (end + 1) (length line) = length-take (end + 1) line in
-    let first : length (take (end + 1) line) - (n + 1) ≡ at = omega (arith, size, e, h) in
-    let all : end + 1 ≡ at + (n + 1) = omega (arith, e) in
-    ap (λ k. drop k (take (end + 1) line)) first ∙ ap (λ k. drop at (take k line)) all ∙ drop-take at (n + 1) line
+ends_of line at end n e h = grind (arith, length-take, drop-take)

@@ -1,5 +1,5 @@
 -- a text cut at its first separator
-use Rattle.std.proofs.Common.{◌≡◌, ◌≢◌, ℕ, ◌==◌, ◌+◌, ◌<◌, ◌≤◌, All, Bool, true, false, cond, List, [], ◌∷◌, ◌++◌, length, take, drop, get_or, Some, None, refl, ap, sym, ◌∙◌, subst, ne_eqb, eq-eqb}
+use Rattle.std.proofs.Common.{◌≡◌, ◌≢◌, ℕ, ◌==◌, ◌+◌, ◌<◌, ◌≤◌, All, Bool, false, cond, List, [], ◌∷◌, ◌++◌, length, take, drop, get_or, Some, None, refl, ap, sym, ◌∙◌, subst, ne_eqb, eq-eqb, arith}
 use Rattle.std.proofs.lemmas.List.{take-append-drop, take_all, at_drop_more, append-nil}
 use Rattle.std.proofs.lemmas.List.Elements.{All-weaker, All-head, All-tail}
 use Rattle.std.specs.List.{slice_split, onto_first}
@@ -15,8 +15,7 @@ split_cond : (t : Bool) (c b : ℕ) (bs : List ℕ) → slice_split (λ b. b == 
     → cond t ([] ∷ slice_split (λ b. b == c) bs) (onto_first b (slice_split (λ b. b == c) bs)) ≡ cond t []
     (b ∷ before_byte c bs)
     ∷ pieces_of c (cond t (Some bs) (after_byte c bs))
-split_cond true c b bs h = refl
-split_cond false c b bs h = ap (onto_first b) h
+split_cond t c b bs h = grind arith
 
 pub split_first : (c : ℕ) (bs : List ℕ) → slice_split (λ b. b == c) bs ≡ before_byte c bs ∷ pieces_of c (after_byte c bs)
 split_first c [] = refl
@@ -25,13 +24,11 @@ split_first c (b ∷ bs) = split_cond (b == c) c b bs (split_first c bs)
 -- a prefix without the separator
 pub before-append : (c : ℕ) (l r : List ℕ) → All (λ x. x ≢ c) l → before_byte c (l ++ r) ≡ l ++ before_byte c r
 before-append c [] r clean = refl
-before-append c (b ∷ l) r clean = rw (ne_eqb b c (All-head (λ x. x ≢ c) b l clean))
-    (ap (λ x. b ∷ x) (before-append c l r (All-tail (λ x. x ≢ c) b l clean)))
+before-append c (b ∷ l) r clean = cc (ne_eqb b c (All-head (λ x. x ≢ c) b l clean), before-append c l r (All-tail (λ x. x ≢ c) b l clean))
 
 pub behind-append : (c : ℕ) (l r : List ℕ) → All (λ x. x ≢ c) l → after_byte c (l ++ r) ≡ after_byte c r
 behind-append c [] r clean = refl
-behind-append c (b ∷ l) r clean = rw (ne_eqb b c (All-head (λ x. x ≢ c) b l clean))
-    (behind-append c l r (All-tail (λ x. x ≢ c) b l clean))
+behind-append c (b ∷ l) r clean = cc (ne_eqb b c (All-head (λ x. x ≢ c) b l clean), behind-append c l r (All-tail (λ x. x ≢ c) b l clean))
 
 at_separator : (c x : ℕ) (r : List ℕ) → x ≡ c → (before_byte c (x ∷ r) ≡ []) × (after_byte c (x ∷ r) ≡ Some r)
 at_separator c x r e = rw (eq-eqb x c e) (refl, refl)

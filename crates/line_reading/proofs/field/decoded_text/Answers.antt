@@ -1,4 +1,4 @@
-use Rattle.std.proofs.Common.{◌≡◌, IsUtf8, subst, sym, ◌∙◌, ap, string_bytes}
+use Rattle.std.proofs.Common.{◌≡◌, IsUtf8, subst, ◌∙◌, ap, string_bytes, arith}
 use Rattle.std.proofs.lemmas.Bool.{false≢true}
 use Rattle.std.proofs.lemmas.Str.{IsUtf8-string_bytes}
 use Rattle.percent_encoding.specs.Percent.{percent_decode}
@@ -13,7 +13,4 @@ returns-in-Ok c =
     rw whole (utf8_text-yes _ (subst IsUtf8 whole (IsUtf8-string_bytes c.in-Ok.text)))
 
 pub returns : goal.returns
-returns c =
-    let whole : c.append_to.new.out.items ≡ percent_decode c.args.escaped.now =
-    c.in_ok-append_to.ensures.ok ∙ (rw (c.in_ok-bytes.ensures.items) c.percent_decode.ensures.bytes) in
-    utf8_text-no _ (λ u. false≢true (c.in-Err.ensures.succeeds (subst IsUtf8 (sym whole) u)))
+returns c = grind (arith, utf8_text-no, false≢true)

@@ -1,4 +1,4 @@
-use Rattle.std.proofs.Common.{List, ℕ, ◌≡◌, ◌≢◌, ◌≤◌, ◌+◌, ◌∙◌, All, length, length-take, subst, sym, take, take_all, arith}
+use Rattle.std.proofs.Common.{List, ℕ, ◌≡◌, ◌≤◌, ◌+◌, ◌∙◌, length, length-take, subst, sym, take, take_all, arith}
 use Rattle.std.specs.Io.KnownBytes.{Consumes}
 use Rattle.std.specs.Io.BufRead.{FillKeeps}
 use Rattle.std.proofs.BufReadLemmas.{Consumes_shown}
@@ -19,12 +19,7 @@ returns-then-len-within g c =
     (len.ensures.found c.if-len-within.true) moved.0 c.read_token_line-read.ensures
 
 pub read_copied-requires-clause-clean : goal.read_copied-requires-clause-clean
-read_copied-requires-clause-clean g c =
-    let shown = c.in_ok-available.available.now in
-    let len = c.len_before-len in
-    let within = take c.min.result shown in
-    let all : take len.result within ≡ within = take_all len.result within (omega (arith, c.if-len-within.false)) in
-    subst (All (λ x. x ≢ 10)) (all ∙ sym {A = List ℕ} c.in_ok-begin_line.ensures.ok) len.ensures.before
+read_copied-requires-clause-clean g c = grind (arith, take_all)
 
 pub returns : goal.returns
 returns g c =

@@ -14,6 +14,4 @@ returns-then-len-text c =
     rw whole (record { before = both.0; behind = both.1 })
 
 pub returns-else-len-text : goal.returns-else-len-text
-returns-else-len-text c =
-    let both = cut_nowhere _ c.args.text.now c.len_before-len.result (omega arith) c.len_before-len.ensures.before in
-    record { before = both.0; behind = both.1 }
+returns-else-len-text c = grind (arith, cut_nowhere _ c.args.text.now c.len_before-len.result (omega arith) c.len_before-len.ensures.before)
