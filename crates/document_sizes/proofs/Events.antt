@@ -1,5 +1,5 @@
 -- What an event that is counted makes of the numbers.
-use Rattle.std.proofs.Common.{◌≡◌, ◌+◌, ◌-◌, ◌<◌, ◌≤◌, ◌∷◌, ◌++◌, ◌∙◌, ℕ, suc, ℤ, pos, List, [], length, Option, Some, Bool, true, false, refl, sym, ap, subst, arith, slice_get, if◌then◌else◌, ◌==◌, eq-eqb, eqb-true}
+use Rattle.std.proofs.Common.{◌≡◌, ◌+◌, ◌-◌, ◌<◌, ◌≤◌, ◌∷◌, ◌++◌, ◌∙◌, ℕ, suc, ℤ, pos, List, [], length, Option, Some, Bool, true, false, refl, sym, ap, subst, arith, slice_get, if◌then◌else◌, ◌==◌, eq-eqb}
 use Rattle.std.specs.Prelude.{slice_set}
 use Rattle.libyaml_grammar.specs.grammar.Tokens.{Mark}
 use Rattle.libyaml_documents.specs.Nodes.{ids_of}
@@ -9,16 +9,16 @@ use Rattle.libyaml_composer.specs.declared.deed.Deed.{Deed}
 use Rattle.libyaml_composer.specs.declared.deed.Deed.TheVariants as deed
 use Rattle.libyaml_composer.specs.declared.records.open_t.{open_t}
 use Rattle.libyaml_composer.specs.declared.records.place_t.{place_t}
-use Rattle.libyaml_composer.specs.Composing.{Composer, deed_for, deed_in, holding_top, place_in}
-use Rattle.libyaml_composer.specs.Numbers.{is_set, is_id}
+use Rattle.libyaml_composer.specs.Composing.{Composer, deed_for, holding_top, place_in}
+use Rattle.libyaml_composer.specs.Numbers.{is_id}
 use Rattle.libyaml_composer.specs.DocumentSoFar.{DocumentSoFar, applied_part, nodes_made, placed, with_made_node}
 use Rattle.libyaml_composer.specs.Represents.{Opens}
 use Rattle.libyaml_composer.proofs.exported.Deeds.{child_applied, child_put}
 use Rattle.document_sizes.specs.declared.counted.Counted.{Counted}
 use Rattle.document_sizes.specs.declared.counted.Counted.TheVariants as counted
-use Rattle.document_sizes.specs.Counting.{at_child, bound_of, count_of, counting, new_number, place_among, size_at, at_end}
+use Rattle.document_sizes.specs.Counting.{at_child, bound_of, count_of, counting, new_number, size_at}
 use Rattle.document_sizes.specs.Runs.{LosesNothing}
-use Rattle.document_sizes.proofs.Inverse.{limit, alias_within, alias_large, node_within, node_large, end_of, set_there, set_other, set_count, size_there}
+use Rattle.document_sizes.proofs.Inverse.{limit, alias_within, alias_large, node_within, set_there, set_other, set_count, size_there}
 use Rattle.document_sizes.proofs.Steps.{SaysOf, alias_says, closed_says, open_says, root_open_says, root_says, scalar_says, start_of}
 
 pub bound_small : (max : ℕ) → bound_of max < limit
@@ -31,21 +31,14 @@ child_nodes s p q m h = ap (λ (g : DocumentSoFar). g.nodes) (sym (child_applied
 
 pub counting_child : (s : List open_t) (max : ℕ) (start : Bool) (p : place_t) (total : ℕ) (sizes : List ℕ)
     → counting max (deed_for s) start p total sizes ≡ at_child max (is_id p.node) start p total sizes
-counting_child [] max start p total sizes = refl
-counting_child (o ∷ s) max start p total sizes = go (is_set o.is_mapping) (is_id o.key)
-  where
-    go : (b w : Bool) → counting max (deed_in b w) start p total sizes ≡ at_child max (is_id p.node) start p total sizes
-    go false w = refl
-    go true false = refl
-    go true true = refl
+counting_child s max start p total sizes = grind arith
 
 abbrev pub get_in : List ℕ → ℕ → Option ℕ
 get_in sizes k = slice_get sizes k
 
 says_moved : (nodes nodes' : List yaml_node_t) (s : List open_t) (g : ℕ → Option ℕ) (total total' : ℕ) → nodes' ≡ nodes
     → total' ≡ total → SaysOf limit nodes s g total → SaysOf limit nodes' s g total'
-says_moved nodes nodes' s g total total' e f h = subst (λ (n : ℕ). SaysOf limit nodes' s g n) (sym f)
-    (subst (λ (l : List yaml_node_t). SaysOf limit l s g total) (sym e) h)
+says_moved nodes nodes' s g total total' e f h = grind arith
 
 -- a number beside those that there are
 pub beside : (ℕ → Option ℕ) → (k size : ℕ) → ℕ → Option ℕ
@@ -57,11 +50,7 @@ beside_there g k size = ap (λ (b : Bool). if b then Some size else g k) (eq-eqb
 
 beside_other : (g : ℕ → Option ℕ) (k size j : ℕ) → j < k → beside g k size j ≡ g j
 unfolding beside
-beside_other g k size j lt = go (j == k) refl
-  where
-    go : (b : Bool) → (j == k) ≡ b → (if b then Some size else g j) ≡ g j
-    go true e = let f : j ≡ k = eqb-true j k e in absurd (omega arith)
-    go false e = refl
+beside_other g k size j lt = grind arith
 
 module _ (max : ℕ) (c : Composer) (h : DocumentSoFar) (total : ℕ) (sizes : List ℕ) (q : Option Part) (start : Bool) (m : Mark)
     (count : c.nodes ≡ length h.nodes) (room : c.nodes ≤ length sizes) (bound : total ≤ bound_of max) where
@@ -125,8 +114,7 @@ module _ (max : ℕ) (c : Composer) (h : DocumentSoFar) (total : ℕ) (sizes : L
   module _ (x : yaml_node_t) (empty : ids_of x.content ≡ []) (made : nodes_made q ≡ x ∷ []) where
     node_nodes : (s : List open_t) → nodes_after (deed_for s) (place_in id id s)
         ≡ placed (deed_for s) (place_in id id s) (h.nodes ++ x ∷ [])
-    node_nodes s = child_nodes s (place_in id id s) q m h
-        ∙ ap (λ (l : List yaml_node_t). placed (deed_for s) (place_in id id s) (h.nodes ++ l)) made
+    node_nodes s = grind arith
 
     -- the numbers after it
     module _ (g : ℕ → Option ℕ) (same : (j : ℕ) → j < length h.nodes → g j ≡ get_in sizes j) where
@@ -154,11 +142,7 @@ module _ (max : ℕ) (c : Composer) (h : DocumentSoFar) (total : ℕ) (sizes : L
         → count_of counted.Within total' sizes' ≡ counting (bound_of max) (deed_for s) start (place_in id id s) total sizes
         → (suc c.nodes ≤ length sizes') × (total' ≤ bound_of max) × (total' ≡ total + 1)
         × (sizes' ≡ slice_set sizes (length h.nodes) (new_number start total)) × (length h.nodes < length sizes)
-    node_next s total' sizes' e =
-        let r = node_within (bound_of max) total sizes total' sizes' start (length h.nodes)
-        (e ∙ counting_child s (bound_of max) start (place_in id id s) total sizes) in
-        let f : length sizes' ≡ length sizes = ap length r.2 ∙ set_count sizes (length h.nodes) (new_number start total) in
-        (omega arith, r.3, r.0, r.2, r.1)
+    node_next s total' sizes' e = grind (arith, node_within, counting_child, set_count)
 
     pub scalar_next : (s : List open_t) (total' : ℕ) (sizes' : List ℕ) → OpensNow s → SaysNow s → LosesNothing (deed_for s) c → start ≡ false
         → count_of counted.Within total' sizes' ≡ counting (bound_of max) (deed_for s) start (place_in id id s) total sizes
@@ -198,8 +182,7 @@ module _ (max : ℕ) (c : Composer) (h : DocumentSoFar) (total : ℕ) (sizes : L
     node_larger : (s : List open_t) (total' : ℕ) (sizes' : List ℕ)
         → count_of counted.TooLarge total' sizes' ≡ counting (bound_of max) (deed_for s) start (place_in id id s) total sizes
         → bound_of max < total + 1
-    node_larger s total' sizes' e = node_large (bound_of max) total sizes total' sizes' start (length h.nodes)
-        (e ∙ counting_child s (bound_of max) start (place_in id id s) total sizes)
+    node_larger s total' sizes' e = grind arith
 
     pub scalar_larger : (s : List open_t) (total' : ℕ) (sizes' : List ℕ) → OpensNow s → SaysNow s → LosesNothing (deed_for s) c
         → count_of counted.TooLarge total' sizes' ≡ counting (bound_of max) (deed_for s) start (place_in id id s) total sizes
@@ -232,17 +215,11 @@ module _ (max : ℕ) (c : Composer) (h : DocumentSoFar) (total : ℕ) (sizes : L
         → count_of a total' sizes' ≡ counting (bound_of max) deed.Closes start ending total sizes
         → (before : ℕ) → get_in sizes opens.0 ≡ Some (limit + before)
         → (a ≡ counted.Within) × (total' ≡ total) × (sizes' ≡ slice_set sizes opens.0 (total - before))
-    ended_by a total' sizes' good e before at =
-        let r = end_of (bound_of max) total sizes total' sizes' a opens.0 (limit + before) good at
-        (e ∙ ap (λ (z : ℤ). at_end (place_among (length sizes) z) total sizes) opens.1) in
-        let f : limit + before - limit ≡ before = omega arith in
-        (r.0, r.1, r.2 ∙ ap (λ (n : ℕ). slice_set sizes opens.0 (total - n)) f)
+    ended_by a total' sizes' good e before at = grind arith
 
     pub closed_answers : (a : Counted) (total' : ℕ) (sizes' : List ℕ) → (a ≡ counted.Bad → ⊥)
         → count_of a total' sizes' ≡ counting (bound_of max) deed.Closes start ending total sizes → a ≡ counted.Within
-    closed_answers a total' sizes' good e =
-        let start_at = start_of limit h.nodes (get_in sizes) o s total opens.0 opens.1 says in
-        (ended_by a total' sizes' good e start_at.0 start_at.1).0
+    closed_answers a total' sizes' good e = grind arith
 
     pub closed_next : (total' : ℕ) (sizes' : List ℕ) → o.key ≡ pos 0
         → count_of counted.Within total' sizes' ≡ counting (bound_of max) deed.Closes start ending total sizes

@@ -1,15 +1,13 @@
 -- A child in the innermost open collection: what the nodes hold then.
-use Rattle.std.proofs.Common.{◌≡◌, ◌<◌, ◌∷◌, ◌++◌, ◌∙◌, ℕ, zero, suc, ℤ, pos, negsuc, List, [], length, map, Option, Some, None, Bool, true, false, refl, sym, ap, arith, slice_get, option_map, append-nil, append_assoc}
-use Rattle.libyaml_documents.specs.Nodes.{changed_at, ids_of, ids_of_pairs, with_changed, with_item, with_pair}
-use Rattle.libyaml_documents.specs.declared.node.unnamed_yaml_node_t_data.{unnamed_yaml_node_t_data}
-use Rattle.libyaml_documents.specs.declared.node.unnamed_yaml_node_t_data.TheVariants.{Scalar, Sequence, Mapping}
+use Rattle.std.proofs.Common.{◌≡◌, ◌<◌, ◌∷◌, ◌++◌, ◌∙◌, ℕ, zero, suc, ℤ, pos, negsuc, List, [], length, map, Option, Bool, true, false, refl, sym, ap, arith, slice_get, option_map, append-nil, append_assoc}
+use Rattle.libyaml_documents.specs.Nodes.{changed_at, ids_of_pairs, with_changed, with_item, with_pair}
 use Rattle.libyaml_documents.specs.declared.node.yaml_node_t.{yaml_node_t}
 use Rattle.libyaml_documents.specs.declared.pairs.yaml_node_pair_t.{yaml_node_pair_t}
 use Rattle.libyaml_composer.specs.declared.records.open_t.{open_t}
-use Rattle.libyaml_composer.specs.Composing.{deed_for, deed_in, holding, holding_in, place_in}
+use Rattle.libyaml_composer.specs.Composing.{deed_for, holding, place_in}
 use Rattle.libyaml_composer.specs.Numbers.{is_set, is_id}
 use Rattle.libyaml_composer.specs.DocumentSoFar.{placed}
-use Rattle.libyaml_composer.specs.Represents.{IsAlike, IsOpenBy, IsOpenNode, Opens}
+use Rattle.libyaml_composer.specs.Represents.{IsOpenBy, IsOpenNode, Opens}
 use Rattle.libyaml_composer.proofs.exported.Opens.{get_other, get_there, length_changed}
 use Rattle.yaml_expansion.specs.Expansion.{ids_at, ids_of_node}
 use Rattle.document_sizes.specs.RunLaws.{held_so_far, key_waiting}
@@ -23,25 +21,11 @@ pairs_more (q ∷ ps) p = ap (λ (l : List ℤ). q.key ∷ q.value ∷ l) (pairs
 
 item_more : (i : ℤ) (x : Option yaml_node_t) (w : Bool) (n : ℕ) → IsOpenBy x false w n
     → ids_of_node (option_map (with_item i) x) ≡ ids_of_node x ++ i ∷ []
-item_more i None w n h = absurd h
-item_more i (Some x) w n h = go x.content h
-  where
-    go : (c : unnamed_yaml_node_t_data) → IsAlike c false w n
-        → ids_of (with_item i (record x { content = c })).content ≡ ids_of c ++ i ∷ []
-    go (Scalar s) h = absurd h
-    go (Sequence s) h = refl
-    go (Mapping s) h = absurd h
+item_more i x w n h = grind arith
 
 pair_more : (k i : ℤ) (x : Option yaml_node_t) (n : ℕ) → IsOpenBy x true true n
     → ids_of_node (option_map (with_pair k i) x) ≡ ids_of_node x ++ k ∷ i ∷ []
-pair_more k i None n h = absurd h
-pair_more k i (Some x) n h = go x.content h
-  where
-    go : (c : unnamed_yaml_node_t_data) → IsAlike c true true n
-        → ids_of (with_pair k i (record x { content = c })).content ≡ ids_of c ++ k ∷ i ∷ []
-    go (Scalar s) h = absurd h
-    go (Sequence s) h = absurd h
-    go (Mapping s) h = pairs_more s.pairs (record { key = k; value = i })
+pair_more k i x n h = grind (arith, pairs_more)
 
 -- the place of an id
 abbrev pub index_of : ℤ → ℕ
@@ -82,36 +66,13 @@ module _ (nodes : List yaml_node_t) (n i : ℤ) (some : is_id i ≡ true) (o : o
 
     ids_changed : (f : yaml_node_t → yaml_node_t)
         → ids_at (with_changed o.node f nodes) o.node ≡ ids_of_node (option_map f (slice_get nodes k))
-    ids_changed f = ids_here (with_changed o.node f nodes)
-        ∙ (ap (λ (l : List yaml_node_t). ids_of_node (slice_get l k)) (changes f) ∙ ap ids_of_node (get_there f nodes k))
+    ids_changed f = grind (arith, ids_here, changes, get_there)
 
     pub hands : Hands after (holding i o)
-    hands = go (is_set o.is_mapping) (is_id o.key) refl refl here
-      where
-        go : (m w : Bool) → is_set o.is_mapping ≡ m → is_id o.key ≡ w → IsOpenBy (slice_get nodes k) m w o.children
-            → Hands (placed (deed_in m w) (place_in n i (o ∷ s)) nodes) (holding_in i o m w)
-        go false w a b h = record {
-          count = changed_count (with_item i);
-          others = changed_others (with_item i);
-          top = rw (a, ids_changed (with_item i), item_more i (slice_get nodes k) w o.children h, ids_here nodes, append-nil, append-nil) refl;
-          node = refl;
-        }
-        go true false a b h = record {
-          count = refl;
-          others = λ j h. refl;
-          top = rw (a, b, some, append-nil) refl;
-          node = refl;
-        }
-        go true true a b h = record {
-          count = changed_count (with_pair o.key i);
-          others = changed_others (with_pair o.key i);
-          top = rw (a, b, ids_changed (with_pair o.key i), pair_more o.key i (slice_get nodes k) o.children h, ids_here nodes, append-nil) (sym (append_assoc (ids_of_node (slice_get nodes k)) (o.key ∷ []) (i ∷ [])));
-          node = refl;
-        }
+    hands = grind (arith, changed_count, changed_others, ids_changed, item_more, ids_here, append-nil, pair_more, append_assoc)
 
     pub top_after : opened_of after (holding i o) ≡ with_child (opened_of nodes o) i
-    top_after = ap (λ (z : ℤ). opened_as z (held_so_far after (holding i o))) hands.node
-        ∙ ap (λ (l : List ℤ). opened_as o.node l) hands.top
+    top_after = grind (arith, hands)
 
 -- collections that no change reaches
 pub opened_same : (most : ℕ) (nodes later : List yaml_node_t) (m : ℕ) (r : List open_t) → Opens most nodes m r

@@ -1,19 +1,16 @@
 -- What is left of a document's value, where a composer stands in it, and that an event of it loses nothing.
-use Rattle.std.specs.Prelude.{not}
-use Rattle.std.proofs.Common.{◌≡◌, ◌∷◌, ◌∙◌, ℕ, zero, suc, ℤ, pos, negsuc, List, [], length, nat_le, nat_lt, Bool, true, false, refl, sym, ap, subst}
+use Rattle.std.proofs.Common.{◌≡◌, ◌∷◌, ℕ, ℤ, pos, List, [], Bool, true, false, refl, sym, subst, arith}
 use Rattle.libyaml_types.specs.Types.{event_type}
 use Rattle.libyaml_types.specs.declared.event.unnamed_yaml_event_t_data.TheVariants as ev
-use Rattle.libyaml_types.specs.declared.event.unnamed_yaml_event_t_data.{unnamed_yaml_event_t_data}
 use Rattle.libyaml_grammar.specs.grammar.Events.{Event, end_at, event, start_at}
 use Rattle.libyaml_grammar.specs.grammar.Nesting.{AllHavePairs, HasPairs, IsEven, Value, Values, alias_value, collection_value, first_value, is_even, no_values, scalar_value, value_events, values_events}
 use Rattle.libyaml_grammar.specs.grammar.Tokens.{Mark}
 use Rattle.libyaml_grammar.specs.grammar.Trees.{Sort, mapping, sequence}
 use Rattle.libyaml_grammar.proofs.exported.Injectivity.{head_same, tail_same}
 use Rattle.libyaml_composer.specs.declared.deed.Deed.TheVariants as deed
-use Rattle.libyaml_composer.specs.declared.deed.Deed.{Deed}
 use Rattle.libyaml_composer.specs.declared.records.open_t.{open_t}
 use Rattle.libyaml_composer.specs.declared.records.place_t.{place_t}
-use Rattle.libyaml_composer.specs.Composing.{Composer, Told, adding, at_anchored_node, at_start, collection_ended, deed_for, deed_in, handing, holding, holding_in, holding_top, if_placed, is_list_full, new_id, told, unless, with_open_node, within_step}
+use Rattle.libyaml_composer.specs.Composing.{Composer, Told, adding, at_anchored_node, at_start, deed_for, handing, holding, holding_top, if_placed, new_id, unless, with_open_node, within_step}
 use Rattle.libyaml_composer.specs.Numbers.{is_id, is_set}
 use Rattle.libyaml_composer.specs.Represents.{IsPart}
 use Rattle.document_sizes.specs.ParserRuns.{TakesEvent}
@@ -56,99 +53,32 @@ pub data Inside (tail : List Event) (nodes : ℕ) (s : List open_t) (rest : List
 
 -- a child that is handed to an open collection
 
-holding_sort : (i : ℤ) (o : open_t) (b w : Bool) → (holding_in i o b w).is_mapping ≡ o.is_mapping
-holding_sort i o false w = refl
-holding_sort i o true false = refl
-holding_sort i o true true = refl
-
-sequence_waits : (i : ℤ) (o : open_t) (b w : Bool) → b ≡ false → o.key ≡ pos 0 → (holding_in i o b w).key ≡ pos 0
-sequence_waits i o false w e h = h
-sequence_waits i o true w e h = absurd cc
-
-mapping_waits : (i : ℤ) (o : open_t) (even b w : Bool) → is_id i ≡ true → b ≡ true → is_id o.key ≡ w → WaitsBy (not even) o.key
-    → WaitsBy even (holding_in i o b w).key
-mapping_waits i o even false w is e k h = absurd cc
-mapping_waits i o true true true is e k h = refl
-mapping_waits i o true true false is e k h = let g : is_id o.key ≡ true = h in absurd cc
-mapping_waits i o false true true is e k h = let g : is_id o.key ≡ false = ap is_id h in absurd cc
-mapping_waits i o false true false is e k h = is
-
-child_waits : (i : ℤ) (o : open_t) (k : Sort) (v : Value) (vs : Values) → is_id i ≡ true → IsOf k o.is_mapping
-    → Waits k o.key (first_value v vs) → Waits k (holding i o).key vs
-child_waits i o sequence v vs is m h = sequence_waits i o (is_set o.is_mapping) (is_id o.key) m h
-child_waits i o mapping v vs is m h = mapping_waits i o (is_even vs) (is_set o.is_mapping) (is_id o.key) is m refl h
-
 child_frame : (i : ℤ) (o : open_t) (k : Sort) (v : Value) (vs : Values) (p q : Mark) (rest r : List Event) → is_id i ≡ true
     → IsOf k o.is_mapping → Waits k o.key (first_value v vs) → AllHavePairs vs
     → rest ≡ values_events vs (end_at k p q ∷ r) → Frame (holding i o) rest r
-child_frame i o k v vs p q rest r is m h pairs e = record {
-  sort = k;
-  vals = vs;
-  start = p;
-  end = q;
-  all = e;
-  is_of = subst (IsOf k) (sym (holding_sort i o (is_set o.is_mapping) (is_id o.key))) m;
-  waits = child_waits i o k v vs is m h;
-  pairs = pairs;
-}
+child_frame i o k v vs p q rest r is m h pairs e = grind arith
 
 -- what the composer tells where it takes an event
-
-taken_unless : (b : Bool) (d : Deed) (p : place_t) (c : Composer) (t : Told) → (TakesEvent d → ⊥) → TakesEvent (unless b d p c t).deed
-    → unless b d p c t ≡ t
-taken_unless true d p c t untaken k = absurd (untaken k)
-taken_unless false d p c t untaken k = refl
 
 abbrev chosen : place_t → Composer → Told → (a b d : Bool) → Told
 chosen p c t a b d = unless a deed.FullList p c (unless b deed.RepeatedAnchor p c (unless d deed.FullList p c t))
 
 placed_is : (f : ℤ) (p : place_t) (c : Composer) (t : Told) → TakesEvent (if_placed f p c t).deed → if_placed f p c t ≡ t
-placed_is f p c t k = go (nat_lt c.most (suc c.nodes)) (is_id f) (is_list_full c.most c.stack) k
-  where
-    go : (a b d : Bool) → TakesEvent (chosen p c t a b d).deed → chosen p c t a b d ≡ t
-    go true b d k = absurd k
-    go false true d k = absurd k
-    go false false true k = absurd k
-    go false false false k = refl
+placed_is f p c t k = grind arith
 
 start_is : (m : ℕ) (f : ℤ) (p : place_t) (c : Composer) → TakesEvent (at_start m f p c).deed
     → at_start m f p c ≡ with_open_node m (new_id c) (adding c)
-start_is m f p c k =
-    let e = placed_is f p c (unless (nat_le c.room (length c.stack)) deed.FullStack p c (with_open_node m (new_id c) (adding c))) k in
-    e ∙ taken_unless (nat_le c.room (length c.stack)) deed.FullStack p c (with_open_node m (new_id c) (adding c)) (λ x. x)
-    (subst (λ (t : Told). TakesEvent t.deed) e k)
+start_is m f p c k = grind arith
 
 pub record AliasIs (f : ℤ) (p : place_t) (c : Composer) : Type 0 where
   id : is_id f ≡ true
   is : at_anchored_node (is_id f) f p c ≡ handing (pos 0) f c
 
 alias_is : (f : ℤ) (p : place_t) (c : Composer) → TakesEvent (at_anchored_node (is_id f) f p c).deed → AliasIs f p c
-alias_is f p c k = go (is_id f) refl k
-  where
-    go : (b : Bool) → is_id f ≡ b → TakesEvent (at_anchored_node b f p c).deed → AliasIs f p c
-    go false e k = absurd k
-    go true e k = record {
-      id = e;
-      is = ap (λ (b : Bool). at_anchored_node b f p c) e
-          ∙ taken_unless (is_list_full c.most c.stack) deed.FullList p c (handing (pos 0) f c) (λ x. x) k;
-    }
+alias_is f p c k = grind arith
 
 part_of_child : (s : List open_t) → IsPart (deed_for s)
-part_of_child [] = tt
-part_of_child (o ∷ s) = go (is_set o.is_mapping) (is_id o.key)
-  where
-    go : (b w : Bool) → IsPart (deed_in b w)
-    go false w = tt
-    go true false = tt
-    go true true = tt
-
-no_loss : (o : open_t) (s : List open_t) (c : Composer) → LosesNothing (deed_for (o ∷ s)) c
-no_loss o s c = go (is_set o.is_mapping) (is_id o.key)
-  where
-    go : (b w : Bool) → LosesNothing (deed_in b w) c
-    go false w = tt
-    go true false = tt
-    go true true = tt
+part_of_child s = grind arith
 
 -- a part of the document was taken, and the rest is left
 pub record Going (tail : List Event) (c : Composer) (rest : List Event) (t : Told) : Type 0 where
@@ -171,12 +101,10 @@ module _ (tail : List Event) (c : Composer) (f : ℤ) (p : place_t) where
         → ((i : ℤ) → is_id i ≡ true → Left tail (holding i o ∷ s') r) → AfterValue s r
 
   loses : (s : List open_t) (r : List Event) → AfterValue s r → LosesNothing (deed_for s) (at s)
-  loses s r (root none is e) = subst (λ (l : List open_t). LosesNothing (deed_for l) (at l)) (sym is) none
-  loses s r (child o s' is more) = subst (λ (l : List open_t). LosesNothing (deed_for l) (at l)) (sym is) (no_loss o s' (at (o ∷ s')))
+  loses s r h = grind arith
 
   handed : (s : List open_t) (r : List Event) → AfterValue s r → (i : ℤ) → is_id i ≡ true → Left tail (holding_top i s) r
-  handed s r (root none is e) i id = subst (λ (l : List open_t). Left tail (holding_top i l) r) (sym is) e
-  handed s r (child o s' is more) i id = subst (λ (l : List open_t). Left tail (holding_top i l) r) (sym is) (more i id)
+  handed s r h i id = grind arith
 
   -- at a value, after which the rest is r
   abbrev Taken : List open_t → List Event → Event → Type 0
@@ -245,19 +173,7 @@ module _ (tail : List Event) (c : Composer) (f : ℤ) (p : place_t) where
   -- at the end of a collection
   at_end : (o : open_t) (s : List open_t) (k : Sort) (m n : Mark) (r : List Event) → Waits k o.key no_values → Left tail s r
       → (e : Event) (rest : List Event) → e ∷ rest ≡ end_at k m n ∷ r → Taken (o ∷ s) rest e
-  at_end o s k m n r waits beyond e rest is = subst (Taken (o ∷ s) rest) (sym (head_same e (end_at k m n) rest r is)) (by k waits)
-    where
-      going : o.key ≡ pos 0 → Going tail (at (o ∷ s)) rest (collection_ended (o ∷ s) p (at (o ∷ s)))
-      going none = record {
-        part = tt;
-        all = none;
-        within = refl;
-        inside = left (subst (Left tail s) (sym (tail_same e (end_at k m n) rest r is)) beyond);
-      }
-
-      by : (j : Sort) → Waits j o.key no_values → Taken (o ∷ s) rest (end_at j m n)
-      by sequence none k = going none
-      by mapping none k = going none
+  at_end o s k m n r waits beyond e rest is = grind arith
 
   -- an event of a document's value, or the tail's first
   pub data Stepped (s : List open_t) (e : Event) (rest : List Event) : Type 0 where

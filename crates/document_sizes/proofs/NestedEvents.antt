@@ -1,11 +1,10 @@
 -- Events that nest so far go on to events that nest.
-use Rattle.std.proofs.Common.{◌≡◌, ◌∷◌, ◌++◌, ◌∙◌, List, [], Bool, false, true, refl, sym, ap, subst, append-nil, append_assoc}
+use Rattle.std.proofs.Common.{◌≡◌, ◌∷◌, ◌++◌, ◌∙◌, List, [], true, refl, sym, ap, subst, append-nil, append_assoc}
 use Rattle.libyaml_types.specs.declared.enums.yaml_encoding_t.TheVariants.{YAML_UTF8_ENCODING}
 use Rattle.libyaml_types.specs.declared.event.unnamed_yaml_event_t_data.TheVariants as ev
-use Rattle.libyaml_types.specs.declared.event.unnamed_yaml_event_t_data_document_start.{unnamed_yaml_event_t_data_document_start}
 use Rattle.libyaml_grammar.specs.grammar.Events.{Event, document_end_at, end_at, event, start_at, stream_end_at, stream_start_at}
-use Rattle.libyaml_grammar.specs.grammar.Nesting.{BeginsValue, DocumentTexts, HasBegun, HasPairs, IsNested, IsOpenDocument, NestsSoFar, TextsHavePairs, Value, Values, alias_value, collection_value, first_value, has_begun, no_texts, no_values, none_open, not_begun, one_open, scalar_value, text_after}
-use Rattle.libyaml_grammar.specs.grammar.Nesting.{texts_events, value_events, values_events, whole}
+use Rattle.libyaml_grammar.specs.grammar.Nesting.{DocumentTexts, HasBegun, IsNested, IsOpenDocument, NestsSoFar, Value, Values, alias_value, collection_value, first_value, has_begun, no_texts, no_values, none_open, not_begun, one_open, scalar_value, text_after, texts_events, value_events}
+use Rattle.libyaml_grammar.specs.grammar.Nesting.{values_events, whole}
 use Rattle.libyaml_grammar.specs.grammar.Tokens.{Mark}
 
 mutual

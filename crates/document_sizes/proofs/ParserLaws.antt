@@ -1,13 +1,10 @@
 -- The laws of runs that count, over a parser's events.
-use Rattle.std.proofs.Common.{◌≡◌, ◌∷◌, ◌++◌, ◌∙◌, ℕ, List, [], refl, sym, ap, subst, append_assoc}
+use Rattle.std.proofs.Common.{◌≡◌, ◌∷◌, ◌++◌, ℕ, List, [], subst, append_assoc, arith}
 use Rattle.libyaml_grammar.specs.grammar.Events.{Event}
 use Rattle.libyaml_grammar.specs.grammar.Nesting.{IsNested, NestsSoFar}
 use Rattle.libyaml_composer.specs.declared.deed.Deed.TheVariants as deed
-use Rattle.libyaml_composer.specs.declared.deed.Deed.{Deed}
 use Rattle.libyaml_composer.specs.Composing.{Composer, Told}
 use Rattle.libyaml_composer.specs.DocumentSoFar.{DocumentSoFar}
-use Rattle.libyaml_composer.specs.Represents.{IsPart}
-use Rattle.document_sizes.specs.declared.counted.Counted.{Counted}
 use Rattle.document_sizes.specs.declared.counted.Counted.TheVariants as counted
 use Rattle.document_sizes.specs.Counting.{Count, count_of}
 use Rattle.document_sizes.specs.ParserLaws.{EndsWithItsSize, NothingIsLost, StopsAtACycle, StopsAtTheBound}
@@ -41,36 +38,13 @@ module _ (max : ℕ) (c : Composer) (h : DocumentSoFar) (total : ℕ) (sizes : L
 
   -- unless it was counted
   part_of : (n.answer ≡ counted.Within → ⊥) → PartOf
-  part_of stops_here = go last.does
-    where
-      go : Does max c h total sizes e last.rest t → PartOf
-      go (stays is same s) = absurd (stops_here (ap (λ (x : Count). x.answer) (same_count max c h total sizes e last.rest t n k deed.Passes is)))
-      go (opens o is same begun tail beyond inside)
-          = absurd (stops_here (ap (λ (x : Count). x.answer) (same_count max c h total sizes e last.rest t n k deed.Begins is)))
-      go (closes is same none s beyond)
-          = absurd (stops_here (ap (λ (x : Count). x.answer) (same_count max c h total sizes e last.rest t n k deed.Ends is)))
-      go (parts is tail beyond g s) = record { so_far = s; counts = counts max c h total sizes e last.rest t n k tail g }
+  part_of stops_here = grind (arith, last, stays, same_count, opens, closes, parts, counts)
 
   loses : LosesNothing t.deed c
-  loses = go last.does
-    where
-      no_part : (d : Deed) → t.deed ≡ d → LosesNothing d c → LosesNothing t.deed c
-      no_part d is l = subst (λ (x : Deed). LosesNothing x c) (sym is) l
-
-      go : Does max c h total sizes e last.rest t → LosesNothing t.deed c
-      go (stays is same s) = no_part deed.Passes is tt
-      go (opens o is same begun tail beyond inside) = no_part deed.Begins is tt
-      go (closes is same none s beyond) = no_part deed.Ends is tt
-      go (parts is tail beyond g s) = g.all
+  loses = grind (arith, last, stays, opens, closes, parts)
 
   ends : t.deed ≡ deed.Ends → (c.stack ≡ []) × CountRun max c h total sizes
-  ends is = go last.does
-    where
-      go : Does max c h total sizes e last.rest t → (c.stack ≡ []) × CountRun max c h total sizes
-      go (stays passes same s) = let no : deed.Passes ≡ deed.Ends = sym passes ∙ is in absurd cc
-      go (opens o begins same begun tail beyond inside) = let no : deed.Begins ≡ deed.Ends = sym begins ∙ is in absurd cc
-      go (closes ends same none s beyond) = (none, s)
-      go (parts inside tail beyond g s) = absurd (subst IsPart is g.part)
+  ends is = grind (arith, last, stays, opens, closes, parts)
 
 pub nothing_is_lost : NothingIsLost
 nothing_is_lost max c h total sizes es e t n r k nests = loses max c h total sizes es e t n r k nests

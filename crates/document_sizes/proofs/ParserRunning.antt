@@ -1,5 +1,5 @@
 -- A run over a parser's events is, within each document, one that loses nothing.
-use Rattle.std.proofs.Common.{◌≡◌, ◌≤◌, ◌∷◌, ◌++◌, ◌∙◌, ℕ, ℤ, List, [], Bool, false, true, refl, sym, ap, subst, append_assoc}
+use Rattle.std.proofs.Common.{◌≡◌, ◌∷◌, ◌++◌, ◌∙◌, ℕ, List, [], Bool, false, true, refl, sym, ap, subst, append_assoc, arith}
 use Rattle.libyaml_types.specs.Types.{event_type}
 use Rattle.libyaml_types.specs.declared.event.unnamed_yaml_event_t_data.TheVariants as ev
 use Rattle.libyaml_types.specs.declared.event.unnamed_yaml_event_t_data_document_start.{unnamed_yaml_event_t_data_document_start}
@@ -11,17 +11,15 @@ use Rattle.libyaml_graphs.specs.graphs.GraphParts.{Opening}
 use Rattle.libyaml_composer.specs.declared.deed.Deed.TheVariants as deed
 use Rattle.libyaml_composer.specs.declared.deed.Deed.{Deed}
 use Rattle.libyaml_composer.specs.declared.records.place_t.{place_t}
-use Rattle.libyaml_composer.specs.Composing.{Composer, Told, composer_step, is_start, step_in, told, within_step}
+use Rattle.libyaml_composer.specs.Composing.{Composer, Told, composer_step, is_start, step_in, within_step}
 use Rattle.libyaml_composer.specs.DocumentSoFar.{DocumentSoFar, applied, event_fact}
-use Rattle.libyaml_composer.specs.Represents.{IsPart}
-use Rattle.document_sizes.specs.declared.counted.Counted.{Counted}
 use Rattle.document_sizes.specs.declared.counted.Counted.TheVariants as counted
 use Rattle.document_sizes.specs.Counting.{Count, bound_of, count_of, counting}
 use Rattle.document_sizes.specs.ParserRuns.{CountsEvent, TakesEvent, StreamRun}
 use Rattle.document_sizes.specs.ParserRuns as stream
 use Rattle.document_sizes.specs.Runs.{CountRun, Counts, LosesNothing, document_begun}
 use Rattle.document_sizes.specs.Runs as run
-use Rattle.document_sizes.proofs.LeftValues.{Going, Inside, Left, Stepped, due, ends, goes, stepped}
+use Rattle.document_sizes.proofs.LeftValues.{Going, Inside, Stepped, due, ends, goes, stepped}
 
 -- documents, the first one first
 pub data Docs : Type 0 where
@@ -93,8 +91,7 @@ module _ (max : ℕ) (c : Composer) (h : DocumentSoFar) (total : ℕ) (sizes : L
 
   -- outside a document, at an event of this kind
   outside : c.is_within ≡ false → (x : Event) → e ≡ x → step ≡ step_in false (event_type x.content) (event_fact h e) p c
-  outside is x same = ap (λ (b : Bool). step_in b (event_type e.content) (event_fact h e) p c) is
-      ∙ ap (λ (y : Event). step_in false (event_type y.content) (event_fact h e) p c) same
+  outside is x same = grind arith
 
   at_docs : c.is_within ≡ false → (ds : Docs) (m n : Mark) → DocsHavePairs ds
       → e ∷ rest ≡ docs_events ds (stream_end_at m n ∷ []) → Did step

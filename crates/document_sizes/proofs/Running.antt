@@ -1,17 +1,15 @@
 -- A run keeps the numbers those of the trees.
 use Rattle.std.proofs.Common.{◌≡◌, ◌≤◌, ◌∷◌, ◌++◌, ◌∙◌, ℕ, suc, ℤ, pos, List, [], length, map, Option, None, Bool, inl, inr, refl, sym, ap, subst, arith, length-append}
 use Rattle.libyaml_types.specs.Types.{event_type}
-use Rattle.libyaml_types.specs.declared.event.unnamed_yaml_event_t_data.TheVariants as ev
-use Rattle.libyaml_types.specs.declared.event.unnamed_yaml_event_t_data.{unnamed_yaml_event_t_data}
 use Rattle.libyaml_grammar.specs.grammar.Events.{Event}
 use Rattle.libyaml_grammar.specs.grammar.Tokens.{Mark}
 use Rattle.libyaml_documents.specs.declared.node.yaml_node_t.{yaml_node_t}
-use Rattle.libyaml_graphs.specs.graphs.GraphParts.{Opening, Part, closing_in, closing_of, part_of}
+use Rattle.libyaml_graphs.specs.graphs.GraphParts.{Opening, Part, closing_of, part_of}
 use Rattle.libyaml_composer.specs.declared.deed.Deed.{Deed}
 use Rattle.libyaml_composer.specs.declared.deed.Deed.TheVariants as deed
 use Rattle.libyaml_composer.specs.declared.records.open_t.{open_t}
 use Rattle.libyaml_composer.specs.declared.records.place_t.{place_t}
-use Rattle.libyaml_composer.specs.Composing.{Composer, Told, composer_step, deed_for, holding_top, is_start, place_in, step_in, waiting_in, within_step}
+use Rattle.libyaml_composer.specs.Composing.{Composer, Told, composer_step, deed_for, holding_top, is_start, place_in, waiting_in}
 use Rattle.libyaml_composer.specs.DocumentSoFar.{DocumentSoFar, applied, applied_part, event_fact, nodes_made}
 use Rattle.libyaml_composer.specs.Represents.{IsPart, Opens, Represents}
 use Rattle.libyaml_composer.proofs.exported.Deeds.{none_carried, not_part, part_applied, represents_roomy}
@@ -94,18 +92,8 @@ module _ (c : Composer) (h : DocumentSoFar) (o : Opening) (stands : Represents c
   abbrev pub step : Told
   step = composer_step (event_type e.content) (event_fact h e) p c
 
-  inside : step ≡ within_step (event_type e.content) (event_fact h e) p c
-  inside = ap (λ (b : Bool). step_in b (event_type e.content) (event_fact h e) p c) stands.is_within
-
-  part_inside : IsPart (within_step (event_type e.content) (event_fact h e) p c).deed
-  part_inside = subst (λ (t : Told). IsPart t.deed) inside part
-
   no_end : closing_of e ≡ None
-  no_end = go e.content part_inside
-    where
-      go : (k : unnamed_yaml_event_t_data) → IsPart (within_step (event_type k) (event_fact h e) p c).deed → closing_in k e.end_mark ≡ None
-      go (ev.DocumentEnd d) part = absurd part
-      go _ part = refl
+  no_end = grind arith
 
   pub stays : Represents step.composer (applied step.deed step.place e h) o
   stays = subst (λ (g : DocumentSoFar). Represents step.composer g o) (part_applied step.deed part step.place e h)
@@ -115,8 +103,7 @@ module _ (c : Composer) (h : DocumentSoFar) (o : Opening) (stands : Represents c
 module _ (max : ℕ) (c : Composer) (h : DocumentSoFar) (total : ℕ) (sizes : List ℕ) (s : Standing max c h total sizes) (e : Event) (t : Told)
   where
     pub view_of : (count : Count) → Counts max c h total sizes e t count → View c h (part_of e) (is_start (event_type e.content)) t
-    view_of n k = subst (View c h (part_of e) (is_start (event_type e.content))) (sym k.composed)
-        (view c h s.opening s.represents k.place e (subst (λ (x : Told). IsPart x.deed) k.composed k.part))
+    view_of n k = grind (arith, view)
 
     pub same_nodes : (count : Count) → Counts max c h total sizes e t count
         → applied_part t.deed t.place (part_of e) e.end_mark h ≡ applied t.deed t.place e h

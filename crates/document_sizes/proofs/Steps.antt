@@ -1,19 +1,18 @@
 -- What an event does to the nodes and the stack keeps the numbers those of the trees.
-use Rattle.std.proofs.Common.{◌≡◌, ◌+◌, ◌-◌, ◌<◌, ◌≤◌, ◌∷◌, ◌++◌, ◌∙◌, ℕ, suc, ℤ, pos, List, [], length, map, Option, Some, None, Bool, true, false, inl, inr, refl, sym, ap, subst, arith, slice_get, option_map, append-nil, length-append}
+use Rattle.std.proofs.Common.{◌≡◌, ◌+◌, ◌-◌, ◌<◌, ◌≤◌, ◌∷◌, ◌++◌, ◌∙◌, ℕ, suc, ℤ, pos, List, [], length, map, Option, Some, refl, sym, ap, subst, arith, slice_get, option_map, append-nil, length-append}
 use Rattle.libyaml_grammar.specs.grammar.Tokens.{Mark}
 use Rattle.libyaml_documents.specs.LoadedNodes.{with_end}
 use Rattle.libyaml_documents.specs.Nodes.{changed_at, ids_of, with_changed}
 use Rattle.libyaml_documents.specs.declared.node.yaml_node_t.{yaml_node_t}
 use Rattle.libyaml_composer.specs.declared.records.open_t.{open_t}
 use Rattle.libyaml_composer.specs.Composing.{deed_for, holding, holding_top, place_in}
-use Rattle.libyaml_composer.specs.Numbers.{is_set, is_id}
 use Rattle.libyaml_composer.specs.DocumentSoFar.{placed}
 use Rattle.libyaml_composer.specs.Represents.{IsKeyIn, IsOpenNode, Opens}
 use Rattle.yaml_expansion.specs.Expansion.{ids_at, ids_of_node}
-use Rattle.document_sizes.specs.RunLaws.{held_so_far, key_waiting}
-use Rattle.document_sizes.proofs.Trees.{State, Opened, Keeps, Says, Trees, first, with_child, new_at, says_alias, says_scalar, says_root, says_open, says_root_open, says_closed, some_is}
+use Rattle.document_sizes.specs.RunLaws.{held_so_far}
+use Rattle.document_sizes.proofs.Trees.{State, Opened, Keeps, Says, with_child, new_at, says_alias, says_scalar, says_root, says_open, says_root_open, says_closed}
 use Rattle.libyaml_composer.proofs.exported.Opens.{get_among, get_last, get_other, get_there, length_changed}
-use Rattle.document_sizes.proofs.Holding.{Hands, after, hands, index_of, opened_as, opened_of, opened_same, top_after}
+use Rattle.document_sizes.proofs.Holding.{Hands, after, hands, index_of, opened_of, opened_same, top_after}
 
 abbrev pub state_of : List yaml_node_t → (ℕ → Option ℕ) → State
 state_of nodes g = record { held = ids_at nodes; size = g; nodes = length nodes }
@@ -38,22 +37,15 @@ module _ (limit : ℕ) where
       → ((j : ℕ) → j < length nodes → (size : ℕ) → g j ≡ Some size → size < limit → g' j ≡ g j)
       → ((j size : ℕ) → j < length nodes → g j ≡ Some size → size < limit → slice_get later j ≡ slice_get nodes j)
       → Keeps limit (state_of nodes g) (state_of later g')
-  keeps_by nodes later g g' le sizes same id (j, size, is, lt, at, small) = (
-    (j, size, is, omega arith, sizes j lt size at small ∙ at, small),
-    ap (λ (y : ℤ). ids_at later y) is ∙ (ap ids_of_node (same j size lt at small) ∙ sym (ap (λ (y : ℤ). ids_at nodes y) is)),
-  )
+  keeps_by nodes later g g' le sizes same id h = grind arith
 
   -- an open node is none that has ended
   apart : (g : ℕ → Option ℕ) (j k size before : ℕ) → g j ≡ Some size → size < limit → g k ≡ Some (limit + before) → j ≡ k → ⊥
-  apart g j k size before at small at_open is =
-      let e : size ≡ limit + before = some_is size (limit + before) (sym at ∙ (ap g is ∙ at_open)) in
-      omega arith
+  apart g j k size before at small at_open is = grind arith
 
   pub start_of : (nodes : List yaml_node_t) (g : ℕ → Option ℕ) (o : open_t) (s : List open_t) (total k : ℕ) → o.node ≡ pos (suc k)
       → SaysOf nodes (o ∷ s) g total → (before : ℕ) × (g k ≡ Some (limit + before))
-  start_of nodes g o s total k is h =
-      let at : g (index_of o.node) ≡ Some (limit + h.stands.0) = h.stands.3 in
-      (h.stands.0, ap (λ (z : ℤ). g (index_of z)) (sym is) ∙ at)
+  start_of nodes g o s total k is h = grind arith
 
   -- an alias
   pub alias_says : (most n : ℕ) (nodes : List yaml_node_t) (o : open_t) (s : List open_t) (g : ℕ → Option ℕ) (total j size : ℕ)
@@ -89,22 +81,11 @@ module _ (limit : ℕ) where
 
     new_same : (l : List yaml_node_t) → ids_at l id ≡ [] → (m : ℕ)
         → opened_of l (record { node = id; key = pos 0; children = 0; is_mapping = m }) ≡ new_at (length nodes)
-    new_same l e m = ap (λ (ids : List ℤ). opened_as id ids)
-        (ap (λ (ids : List ℤ). ids ++ key_waiting (is_set m) false (pos 0)) e ∙ go (is_set m))
-      where
-        go : (b : Bool) → key_waiting b false (pos 0) ≡ []
-        go true = refl
-        go false = refl
+    new_same l e m = grind arith
 
     -- the root
     none_before : length nodes ≡ 0 → SaysOf nodes [] g total → total ≡ 0
-    none_before no_nodes h = elim h.stands [
-      | inl e ↦ e.1
-      | inr t ↦ absurd (never total t)
-    ]
-      where
-        never : (n : ℕ) → Trees limit (state_of nodes g) (pos 1 ∷ []) n → ⊥
-        never n (first i ids below beside p b s) = omega (arith, p.3, no_nodes)
+    none_before no_nodes h = grind arith
 
     root_keeps : Keeps limit (state_of nodes g) (state_of grown g')
     root_keeps = keeps_by nodes grown g g' (omega (arith, longer)) (λ q l z e m. sizes q l) (λ q z l e m. get_among nodes (x ∷ []) q l)
@@ -135,9 +116,7 @@ module _ (limit : ℕ) where
       new_empty = no_ids later (r.others (length nodes) (λ e. omega arith))
 
       child_keeps : Keeps limit (state_of nodes g) (state_of later g')
-      child_keeps = let start = start_of nodes g o s total k is h in
-          keeps_by nodes later g g' (omega (arith, count)) (λ q l z e m. sizes q l)
-          (λ q z l e m. others q l (apart g q k z start.0 e m start.1))
+      child_keeps = grind (arith, start_of, keeps_by, count, others, apart)
 
       top_same : opened_of later (holding id o) ≡ with_child (opened_of nodes o) id
       top_same = top_after grown id id refl o s k most is here_grown
@@ -186,20 +165,10 @@ module _ (limit : ℕ) where
     closed_others j e = ap (λ (l : List yaml_node_t). slice_get l j) closed_is ∙ get_other (with_end m) nodes k j e
 
     same_ids : (x : Option yaml_node_t) → ids_of_node (option_map (with_end m) x) ≡ ids_of_node x
-    same_ids None = refl
-    same_ids (Some x) = refl
+    same_ids x = grind arith
 
     holds : ids_at closed (pos (suc k)) ≡ held_so_far nodes o
-    holds = ap (λ (l : List yaml_node_t). ids_of_node (slice_get l k)) closed_is
-        ∙ (ap ids_of_node (get_there (with_end m) nodes k) ∙ (same_ids (slice_get nodes k) ∙ (sym (ap (λ (z : ℤ). ids_at nodes z) is)
-        ∙ (sym (append-nil (ids_at nodes o.node)) ∙ ap (λ (l : List ℤ). ids_at nodes o.node ++ l) no_key))))
-      where
-        go : (b : Bool) → [] ≡ key_waiting b false (pos 0)
-        go true = refl
-        go false = refl
-
-        no_key : [] ≡ key_waiting (is_set o.is_mapping) (is_id o.key) o.key
-        no_key = go (is_set o.is_mapping) ∙ sym (ap (λ (z : ℤ). key_waiting (is_set o.is_mapping) (is_id z) z) waits)
+    holds = grind (arith, closed_is, get_there, same_ids, append-nil)
 
     pub closed_says : SaysOf nodes (o ∷ s) g total → SaysOf closed s g' total
     closed_says h =

@@ -14,7 +14,7 @@ use Rattle.document_sizes.specs.declared.counted.Counted.TheVariants as counted
 use Rattle.document_sizes.specs.Counting.{Count, bound_of, count_of, counting, size_at}
 use Rattle.document_sizes.specs.Runs.{LosesNothing}
 use Rattle.document_sizes.specs.RunLaws.{EndlessIsRight, Continues, StartsWith, TooLargeIsRight, held_so_far}
-use Rattle.document_sizes.proofs.Trees.{IsAmong, Opened, Stands, Trees, first, with_child}
+use Rattle.document_sizes.proofs.Trees.{IsAmong, Opened, Stands, with_child}
 use Rattle.document_sizes.proofs.Holding.{index_of, opened_of}
 use Rattle.document_sizes.proofs.Inverse.{alias_endless, limit, node_ends, size_there}
 use Rattle.document_sizes.proofs.Steps.{SaysOf, alias_opened, state_of}
@@ -93,22 +93,12 @@ goes_from later nodes most n (o ∷ s) (k, is, lt, there, key, rest) g = (
 
 some_node : (nodes : List yaml_node_t) (s : List Opened) (g : ℕ → Option ℕ) (total : ℕ) → Stands limit (state_of nodes g) s total
     → 0 < total → 0 < length nodes
-some_node nodes [] g total h lt = elim h [ inl e ↦ absurd (omega (arith, e.1)) | inr t ↦ go total t ]
-  where
-    go : (n : ℕ) → Trees limit (state_of nodes g) (pos 1 ∷ []) n → 0 < length nodes
-    go n (first id ids below beside p b s) = omega (arith, p.3)
-some_node nodes (o ∷ s) g total (before, n, place, at, t, sum, around) lt = omega arith
+some_node nodes s g total h lt = grind arith
 
 too_large_by : (later nodes : List yaml_node_t) (most n : ℕ) (s : List open_t) (g : ℕ → Option ℕ) (total all : ℕ)
     → SaysOf limit nodes s g total → Opens most nodes n s → Continues nodes s later → 0 < total → HasExpandedSize later all → total ≤ all
-too_large_by later nodes most n s g total all says opens goes lt tree = go later goes tree
-  where
-    go : (later : List yaml_node_t) → Continues nodes s later → HasExpandedSize later all → total ≤ all
-    go [] goes tree =
-        let some : 0 < length nodes = some_node nodes (map (opened_of nodes) s) g total says.stands lt in
-        absurd (omega (arith, goes.count))
-    go (x ∷ later) goes tree = at_most (x ∷ later) limit (state_of nodes g) goes.holds (map (opened_of nodes) s) total all says.stands
-        (goes_from (x ∷ later) nodes most n s opens goes.holds_keys) tree
+too_large_by later nodes most n s g total all says opens goes lt tree =
+    grind (arith, some_node, count, at_most, goes_from)
 
 pub too_large_is_right : TooLargeIsRight
 too_large_is_right max c h total total' sizes sizes' e t r k later goes all size =

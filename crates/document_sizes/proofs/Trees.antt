@@ -160,10 +160,7 @@ module _ (limit : ℕ) where
     pub stands : Stands a s total
 
   earlier_or_last : (k n : ℕ) → k < suc n → (k < n) ⊎ (k ≡ n)
-  earlier_or_last k n lt = elim (cases_order k n) [
-    | inl e ↦ inr e
-    | inr r ↦ elim r [ inl l ↦ inl l | inr g ↦ absurd (omega arith) ]
-  ]
+  earlier_or_last k n lt = grind arith
 
   -- a child that is an alias
   module _ (a b : State) (keeps : Keeps a b) (same : (j : ℕ) → b.size j ≡ a.size j) (count : b.nodes ≡ a.nodes) where
@@ -213,13 +210,7 @@ module _ (limit : ℕ) where
         }
 
         pub says_root : (total : ℕ) → a.nodes ≡ 0 → total ≡ 0 → Says a [] total → Says b [] (total + 1)
-        says_root total zero nothing h = record {
-          ended = scalar_ended [] total h;
-          opened = scalar_opened [] total h;
-          stands = inr (
-              let e : total + 1 ≡ 1 = omega arith in
-              rw e (subst (λ (j : ℕ). Trees b (pos (suc j) ∷ []) 1) zero new_tree));
-        }
+        says_root total zero nothing h = grind (arith, scalar_ended, scalar_opened, new_tree)
 
       module _ (total : ℕ) (at : b.size a.nodes ≡ Some (limit + total)) where
         open_ended : (s : List Opened) → Says a s total → (k size : ℕ) → k < b.nodes → b.size k ≡ Some size → size < limit

@@ -1,5 +1,5 @@
 -- What the composer tells at an event within a document, if it takes the event.
-use Rattle.std.proofs.Common.{◌≡◌, ◌<◌, ◌≤◌, ◌∷◌, ℕ, zero, suc, ℤ, pos, List, [], length, nat_le, nat_lt, Option, Some, None, Bool, true, false, refl, sym, ap, subst, arith}
+use Rattle.std.proofs.Common.{◌≡◌, ◌<◌, ◌≤◌, ◌∷◌, ℕ, zero, suc, ℤ, pos, List, [], length, nat_le, Option, Some, None, Bool, true, false, refl, sym, subst, arith}
 use Rattle.std.specs.FinMap.{get}
 use Rattle.libyaml_types.specs.Types.{event_type}
 use Rattle.libyaml_types.specs.declared.event.unnamed_yaml_event_t_data.TheVariants as ev
@@ -13,7 +13,7 @@ use Rattle.libyaml_graphs.specs.graphs.GraphParts.{Opening, Part, leaf_part, par
 use Rattle.libyaml_composer.specs.declared.deed.Deed.TheVariants as deed
 use Rattle.libyaml_composer.specs.declared.records.open_t.{open_t}
 use Rattle.libyaml_composer.specs.declared.records.place_t.{place_t}
-use Rattle.libyaml_composer.specs.Composing.{Composer, Told, adding, at_anchored_node, at_start, collection_ended, composer_step, handing, if_placed, is_list_full, is_start, new_id, step_in, told, unless, with_open_node, within_step}
+use Rattle.libyaml_composer.specs.Composing.{Composer, Told, adding, at_anchored_node, at_start, collection_ended, composer_step, handing, if_placed, is_list_full, is_start, new_id, told, unless, with_open_node, within_step}
 use Rattle.libyaml_composer.specs.Numbers.{is_id}
 use Rattle.libyaml_composer.specs.DocumentSoFar.{DocumentSoFar, event_fact, fact_by}
 use Rattle.libyaml_composer.specs.Represents.{IsCarried, IsPart, Represents}
@@ -33,13 +33,7 @@ abbrev chosen : place_t → Composer → Told → (a b d : Bool) → Told
 chosen p c t a b d = unless a deed.FullList p c (unless b deed.RepeatedAnchor p c (unless d deed.FullList p c t))
 
 placed_is : (f : ℤ) (p : place_t) (c : Composer) (t : Told) → IsPart (if_placed f p c t).deed → if_placed f p c t ≡ t
-placed_is f p c t k = go (nat_lt c.most (suc c.nodes)) (is_id f) (is_list_full c.most c.stack) k
-  where
-    go : (a b d : Bool) → IsPart (chosen p c t a b d).deed → chosen p c t a b d ≡ t
-    go true b d k = absurd k
-    go false true d k = absurd k
-    go false false true k = absurd k
-    go false false false k = refl
+placed_is f p c t k = grind arith
 
 module _ (c : Composer) (h : DocumentSoFar) (o : Opening) (stands : Represents c h o) (p : place_t) where
   view_alias : (q : Option Part) (start : Bool) (k : Option AnchoredNode) → IsCarried (length h.nodes) k
@@ -94,8 +88,4 @@ module _ (c : Composer) (h : DocumentSoFar) (o : Opening) (stands : Represents c
 
   pub view : (e : Event) → IsPart (composer_step (event_type e.content) (event_fact h e) p c).deed
       → View c h (part_of e) (is_start (event_type e.content)) (composer_step (event_type e.content) (event_fact h e) p c)
-  view e part =
-      let is : composer_step (event_type e.content) (event_fact h e) p c ≡ within_step (event_type e.content) (event_fact h e) p c
-      = ap (λ (b : Bool). step_in b (event_type e.content) (event_fact h e) p c) stands.is_within in
-      subst (View c h (part_of e) (is_start (event_type e.content))) (sym is)
-      (view_within e.content e.start_mark e.end_mark (subst (λ (t : Told). IsPart t.deed) is part))
+  view e part = grind (arith, view_within)

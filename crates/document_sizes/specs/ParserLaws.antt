@@ -7,7 +7,6 @@ use Rattle.libyaml_documents.specs.declared.node.yaml_node_t.{yaml_node_t}
 use Rattle.libyaml_composer.specs.declared.deed.Deed.TheVariants as deed
 use Rattle.libyaml_composer.specs.Composing.{Composer, Told}
 use Rattle.libyaml_composer.specs.DocumentSoFar.{DocumentSoFar, applied}
-use Rattle.libyaml_composer.specs.Represents.{IsPart}
 use Rattle.yaml_expansion.specs.Expansion.{HasExpandedSize, IsCyclicAt}
 use Rattle.document_sizes.specs.declared.counted.Counted.TheVariants as counted
 use Rattle.document_sizes.specs.Counting.{Count, bound_of, count_of}
