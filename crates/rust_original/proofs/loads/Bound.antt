@@ -1,5 +1,5 @@
 -- What the bound on lists does to it.
-use Rattle.std.proofs.Common.{◌≡◌, ◌∷◌, ◌++◌, ℕ, zero, suc, ℤ, pos, List, [], length, nat_lt, ltb-true, ltb-false, lt-ltb, le-ltb, ◌≤◌, arith, Option, Some, None, Bool, true, false, not, refl, sym, ap, ◌∙◌, codes, if◌then◌else◌}
+use Rattle.std.proofs.Common.{◌≡◌, ◌∷◌, ◌++◌, ℕ, zero, suc, ℤ, pos, List, [], length, nat_lt, ltb-true, lt-ltb, ◌≤◌, arith, Option, Some, None, Bool, true, false, not, refl, ap, ◌∙◌, codes, if◌then◌else◌}
 use Rattle.std.specs.Prelude.{slice_get}
 use Rattle.libyaml_types.specs.declared.event.unnamed_yaml_event_t_data.{unnamed_yaml_event_t_data}
 use Rattle.libyaml_types.specs.declared.event.unnamed_yaml_event_t_data.TheVariants as ev
@@ -42,11 +42,7 @@ guard_part n None b o = o
 guard_part n (Some p) b o = guarded (over_there n p b) (full_there n p b) o
 
 pub not_less : (a n : ℕ) → not (nat_lt a n) ≡ nat_lt n (suc a)
-not_less a n = go (nat_lt a n) refl
-  where
-    go : (u : Bool) → nat_lt a n ≡ u → not u ≡ nat_lt n (suc a)
-    go true e = let h = ltb-true a n e in sym (le-ltb n (suc a) (omega arith))
-    go false e = let h = ltb-false a n e in sym (lt-ltb n (suc a) (omega arith))
+not_less a n = grind arith
 
 full_same : (n : ℕ) (k : Option ℤ) (c : unnamed_yaml_node_t_data) → Sound k c
     → orig_loader.is_full n (with_half k c) ≡ content_full n k c
@@ -74,10 +70,7 @@ any_full n (p ∷ s) hs h = place_full n p hs h
 
 pub part_full : (n : ℕ) (p : Part) (b : Built) → AllSound b.held
     → full_there n p b ≡ list_full n (loader_of b no_anchors) p
-part_full n (alias_part a m) b h = any_full n b.places b.held h
-part_full n (leaf_part a x) b h = any_full n b.places b.held h
-part_full n (start_part a x) b h = any_full n b.places b.held h
-part_full n (end_part m) b h = refl
+part_full n p b h = grind (arith, any_full)
 
 -- a parent's list is as full after a node was put after the others
 still_full : (n p : ℕ) (hs : List Held) (x : yaml_node_t) → Has p hs
@@ -111,11 +104,7 @@ stack_short [] hs h f = omega arith
 stack_short (p ∷ s) hs h f = let i = has_place p hs h.0 in let j = falls_short s p f.0 f.1 in omega arith
 
 kept_ctx : (l : orig_loader.OriginalLoader) (i : ℕ) (c : List ℕ) → l.ctx ≡ c → (orig_loader.child_added l i).ctx ≡ l.ctx
-kept_ctx l i c e = go l.ctx
-  where
-    go : (s : List ℕ) → (orig_loader.child_added (record l { ctx = s }) i).ctx ≡ s
-    go [] = refl
-    go (p ∷ s) = refl
+kept_ctx l i c e = grind arith
 
 module _ (n : ℕ) (x : yaml_node_t) (opens : Bool) (b : Built) (has : AllHas b.places b.held) (falls : Falls b.places)
   where
@@ -137,8 +126,7 @@ module _ (n : ℕ) (x : yaml_node_t) (opens : Bool) (b : Built) (has : AllHas b.
         ∙ go (orig_loader.is_parent_full n (ids b.places) (halves b.held)) opens
       where
         fits : nat_lt (length (ids b.places)) n ≡ true
-        fits = let i = ltb-true (length (halves b.held)) n e in let j
-            = stack_short b.places b.held has falls in lt-ltb (length (ids b.places)) n (omega arith)
+        fits = grind (arith, ltb-true, stack_short, lt-ltb)
 
         go : (u o : Bool) → orig_loader.if_ok (if u then FAIL memory_fault else OK (orig_loader.child_added (pushed_node ys) index))
             (λ s. if o then orig_loader.STACK_LIMIT n (length s.ctx) (OK (record s { ctx = index ∷ s.ctx })) else OK s)
@@ -159,10 +147,6 @@ module _ (n : ℕ) (x : yaml_node_t) (opens : Bool) (b : Built) (has : AllHas b.
         (pushed (there xs b) a x opens)
     node_limited a xs = go (nat_lt (length (halves b.held)) n) refl
       where
-        after : List yaml_alias_data_t → LoaderResult
-        after ys = orig_loader.if_ok (orig_loader.yaml_parser_load_node_add n (pushed_node ys) index)
-            (λ s. if opens then orig_loader.STACK_LIMIT n (length s.ctx) (OK (record s { ctx = index ∷ s.ctx })) else OK s)
-
         registered : (o : Option AnchoredNode) (c : List ℕ) → nat_lt (length (halves b.held)) n ≡ true
             → elim o [
               | Some y ↦ orig_loader.yaml_parser_set_composer_error_context (codes "found duplicate anchor; first occurrence")
@@ -180,16 +164,14 @@ module _ (n : ℕ) (x : yaml_node_t) (opens : Bool) (b : Built) (has : AllHas b.
                   (pushed_node
                   (xs ++ record { anchor = c; anchored_node = record { id = index; mark = x.start_mark } } ∷ [])) index)
             ])
-        registered (Some y) c e = refl
-        registered None c e = opened_there _ e
+        registered o c e = grind (arith, opened_there)
 
         with_room : (c : Option (List ℕ)) → nat_lt (length (halves b.held)) n ≡ true
             → orig_loader.yaml_parser_register_anchor (pushed_node xs) index x.start_mark c
             (λ r. orig_loader.if_ok (orig_loader.yaml_parser_load_node_add n r index)
             (λ s. if opens then orig_loader.STACK_LIMIT n (length s.ctx) (OK (record s { ctx = index ∷ s.ctx })) else OK s))
             ≡ guarded false (orig_loader.is_parent_full n (ids b.places) (halves b.held)) (pushed (there xs b) c x opens)
-        with_room None e = opened_there xs e
-        with_room (Some c) e = registered (alias_of xs c) c e
+        with_room c e = grind (arith, opened_there, registered)
 
         go : (u : Bool) → nat_lt (length (halves b.held)) n ≡ u
             → (if u then orig_loader.yaml_parser_register_anchor (pushed_node xs) index x.start_mark a
@@ -197,24 +179,12 @@ module _ (n : ℕ) (x : yaml_node_t) (opens : Bool) (b : Built) (has : AllHas b.
             (λ s. if opens then orig_loader.STACK_LIMIT n (length s.ctx) (OK (record s { ctx = index ∷ s.ctx })) else OK s))
             else FAIL memory_fault)
             ≡ guarded (not u) (orig_loader.is_parent_full n (ids b.places) (halves b.held)) (pushed (there xs b) a x opens)
-        go true e = with_room a e
-        go false e = refl
+        go u e = grind (arith, with_room)
 
 alias_limited : (n : ℕ) (a : List ℕ) (m : Mark) (xs : List yaml_alias_data_t) (b : Built)
     → orig_loader.yaml_parser_load_alias n (there xs b) a m ≡ guarded false (orig_loader.is_parent_full n (ids b.places) (halves b.held))
     (load_alias (there xs b) a m)
-alias_limited n a m xs b = go (alias_of xs a) (orig_loader.is_parent_full n (ids b.places) (halves b.held))
-  where
-    go : (o : Option AnchoredNode) (u : Bool) → elim o [
-      | Some found ↦ if u then FAIL memory_fault else OK (orig_loader.child_added (there xs b) found.id)
-      | None ↦ orig_loader.yaml_parser_set_composer_error (codes "found undefined alias") m
-    ] ≡ guarded false u (elim o [
-      | Some found ↦ OK (orig_loader.child_added (there xs b) found.id)
-      | None ↦ orig_loader.yaml_parser_set_composer_error (codes "found undefined alias") m
-    ])
-    go None u = refl
-    go (Some c) true = refl
-    go (Some c) false = refl
+alias_limited n a m xs b = grind arith
 
 pub event_limited : (n : ℕ) (k : unnamed_yaml_event_t_data) (m m' : Mark) (b : Built) (xs : List yaml_alias_data_t)
     → AllHas b.places b.held → Falls b.places

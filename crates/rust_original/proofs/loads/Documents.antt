@@ -1,9 +1,9 @@
 -- The original's loader over the events of a document.
-use Rattle.std.proofs.Common.{◌≡◌, ◌∷◌, ◌++◌, ℕ, suc, List, [], length, nat_lt, Option, Some, Bool, true, false, Ok, Err, refl, sym, ap, ◌∙◌}
+use Rattle.std.proofs.Common.{◌≡◌, ◌∷◌, ◌++◌, ℕ, suc, List, [], length, nat_lt, Option, Some, Bool, true, false, Ok, Err, refl, sym, ap, ◌∙◌, arith}
 use Rattle.libyaml_types.specs.declared.event.unnamed_yaml_event_t_data.{unnamed_yaml_event_t_data}
 use Rattle.libyaml_types.specs.declared.event.unnamed_yaml_event_t_data.TheVariants as ev
 use Rattle.libyaml_types.specs.Fault.{Fault}
-use Rattle.libyaml_grammar.specs.runs.Runs.{Ending, Ends, Fails}
+use Rattle.libyaml_grammar.specs.runs.Runs.{Ending}
 use Rattle.libyaml_grammar.specs.grammar.Events.{Event, event}
 use Rattle.libyaml_grammar.specs.grammar.Tokens.{Mark}
 use Rattle.libyaml_graphs.specs.graphs.ComposerFaults.{composer_part_fault}
@@ -20,7 +20,7 @@ use Rattle.rust_original.specs.loader.Loader as orig_loader
 use Rattle.rust_original.specs.loader.Loader.{FAIL, LoaderResult, OK, yaml_alias_data_t}
 use Rattle.rust_original.proofs.loads.Halves.{AllSound, halves}
 use Rattle.rust_original.proofs.loads.Steps.{Agrees, Follows, event_follows, halves_length, load_event, there}
-use Rattle.rust_original.proofs.loads.Bound.{event_limited, full_there, guard_part, guarded, not_less, over_there, part_full}
+use Rattle.rust_original.proofs.loads.Bound.{event_limited, full_there, guarded, not_less, over_there, part_full}
 
 -- the events of a document, from one on
 module _ (n : ℕ) (o : Opening) (x : Ending) where
@@ -83,9 +83,7 @@ module _ (n : ℕ) (o : Opening) (x : Ending) where
         → ◌≡◌ {A = List Load}
         (elim (guarded (over_there n p b) (full_there n p b) y) [ FAIL f ↦ Err f ∷ [] | OK m ↦ loaded_there r m ])
         (ends_as (nat_lt n (length (following p es))) (composer_part_fault es p) (one_above n (list_sizes [] (F ++ p ∷ []))))
-    event_ends y w = part_same (over_there n p b) (over_is p) (full_there n p b) refl y w
-        ∙ (ap (λ (c : Bool). ends_as c (composer_part_fault es p) (full_there n p b)) (over_is p)
-        ∙ ap (ends_as (nat_lt n (length (following p es))) (composer_part_fault es p)) full_is)
+    event_ends y w = grind (arith, part_same, over_is, full_is)
 
   limited_same : (k : unnamed_yaml_event_t_data) (m m' : Mark) (r : List Event) → Same r → (p : Part)
       → part_in k m m' ≡ Some p → BeginsEmpty p
@@ -97,11 +95,7 @@ module _ (n : ℕ) (o : Opening) (x : Ending) where
       (load_then (first_stop n es F (p ∷ parts r)) (end_of_document r) o (halves (built.finished es (p ∷ parts r) b))
       (last_load x)
       (orig_loader.original_loads_from n orig_loader.between (after_document r) x))
-  limited_same k m m' r ih p i e es F b xs s h w =
-      ap (λ (y : LoaderResult). elim y [ FAIL f ↦ Err f ∷ [] | OK l ↦ loaded_there r l ])
-      (event_limited n k m m' b xs s.stands.there s.stands.falls
-      ∙ ap (λ (q : Option Part). guard_part n q b (load_event (there xs b) (event k m m'))) i)
-      ∙ event_ends r ih p e es F b s h (load_event (there xs b) (event k m m')) w
+  limited_same k m m' r ih p i e es F b xs s h w = grind (arith, event_limited, event_ends)
 
   event_same : (k : unnamed_yaml_event_t_data) (m m' : Mark) (r : List Event) → Same r → Same (event k m m' ∷ r)
   event_same (ev.DocumentEnd d) m m' r ih es F b xs s g h
@@ -133,7 +127,6 @@ module _ (n : ℕ) (o : Opening) (x : Ending) where
   document_same [] es F b xs s g h = go x
     where
       go : (y : Ending) → orig_loader.original_loads_from n (orig_loader.within o (there xs b)) [] y ≡ last_load y ∷ []
-      go Ends = refl
-      go (Fails f) = refl
+      go y = grind arith
   document_same (e ∷ r) es F b xs s g h
       = event_same e.content e.start_mark e.end_mark r (document_same r) es F b xs s g h

@@ -1,5 +1,5 @@
 -- The original's nodes beside ours: a mapping whose key waits has a pair without value there.
-use Rattle.std.proofs.Common.{◌≡◌, ◌∷◌, ◌++◌, ◌&&◌, ℕ, zero, suc, ℤ, pos, negsuc, List, [], Option, Some, None, Bool, true, false, not, refl, ap, ◌∙◌, if◌then◌else◌}
+use Rattle.std.proofs.Common.{◌≡◌, ◌∷◌, ◌++◌, ◌&&◌, ℕ, zero, suc, ℤ, pos, List, [], Option, Some, None, Bool, true, false, not, refl, ap, ◌∙◌, if◌then◌else◌, arith}
 use Rattle.libyaml_documents.specs.Nodes.{changed_at}
 use Rattle.libyaml_documents.specs.declared.node.unnamed_yaml_node_t_data.{unnamed_yaml_node_t_data}
 use Rattle.libyaml_documents.specs.declared.node.unnamed_yaml_node_t_data.TheVariants.{Scalar, Sequence, Mapping}
@@ -53,9 +53,7 @@ AllSound (h ∷ hs) = Sound h.key h.node.content × AllSound hs
 
 -- pairs
 id_not_zero : (z : ℤ) → IsId z → orig_loader.is_zero z ≡ false
-id_not_zero (pos zero) h = absurd h
-id_not_zero (pos (suc n)) h = refl
-id_not_zero (negsuc n) h = absurd h
+id_not_zero z h = grind arith
 
 pub none_waits : (ps : List yaml_node_pair_t) → AllFull ps → orig_loader.waits ps ≡ false
 none_waits [] h = refl
@@ -63,8 +61,7 @@ none_waits (p ∷ []) h
     = ap (λ (u : Bool). not (orig_loader.is_zero p.key) && u) (id_not_zero p.value h.0) ∙ no_both (not (orig_loader.is_zero p.key))
   where
     no_both : (b : Bool) → b && false ≡ false
-    no_both true = refl
-    no_both false = refl
+    no_both b = grind arith
 none_waits (p ∷ q ∷ ps) h = none_waits (q ∷ ps) h.1
 
 pub last_waits : (ps : List yaml_node_pair_t) (k : ℤ) → IsId k
@@ -106,12 +103,7 @@ added i (Some k) (Mapping m) h = ap (λ (u : Bool). Mapping (record m {
 
 stays_sound : (i : ℕ) (k : Option ℤ) (c : unnamed_yaml_node_t_data) → Sound k c
     → Sound (key_after_child k (pos (suc i)) c) (content_and_child k (pos (suc i)) c)
-stays_sound i None (Scalar s) h = tt
-stays_sound i None (Sequence s) h = tt
-stays_sound i None (Mapping m) h = (tt, h)
-stays_sound i (Some k) (Scalar s) h = absurd h
-stays_sound i (Some k) (Sequence s) h = absurd h
-stays_sound i (Some k) (Mapping m) h = full_append m.pairs (record { key = k; value = pos (suc i) }) h.1 tt
+stays_sound i k c h = grind (arith, full_append)
 
 abbrev with_child_there : ℕ → yaml_node_t → yaml_node_t
 with_child_there i x = record x { content = orig_loader.content_with_child i x.content }

@@ -1,16 +1,15 @@
 -- The original's loader loads what this repository's does.
-use Rattle.std.proofs.Common.{◌≡◌, ◌∷◌, ℕ, List, [], Option, Some, None, Bool, refl, sym, ap, ◌∙◌, subst}
+use Rattle.std.proofs.Common.{◌≡◌, ◌∷◌, ℕ, List, [], Option, None, Bool, refl, sym, ap, ◌∙◌, subst, arith}
 use Rattle.libyaml_types.specs.declared.event.unnamed_yaml_event_t_data.TheVariants as ev
 use Rattle.libyaml_documents.specs.declared.node.yaml_node_t.{yaml_node_t}
 use Rattle.libyaml_types.specs.Fault.{Fault}
-use Rattle.libyaml_grammar.specs.runs.Runs.{Ending, Ends, Fails}
+use Rattle.libyaml_grammar.specs.runs.Runs.{Ending, Ends}
 use Rattle.libyaml_grammar.specs.grammar.Events.{Event, document_end_at, end_at as end_event, event, stream_end_at}
-use Rattle.libyaml_grammar.specs.grammar.Nesting.{HasBegun, HasPairs, IsNested, IsOpenDocument, DocumentTexts, TextsHavePairs, Value, Values, alias_value, collection_value, first_value, no_texts, no_values, none_open, one_open, scalar_value, NestsSoFar, has_begun, not_begun, text_after}
-use Rattle.libyaml_grammar.specs.grammar.Nesting.{texts_events, whole, value_events, values_events}
+use Rattle.libyaml_grammar.specs.grammar.Nesting.{HasBegun, HasPairs, IsNested, IsOpenDocument, DocumentTexts, TextsHavePairs, Value, Values, alias_value, collection_value, first_value, no_texts, no_values, scalar_value, NestsSoFar, text_after, texts_events, value_events, values_events}
 use Rattle.libyaml_grammar.specs.grammar.Tokens.{Mark}
 use Rattle.libyaml_grammar.specs.grammar.Trees.{mapping, sequence}
-use Rattle.libyaml_graphs.specs.graphs.GraphParts.{Closing, Opening, graph, parts}
-use Rattle.libyaml_graphs.specs.loads.Loads.{Load, begun_after, after_document, end_of_document, last_load, load_then, loads_by}
+use Rattle.libyaml_graphs.specs.graphs.GraphParts.{Opening, graph, parts}
+use Rattle.libyaml_graphs.specs.loads.Loads.{Load, after_document, end_of_document, last_load, load_then, loads_by}
 use Rattle.libyaml_graphs.specs.loads.Bounds.{bounded_loads, first_stop}
 use Rattle.libyaml_graphs.proofs.exported.BoundedLoader.{within_unbuilt}
 use Rattle.libyaml_graphs.proofs.exported.Building.{prefix_closes, value_after, unbuilt}
@@ -68,28 +67,10 @@ module _ (limit : ℕ) where
 
   cut_off : (f : Option Fault) (o : Opening) (a b : List yaml_node_t) (z : Load) (l k : List Load)
       → load_then f None o a z l ≡ load_then f None o b z k
-  cut_off None o a b z l k = refl
-  cut_off (Some f) o a b z l k = refl
+  cut_off f o a b z l k = grind arith
 
   open_agrees : (x : Ending) (l : List Event) → IsOpenDocument l → Agree x l
-  open_agrees x l (none_open e) = subst (Agree x) (sym e) (go x)
-    where
-      go : (y : Ending) → Agree y []
-      go Ends = refl
-      go (Fails f) = refl
-  open_agrees x l (one_open d m n f e b) = subst (Agree x) (sym e)
-      (begun_same x o f ∙
-      (ap (λ (c : Option Closing). load_then (first_stop limit [] [] (parts f)) c o
-      (halves (built.held_graph [] (parts f))) (last_load x)
-      (orig_loader.original_loads_from limit orig_loader.between (after_document f) x)) (prefix_closes f b)
-      ∙ (cut_off (first_stop limit [] [] (parts f)) o _ _ (last_load x) _ _
-      ∙ sym (ap
-      (λ (c : Option Closing). load_then (first_stop limit [] [] (parts f)) c o (graph [] (parts f)) (last_load x)
-      (loads_by (first_stop limit [] []) x (begun_after f)))
-      (prefix_closes f b)))))
-    where
-      o : Opening
-      o = record { start = d; mark = m }
+  open_agrees x l h = grind (arith, begun_same, prefix_closes, cut_off)
 
   pub begun_agree : (l : List Event) → HasBegun l → (x : Ending) → Agree x l
   begun_agree l h x
@@ -102,10 +83,4 @@ module _ (limit : ℕ) where
 
 -- events that nest, whole ones with the stream's end alone
 pub nested_agree : (n : ℕ) (e : List Event) (x : Ending) → NestsSoFar e → (IsNested e → x ≡ Ends) → Agree n x e
-nested_agree n e x (not_begun h) w = subst (Agree n x) (sym h) (go x)
-  where
-    go : (y : Ending) → Agree n y []
-    go Ends = refl
-    go (Fails f) = refl
-nested_agree n e x (has_begun h) w = begun_agree n e h x
-nested_agree n e x (whole h) w = subst (λ (y : Ending). Agree n y e) (sym (w h)) (whole_agree n e h)
+nested_agree n e x h w = grind (arith, begun_agree, whole_agree)

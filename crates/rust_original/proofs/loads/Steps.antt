@@ -1,6 +1,6 @@
 -- What an event does to the original's loader, without the bound.
 use Rattle.std.specs.Prelude.{bytes_eq}
-use Rattle.std.proofs.Common.{◌≡◌, ◌∷◌, ◌++◌, ℕ, suc, List, [], length, Option, Some, None, Bool, true, false, refl, sym, ap, ◌∙◌, subst, codes, if◌then◌else◌, cond}
+use Rattle.std.proofs.Common.{◌≡◌, ◌∷◌, ◌++◌, ℕ, suc, List, [], length, Option, Some, None, Bool, true, false, refl, sym, ap, ◌∙◌, subst, codes, if◌then◌else◌, cond, arith}
 use Rattle.std.specs.Cmp.Lexicographic as lex
 use Rattle.libyaml_types.specs.declared.event.unnamed_yaml_event_t_data.{unnamed_yaml_event_t_data}
 use Rattle.libyaml_types.specs.declared.event.unnamed_yaml_event_t_data.TheVariants as ev
@@ -8,7 +8,7 @@ use Rattle.libyaml_documents.specs.declared.node.yaml_node_t.{yaml_node_t}
 use Rattle.libyaml_types.specs.Fault.{Fault}
 use Rattle.libyaml_grammar.specs.grammar.Events.{Event, event}
 use Rattle.libyaml_grammar.specs.grammar.Tokens.{Mark}
-use Rattle.libyaml_graphs.specs.graphs.ComposerFaults.{alias_fault, anchor_fault, known_fault, composer_part_fault}
+use Rattle.libyaml_graphs.specs.graphs.ComposerFaults.{alias_fault, anchor_fault, composer_part_fault}
 use Rattle.libyaml_documents.specs.LoadedNodes.{mapping_loaded, scalar_loaded, sequence_loaded}
 use Rattle.libyaml_graphs.specs.graphs.GraphParts.{Part, alias_part, following, end_part, part_in, anchored_node_start}
 use Rattle.libyaml_graphs.specs.graphs.Graphs.{AnchoredNode, Start, anchored_node, carries, id_or}
@@ -61,8 +61,7 @@ sound_append [] x h i = (i, tt)
 sound_append (y ∷ hs) x h i = (h.0, sound_append hs x h.1 i)
 
 top_sound : (i : ℕ) (s : List ℕ) (hs : List Held) → AllSound hs → AllSound (hold_top (suc i) s hs)
-top_sound i [] hs h = h
-top_sound i (p ∷ s) hs h = hold_sound p i hs h
+top_sound i s hs h = grind (arith, hold_sound)
 
 -- the original's functions without the bound
 abbrev pub pushed : orig_loader.OriginalLoader → Option (List ℕ) → yaml_node_t → Bool → LoaderResult
@@ -120,8 +119,7 @@ or_else None o = o
 or_else (Some c) o = Some c
 
 or_none : (o : Option AnchoredNode) → or_else o None ≡ o
-or_none None = refl
-or_none (Some c) = refl
+or_none o = grind arith
 
 alias_more : (xs : List yaml_alias_data_t) (d : yaml_alias_data_t) (a : List ℕ)
     → alias_of (xs ++ d ∷ []) a ≡ or_else (alias_of xs a) (cond (bytes_eq d.anchor a) (Some d.anchored_node) None)
@@ -132,8 +130,7 @@ alias_more (e ∷ xs) d a = go (bytes_eq e.anchor a) (alias_more xs d a)
         → alias_of (xs ++ d ∷ []) a ≡ or_else (alias_of xs a) (cond (bytes_eq d.anchor a) (Some d.anchored_node) None)
         → cond u (Some e.anchored_node) (alias_of (xs ++ d ∷ []) a)
         ≡ or_else (cond u (Some e.anchored_node) (alias_of xs a)) (cond (bytes_eq d.anchor a) (Some d.anchored_node) None)
-    go true ih = refl
-    go false ih = ih
+    go u ih = grind arith
 
 agrees_more : (xs : List yaml_alias_data_t) (es : List Start) (b : List ℕ) (m : Mark) → Agrees es xs
     → alias_of xs b ≡ None → Agrees (record { anchor = Some b; mark = m } ∷ es)
@@ -183,53 +180,15 @@ module _ (x : yaml_node_t) (opens : Bool) (es : List Start) (b : Built) (size : 
           → finish_there o (record { aliases = ys; nodes = halves (b.held ++ bare x ∷ []); ctx = ids b.places })
           (suc (length es))
           ≡ there ys (put o x (length es) b)
-      go true = ap (λ (l : orig_loader.OriginalLoader). let m : orig_loader.OriginalLoader = record l { ctx = suc (length es) ∷ ids b.places } in m)
-          (node_add ys (length es) b.places (b.held ++ bare x ∷ []) (sound_append b.held x h i))
-          ∙ ap (λ (n : ℕ). let m : orig_loader.OriginalLoader =
-          record {
-            aliases = ys;
-            nodes = halves (hold_top (suc (length es)) b.places (b.held ++ bare x ∷ []));
-            ctx =
-                suc n ∷ ids b.places;
-          } in m)
-          (sym size)
-      go false = node_add ys (length es) b.places (b.held ++ bare x ∷ []) (sound_append b.held x h i)
+      go o = grind (arith, node_add, bare, sound_append, hold_top)
 
   put_sound : AllSound (put opens x (length es) b).held
-  put_sound = go opens
-    where
-      go : (o : Bool) → AllSound (put o x (length es) b).held
-      go true = top_sound (length es) b.places (b.held ++ bare x ∷ []) (sound_append b.held x h i)
-      go false = top_sound (length es) b.places (b.held ++ bare x ∷ []) (sound_append b.held x h i)
+  put_sound = grind (arith, top_sound, bare, sound_append)
 
   node_follows : (a : Option (List ℕ)) (xs : List yaml_alias_data_t) → Agrees es xs
       → Follows (pushed (there xs b) a x opens) (anchor_fault es a x.start_mark) (anchored_node_start a x ∷ es)
       (put opens x (length es) b)
-  node_follows None xs g = (refl, (xs, finished xs, g, put_sound))
-  node_follows (Some a) xs g = go (alias_of xs a) refl (anchored_node a es) (g a)
-    where
-      go : (o : Option AnchoredNode) → alias_of xs a ≡ o → (c : Option AnchoredNode) → alias_of xs a ≡ c
-          → Follows (elim o [
-            | Some y ↦ orig_loader.yaml_parser_set_composer_error_context (codes "found duplicate anchor; first occurrence")
-                y.mark (codes "second occurrence") x.start_mark
-            | None ↦ OK (finish_there opens (record {
-              aliases = xs ++
-                  record { anchor = a; anchored_node = record { id = suc (length (halves b.held)); mark = x.start_mark } } ∷
-                  [];
-              nodes = halves b.held ++ x ∷ [];
-              ctx = ids b.places;
-            }) (suc (length (halves b.held))))
-          ]) (known_fault c x.start_mark) (anchored_node_start (Some a) x ∷ es) (put opens x (length es) b)
-      go (Some y) e c k = ap (λ (d : Option AnchoredNode). known_fault d x.start_mark) (sym k ∙ e)
-      go None e c k = (
-        ap (λ (d : Option AnchoredNode). known_fault d x.start_mark) (sym k ∙ e),
-        (
-          xs ++ record { anchor = a; anchored_node = record { id = suc (length (halves b.held)); mark = x.start_mark } } ∷ [],
-          finished _,
-          rw (← index_is) at (agrees_more xs es a x.start_mark g e),
-          put_sound,
-        ),
-      )
+  node_follows a xs g = grind (arith, finished, put_sound, index_is, agrees_more)
 
 abbrev pub load_event : orig_loader.OriginalLoader → Event → LoaderResult
 load_event l e = elim e.content [

@@ -1,5 +1,5 @@
 -- A call of each parser, where they stand to one another, does the same, and they stand so again.
-use Rattle.std.proofs.Common.{◌≡◌, ◌∷◌, ◌∙◌, ◌||◌, List, None, Bool, false, refl, sym, ap, subst, if◌then◌else◌}
+use Rattle.std.proofs.Common.{◌≡◌, ◌∷◌, ◌∙◌, ◌||◌, List, None, Bool, false, refl, ap, if◌then◌else◌, arith}
 use Rattle.libyaml_types.specs.declared.directive.yaml_tag_directive_t.{yaml_tag_directive_t}
 use Rattle.libyaml_types.specs.declared.enums.yaml_parser_state_t.{yaml_parser_state_t}
 use Rattle.libyaml_types.specs.declared.enums.yaml_parser_state_t.TheVariants as st
@@ -9,7 +9,7 @@ use Rattle.libyaml_grammar.specs.grammar.ValidLists.{is_end}
 use Rattle.libyaml_grammar.specs.grammar.Tokens.{Mark, Token}
 use Rattle.libyaml_events.specs.machine.Config.{Config, Handles, is_end_state, without_lookahead}
 use Rattle.libyaml_events.specs.machine.Want.{AtState}
-use Rattle.rust_original.specs.parser.Parser.{Mends, OK, ParserResult, OriginalParser, yaml_parser_state_machine}
+use Rattle.rust_original.specs.parser.Parser.{Mends, OK, OriginalParser, yaml_parser_state_machine}
 use Rattle.rust_original.specs.parser.Runs.{as_here, call}
 use Rattle.rust_original.proofs.parser.Documents as documents
 use Rattle.rust_original.proofs.parser.States as states
@@ -99,16 +99,11 @@ flagged root_end = refl
 flagged (entering {s} {s'} i b a e) = go s' s i
   where
     go : (s' s : yaml_parser_state_t) → Opens s' s → false ≡ is_end_state s
-    go st.YAML_PARSE_BLOCK_SEQUENCE_FIRST_ENTRY_STATE st.YAML_PARSE_BLOCK_SEQUENCE_ENTRY_STATE i = refl
-    go st.YAML_PARSE_BLOCK_MAPPING_FIRST_KEY_STATE st.YAML_PARSE_BLOCK_MAPPING_KEY_STATE i = refl
-    go st.YAML_PARSE_FLOW_SEQUENCE_FIRST_ENTRY_STATE st.YAML_PARSE_FLOW_SEQUENCE_FIRST_ENTRY_STATE i = refl
-    go st.YAML_PARSE_FLOW_MAPPING_FIRST_KEY_STATE st.YAML_PARSE_FLOW_MAPPING_FIRST_KEY_STATE i = refl
-    go _ _ i = absurd i
+    go s' s i = grind arith
 flagged (inside {s} i b a) = go s i
   where
     go : (s : yaml_parser_state_t) → IsInside s → false ≡ is_end_state s
-    go st.YAML_PARSE_END_STATE i = absurd i
-    go _ i = refl
+    go s i = grind arith
 flagged over = refl
 
 -- and both states are the last one
@@ -123,11 +118,7 @@ both_end root_end = refl
 both_end (entering {s} {s'} i b a e) = go s' s i
   where
     go : (s' s : yaml_parser_state_t) → Opens s' s → is_end_state s' ≡ is_end_state s
-    go st.YAML_PARSE_BLOCK_SEQUENCE_FIRST_ENTRY_STATE st.YAML_PARSE_BLOCK_SEQUENCE_ENTRY_STATE i = refl
-    go st.YAML_PARSE_BLOCK_MAPPING_FIRST_KEY_STATE st.YAML_PARSE_BLOCK_MAPPING_KEY_STATE i = refl
-    go st.YAML_PARSE_FLOW_SEQUENCE_FIRST_ENTRY_STATE st.YAML_PARSE_FLOW_SEQUENCE_FIRST_ENTRY_STATE i = refl
-    go st.YAML_PARSE_FLOW_MAPPING_FIRST_KEY_STATE st.YAML_PARSE_FLOW_MAPPING_FIRST_KEY_STATE i = refl
-    go _ _ i = absurd i
+    go s' s i = grind arith
 both_end (inside i b a) = refl
 both_end over = refl
 
@@ -141,9 +132,4 @@ begun_call m q h k
 -- a call of both
 pub call_same : (f : Fault) (q : OriginalParser) (d : Config) (l : List Token) → SamePlace f q d l → is_end_state d.state ≡ false
     → Matches f (call as_here q) (feed f AtState (without_lookahead d) (tokens_of d.lookahead l))
-call_same f q d l s e = subst (λ (o : ParserResult). Matches f o (feed f AtState (without_lookahead d) (tokens_of d.lookahead l)))
-    (sym (begun_call as_here q (ap (λ (p : OriginalParser). p.stream_end_produced) s.is ∙ (flagged s.fits ∙ e))
-    (ap (λ (p : OriginalParser). is_end_state p.state) s.is ∙ (both_end s.fits ∙ e))))
-    (subst (λ (p : OriginalParser). Matches f (yaml_parser_state_machine as_here p.state p)
-    (feed f AtState (without_lookahead d) (tokens_of d.lookahead l))) (sym s.is)
-    (called f d.fault d.states s.fits e))
+call_same f q d l s e = grind (arith, begun_call, flagged, both_end, called)

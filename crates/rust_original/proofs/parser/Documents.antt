@@ -1,6 +1,5 @@
 -- Between documents, both parsers do the same.
-use Rattle.std.proofs.Common.{◌≡◌, ◌∷◌, ◌++◌, ◌||◌, ◌&&◌, ℕ, pos, List, [], Option, Some, None, Bool, true, false, not, refl, sym, subst, codes, if◌then◌else◌, is_some}
-use Rattle.std.specs.FinMap.{insert}
+use Rattle.std.proofs.Common.{◌≡◌, ◌∷◌, ◌||◌, ◌&&◌, pos, List, [], Option, Some, None, Bool, true, false, not, refl, sym, subst, codes, if◌then◌else◌, is_some, arith}
 use Rattle.std.specs.Ordering.{int_eq}
 use Rattle.libyaml_types.specs.declared.directive.yaml_tag_directive_t.{yaml_tag_directive_t}
 use Rattle.libyaml_types.specs.declared.directive.yaml_version_directive_t.{yaml_version_directive_t}
@@ -11,12 +10,12 @@ use Rattle.libyaml_grammar.specs.partial.FaultTexts.{document_start_fault}
 use Rattle.libyaml_grammar.specs.grammar.Tokens.{Content, DocumentEnd, DocumentStart, HandleDeclared, Mark, StreamEnd, StreamStart, TagDirective, Token, VersionAsked, VersionDirective}
 use Rattle.libyaml_automaton.specs.Automaton as automaton
 use Rattle.libyaml_events.specs.machine.Config.{Config, Handles, config_of, no_handles}
-use Rattle.libyaml_events.specs.machine.Machine.{Progressed, put, seen}
+use Rattle.libyaml_events.specs.machine.Machine.{put, seen}
 use Rattle.libyaml_events.specs.machine.Want.{AtState, Texts, Want, no_texts}
 use Rattle.rust_original.specs.parser.Parser as orig
 use Rattle.rust_original.specs.parser.Parser.{ParserResult, OriginalParser, default_tag_directives, directive_named, directives_from}
 use Rattle.rust_original.specs.parser.Runs.{as_here}
-use Rattle.rust_original.proofs.parser.Handles.{Reads, agree, declares, defaults_appended, none_declared, reads_more}
+use Rattle.rust_original.proofs.parser.Handles.{Reads, agree, defaults_appended, none_declared, reads_more}
 use Rattle.rust_original.proofs.parser.Relation.{standing, Matches, fed, feed, first, inside, is_document_end, over, stopped, there, tk}
 
 module _ (f : Fault) (x : Fault) (ss : List yaml_parser_state_t) (ms : List Mark) where
@@ -71,10 +70,7 @@ module _ (f : Fault) (x : Fault) (ss : List yaml_parser_state_t) (ms : List Mark
         (fed f (put (directive_texts None ts) None None (here s be hs) (tk (VersionDirective v) m n) (VersionDirective v)
         (automaton.first_version (x && (y || z)) a (config_of (here s be hs))
         (seen (tk (VersionDirective v) m n) (VersionDirective v)))) l)
-    versions true true z a ts v m n l tags hs h = h
-    versions true false true a ts v m n l tags hs h = h
-    versions true false false a ts v m n l tags hs h = refl
-    versions false y z a ts v m n l tags hs h = refl
+    versions x y z a ts v m n l tags hs h = grind arith
 
     version_token : (a : Mark) (o : Option yaml_version_directive_t) (ts : List yaml_tag_directive_t) (v : VersionAsked)
         (m n : Mark) (l : List Token) (tags : List yaml_tag_directive_t) (hs : Handles) → Follows l → Reads tags hs
@@ -87,26 +83,7 @@ module _ (f : Fault) (x : Fault) (ss : List yaml_parser_state_t) (ms : List Mark
     tag_token : (a : Mark) (o : Option yaml_version_directive_t) (ts : List yaml_tag_directive_t) (g : HandleDeclared)
         (m n : Mark) (l : List Token) (tags : List yaml_tag_directive_t) (hs : Handles) → Follows l → Reads tags hs
         → FollowsFrom a o ts tags hs (tk (TagDirective g) m n ∷ l)
-    tag_token a o ts g m n l tags hs ih r = subst (λ (w : Option (List ℕ)). Matches f
-        (directives_from o ts (next_there a) (tk (TagDirective g) m n ∷ l)
-        (par s' flag tags (tk (TagDirective g) m n ∷ l))) (fed f (told w) l)) (r g.handle)
-        (go (directive_named tags g.handle) refl)
-      where
-        told : Option (List ℕ) → Progressed
-        told w = put (directive_texts o ts) None None (here s be hs) (tk (TagDirective g) m n) (TagDirective g)
-            (automaton.tag_directive (is_some w) a (is_some o) (config_of (here s be hs))
-            (seen (tk (TagDirective g) m n) (TagDirective g)))
-
-        go : (w : Option (List ℕ)) → directive_named tags g.handle ≡ w
-            → Matches f (elim w [
-              | Some earlier ↦ orig.yaml_parser_set_parser_error (codes "found duplicate %TAG directive") m
-              | None ↦ directives_from o (ts ++ declares g.handle g.prefix ∷ []) (next_there a) l
-                  (par s' flag (tags ++ declares g.handle g.prefix ∷ []) l)
-            ]) (fed f (told w) l)
-        go (Some e) i = refl
-        go None i
-            = ih a o (ts ++ declares g.handle g.prefix ∷ []) (tags ++ declares g.handle g.prefix ∷ [])
-            (insert hs g.handle g.prefix) (reads_more tags hs g.handle g.prefix r i)
+    tag_token a o ts g m n l tags hs ih r = grind (arith, is_some, reads_more)
 
     directive_token : (a : Mark) (o : Option yaml_version_directive_t) (ts : List yaml_tag_directive_t) (k : Content)
         (m n : Mark) (l : List Token) (tags : List yaml_tag_directive_t) (hs : Handles) → Follows l → Reads tags hs

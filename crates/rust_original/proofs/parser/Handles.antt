@@ -1,6 +1,6 @@
 -- A list of tag directives gives each handle the prefix that the map of handles gives.
 use Rattle.std.specs.Prelude.{bytes_eq}
-use Rattle.std.proofs.Common.{◌≡◌, ◌∷◌, ◌++◌, ℕ, List, [], Option, Some, None, Bool, true, false, cond, codes, refl, sym, ap, ◌∙◌, subst}
+use Rattle.std.proofs.Common.{◌≡◌, ◌∷◌, ◌++◌, ℕ, List, [], Option, Some, None, Bool, true, false, cond, codes, refl, sym, ap, ◌∙◌, subst, arith}
 use Rattle.std.specs.Cmp.Lexicographic.{texts_ties, nat_list_eq_equiv, nat_list_cmp_total}
 use Rattle.std.specs.Cmp.Lexicographic as lex
 use Rattle.std.specs.FinMap.{get, insert, get-from_entries}
@@ -8,8 +8,7 @@ use Rattle.libyaml_types.specs.declared.directive.yaml_tag_directive_t.{yaml_tag
 use Rattle.libyaml_grammar.specs.grammar.Tokens.{Mark}
 use Rattle.libyaml_grammar.proofs.exported.TextMaps.{inserted}
 use Rattle.libyaml_events.specs.machine.Config.{Handles, no_handles}
-use Rattle.libyaml_events.specs.machine.Machine.{or_default}
-use Rattle.rust_original.specs.parser.Parser.{ParserResult, OriginalParser, default_tag_directives, directive_named, yaml_parser_append_tag_directive}
+use Rattle.rust_original.specs.parser.Parser.{ParserResult, OriginalParser, default_tag_directives, directive_named}
 use Rattle.rust_original.proofs.parser.Relation.{Agree}
 
 -- before the defaults
@@ -27,8 +26,7 @@ or_else None o = o
 or_else (Some x) o = Some x
 
 or_none : (o : Option (List ℕ)) → or_else o None ≡ o
-or_none None = refl
-or_none (Some x) = refl
+or_none o = grind arith
 
 -- a directive after the others
 one_more : (tags : List yaml_tag_directive_t) (d : yaml_tag_directive_t) (h : List ℕ)
@@ -40,8 +38,7 @@ one_more (e ∷ tags) d h = go (one_more tags d h) (bytes_eq e.handle h)
         (cond (bytes_eq d.handle h) (Some d.prefix) None) → (u : Bool)
         → cond u (Some e.prefix) (directive_named (tags ++ d ∷ []) h)
         ≡ or_else (cond u (Some e.prefix) (directive_named tags h)) (cond (bytes_eq d.handle h) (Some d.prefix) None)
-    go ih true = refl
-    go ih false = ih
+    go ih u = grind arith
 
 pub reads_more : (tags : List yaml_tag_directive_t) (hs : Handles) (g p : List ℕ) → Reads tags hs
     → directive_named tags g ≡ None → Reads (tags ++ declares g p ∷ []) (insert hs g p)
@@ -62,16 +59,6 @@ with_default tags d (Some x) = tags
 abbrev after : List yaml_tag_directive_t → yaml_tag_directive_t → List yaml_tag_directive_t
 after tags d = with_default tags d (directive_named tags d.handle)
 
-appended : (p : OriginalParser) (d : yaml_tag_directive_t) (m : Mark) (next : OriginalParser → ParserResult)
-    → yaml_parser_append_tag_directive d true m p next ≡ next (record p { tag_directives = after p.tag_directives d })
-appended p d m next = go (directive_named p.tag_directives d.handle)
-  where
-    go : (o : Option (List ℕ))
-        → elim o [ Some earlier ↦ next p | None ↦ next (record p { tag_directives = p.tag_directives ++ d ∷ [] }) ]
-        ≡ next (record p { tag_directives = with_default p.tag_directives d o })
-    go None = refl
-    go (Some x) = refl
-
 found : (tags : List yaml_tag_directive_t) (d : yaml_tag_directive_t) (h : List ℕ)
     → directive_named (after tags d) h ≡ or_else (directive_named tags h) (cond (bytes_eq d.handle h) (Some d.prefix) None)
 found tags d h = go (directive_named tags d.handle) refl
@@ -87,8 +74,7 @@ found tags d h = go (directive_named tags d.handle) refl
     go : (o : Option (List ℕ)) → directive_named tags d.handle ≡ o
         → directive_named (with_default tags d o) h ≡ or_else (directive_named tags h)
         (cond (bytes_eq d.handle h) (Some d.prefix) None)
-    go None e = one_more tags d h
-    go (Some x) e = there x e (bytes_eq d.handle h) refl
+    go o e = grind (arith, one_more, there)
 
 abbrev bang : yaml_tag_directive_t
 bang = declares (codes "!") (codes "!")
@@ -101,32 +87,7 @@ defaulted tags = after (after tags bang) bangs
 
 pub defaults_appended : (p : OriginalParser) (m : Mark) (next : OriginalParser → ParserResult)
     → default_tag_directives m p next ≡ next (record p { tag_directives = defaulted p.tag_directives })
-defaults_appended p m next = appended p bang m (λ q. yaml_parser_append_tag_directive bangs true m q next)
-    ∙ appended (record p { tag_directives = after p.tag_directives bang }) bangs m next
+defaults_appended p m next = grind arith
 
 pub agree : (tags : List yaml_tag_directive_t) (hs : Handles) → Reads tags hs → Agree (defaulted tags) hs
-agree tags hs r h = found (after tags bang) bangs h
-    ∙ (ap (λ (o : Option (List ℕ)). or_else o
-    (cond (bytes_eq (codes "!!") h) (Some (codes "tag:yaml.org,2002:")) None)) (found tags bang h)
-    ∙ (cases (directive_named tags h) (bytes_eq (codes "!") h) (bytes_eq (codes "!!") h)
-    ∙ (swapped (directive_named tags h) ∙ ap (λ (o : Option (List ℕ)). or_default o h) (r h))))
-  where
-    cases : (o : Option (List ℕ)) (u v : Bool)
-        → or_else (or_else o (cond u (Some (codes "!")) None)) (cond v (Some (codes "tag:yaml.org,2002:")) None)
-        ≡ or_else o (cond u (Some (codes "!")) (cond v (Some (codes "tag:yaml.org,2002:")) None))
-    cases None true v = refl
-    cases None false v = refl
-    cases (Some x) u v = refl
-
-    swapped : (o : Option (List ℕ))
-        → or_else o
-        (cond (bytes_eq (codes "!") h) (Some (codes "!"))
-        (cond (bytes_eq (codes "!!") h) (Some (codes "tag:yaml.org,2002:")) None)) ≡ or_default o h
-    swapped None
-        = ap (λ (u : Bool). cond u (Some (codes "!"))
-        (cond (bytes_eq (codes "!!") h) (Some (codes "tag:yaml.org,2002:")) None))
-        (nat_list_eq_equiv.symm (codes "!") h)
-        ∙ ap (λ (u : Bool). cond (bytes_eq h (codes "!")) (Some (codes "!"))
-        (cond u (Some (codes "tag:yaml.org,2002:")) None))
-        (nat_list_eq_equiv.symm (codes "!!") h)
-    swapped (Some x) = refl
+agree tags hs r h = grind (arith, found)

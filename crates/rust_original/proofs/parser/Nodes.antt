@@ -1,17 +1,14 @@
 -- Where a node is due, both parsers do the same.
-use Rattle.std.proofs.Common.{◌≡◌, ◌∷◌, ◌∙◌, ℕ, List, [], Option, Some, None, Bool, true, false, refl, sym, ap, subst, codes, if◌then◌else◌, is_some}
+use Rattle.std.proofs.Common.{◌≡◌, ◌∷◌, ℕ, List, [], Option, Some, None, Bool, true, false, refl, sym, ap, subst, codes, if◌then◌else◌, is_some, arith}
 use Rattle.std.specs.FinMap.{get}
 use Rattle.libyaml_types.specs.Events.{zero_mark}
 use Rattle.libyaml_types.specs.Types.{token_type}
 use Rattle.libyaml_types.specs.declared.directive.yaml_tag_directive_t.{yaml_tag_directive_t}
 use Rattle.libyaml_types.specs.declared.enums.yaml_parser_state_t.{yaml_parser_state_t}
-use Rattle.libyaml_types.specs.declared.enums.yaml_scalar_style_t.TheVariants.{YAML_PLAIN_SCALAR_STYLE}
 use Rattle.libyaml_types.specs.Fault.{Fault}
 use Rattle.libyaml_grammar.specs.partial.FaultTexts.{content_fault, parser_fault_in}
-use Rattle.libyaml_grammar.specs.grammar.Events.{event, is_missing}
 use Rattle.libyaml_grammar.specs.grammar.Tokens.{Alias, Anchor, AnchorName, BlockEntry, BlockMappingStart, BlockSequenceStart, Content, FlowMappingStart, FlowSequenceStart, Mark, Scalar, ScalarText, Tag, TagName, Token}
 use Rattle.libyaml_automaton.specs.declared.node_place.NodePlace.{NodePlace}
-use Rattle.libyaml_automaton.specs.declared.node_place.NodePlace.TheVariants.{Block, BlockOrIndentlessSequence, Flow}
 use Rattle.libyaml_automaton.specs.Automaton as automaton
 use Rattle.libyaml_automaton.specs.Automaton.{PropertiesRead, Step, content_problem, is_block_place, may_be_indentless}
 use Rattle.libyaml_events.specs.machine.Config.{Config, Handles, config_of}
@@ -43,35 +40,12 @@ missing_content false m n e
 
 problem_of : (p : NodePlace) (m : Mark) → content_fault (is_block_place p) m
     ≡ fault_with (record { problem = content_problem p; context_mark = m; mark = m })
-problem_of Block m = refl
-problem_of BlockOrIndentlessSequence m = refl
-problem_of Flow m = refl
-
--- what the content of a node without properties leads to asks nothing
-plain_none : (h : Texts) (c : Config) (t : Token) (k : Content) (p : NodePlace) (b g : Bool) (r : PropertiesRead)
-    → with_texts h c t k (automaton.no_content p b g r (config_of c) (seen t k))
-    ≡ put h None None c t k (automaton.no_content p b g r (config_of c) (seen t k))
-plain_none h c t k p false false r = refl
-plain_none h c t k p false true r = refl
-plain_none h c t k p true g r = refl
-
-plain_if : (h : Texts) (c : Config) (t : Token) (k : Content) (p : NodePlace) (b : Bool) (s : Step) (r : PropertiesRead)
-    → with_texts h c t k s ≡ put h None None c t k s
-    → with_texts h c t k (automaton.if_allowed b s p r (config_of c) (seen t k))
-    ≡ put h None None c t k (automaton.if_allowed b s p r (config_of c) (seen t k))
-plain_if h c t k p true s r e = e
-plain_if h c t k p false s r e = plain_none h c t k p r.anchor r.tag r
+problem_of p m = grind arith
 
 plain : (h : Texts) (c : Config) (t : Token) (k : Content) (p : NodePlace) (r : PropertiesRead)
     → with_texts h c t k (automaton.node_content p r (config_of c) (seen t k) (token_type k))
     ≡ put h None None c t k (automaton.node_content p r (config_of c) (seen t k) (token_type k))
-plain h c t (Scalar v) p r = refl
-plain h c t FlowSequenceStart p r = refl
-plain h c t FlowMappingStart p r = refl
-plain h c t BlockSequenceStart p r = plain_if h c t BlockSequenceStart p (is_block_place p) _ r refl
-plain h c t BlockMappingStart p r = plain_if h c t BlockMappingStart p (is_block_place p) _ r refl
-plain h c t BlockEntry p r = plain_if h c t BlockEntry p (may_be_indentless p) _ r refl
-plain h c t k p r = plain_none h c t k p r.anchor r.tag r
+plain h c t k p r = grind arith
 
 module _ (f : Fault) (tags : List yaml_tag_directive_t) (hs : Handles) (agree : Agree tags hs) (be flag : Bool)
     (x : Fault) (s s' : yaml_parser_state_t)
@@ -96,19 +70,7 @@ module _ (f : Fault) (tags : List yaml_tag_directive_t) (hs : Handles) (agree : 
         → Matches f (orig.without_content (par ss (tk k m n ∷ l)) (is_block_place p) anchor tag a b (tk k m n))
         (fed f (put h anchor tag (conf ss) (tk k m n) k (automaton.no_content p (is_some anchor) (is_some tag)
         (props anchor tag a c g) (config_of (conf ss)) (seen (tk k m n) k))) l)
-    alone h None None a b c g k m n l o = missing_content (is_block_place p) a m o ∙ problem_of p m
-    alone h None (Some tag) a b c g k m n l o = (
-      ap (event (parser_machine.scalar_with None (Some tag) [] (is_missing (Some tag)) false YAML_PLAIN_SCALAR_STYLE) a) o,
-      standing refl (popped_fits ss inner agree) (popped_fresh ss _ inner),
-    )
-    alone h (Some anchor) tag a b c g k m n l o = (
-      ap (event (parser_machine.scalar_with (Some anchor) tag [] (is_missing tag) false YAML_PLAIN_SCALAR_STYLE) a) (ends tag o),
-      standing refl (popped_fits ss inner agree) (popped_fresh ss _ inner),
-    )
-      where
-        ends : (tag : Option (List ℕ)) → OnlyAt tag (Some anchor) a m b c → b ≡ c
-        ends None o = o
-        ends (Some tag) o = o
+    alone h anchor tag a b c g k m n l o = grind (arith, missing_content, problem_of, standing, popped_fits, popped_fresh)
 
     abbrev ContentOf : (h : Texts) (anchor tag : Option (List ℕ)) (a b c g : Mark) (k : Content) (m n : Mark)
         (l : List Token) → Type 0
@@ -132,8 +94,7 @@ module _ (f : Fault) (tags : List yaml_tag_directive_t) (hs : Handles) (agree : 
         else orig.without_content (par ss (tk k m n ∷ l)) (is_block_place p) anchor tag a b (tk k m n))
         (fed f (put h anchor tag (conf ss) (tk k m n) k (automaton.if_allowed may y p (props anchor tag a c g)
         (config_of (conf ss)) (seen (tk k m n) k))) l)
-    begun true e y h anchor tag a b c g k m n l o z = z
-    begun false e y h anchor tag a b c g k m n l o z = alone h anchor tag a b c g k m n l o
+    begun may e y h anchor tag a b c g k m n l o z = grind (arith, alone)
 
     content : (h : Texts) (anchor tag : Option (List ℕ)) (a b c g : Mark) (k : Content) (m n : Mark) (l : List Token)
         → OnlyAt tag anchor a m b c → ContentOf h anchor tag a b c g k m n l

@@ -1,5 +1,5 @@
 -- How the two parsers stand to one another between two calls, and what it is for a call of each to do the same.
-use Rattle.std.proofs.Common.{◌≡◌, ◌∷◌, ℕ, List, [], Option, Some, None, Bool, true, false, Ok, Err}
+use Rattle.std.proofs.Common.{◌≡◌, ◌∷◌, ℕ, List, [], Option, Some, None, Bool, true, false, Ok, Err, arith}
 use Rattle.std.specs.FinMap.{get}
 use Rattle.libyaml_types.specs.declared.directive.yaml_tag_directive_t.{yaml_tag_directive_t}
 use Rattle.libyaml_types.specs.declared.enums.yaml_parser_state_t.{yaml_parser_state_t}
@@ -187,16 +187,4 @@ popped_fits (_ ∷ ss) b a = absurd b
 
 -- no such state is on the stack
 pub popped_fresh : (ss : List yaml_parser_state_t) (o : Option Token) → Below ss → IsFresh (top ss) o
-popped_fresh [] o b = absurd b
-popped_fresh (st.YAML_PARSE_DOCUMENT_END_STATE ∷ ss) o b = tt
-popped_fresh (st.YAML_PARSE_BLOCK_SEQUENCE_ENTRY_STATE ∷ ss) o b = tt
-popped_fresh (st.YAML_PARSE_INDENTLESS_SEQUENCE_ENTRY_STATE ∷ ss) o b = tt
-popped_fresh (st.YAML_PARSE_BLOCK_MAPPING_KEY_STATE ∷ ss) o b = tt
-popped_fresh (st.YAML_PARSE_BLOCK_MAPPING_VALUE_STATE ∷ ss) o b = tt
-popped_fresh (st.YAML_PARSE_FLOW_SEQUENCE_ENTRY_STATE ∷ ss) o b = tt
-popped_fresh (st.YAML_PARSE_FLOW_SEQUENCE_ENTRY_MAPPING_VALUE_STATE ∷ ss) o b = tt
-popped_fresh (st.YAML_PARSE_FLOW_SEQUENCE_ENTRY_MAPPING_END_STATE ∷ ss) o b = tt
-popped_fresh (st.YAML_PARSE_FLOW_MAPPING_KEY_STATE ∷ ss) o b = tt
-popped_fresh (st.YAML_PARSE_FLOW_MAPPING_VALUE_STATE ∷ ss) o b = tt
-popped_fresh (st.YAML_PARSE_FLOW_MAPPING_EMPTY_VALUE_STATE ∷ ss) o b = tt
-popped_fresh (_ ∷ ss) o b = absurd b
+popped_fresh ss o b = grind arith

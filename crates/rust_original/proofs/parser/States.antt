@@ -1,5 +1,5 @@
 -- Within a document, both parsers do the same in each state.
-use Rattle.std.proofs.Common.{◌≡◌, ◌∷◌, List, [], None, Bool, true, false, refl, sym, subst}
+use Rattle.std.proofs.Common.{◌≡◌, ◌∷◌, List, [], None, Bool, true, false, refl, sym, subst, arith}
 use Rattle.libyaml_types.specs.declared.directive.yaml_tag_directive_t.{yaml_tag_directive_t}
 use Rattle.libyaml_types.specs.declared.enums.yaml_parser_state_t.{yaml_parser_state_t}
 use Rattle.libyaml_types.specs.declared.enums.yaml_parser_state_t.TheVariants as st
@@ -24,8 +24,7 @@ following n = record { next = n; texts = no_texts }
 -- a token that is no STREAM-END is skipped
 end_same : (k : Content) (m n : Mark)
     → is_one_of (record { content = k; start_mark = m; end_mark = n }) (kinds.YAML_STREAM_END_TOKEN ∷ []) ≡ is_end k
-end_same StreamEnd m n = refl
-end_same k m n = refl
+end_same k m n = grind arith
 
 pub skipped : (t : Token) → is_end t.content ≡ false → (P : Bool → Type 0) → P false
     → P (is_one_of t (kinds.YAML_STREAM_END_TOKEN ∷ []))
@@ -216,8 +215,7 @@ module _ (f : Fault) (tags : List yaml_tag_directive_t) (hs : Handles) (be flag 
 
       pub pair_end : OfTokens orig.yaml_parser_parse_flow_sequence_entry_mapping_end
           st.YAML_PARSE_FLOW_SEQUENCE_ENTRY_MAPPING_END_STATE
-      pair_end [] = refl
-      pair_end (t ∷ l) = (refl, standing refl (inside tt inner agree) tt)
+      pair_end h = grind (arith, standing, inside)
 
       -- flow mappings
       flow_key : (a b c d : Mark) (k : Content) (m n : Mark) (l : List Token)
@@ -274,8 +272,7 @@ module _ (f : Fault) (tags : List yaml_tag_directive_t) (hs : Handles) (be flag 
 
       pub flow_mapping_empty_value : OfTokens (λ p. orig.yaml_parser_parse_flow_mapping_value p true)
           st.YAML_PARSE_FLOW_MAPPING_EMPTY_VALUE_STATE
-      flow_mapping_empty_value [] = refl
-      flow_mapping_empty_value (t ∷ l) = (refl, standing refl (inside tt inner agree) tt)
+      flow_mapping_empty_value h = grind (arith, standing, inside)
 
       first_sequence_token : OfToken (orig.sequence_entry_after_start true) st.YAML_PARSE_FLOW_SEQUENCE_FIRST_ENTRY_STATE
       first_sequence_token FlowSequenceEnd m n l

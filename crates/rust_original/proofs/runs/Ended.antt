@@ -1,9 +1,9 @@
 -- Events that nest to the end have the stream end event, and so a run that fails has none that do.
-use Rattle.std.proofs.Common.{◌≡◌, ◌∷◌, List, [], true, false, refl, subst}
+use Rattle.std.proofs.Common.{◌≡◌, ◌∷◌, List, [], false, arith}
 use Rattle.libyaml_types.specs.Fault.{Fault}
 use Rattle.libyaml_types.specs.declared.event.unnamed_yaml_event_t_data.TheVariants as ev
 use Rattle.libyaml_grammar.specs.runs.Runs.{Ending, Ends, Fails}
-use Rattle.libyaml_grammar.specs.grammar.Events.{Event, document_end_at, end_at as end_event, event, stream_end_at}
+use Rattle.libyaml_grammar.specs.grammar.Events.{Event, document_end_at, end_at as end_event, event}
 use Rattle.libyaml_grammar.specs.grammar.Nesting.{IsNested, DocumentTexts, Value, Values, alias_value, collection_value, first_value, no_texts, no_values, scalar_value, text_after, texts_events, value_events, values_events}
 use Rattle.libyaml_grammar.specs.grammar.Trees.{mapping, sequence}
 use Rattle.libyaml_events.specs.sources.History.{is_stream_end}
@@ -32,11 +32,7 @@ after_texts (text_after ts d m n v i p q) r h
     (after_texts ts (event (ev.DocumentStart d) m n ∷ value_events v (document_end_at i p q ∷ r)) h).1).1
 
 unended : (e : List Event) → NoEnd e → IsNested e → ⊥
-unended e n h = no_end (after_texts h.texts (stream_end_at h.end h.end_end ∷ []) (subst NoEnd h.all n).1).0
-  where
-    no_end : true ≡ false → ⊥
-    no_end k = cc
+unended e n h = grind (arith, after_texts)
 
 pub ends_whole : (e : List Event) (x : Ending) → ((g : Fault) → x ≡ Fails g → NoEnd e) → IsNested e → x ≡ Ends
-ends_whole e Ends n h = refl
-ends_whole e (Fails g) n h = absurd (unended e (n g refl) h)
+ends_whole e x n h = grind (arith, unended)

@@ -10,8 +10,8 @@ use Rattle.libyaml_types.specs.Fault.{Fault}
 use Rattle.libyaml_grammar.specs.runs.Runs.{Ending, Ends, Fails, IsRun}
 use Rattle.libyaml_grammar.specs.grammar.Events.{Event, event}
 use Rattle.libyaml_grammar.specs.grammar.Nesting.{NestsSoFar}
-use Rattle.libyaml_grammar.specs.grammar.Tokens.{Content, Mark, Scalar, StreamEnd, Token}
-use Rattle.libyaml_events.specs.machine.Config.{Config, Handles, ended_or_failed, is_end_state, is_fault, start, without_lookahead}
+use Rattle.libyaml_grammar.specs.grammar.Tokens.{Content, Mark, Scalar, Token}
+use Rattle.libyaml_events.specs.machine.Config.{Config, Handles, ended_or_failed, is_end_state, start, without_lookahead}
 use Rattle.libyaml_events.specs.machine.Machine.{step}
 use Rattle.libyaml_events.specs.machine.Want.{AtState, Given}
 use Rattle.libyaml_events.specs.sources.History.{is_stream_end}
@@ -41,21 +41,13 @@ empty_at n = event (scalar_event_with None None [] true false YAML_PLAIN_SCALAR_
 
 empty_step : (n : Mark) (c : Config) → c.state ≡ st.YAML_PARSE_FLOW_SEQUENCE_ENTRY_MAPPING_KEY_STATE
     → step AtState (without_lookahead c) (empty_token n) ≡ Ok (Given (empty_at n), after_pair_key c)
-empty_step n c i = subst (λ (s : yaml_parser_state_t).
-    step AtState (without_lookahead (record c { state = s })) (empty_token n) ≡ Ok (Given (empty_at n), after_pair_key c)) (sym i) refl
+empty_step n c i = grind arith
 
 not_both : {b : Bool} → b ≡ false → b ≡ true → ⊥
-not_both e h = no (sym e ∙ h)
-  where
-    no : false ≡ true → ⊥
-    no k = cc
+not_both e h = grind arith
 
 not_over : (c : Config) → ended_or_failed c ≡ false → is_end_state c.state ≡ false
-not_over c e = go (is_fault c.fault.error) e
-  where
-    go : (u : Bool) → u || is_end_state c.state ≡ false → is_end_state c.state ≡ false
-    go true h = absurd cc
-    go false h = h
+not_over c e = grind arith
 
 opens_pair_key : (s : yaml_parser_state_t) → Opens st.YAML_PARSE_FLOW_SEQUENCE_ENTRY_MAPPING_KEY_STATE s → ⊥
 opens_pair_key _ i = i
@@ -76,15 +68,13 @@ pair_stands over e = absurd cc
 
 fresh_none : (s : yaml_parser_state_t) (o : Option Token) → s ≡ st.YAML_PARSE_FLOW_SEQUENCE_ENTRY_MAPPING_KEY_STATE
     → IsFresh s o → o ≡ None
-fresh_none s None e h = refl
-fresh_none s (Some t) e h = absurd (subst (λ (x : yaml_parser_state_t). IsFresh x (Some t)) e h)
+fresh_none s o e h = grind arith
 
 no_end : (k : Content) (m n : Mark)
     → is_one_of (tk k m n) (kinds.YAML_VALUE_TOKEN ∷ kinds.YAML_FLOW_ENTRY_TOKEN ∷ kinds.YAML_FLOW_SEQUENCE_END_TOKEN ∷ []) ≡
     true
     → is_one_of (tk k m n) (kinds.YAML_STREAM_END_TOKEN ∷ []) ≡ false
-no_end StreamEnd m n e = absurd cc
-no_end k m n e = refl
+no_end k m n e = grind arith
 
 -- The parser with the mends m; it may differ from the one with all three where b is true.
 module _ (f : Fault) (m : Mends) (b : Bool)
@@ -132,8 +122,7 @@ module _ (f : Fault) (m : Mends) (b : Bool)
     where
       none : (o : Option Token) → Fed AtState (without_lookahead d) o l (g ++ e ∷ []) → ended_or_failed d ≡ true
           → Fed AtState (without_lookahead d) None l (g ++ e ∷ [])
-      none None h j = h
-      none (Some u) h j = absurd (not_both (hand_runs h) j)
+      none o h j = grind (arith, not_both, hand_runs)
 
       whole : p.stream_end_produced ≡ true → IsRun (l ++ rest) f (g ++ e ∷ []) Ends
       whole k =

@@ -1,10 +1,10 @@
 -- A call does the same there and here but at the three places.
-use Rattle.std.proofs.Common.{◌≡◌, ◌∷◌, ◌⊎◌, ◌||◌, if◌then◌else◌, inl, inr, List, [], None, Bool, true, false, refl, sym, ap, ◌∙◌, subst, codes}
+use Rattle.std.proofs.Common.{◌≡◌, ◌∷◌, ◌⊎◌, ◌||◌, if◌then◌else◌, inl, inr, List, [], None, Bool, true, false, refl, sym, ap, ◌∙◌, subst, codes, arith}
 use Rattle.libyaml_types.specs.declared.enums.yaml_parser_state_t.{yaml_parser_state_t}
 use Rattle.libyaml_types.specs.declared.enums.yaml_parser_state_t.TheVariants as st
 use Rattle.libyaml_types.specs.declared.enums.yaml_token_type_t.TheVariants as kinds
 use Rattle.libyaml_types.specs.Events.{empty_event}
-use Rattle.libyaml_types.specs.Fault.{Fault, no_fault}
+use Rattle.libyaml_types.specs.Fault.{Fault}
 use Rattle.libyaml_grammar.specs.partial.FaultTexts.{parser_fault}
 use Rattle.libyaml_grammar.specs.runs.Runs.{Ending, Ends, Fails}
 use Rattle.libyaml_grammar.specs.grammar.Events.{Event}
@@ -75,18 +75,7 @@ ended p b l = record p { tokens = l; after_explicit_end = b }
 -- one DOCUMENT-END more
 further : (p : OriginalParser) (b : Bool) (m n : Mark) (l : List Token)
     → Starts (SKIP_TOKEN (ended p b (tk DocumentEnd m n ∷ l))) → Starts (ended p b (tk DocumentEnd m n ∷ l))
-further p b m n l (inl e) = inl e
-further p b m n l (inr h) = inr (record {
-  q = h.q;
-  t = h.t;
-  l = h.l;
-  ended = h.ended;
-  skipped = h.skipped;
-  tokens = h.tokens;
-  kind = h.kind;
-  fault_there = h.fault_there;
-  begun_here = h.begun_here;
-})
+further p b m n l h = grind arith
 
 start_token : (b : Bool) (p : OriginalParser) (k : Content) (m n : Mark) (l : List Token)
     → Starts (SKIP_TOKEN (ended p b (tk k m n ∷ l))) → Starts (ended p b (tk k m n ∷ l))
@@ -148,26 +137,10 @@ apart_at p st.YAML_PARSE_DOCUMENT_START_STATE e = go (starts p.tokens p)
 apart_at p _ e = inl refl
 
 pub apart : (p : OriginalParser) → Apart p (call_there p) (call_here p)
-apart p = go (p.stream_end_produced || is_end_state p.state) (apart_at p p.state refl)
-  where
-    there : ParserResult
-    there = yaml_parser_state_machine as_there p.state p
-
-    here : ParserResult
-    here = yaml_parser_state_machine as_here p.state p
-
-    go : (u : Bool) → Apart p there here
-        → Apart p (if u then OK empty_event p else there) (if u then OK empty_event p else here)
-    go true h = inl refl
-    go false h = h
+apart p = grind (arith, apart_at)
 
 pub may_differ : (p : OriginalParser) → (call_there p ≡ call_here p) ⊎ ((true ≡ true) × Differs p (call_there p) (call_here p))
-may_differ p = go (apart p)
-  where
-    go : Apart p (call_there p) (call_here p)
-        → (call_there p ≡ call_here p) ⊎ ((true ≡ true) × Differs p (call_there p) (call_here p))
-    go (inl i) = inl i
-    go (inr i) = inr (refl, i)
+may_differ p = grind (arith, apart)
 
 -- runs
 ok_same : {e d : Event} {p q : OriginalParser} → OK e p ≡ OK d q → (e ≡ d) × (p ≡ q)
@@ -182,11 +155,7 @@ ok_same {p} h = (ap event_of h, ap (parser_of p) h)
     parser_of r (FAIL f) = r
 
 fail_same : {f g : Fault} → FAIL f ≡ FAIL g → f ≡ g
-fail_same h = ap fault_of h
-  where
-    fault_of : ParserResult → Fault
-    fault_of (OK e p) = no_fault
-    fault_of (FAIL f) = f
+fail_same h = grind arith
 
 apart_outcomes : {e : Event} {p : OriginalParser} {f : Fault} → OK e p ≡ FAIL f → ⊥
 apart_outcomes h = cc
@@ -264,5 +233,4 @@ after_a_fault m kept p h
     machine = yaml_parser_state_machine m p.state p
 
     always : (u : Bool) → (if u || true then OK empty_event p else machine) ≡ OK empty_event p
-    always true = refl
-    always false = refl
+    always u = grind arith

@@ -1,12 +1,10 @@
 -- A call of the original does the same as one here where no token of the call was told apart, and what it does where one was.
-use Rattle.std.proofs.Common.{◌≡◌, ◌∷◌, ◌∙◌, List, [], None, Bool, true, false, Ok, Err, refl, sym, ap, subst}
+use Rattle.std.proofs.Common.{◌≡◌, ◌∷◌, ◌∙◌, List, [], None, Bool, true, false, Ok, Err, refl, sym, ap, subst, arith}
 use Rattle.libyaml_types.specs.Types.{token_type}
 use Rattle.libyaml_types.specs.declared.directive.yaml_tag_directive_t.{yaml_tag_directive_t}
 use Rattle.libyaml_types.specs.declared.enums.yaml_parser_state_t.{yaml_parser_state_t}
 use Rattle.libyaml_types.specs.declared.enums.yaml_parser_state_t.TheVariants as st
-use Rattle.libyaml_types.specs.declared.enums.yaml_scalar_style_t.TheVariants.{YAML_PLAIN_SCALAR_STYLE}
 use Rattle.libyaml_types.specs.Fault.{Fault}
-use Rattle.libyaml_grammar.specs.grammar.Events.{event}
 use Rattle.libyaml_grammar.specs.grammar.Tokens.{Content, DocumentEnd, DocumentStart, FlowEntry, FlowSequenceEnd, Mark, StreamEnd, TagDirective, Token, Value, VersionDirective}
 use Rattle.libyaml_automaton.specs.Config.{top_mark}
 use Rattle.libyaml_automaton.specs.declared.difference.Difference.{Difference}
@@ -15,7 +13,7 @@ use Rattle.libyaml_events.specs.machine.Config.{Config, Handles, config_of, is_e
 use Rattle.libyaml_events.specs.machine.Machine.{Progressed, seen, step}
 use Rattle.libyaml_events.specs.machine.Want.{AtState, Given, Want, Wants}
 use Rattle.rust_original.specs.parser.Differences.{Differs, bare_document, after_entry, after_start, call_here, call_there, pair_key, value_first}
-use Rattle.rust_original.specs.parser.Parser.{OriginalParser, PUSH_mark, ParserResult, SKIP_TOKEN, after_directives, scalar_event_with, set_state, yaml_parser_process_empty_scalar}
+use Rattle.rust_original.specs.parser.Parser.{OriginalParser, PUSH_mark, ParserResult, SKIP_TOKEN, after_directives, set_state, yaml_parser_process_empty_scalar}
 use Rattle.rust_original.specs.parser.Strict.{DoesThere, GivesEvent, differs_by}
 use Rattle.rust_original.proofs.parser.Handles.{defaults_appended}
 use Rattle.rust_original.proofs.parser.Relation.{Fits, IsInside, Opens, SamePlace, before, following, after_end, entering, first, inside, over, root_end, there_with, tk, tokens_of}
@@ -43,9 +41,7 @@ judged w c (t ∷ l) = judged_at (differs_by w c t) c t (judged_by (step w c t) 
 -- no further question is met
 after : (more : Want → Config → Judged) → ((v : Want) (d : Config) → Quiet v.next → more v d ≡ none)
     → (o : Progressed) → QuietProgress o → judged_by o more ≡ none
-after more h (Err g) q = refl
-after more h (Ok (Given e, d)) q = refl
-after more h (Ok (Wants v, d)) q = h v d q
+after more h o q = grind arith
 
 still : (l : List Token) (w : Want) (c : Config) → Quiet w.next → judged w c l ≡ none
 still [] w c q = refl
@@ -90,23 +86,15 @@ module _ (f : Fault) (x : Fault) (ss : List yaml_parser_state_t) where
       (quiet.at_state s (config_of (conf s ms hs be)) (seen t t.content) (token_type t.content) (still_quiet s q)))
     where
       same : (s : yaml_parser_state_t) → Silent s → differs_by AtState (conf s ms hs be) t ≡ Nowhere
-      same st.YAML_PARSE_IMPLICIT_DOCUMENT_START_STATE q = absurd q
-      same st.YAML_PARSE_BLOCK_MAPPING_KEY_STATE q = absurd q
-      same st.YAML_PARSE_FLOW_SEQUENCE_ENTRY_MAPPING_KEY_STATE q = absurd q
-      same _ q = refl
+      same s q = grind arith
 
       still_quiet : (s : yaml_parser_state_t) → Silent s → QuietState s
-      still_quiet st.YAML_PARSE_IMPLICIT_DOCUMENT_START_STATE q = q
-      still_quiet st.YAML_PARSE_FLOW_SEQUENCE_ENTRY_STATE q = q
-      still_quiet st.YAML_PARSE_FLOW_MAPPING_KEY_STATE q = q
-      still_quiet _ q = tt
+      still_quiet s q = grind arith
 
   -- the same of a state's function alone: its steps want no token for a state's
   unmet : (s : yaml_parser_state_t) → QuietState s → (ms : List Mark) (hs : Handles) (be : Bool) (t : Token)
       (l : List Token) → judged_by (step AtState (conf s ms hs be) t) (λ v d. judged v d l) ≡ none
-  unmet s q ms hs be t l = after_token l (step AtState (conf s ms hs be) t)
-      (quiet_by AtState (conf s ms hs be) t
-      (quiet.at_state s (config_of (conf s ms hs be)) (seen t t.content) (token_type t.content) q))
+  unmet s q ms hs be t l = grind (arith, after_token, quiet_by)
 
   abbrev Finds : (here there_state : yaml_parser_state_t) → (marks marks_there : List Mark) → List yaml_tag_directive_t
       → Handles → Bool → Bool → Bool → (tokens tokens_there : List Token) → Type 0
@@ -169,12 +157,7 @@ module _ (f : Fault) (x : Fault) (ss : List yaml_parser_state_t) where
       goes : (u : Token) → GivesEvent (yaml_parser_process_empty_scalar u.end_mark
           (set_state st.YAML_PARSE_FLOW_SEQUENCE_ENTRY_MAPPING_VALUE_STATE (SKIP_TOKEN
           (there_with f tags flag st.YAML_PARSE_FLOW_SEQUENCE_ENTRY_MAPPING_KEY_STATE false (conf st.YAML_PARSE_FLOW_SEQUENCE_ENTRY_MAPPING_KEY_STATE ms hs be) ms (u ∷ l)))))
-      goes u = (
-        event (scalar_event_with None None [] true false YAML_PLAIN_SCALAR_STYLE) u.end_mark u.end_mark,
-        set_state st.YAML_PARSE_FLOW_SEQUENCE_ENTRY_MAPPING_VALUE_STATE (SKIP_TOKEN
-            (there_with f tags flag st.YAML_PARSE_FLOW_SEQUENCE_ENTRY_MAPPING_KEY_STATE false (conf st.YAML_PARSE_FLOW_SEQUENCE_ENTRY_MAPPING_KEY_STATE ms hs be) ms (u ∷ l))),
-        refl,
-      )
+      goes u = grind arith
 
       go : (k : Content) (m n : Mark)
           → Finds st.YAML_PARSE_FLOW_SEQUENCE_ENTRY_MAPPING_KEY_STATE
@@ -193,9 +176,7 @@ module _ (f : Fault) (x : Fault) (ss : List yaml_parser_state_t) where
     where
       go : (k : Content) (m n : Mark)
           → judged AtState (conf st.YAML_PARSE_FLOW_SEQUENCE_ENTRY_STATE ms hs be) (tk k m n ∷ l) ≡ none
-      go FlowEntry m n = silent st.YAML_PARSE_FLOW_SEQUENCE_FIRST_ENTRY_STATE tt ms hs be l
-      go FlowSequenceEnd m n = refl
-      go k m n = refl
+      go k m n = grind (arith, silent)
 
   mapping_key : (ms : List Mark) (hs : Handles) (be : Bool) (l : List Token)
       → judged AtState (conf st.YAML_PARSE_FLOW_MAPPING_KEY_STATE ms hs be) l ≡ none
@@ -204,8 +185,7 @@ module _ (f : Fault) (x : Fault) (ss : List yaml_parser_state_t) where
     where
       go : (k : Content) (m n : Mark)
           → judged AtState (conf st.YAML_PARSE_FLOW_MAPPING_KEY_STATE ms hs be) (tk k m n ∷ l) ≡ none
-      go FlowEntry m n = silent st.YAML_PARSE_FLOW_MAPPING_FIRST_KEY_STATE tt ms hs be l
-      go k m n = refl
+      go k m n = grind (arith, silent)
 
   -- the first document, and one after an explicit end
   first_document : (ms : List Mark) (hs : Handles) (l : List Token)
@@ -239,8 +219,7 @@ module _ (f : Fault) (x : Fault) (ss : List yaml_parser_state_t) where
 
   further : (ms : List Mark) (m n : Mark) (l : List Token) (j : Judged) → Found j (between ms l)
       → Found j (between ms (tk DocumentEnd m n ∷ l))
-  further ms m n l none e = e
-  further ms m n l (met k p q) e = (carried ms m n l e.0, e.1)
+  further ms m n l j e = grind (arith, carried)
 
   bare : (ms : List Mark) (l : List Token)
       → Finds st.YAML_PARSE_IMPLICIT_DOCUMENT_START_STATE st.YAML_PARSE_DOCUMENT_START_STATE ms ms [] no_handles true true
@@ -359,5 +338,4 @@ module _ (f : Fault) (x : Fault) (ss : List yaml_parser_state_t) where
 -- a call, where the parsers stand to one another
 pub call_found : (f : Fault) (q : OriginalParser) (d : Config) (l : List Token) → SamePlace f q d l
     → is_end_state d.state ≡ false → Found (judged AtState (without_lookahead d) (tokens_of d.lookahead l)) q
-call_found f q d l s e = subst (λ (p : OriginalParser). Found (judged AtState (without_lookahead d) (tokens_of d.lookahead l)) p)
-    (sym s.is) (found f d.fault d.states s.fits e)
+call_found f q d l s e = grind (arith, found)

@@ -1,24 +1,21 @@
 -- A strict run over a list of tokens is a run over what a strict limiter passes of it.
-use Rattle.std.proofs.Common.{◌≡◌, ◌⊎◌, ◌∷◌, ◌++◌, ◌∙◌, List, [], Option, None, Some, Bool, true, false, Ok, Err, append-nil, refl, sym, ap, subst, inl, inr}
+use Rattle.std.proofs.Common.{◌≡◌, ◌⊎◌, ◌∷◌, ◌++◌, ◌∙◌, List, [], Option, None, Some, Bool, true, false, Ok, Err, append-nil, refl, sym, ap, subst, inl, inr, arith}
 use Rattle.libyaml_types.specs.Fault.{Fault}
 use Rattle.libyaml_types.specs.Source.{Coming, coming}
-use Rattle.libyaml_types.specs.Types.{token_type}
 use Rattle.libyaml_types.specs.declared.enums.yaml_parser_state_t.{yaml_parser_state_t}
-use Rattle.libyaml_types.specs.declared.enums.yaml_parser_state_t.TheVariants as st
 use Rattle.libyaml_grammar.specs.grammar.Events.{Event}
-use Rattle.libyaml_grammar.specs.grammar.Tokens.{Content, Mark, TagName, Token}
+use Rattle.libyaml_grammar.specs.grammar.Tokens.{Mark, Token}
 use Rattle.libyaml_grammar.specs.runs.Runs.{Ending, Ends, Fails}
 use Rattle.libyaml_automaton.specs.Automaton as automaton
 use Rattle.libyaml_automaton.specs.Automaton.{KindAndMarks, PropertiesRead, Step}
 use Rattle.libyaml_automaton.specs.Config.{Stacks, top_mark}
 use Rattle.libyaml_automaton.specs.declared.difference.Difference.{Difference}
 use Rattle.libyaml_automaton.specs.declared.difference.Difference.TheVariants.{Nowhere}
-use Rattle.libyaml_automaton.specs.declared.node_place.NodePlace.{NodePlace}
 use Rattle.libyaml_events.specs.machine.Config.{Config, config_of, is_end_state, start, without_lookahead}
-use Rattle.libyaml_events.specs.machine.Machine.{Progressed, content_after, content_resolved, is_accepted_in, lookahead_after, put, resolve, seen, step, was_declared, with_texts}
-use Rattle.libyaml_events.specs.machine.Want.{AtState, Given, Texts, Want, Wants}
+use Rattle.libyaml_events.specs.machine.Machine.{Progressed, step}
+use Rattle.libyaml_events.specs.machine.Want.{AtState, Given, Want, Wants}
 use Rattle.token_limits.specs.Limited.{limited, if_passed}
-use Rattle.token_limits.specs.Limits.{Again, At, Done, Looked, Passes, Refuses, Standing, difference_fault, kept_or_done, let_on, look, looks, most_looks, stepped, taken, then_again, unless_apart, within, without_texts}
+use Rattle.token_limits.specs.Limits.{Again, At, Done, Looked, Passes, Refuses, Standing, difference_fault, look, looks, most_looks, taken, then_again, unless_apart, within, without_texts}
 use Rattle.rust_original.proofs.strict.Runs.{StrictOver, runs_so}
 use Rattle.rust_original.specs.parser.Strict as strict
 use Rattle.rust_original.specs.parser.Strict.{Over, Stopped, StrictEnding, StrictFrom, differs_by, to_come}
@@ -40,52 +37,9 @@ LooksLike c t (Ok (Given e, d)) l = ((l ≡ Again (config_of d)) × (d.lookahead
     ⊎ ((l ≡ Done (At automaton.AtState (config_of d))) × (d.lookahead ≡ c.lookahead))
 LooksLike c t (Err g) l = IsPassed l ⊎ IsTagFault g
 
-module _ (h : Texts) (c : Config) (t : Token) (k : Content) where
-  put_like : (a g : Option _) (s : Step) → LooksLike c t (put h a g c t k s) (stepped s)
-  put_like a g (automaton.Gives e x) = go e.stays
-    where
-      go : (b : Bool) → ((kept_or_done b x ≡ Again x) × (lookahead_after b t c.lookahead ≡ Some t))
-          ⊎ ((kept_or_done b x ≡ Done (At automaton.AtState x)) × (lookahead_after b t c.lookahead ≡ c.lookahead))
-      go true = inl (refl, refl)
-      go false = inr (refl, refl)
-  put_like a g (automaton.Wants n x) = (refl, refl)
-  put_like a g _ = inl tt
-
-  resolved_like : (o : Option _) (p : NodePlace) (r : PropertiesRead) (x : Stacks)
-      → LooksLike c t (content_resolved o p r x h c t k) (stepped (automaton.node_content p r x (seen t k) (token_type k)))
-  resolved_like None p r x = inr (r.start_mark, r.tag_mark, refl)
-  resolved_like (Some g) p r x = put_like h.anchor (Some g) (automaton.node_content p r x (seen t k) (token_type k))
-
-  content_like : (o : Option TagName) (p : NodePlace) (r : PropertiesRead) (x : Stacks)
-      → LooksLike c t (content_after o p r x h c t k) (stepped (automaton.node_content p r x (seen t k) (token_type k)))
-  content_like None p r x = put_like h.anchor None (automaton.node_content p r x (seen t k) (token_type k))
-  content_like (Some g) p r x = resolved_like (resolve c.handles g.handle g.suffix) p r x
-
-  texts_like : (s : Step) → LooksLike c t (with_texts h c t k s) (stepped (let_on (seen t k) s))
-  texts_like (automaton.AsksVersion start x) = go (is_accepted_in k)
-    where
-      go : (b : Bool) → LooksLike c t (put h None None c t k (automaton.first_version b start x (seen t k)))
-          (Done (At (automaton.AfterDirective start true) x))
-      go true = put_like None None (automaton.first_version true start x (seen t k))
-      go false = inl tt
-  texts_like (automaton.AsksHandle start v x) = go (was_declared c.handles k)
-    where
-      go : (b : Bool) → LooksLike c t (put h None None c t k (automaton.tag_directive b start v x (seen t k)))
-          (Done (At (automaton.AfterDirective start v) x))
-      go true = inl tt
-      go false = put_like None None (automaton.tag_directive false start v x (seen t k))
-  texts_like (automaton.AsksContent p r x) = content_like h.tag p r x
-  texts_like (automaton.Gives e x) = put_like None None (automaton.Gives e x)
-  texts_like (automaton.Wants n x) = put_like None None (automaton.Wants n x)
-  texts_like (automaton.Fails f) = put_like None None (automaton.Fails f)
-
-unless_nowhere : (x : Difference) (c : Stacks) (t : KindAndMarks) (l : Looked) → x ≡ Nowhere → unless_apart x c t l ≡ l
-unless_nowhere x c t l e = ap (λ (y : Difference). unless_apart y c t l) e
-
 like : (w : Want) (c : Config) (t : Token) → differs_by w c t ≡ Nowhere
     → LooksLike c t (step w c t) (look true w.next (config_of c) (without_texts t))
-like w c t e = subst (LooksLike c t (step w c t)) (sym (unless_nowhere (differs_by w c t) (config_of c) (without_texts t) _ e))
-    (texts_like w.texts c t t.content (automaton.step w.next (config_of c) (seen t t.content) (token_type t.content)))
+like w c t e = grind arith
 
 -- a whole token
 
@@ -93,8 +47,7 @@ abbrev at : Want → Config → Standing
 at w c = At w.next (config_of c)
 
 unbounded : (n : Mark) (s : Standing) → within None n s ≡ s
-unbounded n (At w c) = refl
-unbounded n _ = refl
+unbounded n s = grind arith
 
 taken_by : (w : Want) (c : Config) (t : Token) → taken strict_alone (at w c) t
     ≡ then_again (look true w.next (config_of c) (without_texts t)) (λ d. looks (most_looks d) true automaton.AtState d (without_texts t))
@@ -103,14 +56,11 @@ taken_by w c t = unbounded t.start_mark _ ∙ looked_again true w.next (config_o
 -- where the token stays, and where it is done with
 taken_again : (w : Want) (c d : Config) (t : Token) → look true w.next (config_of c) (without_texts t) ≡ Again (config_of d)
     → taken strict_alone (at w c) t ≡ taken strict_alone (at AtState d) t
-taken_again w c d t e = taken_by w c t
-    ∙ (ap (λ (l : Looked). then_again l (λ d. looks (most_looks d) true automaton.AtState d (without_texts t))) e
-    ∙ sym (unbounded t.start_mark _))
+taken_again w c d t e = grind (arith, taken_by, unbounded)
 
 taken_done : (w : Want) (c : Config) (s : Standing) (t : Token) → look true w.next (config_of c) (without_texts t) ≡ Done s
     → taken strict_alone (at w c) t ≡ s
-taken_done w c s t e = taken_by w c t
-    ∙ ap (λ (l : Looked). then_again l (λ d. looks (most_looks d) true automaton.AtState d (without_texts t))) e
+taken_done w c s t e = grind (arith, taken_by)
 
 -- a whole list
 
@@ -126,9 +76,7 @@ RefusedAs g (Over (Fails v)) = IsTagFault v
 RefusedAs g (Stopped k a b) = g ≡ difference_fault k a b
 
 refused_so : (g : Fault) (x : StrictEnding) (e : List Event) → RefusedAs g x → EndsAs g x (Fails g) e
-refused_so g (Over Ends) e h = absurd h
-refused_so g (Over (Fails v)) e h = inr (h, refl)
-refused_so g (Stopped k a b) e h = (h, refl)
+refused_so g x e h = grind arith
 
 -- a run over these tokens, with the error after them
 pub record LimitedRun (r : Coming) (w : Want) (c : Config) (e : List Event) (x : StrictEnding) : Type 0 where
@@ -162,8 +110,7 @@ beside _ w c t l f e x h = h
 
 pub outcome : (w : Want) (c : Config) (l : List Token) (f : Fault) (e : List Event) (x : StrictEnding) → Out w c l f e x
     → LimitedRun (limited strict_alone (at w c) l f) w c e x
-outcome w c [] f e x h = h
-outcome w c (t ∷ l) f e x h = beside (taken strict_alone (at w c) t) w c t l f e x h
+outcome w c l f e x h = grind (arith, beside)
 
 -- from a known step
 beside_is : (s z : Standing) (w : Want) (c : Config) (t : Token) (l : List Token) (f : Fault) (e : List Event) (x : StrictEnding)
@@ -171,8 +118,7 @@ beside_is : (s z : Standing) (w : Want) (c : Config) (t : Token) (l : List Token
 beside_is s z w c t l f e x i h = subst (λ (y : Standing). Beside y w c t l f e x) (sym i) h
 
 over_same : (g : Fault) (y : Ending) → EndsAs g (Over y) y []
-over_same g Ends = (refl, refl)
-over_same g (Fails v) = inl (refl, refl)
+over_same g y = grind arith
 
 passes_over : (s : Standing) (w : Want) (c : Config) (t : Token) (l : List Token) (f : Fault) (e : List Event) (y : Ending)
     → IsPassed (Done s) → ((m : List Token) (g : Fault) → StrictFrom g w c (t ∷ m) e (Over y)) → Beside s w c t l f e (Over y)
@@ -188,32 +134,20 @@ passes_over s w c t l f e y p h = record {
 
 apart : (k : Difference) (c : Stacks) (t : KindAndMarks) (l : Looked) → (k ≡ Nowhere → ⊥)
     → unless_apart k c t l ≡ Done (Refuses (difference_fault k (top_mark c.marks) t.start_mark))
-apart Nowhere c t l n = absurd (n refl)
-apart _ c t l n = refl
+apart k c t l n = grind arith
 
 -- after the stream's end
 ended : (s : yaml_parser_state_t) (ss : List yaml_parser_state_t) (ms : List Mark) (b : Bool) (t : KindAndMarks)
     → is_end_state s ≡ true
     → look true automaton.AtState (record { state = s; states = ss; marks = ms; behind_document_end = b }) t ≡ Done Passes
-ended st.YAML_PARSE_END_STATE ss ms b t e = refl
-ended _ ss ms b t e = absurd cc
+ended s ss ms b t e = grind arith
 
 module _ (w : Want) (c : Config) (t : Token) (l : List Token) (f : Fault) where
   -- the machine failed
   failed : (g : Fault) → ((m : List Token) (i : Fault) → StrictFrom i w c (t ∷ m) [] (Over (Fails g)))
       → (x : Looked) → look true w.next (config_of c) (without_texts t) ≡ x → IsPassed x ⊎ IsTagFault g
       → Beside (taken strict_alone (at w c) t) w c t l f [] (Over (Fails g))
-  failed g h x e o = elim o [ inl p ↦ passed x e p | inr i ↦ tagged (taken strict_alone (at w c) t) i ]
-    where
-      passed : (x : Looked) → look true w.next (config_of c) (without_texts t) ≡ x → IsPassed x
-          → Beside (taken strict_alone (at w c) t) w c t l f [] (Over (Fails g))
-      passed (Again d) e p = absurd p
-      passed (Done s) e p = beside_is s (taken strict_alone (at w c) t) w c t l f [] (Over (Fails g)) (taken_done w c s t e)
-          (passes_over s w c t l f [] (Fails g) p h)
-
-      tagged : (z : Standing) → IsTagFault g → Beside z w c t l f [] (Over (Fails g))
-      tagged (Refuses i) p = p
-      tagged z p = passes_over z w c t l f [] (Fails g) tt h
+  failed g h x e o = grind (arith, beside_is, taken_done, passes_over)
 
   module _ (d : Config) (e : Event) (differs : differs_by w c t ≡ Nowhere) (steps : step w c t ≡ Ok (Given e, d)) where
     -- an event was given, and the token stays

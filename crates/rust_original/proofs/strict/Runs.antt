@@ -1,5 +1,5 @@
 -- A strict run is the original's and the grammar's, or stops where the two differ; and over each list there is one.
-use Rattle.std.proofs.Common.{◌≡◌, ◌∷◌, ◌∙◌, List, [], Bool, true, false, Ok, Err, inl, map, refl, sym, ap, subst}
+use Rattle.std.proofs.Common.{◌≡◌, ◌∷◌, ◌∙◌, List, [], Bool, true, false, Ok, Err, inl, map, refl, sym, ap, subst, arith}
 use Rattle.libyaml_types.specs.Fault.{Fault}
 use Rattle.libyaml_grammar.specs.runs.Runs.{Ending, Ends, Fails, IsRun}
 use Rattle.libyaml_grammar.specs.grammar.Events.{Event}
@@ -40,8 +40,7 @@ module _ (f : Fault) where
 
   met_at : (k : Difference) (c : Config) (t : Token) (j : Judged) → (k ≡ Nowhere → ⊥)
       → judged_at k c t j ≡ met k (top_mark c.marks) t.start_mark
-  met_at Nowhere c t j n = absurd (n refl)
-  met_at _ c t j n = refl
+  met_at k c t j n = grind arith
 
   -- no question is met at a token, which leads to this
   unmet : (w : Want) (c : Config) (t : Token) (l : List Token) (o : Progressed) → differs_by w c t ≡ Nowhere
@@ -96,13 +95,7 @@ module _ (f : Fault) where
       alike = subst (λ (y : Judged). Found y q) j (call_found f q d l s n)
 
       go : (o : ParserResult) → call_here q ≡ o → Matches f o (given e x r) → Same q e x r
-      go (OK a p) k w = record {
-        next = p;
-        calls_there = alike ∙ (k ∙ ap (λ (z : Event). OK z p) w.0);
-        calls_here = k ∙ ap (λ (z : Event). OK z p) w.0;
-        stands = w.1;
-      }
-      go (FAIL g) k w = absurd w
+      go o k w = grind (arith, alike)
 
   failed_call : (q : OriginalParser) (d : Config) (l : List Token) → SamePlace f q d l → is_end_state d.state ≡ false
       → judged AtState (without_lookahead d) (tokens_of d.lookahead l) ≡ none → (g : Fault)
@@ -115,8 +108,7 @@ module _ (f : Fault) where
       alike = subst (λ (y : Judged). Found y q) j (call_found f q d l s n)
 
       go : (o : ParserResult) → call_here q ≡ o → Matches f o (stopped g) → (call_there q ≡ FAIL g) × (call_here q ≡ FAIL g)
-      go (OK a p) k w = absurd w
-      go (FAIL h) k w = (alike ∙ (k ∙ ap FAIL w), k ∙ ap FAIL w)
+      go o k w = grind arith
 
   after_event : (q : OriginalParser) (e : Event) (d : Config) (r : List Token) (later : List Event) (x : StrictEnding)
       → (s : Same q e d r) → is_end_state d.state ≡ false → Result s.next later x → Result q (e ∷ later) x
@@ -184,8 +176,7 @@ module _ (f : Fault) where
   matched : (q : OriginalParser) (d : Config) (l : List Token) → SamePlace f q d l → is_end_state d.state ≡ false
       → (h : HereCall) → feed f AtState (without_lookahead d) (tokens_of d.lookahead l) ≡ h → (o : ParserResult) → call_here q ≡ o
       → Matches f o h
-  matched q d l s n h i o j = subst (λ (o : ParserResult). Matches f o h) j
-      (subst (λ (h : HereCall). Matches f (call_here q) h) i (call_same f q d l s n))
+  matched q d l s n h i o j = grind (arith, call_same)
 
   not_ended : (p : OriginalParser) (e : Event) (c : Config) (r : List Token) (a : Event)
       → Matches f (OK a p) (given e c r) → is_end_state c.state ≡ false → p.stream_end_produced ≡ true → ⊥
@@ -220,26 +211,20 @@ module _ (f : Fault) where
 
   stopped_at : (k : Difference) (c : Config) (t : Token) (l : List Token) (o : Progressed) → (k ≡ Nowhere → ⊥)
       → Asked c t l k o [] (Stopped k (top_mark c.marks) t.start_mark)
-  stopped_at Nowhere c t l o n = absurd (n refl)
-  stopped_at _ c t l o n = (refl, refl)
+  stopped_at k c t l o n = grind arith
 
   is_stopped : (k : Difference) (c : Config) (t : Token) (l : List Token) (o : Progressed) (e : List Event)
       (x : StrictEnding) → (k ≡ Nowhere → ⊥) → Asked c t l k o e x
       → (e ≡ []) × (x ≡ Stopped k (top_mark c.marks) t.start_mark)
-  is_stopped Nowhere c t l o e x n h = absurd (n refl)
-  is_stopped PairKey c t l o e x n h = h
-  is_stopped ValueFirst c t l o e x n h = h
-  is_stopped BareDocument c t l o e x n h = h
+  is_stopped k c t l o e x n h = grind arith
 
   asked : (w : Want) (c : Config) (t : Token) (l : List Token) (e : List Event) (x : StrictEnding) (o : Progressed)
       → differs_by w c t ≡ Nowhere → step w c t ≡ o → Led l o e x → Asked c t l (differs_by w c t) (step w c t) e x
-  asked w c t l e x o i s h = subst (λ (k : Difference). Asked c t l k (step w c t) e x) (sym i)
-      (subst (λ (p : Progressed). Led l p e x) (sym s) h)
+  asked w c t l e x o i s h = grind arith
 
   led_to : (w : Want) (c : Config) (t : Token) (l : List Token) (e : List Event) (x : StrictEnding) (o : Progressed)
       → differs_by w c t ≡ Nowhere → step w c t ≡ o → Asked c t l (differs_by w c t) (step w c t) e x → Led l o e x
-  led_to w c t l e x o i s h = subst (λ (p : Progressed). Led l p e x) s
-      (subst (λ (k : Difference). Asked c t l k (step w c t) e x) i h)
+  led_to w c t l e x o i s h = grind arith
 
   invert : {w : Want} {c : Config} {t : Token} {l : List Token} {e : List Event} {x : StrictEnding}
       → StrictFrom f w c (t ∷ l) e x → Asked c t l (differs_by w c t) (step w c t) e x
