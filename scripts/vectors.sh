@@ -5,8 +5,8 @@
 #     scripts/vectors.sh CRATE [TABLE [VECTOR]]
 #     scripts/vectors.sh --write CRATE
 #
-# CRATE is vectors_yaml, vectors_lines, vectors_hostile or vectors_steps; the names of tables are those that it prints. With --write all
-# run, and if none differs the counts of tables that the program printed become its `stdout`. Unproved, a program
+# CRATE is vectors_yaml, vectors_calls, vectors_lines, vectors_hostile or vectors_steps; the names of tables are those that it prints.
+# With --write all run, and if none differs the counts of tables that the program printed become its `stdout`. Unproved, a program
 # runs with checks that make it many times slower: for vectors_lines and vectors_hostile ask for a table. Proved and built, they run
 # by `rt run -- [TABLE [VECTOR]]` in their folder.
 #

@@ -19,4 +19,4 @@ pub use ends::{gives_event, is_empty, is_kept_by_loads, is_over, next_nodes};
 pub use pieces::{EVERY_CALL, PieceReader, PieceWriter};
 pub use tables::{Table, Tables, read_words};
 pub use texts::show_difference;
-pub use tokens::push_tokens;
+pub use tokens::{list_of, push_tokens};

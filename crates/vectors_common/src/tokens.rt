@@ -1,7 +1,9 @@
 //! Tokens of a source, as a list.
 
-use std::alloc::AllocError;
-use unsafe_libyaml::{yaml_source_fault_t, yaml_token_source_t, yaml_token_t};
+use std::alloc::{AllocError, Global};
+use unsafe_libyaml::{
+    ZERO_MARK, yaml_list_source_t, yaml_source_fault_t, yaml_token_source_t, yaml_token_t,
+};
 
 /// Appends a token. Returns the fault where there is none.
 fn push_token(
@@ -34,4 +36,27 @@ pub fn push_tokens<S: yaml_token_source_t>(
         }
     }
     Ok(None)
+}
+
+/// Returns a source's tokens as a list, with the source's fault after them.
+///
+/// # Errors
+///
+/// An allocation failed.
+pub fn list_of<S: yaml_token_source_t>(
+    alloc: Global,
+    source: &mut S,
+) -> Result<yaml_list_source_t, AllocError> {
+    let mut tokens = Vec::new(alloc);
+    let end = push_tokens(&mut tokens, source, usize::MAX);
+    let list = yaml_list_source_t::new(tokens, fault_of(end));
+    end.and(Ok(list))
+}
+
+/// The fault that came, or one that says that none did.
+fn fault_of(end: Result<Option<yaml_source_fault_t>, AllocError>) -> yaml_source_fault_t {
+    match end {
+        Ok(Some(fault)) => fault,
+        _ => yaml_source_fault_t::scanner_error("tokens have no end", ZERO_MARK),
+    }
 }

@@ -47,8 +47,8 @@ pub fn write_composed(
 ) -> Result<yaml_parser_t_prefix> {
     let mut parser = yaml_parser_initialize(alloc, list_of(alloc, tokens)?);
     yaml_parser_set_max_entries(&mut parser, most.max(1));
-    write_items(alloc, &mut parser, out)?;
-    Ok(*parser.prefix())
+    let written = write_items(alloc, &mut parser, out);
+    written.and(Ok(*parser.prefix()))
 }
 
 fn write_items(
@@ -77,7 +77,7 @@ fn write_yielded<S: yaml_token_source_t + Drop>(
     }
     let mut last = None;
     for item in yaml_parser_composed_events(parser) {
-        last = write_item(alloc, &item, out)?;
+        last = write_item(alloc, item, out)?;
     }
     Ok(last)
 }
@@ -89,6 +89,14 @@ fn has_more<S: yaml_token_source_t + Drop>(parser: &mut yaml_parser_t<S>) -> boo
 
 /// Writes an item, and returns its fault.
 fn write_item(
+    alloc: Global,
+    item: Result<yaml_event_t, yaml_parser_t_prefix>,
+    out: &mut Vec<u8>,
+) -> Result<Option<yaml_parser_t_prefix>> {
+    write_answer(alloc, &item, out)
+}
+
+fn write_answer(
     alloc: Global,
     item: &Result<yaml_event_t, yaml_parser_t_prefix>,
     out: &mut Vec<u8>,

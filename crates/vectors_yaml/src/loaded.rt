@@ -9,7 +9,7 @@ use std::alloc::Global;
 use std::io;
 use token_lines::{MAX_TOKENS, write_document, write_fault, yaml_line_source_t};
 use unsafe_libyaml::{
-    ZERO_MARK, unnamed_yaml_token_t_data, yaml_document_t, yaml_error_type_t,
+    ZERO_MARK, unnamed_yaml_token_t_data, yaml_document_t, yaml_error_type_t, yaml_list_source_t,
     yaml_parser_between_documents, yaml_parser_documents, yaml_parser_initialize,
     yaml_parser_set_max_entries, yaml_parser_t, yaml_parser_t_prefix, yaml_push_loader_t,
     yaml_token_source_t, yaml_token_t,
@@ -30,16 +30,35 @@ fn are_iterated(rt: &(impl Print + AllocGlobal), case: Case<'_>) -> io::Result<b
 fn write_iterated(alloc: Global, case: Case<'_>, out: &mut Vec<u8>) -> Result<()> {
     let mut parser = yaml_parser_initialize(alloc, list_of(alloc, case.text.tokens)?);
     yaml_parser_set_max_entries(&mut parser, case.given.most_entries().max(1));
-    for item in yaml_parser_documents(&mut parser) {
-        write_item(alloc, &item, out)?;
+    write_items(alloc, &mut parser, out)
+}
+
+fn write_items(
+    alloc: Global,
+    parser: &mut yaml_parser_t<yaml_list_source_t>,
+    out: &mut Vec<u8>,
+) -> Result<()> {
+    if !yaml_parser_between_documents(parser) {
+        bail!("a parser that begins within a document");
     }
-    if has_more(&mut parser) {
+    for item in yaml_parser_documents(parser) {
+        write_item(alloc, item, out)?;
+    }
+    if has_more(parser) {
         out.extend_from_slice(b"an item after the end\n")?;
     }
     Ok(())
 }
 
 fn write_item(
+    alloc: Global,
+    item: Result<yaml_document_t, yaml_parser_t_prefix>,
+    out: &mut Vec<u8>,
+) -> Result<()> {
+    write_answer(alloc, &item, out)
+}
+
+fn write_answer(
     alloc: Global,
     item: &Result<yaml_document_t, yaml_parser_t_prefix>,
     out: &mut Vec<u8>,
@@ -72,11 +91,22 @@ fn write_pushed(alloc: Global, case: Case<'_>, out: &mut Vec<u8>) -> Result<()> 
     let mut loader = yaml_push_loader_t::with_max_entries(alloc, case.given.most_entries().max(1));
     let mut documents = Vec::new(alloc);
     let pushed = push_all(alloc, case.text.tokens, &mut loader, &mut documents);
-    for document in &documents {
+    write_loaded(alloc, &mut loader, documents.as_slice(), pushed, out)
+}
+
+/// Writes documents, and the fault that their loader keeps and returns again.
+fn write_loaded(
+    alloc: Global,
+    loader: &mut yaml_push_loader_t,
+    documents: &[yaml_document_t],
+    pushed: Result<(), yaml_parser_t_prefix>,
+    out: &mut Vec<u8>,
+) -> Result<()> {
+    for document in documents {
         write_document(alloc, document, out)?;
     }
     write_kept(loader.prefix(), out)?;
-    if !is_told_again(alloc, &mut loader, pushed) {
+    if !is_told_again(alloc, loader, pushed) {
         out.extend_from_slice(b"another error than before\n")?;
     }
     Ok(())

@@ -8,8 +8,8 @@ use std::alloc::Global;
 use std::io;
 use token_lines::{MAX_TOKENS, write_event, write_fault, yaml_line_source_t};
 use unsafe_libyaml::{
-    YAML_NO_ERROR, yaml_event_t, yaml_parser_initialize, yaml_parser_t_prefix, yaml_push_parser_t,
-    yaml_token_source_t,
+    YAML_NO_ERROR, yaml_event_t, yaml_list_source_t, yaml_parser_initialize, yaml_parser_t,
+    yaml_parser_t_prefix, yaml_push_parser_t, yaml_token_source_t,
 };
 
 /// Whether both give what is wanted: the events or the documents, and the fault.
@@ -28,13 +28,29 @@ fn are_iterated(rt: &(impl Print + AllocGlobal), text: Text<'_>) -> io::Result<b
 
 fn write_iterated(alloc: Global, tokens: &str, out: &mut Vec<u8>) -> Result<()> {
     let mut parser = yaml_parser_initialize(alloc, list_of(alloc, tokens)?);
+    write_items(alloc, &mut parser, out)
+}
+
+fn write_items(
+    alloc: Global,
+    parser: &mut yaml_parser_t<yaml_list_source_t>,
+    out: &mut Vec<u8>,
+) -> Result<()> {
     for item in parser.by_ref() {
-        write_item(alloc, &item, out)?;
+        write_item(alloc, item, out)?;
     }
     Ok(())
 }
 
 fn write_item(
+    alloc: Global,
+    item: Result<yaml_event_t, yaml_parser_t_prefix>,
+    out: &mut Vec<u8>,
+) -> Result<()> {
+    write_answer(alloc, &item, out)
+}
+
+fn write_answer(
     alloc: Global,
     item: &Result<yaml_event_t, yaml_parser_t_prefix>,
     out: &mut Vec<u8>,
@@ -67,9 +83,22 @@ fn write_pushed(alloc: Global, tokens: &str, out: &mut Vec<u8>) -> Result<()> {
     let mut parser = yaml_push_parser_t::new(alloc);
     let mut events = Vec::new(alloc);
     let pushed = push_all(alloc, tokens, &mut parser, &mut events);
-    write_events(alloc, events.as_slice(), out)?;
-    write_kept(parser.prefix(), out)?;
-    if !is_kept(parser.prefix(), &pushed) {
+    write_parsed(alloc, events.as_slice(), parser.prefix(), pushed, out)
+}
+
+/// Writes events, and the fault that their parser keeps and returned.
+fn write_parsed(
+    alloc: Global,
+    events: &[yaml_event_t],
+    kept: &yaml_parser_t_prefix,
+    pushed: Result<(), yaml_parser_t_prefix>,
+    out: &mut Vec<u8>,
+) -> Result<()> {
+    for event in events {
+        write_event(alloc, event, out)?;
+    }
+    write_kept(kept, out)?;
+    if !is_kept(kept, &pushed) {
         out.extend_from_slice(b"another error than the one that is kept\n")?;
     }
     Ok(())
@@ -100,13 +129,6 @@ fn push_all(
         last = parser.push(token, events);
     }
     last
-}
-
-fn write_events(alloc: Global, events: &[yaml_event_t], out: &mut Vec<u8>) -> Result<()> {
-    for event in events {
-        write_event(alloc, event, out)?;
-    }
-    Ok(())
 }
 
 /// Writes the fault that a parser keeps, if it keeps one.

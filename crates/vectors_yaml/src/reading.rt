@@ -28,8 +28,8 @@ pub fn write_given<S: yaml_token_source_t + Drop>(
 ) -> Result<yaml_parser_t_prefix> {
     let mut parser = yaml_parser_initialize(alloc, source);
     yaml_parser_set_max_entries(&mut parser, given.most_entries().max(1));
-    write_calls(alloc, &mut parser, given, out)?;
-    Ok(*parser.prefix())
+    let written = write_calls(alloc, &mut parser, given, out);
+    written.and(Ok(*parser.prefix()))
 }
 
 fn write_calls<S: yaml_token_source_t>(

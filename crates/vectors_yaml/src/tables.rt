@@ -1,6 +1,6 @@
 //! Tables of lists, read from files.
 
-use crate::{asked, composed, cuts, limits, lines, one_by_one};
+use crate::{asked, composed, cuts, lines, one_by_one, strict};
 use anyhow::{Context, Result};
 use std::io;
 use std::rt::Files;
@@ -241,10 +241,10 @@ fn is_text_right(
 ) -> Result<bool> {
     match view {
         View::Asked => Ok(asked::is_counted(rt, text)?),
-        View::Strict(given) => limits::is_strict(rt, Case { text, given }),
+        View::Strict(given) => strict::is_strict(rt, Case { text, given }),
         View::Given(given) => {
             let case = Case { text, given };
-            Ok(is_case_right(rt, case)? && (!is_same || limits::is_strict(rt, case)?))
+            Ok(is_case_right(rt, case)? && (!is_same || strict::is_strict(rt, case)?))
         }
     }
 }

@@ -38,10 +38,9 @@ pub fn front_of(
 /// # Errors
 ///
 /// An allocation failed.
-pub fn list_of(alloc: Global, lines: &str) -> Result<yaml_list_source_t> {
-    let mut tokens = Vec::new(alloc);
-    let fault = push_lines(alloc, &mut tokens, lines, usize::MAX)?;
-    Ok(yaml_list_source_t::new(tokens, fault.context("lines have no end")?))
+pub fn list_of(alloc: Global, lines: &str) -> Result<yaml_list_source_t, AllocError> {
+    let mut source = yaml_line_source_t::new(alloc, lines.as_bytes(), MAX_TOKENS);
+    vectors_common::list_of(alloc, &mut source)
 }
 
 /// Returns how many tokens these lines have, and the fault after them.

@@ -1,7 +1,8 @@
 //! A scanner that counts its calls.
 
+use crate::marks::mark;
 use unsafe_libyaml::{
-    unnamed_yaml_token_t_data, yaml_mark_t, yaml_scanner_t, yaml_source_fault_t, yaml_token_t,
+    unnamed_yaml_token_t_data, yaml_scanner_t, yaml_source_fault_t, yaml_token_t,
 };
 
 /// As many tokens as asked for, each a column wide, and then faults, each at the column of its call.
@@ -26,14 +27,5 @@ impl yaml_scanner_t for Counted {
 
     fn may_wait(&self) -> bool {
         self.waits
-    }
-}
-
-/// Returns the mark of a column of the first line.
-pub fn mark(column: u64) -> yaml_mark_t {
-    yaml_mark_t {
-        index: column,
-        line: 0,
-        column,
     }
 }

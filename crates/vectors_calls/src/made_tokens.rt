@@ -1,12 +1,13 @@
 //! Tokens by calls: one list of all of them, with its events, and the texts that they refuse.
 
+use crate::marks::mark;
 use anyhow::Result;
 use std::alloc::Global;
-use token_lines::write_event;
+use token_lines::{run_end_t, write_events};
 use unsafe_libyaml::{
     YAML_DOUBLE_QUOTED_SCALAR_STYLE, YAML_PLAIN_SCALAR_STYLE, YAML_UTF16LE_ENCODING,
-    unnamed_yaml_token_t_data, yaml_list_source_t, yaml_mark_t, yaml_parser_initialize,
-    yaml_refusal_t, yaml_token_t,
+    unnamed_yaml_token_t_data, yaml_list_source_t, yaml_parser_initialize, yaml_refusal_t,
+    yaml_token_t,
 };
 use vectors_common::{unless, unless_made};
 
@@ -23,14 +24,6 @@ STREAM-END 11:0:11 12:0:12
 ";
 
 type Made = Result<yaml_token_t, yaml_refusal_t>;
-
-fn mark(place: u64) -> yaml_mark_t {
-    yaml_mark_t {
-        index: place,
-        line: 0,
-        column: place,
-    }
-}
 
 /// Appends a token without fields.
 fn push(tokens: &mut Vec<yaml_token_t>, content: unnamed_yaml_token_t_data) -> Result<()> {
@@ -62,16 +55,30 @@ fn push_sequence(alloc: Global, tokens: &mut Vec<yaml_token_t>) -> Result<()> {
     push(tokens, unnamed_yaml_token_t_data::StreamEnd)
 }
 
+fn push_all(alloc: Global, tokens: &mut Vec<yaml_token_t>) -> Result<()> {
+    push_head(alloc, tokens)?;
+    push_sequence(alloc, tokens)
+}
+
+/// Returns the tokens of all kinds of calls.
+fn all_tokens(alloc: Global) -> Result<Vec<yaml_token_t>> {
+    let mut tokens = Vec::new(alloc);
+    let pushed = push_all(alloc, &mut tokens);
+    pushed.and(Ok(tokens))
+}
+
 /// Whether the tokens of all kinds of calls have these events.
 fn have_events(alloc: Global) -> Result<bool> {
-    let mut tokens = Vec::new(alloc);
-    push_head(alloc, &mut tokens)?;
-    push_sequence(alloc, &mut tokens)?;
+    let source = yaml_list_source_t::from(all_tokens(alloc)?);
+    let mut parser = yaml_parser_initialize(alloc, source);
     let mut lines = Vec::new(alloc);
-    for event in yaml_parser_initialize(alloc, yaml_list_source_t::from(tokens)) {
-        write_event(alloc, &event?, &mut lines)?;
-    }
-    Ok(lines.as_slice() == EVENTS.as_bytes())
+    let end = write_events(&mut parser, &mut lines);
+    Ok(
+        [
+            end == run_end_t::Ended,
+            lines.as_slice() == EVENTS.as_bytes(),
+        ] == [true; 2],
+    )
 }
 
 /// Whether a call returned that its bytes are no text.

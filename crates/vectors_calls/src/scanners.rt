@@ -2,8 +2,9 @@
 
 mod counted;
 
+use crate::marks::mark;
 use anyhow::Result;
-use counted::{Counted, mark};
+use counted::Counted;
 use unsafe_libyaml::{
     NO_FAULT, YAML_READER_ERROR, YAML_SCANNER_ERROR, ZERO_MARK, yaml_mark_t, yaml_parser_t_prefix,
     yaml_scanner_source_t, yaml_token_source_t,

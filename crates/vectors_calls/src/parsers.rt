@@ -1,9 +1,9 @@
 //! Parsers between documents and after a load, sources that have no memory, and a list's tokens by calls.
 
-use crate::tokens::{end_of, list_of};
+use crate::tokens::list_of;
 use anyhow::Result;
-use std::alloc::Global;
-use token_lines::write_event;
+use std::alloc::{AllocError, Global};
+use token_lines::{MAX_TOKENS, write_event, yaml_line_source_t};
 use unsafe_libyaml::{
     YAML_MEMORY_ERROR, YAML_READER_ERROR, ZERO_MARK, yaml_error_type_t, yaml_event_t,
     yaml_list_source_t, yaml_parser_between_documents, yaml_parser_initialize, yaml_parser_load,
@@ -13,6 +13,14 @@ use unsafe_libyaml::{
 use vectors_common::{gives_event, push_tokens, unless, unless_made};
 
 type Parser = yaml_parser_t<yaml_list_source_t>;
+
+/// Whether a call failed.
+fn is_error<T, E>(answer: &Result<T, E>) -> bool {
+    match answer {
+        Ok(_) => false,
+        Err(_) => true,
+    }
+}
 
 /// Whether the parser stands between documents after the next event, if there is one.
 fn stands_between(parser: &mut Parser) -> Option<bool> {
@@ -33,8 +41,8 @@ fn stands(parser: &mut Parser) -> [Option<bool>; 6] {
 
 fn stands_between_documents(alloc: Global, scalar: &str) -> Result<bool> {
     let mut parser = yaml_parser_initialize(alloc, list_of(alloc, scalar)?);
-    let between = [true, true, false, false, true, true];
-    Ok(stands(&mut parser) == between.map(|between| Some(between)))
+    let (between, within) = (Some(true), Some(false));
+    Ok(stands(&mut parser) == [between, between, within, within, between, between])
 }
 
 fn write_answer(
@@ -66,7 +74,7 @@ fn goes_on(alloc: Global, parser: &mut Parser, wanted: &str) -> bool {
 
 fn goes_on_after_a_load(alloc: Global, two: &str) -> Result<bool> {
     let mut parser = yaml_parser_initialize(alloc, list_of(alloc, two)?);
-    let is_loaded = yaml_parser_load(&mut parser).is_ok();
+    let is_loaded = !is_error(&yaml_parser_load(&mut parser));
     let wanted = "DOCUMENT-START 10:0:10 11:0:11 0 - 0\n";
     Ok([is_loaded, goes_on(alloc, &mut parser, wanted)] == [true; 2])
 }
@@ -78,29 +86,47 @@ fn source_without_memory(alloc: Global) -> yaml_list_source_t {
 }
 
 fn gives_nothing_at_once(alloc: Global) -> bool {
-    let run = yaml_parser_parse_all(alloc, source_without_memory(alloc)).is_err();
-    let all = yaml_parser_load_all(alloc, source_without_memory(alloc)).is_err();
-    [run, all] == [true; 2]
+    let run = yaml_parser_parse_all(alloc, source_without_memory(alloc));
+    let all = yaml_parser_load_all(alloc, source_without_memory(alloc));
+    [is_error(&run), is_error(&all)] == [true; 2]
 }
 
 /// Whether a list without a fault of its own, and without a token, ends by a reader's fault.
 fn ends_by_a_reader(alloc: Global) -> bool {
     let mut parser = yaml_parser_initialize(alloc, yaml_list_source_t::from(Vec::new(alloc)));
     [
-        yaml_parser_parse(&mut parser).is_err(),
+        is_error(&yaml_parser_parse(&mut parser)),
         parser.prefix().error == YAML_READER_ERROR,
     ] == [true; 2]
 }
 
 /// Whether calls for the next token of a list give each of its tokens, and then its fault, again and again.
 fn gives_its_fault_again(alloc: Global, scalar: &str) -> Result<bool> {
-    let (count, fault) = end_of(alloc, scalar)?;
-    let mut source = list_of(alloc, scalar)?;
+    let mut lines = yaml_line_source_t::new(alloc, scalar.as_bytes(), MAX_TOKENS);
     let mut tokens = Vec::new(alloc);
-    let end = push_tokens(&mut tokens, &mut source, count.saturating_add(1))?;
-    let again = push_tokens(&mut tokens, &mut source, 1)?;
-    let ends = [end, again].map(|end| end.map(|fault| fault.prefix()));
-    Ok([tokens.len() == count, ends == [Some(fault.prefix()); 2]] == [true; 2])
+    let fault = push_tokens(&mut tokens, &mut lines, usize::MAX)?;
+    let mut list = list_of(alloc, scalar)?;
+    Ok(ends_again(alloc, &mut list, tokens.len(), fault)?)
+}
+
+/// Whether a list has so many tokens and then this fault, and this fault again.
+fn ends_again(
+    alloc: Global,
+    list: &mut yaml_list_source_t,
+    count: usize,
+    fault: Option<yaml_source_fault_t>,
+) -> Result<bool, AllocError> {
+    let mut tokens = Vec::new(alloc);
+    let end = push_tokens(&mut tokens, list, count.saturating_add(1))?;
+    let again = push_tokens(&mut tokens, list, 1)?;
+    Ok(
+        [
+            tokens.len() == count,
+            fault.is_some(),
+            end == fault,
+            again == fault,
+        ] == [true; 4],
+    )
 }
 
 /// What is wrong with parsers, over the lines of one scalar and those of two documents.

@@ -4,7 +4,7 @@
 ghost use Rattle.std.specs.Prelude.{◌≡◌, [], IfOk};
 
 use crate::tokens::list_of;
-use anyhow::Result;
+use anyhow::{Context, Result};
 use std::alloc::Global;
 use token_lines::write_document;
 use unsafe_libyaml::{
@@ -43,8 +43,8 @@ fn has_lines(alloc: Global, made: Made, wanted: &str) -> bool {
 /// A plain scalar, `a`, and nothing else.
 fn word(alloc: Global) -> Made {
     let mut document = empty(alloc)?;
-    yaml_document_add_scalar(&mut document, None, b"a", YAML_PLAIN_SCALAR_STYLE)?;
-    Ok(document)
+    let added = yaml_document_add_scalar(&mut document, None, b"a", YAML_PLAIN_SCALAR_STYLE);
+    added.and(Ok(document))
 }
 
 /// What the ids -1 to 2 name, and the root, in a document of one node.
@@ -64,13 +64,21 @@ fn knows_its_node(alloc: Global) -> Result<bool> {
     Ok(knows_only_its_node(&document))
 }
 
+/// Adds a sequence, whose items are a scalar and itself.
+fn add_list_of_two(document: &mut yaml_document_t) -> Result<(), yaml_refusal_t>
+    requires { document.old.nodes ≡ [] }
+{
+    let list = yaml_document_add_sequence(document, None, YAML_ANY_SEQUENCE_STYLE)?;
+    let word = yaml_document_add_scalar(document, None, b"a", YAML_PLAIN_SCALAR_STYLE)?;
+    yaml_document_append_sequence_item(document, list, word)?;
+    yaml_document_append_sequence_item(document, list, list)?;
+    Ok(())
+}
+
 fn list_of_two(alloc: Global) -> Made {
     let mut document = empty(alloc)?;
-    let list = yaml_document_add_sequence(&mut document, None, YAML_ANY_SEQUENCE_STYLE)?;
-    let word = yaml_document_add_scalar(&mut document, None, b"a", YAML_PLAIN_SCALAR_STYLE)?;
-    yaml_document_append_sequence_item(&mut document, list, word)?;
-    yaml_document_append_sequence_item(&mut document, list, list)?;
-    Ok(document)
+    let added = add_list_of_two(&mut document);
+    added.and(Ok(document))
 }
 
 fn holds_its_items(alloc: Global) -> bool {
@@ -82,13 +90,9 @@ fn holds_its_items(alloc: Global) -> bool {
 
 fn tagged_word(alloc: Global) -> Made {
     let mut document = empty(alloc)?;
-    yaml_document_add_scalar(
-        &mut document,
-        Some(b"!"),
-        b"",
-        YAML_DOUBLE_QUOTED_SCALAR_STYLE,
-    )?;
-    Ok(document)
+    let style = YAML_DOUBLE_QUOTED_SCALAR_STYLE;
+    let added = yaml_document_add_scalar(&mut document, Some(b"!"), b"", style);
+    added.and(Ok(document))
 }
 
 fn keeps_a_tag(alloc: Global) -> bool {
@@ -109,12 +113,20 @@ fn adds_no_node(alloc: Global) -> Result<bool> {
     Ok([is_refused, document.nodes().is_empty()] == [true; 2])
 }
 
+/// Adds a mapping, whose only pair has a scalar and the mapping itself.
+fn add_map_of_one(document: &mut yaml_document_t) -> Result<(), yaml_refusal_t>
+    requires { document.old.nodes ≡ [] }
+{
+    let map = yaml_document_add_mapping(document, None, YAML_BLOCK_MAPPING_STYLE)?;
+    let word = yaml_document_add_scalar(document, None, b"a", YAML_PLAIN_SCALAR_STYLE)?;
+    yaml_document_append_mapping_pair(document, map, word, map)?;
+    Ok(())
+}
+
 fn map_of_one(alloc: Global) -> Made {
     let mut document = empty(alloc)?;
-    let map = yaml_document_add_mapping(&mut document, None, YAML_BLOCK_MAPPING_STYLE)?;
-    let word = yaml_document_add_scalar(&mut document, None, b"a", YAML_PLAIN_SCALAR_STYLE)?;
-    yaml_document_append_mapping_pair(&mut document, map, word, map)?;
-    Ok(document)
+    let added = add_map_of_one(&mut document);
+    added.and(Ok(document))
 }
 
 fn holds_its_pair(alloc: Global) -> bool {
@@ -138,32 +150,42 @@ fn keeps_directives(alloc: Global) -> bool {
     has_lines(alloc, with_directives(alloc), wanted)
 }
 
-/// Loads a scalar's document, of which these lines say how it ends.
-fn ended_by(alloc: Global, end: &str) -> Result<yaml_document_t> {
-    let start = "STREAM-START 0:0:0 0:0:0 utf8\nSCALAR 0:0:0 1:0:1 =a plain\n";
-    let lines = format!(in alloc; "{start}{end}")?;
-    let mut parser = yaml_parser_initialize(alloc, list_of(alloc, lines.as_str())?);
-    match yaml_parser_load(&mut parser) {
-        Ok(document) => Ok(document),
-        Err(_) => Err((*parser.prefix()).into()),
+/// The lines of a scalar whose document ends at the stream's end, of one that ends there later, and of one
+/// that ends with a DOCUMENT-END.
+const ENDS: [&str; 3] = [
+    "STREAM-START 0:0:0 0:0:0 utf8\nSCALAR 0:0:0 1:0:1 =a plain\n\
+        STREAM-END 2:0:2 2:0:2\n",
+    "STREAM-START 0:0:0 0:0:0 utf8\nSCALAR 0:0:0 1:0:1 =a plain\n\
+        STREAM-END 3:0:3 3:0:3\n",
+    "STREAM-START 0:0:0 0:0:0 utf8\nSCALAR 0:0:0 1:0:1 =a plain\n\
+        DOCUMENT-END 2:0:2 2:0:2\nSTREAM-END 3:0:3 3:0:3\n",
+];
+
+fn loaded(alloc: Global, lines: &str) -> Result<yaml_document_t> {
+    let mut parser = yaml_parser_initialize(alloc, list_of(alloc, lines)?);
+    yaml_parser_load(&mut parser).ok().context("no document")
+}
+
+/// Whether both were loaded, and are equal or not, whichever is compared with the other.
+fn are_equal(one: &Result<yaml_document_t>, other: &Result<yaml_document_t>, equal: bool) -> bool {
+    match (one, other) {
+        (Ok(one), Ok(other)) => [one == other, other == one] == [equal; 2],
+        _ => false,
     }
 }
 
-/// Whether each of three documents that are equal but for their ends is equal to itself alone. The third ends
-/// with a DOCUMENT-END.
-fn differ_in_their_ends(alloc: Global) -> Result<bool> {
-    let near = ended_by(alloc, "STREAM-END 2:0:2 2:0:2\n")?;
-    let far = ended_by(alloc, "STREAM-END 3:0:3 3:0:3\n")?;
-    let told = ended_by(alloc, "DOCUMENT-END 2:0:2 2:0:2\nSTREAM-END 3:0:3 3:0:3\n")?;
-    let others = [
-        near == far,
-        near == told,
-        far == near,
-        far == told,
-        told == near,
-        told == far,
-    ];
-    Ok([others == [false; 6], near == near, far == far, told == told] == [true; 4])
+/// Whether each of three documents that are equal but for their ends is equal to itself alone.
+fn differ_in_their_ends(alloc: Global) -> bool {
+    let [near, far, told] = ENDS;
+    let (near, far, told) = (loaded(alloc, near), loaded(alloc, far), loaded(alloc, told));
+    [
+        are_equal(&near, &far, false),
+        are_equal(&near, &told, false),
+        are_equal(&far, &told, false),
+        are_equal(&near, &near, true),
+        are_equal(&far, &far, true),
+        are_equal(&told, &told, true),
+    ] == [true; 6]
 }
 
 /// What is wrong with documents by calls.
@@ -175,7 +197,7 @@ pub fn checks(alloc: Global) -> [Option<&'static str>; 7] {
         unless_made(adds_no_node(alloc), "a tag that is no text adds no node"),
         unless(holds_its_pair(alloc), "a pair is appended"),
         unless(keeps_directives(alloc), "directives stay"),
-        unless_made(
+        unless(
             differ_in_their_ends(alloc),
             "documents differ by their ends",
         ),
