@@ -4,7 +4,6 @@
 //! 3 + (x / 65536) mod 19 and whose texts have x mod 70 bytes joins the list, where parsing the list with it
 //! after ends in the source's fault; then x becomes (1103515245 x + 12345) mod 2147483648.
 
-use crate::growing::listed;
 use crate::lines::{LinesOf, write_lines};
 use anyhow::Result;
 use std::alloc::Global;
@@ -13,7 +12,7 @@ use unsafe_libyaml::{
     YAML_COMPOSER_ERROR, YAML_NO_ERROR, YAML_READER_ERROR, yaml_error_type_t, yaml_parser_load_all,
     yaml_parser_parse_all, yaml_parser_t_prefix,
 };
-use vectors_common::{EVERY_CALL, PieceReader, Table, Tables};
+use vectors_common::{EVERY_CALL, PieceReader, Table, Tables, list_of};
 
 /// How many lists are drawn.
 const LISTS: u64 = 500;
@@ -118,7 +117,7 @@ impl Drawn {
 /// What a list of the tokens of these lines writes.
 fn written_by_list(alloc: Global, of: LinesOf, lines: &str) -> Result<Vec<u8>> {
     let mut source = yaml_line_source_t::new(alloc, lines.as_bytes(), MAX_TOKENS);
-    let list = listed(alloc, &mut source)?;
+    let list = list_of(alloc, &mut source)?;
     let mut written = Vec::new(alloc);
     write_lines(alloc, of, list, &mut written);
     Ok(written)

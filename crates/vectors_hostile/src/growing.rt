@@ -6,10 +6,8 @@ mod list;
 pub use computed::ComputedTokens;
 pub use list::GrowingList;
 use std::alloc::{AllocError, Global};
-use unsafe_libyaml::{
-    YAML_READER_ERROR, ZERO_MARK, yaml_list_source_t, yaml_source_fault_t, yaml_token_source_t,
-};
-use vectors_common::push_tokens;
+use unsafe_libyaml::{YAML_READER_ERROR, ZERO_MARK, yaml_list_source_t, yaml_source_fault_t};
+use vectors_common::list_of;
 
 const LISTS: [(&str, GrowingList); 6] = [
     ("nested sequences", GrowingList::NestedSequences),
@@ -60,20 +58,6 @@ impl Grown {
     /// An allocation fails.
     pub fn listed(self, alloc: Global) -> Result<yaml_list_source_t, AllocError> {
         let mut source = self.computed(alloc);
-        listed(alloc, &mut source)
+        list_of(alloc, &mut source)
     }
-}
-
-/// Returns a list source of the tokens and the fault of this one.
-///
-/// # Errors
-///
-/// An allocation fails.
-pub fn listed<S: yaml_token_source_t>(
-    alloc: Global,
-    source: &mut S,
-) -> Result<yaml_list_source_t, AllocError> {
-    let mut tokens = Vec::new(alloc);
-    let fault = push_tokens(&mut tokens, source, usize::MAX)?;
-    Ok(yaml_list_source_t::new(tokens, fault.unwrap_or(end_of_list())))
 }
