@@ -191,9 +191,17 @@ fn after_next<'a, S: yaml_token_source_t>(
 fn come_through(alloc: Global, vector: Run<'_>) -> Passage {
     let source = yaml_line_source_t::new(alloc, vector.tokens, MAX_TOKENS);
     let mut parser = yaml_parser_initialize(alloc, source);
+    goes_through(alloc, vector, &mut parser)
+}
+
+fn goes_through<S: yaml_token_source_t>(
+    alloc: Global,
+    vector: Run<'_>,
+    parser: &mut yaml_parser_t<S>,
+) -> Passage {
     let mut rest = vector.lines;
     for _ in 0..1000u32 {
-        match after_next(alloc, vector.of, &mut parser, rest) {
+        match after_next(alloc, vector.of, parser, rest) {
             Ok(left) => rest = left,
             Err(passage) => return passage,
         }

@@ -74,6 +74,16 @@ pub fn comes_through(alloc: Global, run: Run<'_>) -> Passage {
     }
 }
 
+/// Puts the problem of a bound on tokens in place of that of a reader's end, where lines end by that.
+fn name_the_bound(lines: &mut Vec<u8>) -> Result<(), AllocError> {
+    let Some(begun) = lines.strip_suffix(b"no more tokens\n") else {
+        return Ok(());
+    };
+    let len = begun.len();
+    lines.truncate(len);
+    lines.extend_from_slice(b"too many tokens\n")
+}
+
 /// Whether a run that reads so many tokens at most, whose lines are `front`, ends there.
 fn is_right_within(
     alloc: Global,
@@ -83,11 +93,7 @@ fn is_right_within(
 ) -> Result<bool, AllocError> {
     let mut lines = Vec::new(alloc);
     let outcome = run_lines(run.of, alloc, front, &mut lines);
-    if let Some(begun) = lines.strip_suffix(b"no more tokens\n") {
-        let len = begun.len();
-        lines.truncate(len);
-        lines.extend_from_slice(b"too many tokens\n")?;
-    }
+    name_the_bound(&mut lines)?;
     let mut buffer = [0; BUFFER];
     let ran = run_in_memory(alloc, run, &mut buffer, max_tokens);
     let bounded = Run {
