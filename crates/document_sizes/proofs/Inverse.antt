@@ -43,9 +43,6 @@ module _ (max total : ℕ) (sizes : List ℕ) (total' : ℕ) (sizes' : List ℕ)
   abbrev pub Ended : Counted → (k size : ℕ) → Type 0
   Ended a k size = (a ≡ counted.Within) × (total' ≡ total) × (sizes' ≡ slice_set sizes k (total - (size - limit)))
 
-  abbrev chosen : (k size : ℕ) → Bool → Count
-  chosen k size b = if b then count_of counted.Within total (slice_set sizes k (total - (size - limit))) else count_of counted.Bad total sizes
-
 -- a list with one number changed
 pub set_there : (xs : List ℕ) (k v : ℕ) → k < length xs → slice_get (slice_set xs k v) k ≡ Some v
 set_there [] k v lt = absurd (omega arith)

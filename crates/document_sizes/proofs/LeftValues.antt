@@ -7,10 +7,9 @@ use Rattle.libyaml_grammar.specs.grammar.Nesting.{AllHavePairs, HasPairs, IsEven
 use Rattle.libyaml_grammar.specs.grammar.Tokens.{Mark}
 use Rattle.libyaml_grammar.specs.grammar.Trees.{Sort, mapping, sequence}
 use Rattle.libyaml_grammar.proofs.exported.Injectivity.{head_same, tail_same}
-use Rattle.libyaml_composer.specs.declared.deed.Deed.TheVariants as deed
 use Rattle.libyaml_composer.specs.declared.records.open_t.{open_t}
 use Rattle.libyaml_composer.specs.declared.records.place_t.{place_t}
-use Rattle.libyaml_composer.specs.Composing.{Composer, Told, adding, at_anchored_node, at_start, deed_for, handing, holding, holding_top, if_placed, new_id, unless, with_open_node, within_step}
+use Rattle.libyaml_composer.specs.Composing.{Composer, Told, adding, at_anchored_node, at_start, deed_for, handing, holding, holding_top, if_placed, new_id, with_open_node, within_step}
 use Rattle.libyaml_composer.specs.Numbers.{is_id, is_set}
 use Rattle.libyaml_composer.specs.Represents.{IsPart}
 use Rattle.document_sizes.specs.ParserRuns.{TakesEvent}
@@ -59,9 +58,6 @@ child_frame : (i : ℤ) (o : open_t) (k : Sort) (v : Value) (vs : Values) (p q :
 child_frame i o k v vs p q rest r is m h pairs e = grind arith
 
 -- what the composer tells where it takes an event
-
-abbrev chosen : place_t → Composer → Told → (a b d : Bool) → Told
-chosen p c t a b d = unless a deed.FullList p c (unless b deed.RepeatedAnchor p c (unless d deed.FullList p c t))
 
 placed_is : (f : ℤ) (p : place_t) (c : Composer) (t : Told) → TakesEvent (if_placed f p c t).deed → if_placed f p c t ≡ t
 placed_is f p c t k = grind arith

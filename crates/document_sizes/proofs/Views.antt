@@ -29,9 +29,6 @@ pub data View (c : Composer) (h : DocumentSoFar) (q : Option Part) (start : Bool
       (told deed.Closes (record { node = pos 0; child = pos 0; parent = o.node; key = pos 0 }) (record c { stack = s }))
   passes : (p : place_t) → View c h q start (told deed.Passes p c)
 
-abbrev chosen : place_t → Composer → Told → (a b d : Bool) → Told
-chosen p c t a b d = unless a deed.FullList p c (unless b deed.RepeatedAnchor p c (unless d deed.FullList p c t))
-
 placed_is : (f : ℤ) (p : place_t) (c : Composer) (t : Told) → IsPart (if_placed f p c t).deed → if_placed f p c t ≡ t
 placed_is f p c t k = grind arith
 
