@@ -3,7 +3,7 @@
 use crate::marks::mark;
 use anyhow::Result;
 use std::alloc::Global;
-use token_lines::{run_end_t, write_events};
+use token_lines::{Outcome, write_events};
 use unsafe_libyaml::{
     YAML_DOUBLE_QUOTED_SCALAR_STYLE, YAML_PLAIN_SCALAR_STYLE, YAML_UTF16LE_ENCODING,
     unnamed_yaml_token_t_data, yaml_list_source_t, yaml_parser_initialize, yaml_refusal_t,
@@ -32,13 +32,21 @@ fn push(tokens: &mut Vec<yaml_token_t>, content: unnamed_yaml_token_t_data) -> R
     Ok(())
 }
 
+/// Appends a token that was made.
+fn put(tokens: &mut Vec<yaml_token_t>, made: Made) -> Result<()> {
+    tokens.push(made?)?;
+    Ok(())
+}
+
 /// Appends the tokens of `%YAML 1.2`, `%TAG !e! p:` and `---`, after a stream's start.
 fn push_head(alloc: Global, tokens: &mut Vec<yaml_token_t>) -> Result<()> {
     let encoding = YAML_UTF16LE_ENCODING;
     tokens.push(yaml_token_t::stream_start(encoding, mark(0), mark(1)))?;
     tokens.push(yaml_token_t::version_directive(1, 2, mark(1), mark(2)))?;
-    let directive = yaml_token_t::tag_directive(alloc, b"!e!", b"p:", mark(2), mark(3))?;
-    tokens.push(directive)?;
+    put(
+        tokens,
+        yaml_token_t::tag_directive(alloc, b"!e!", b"p:", mark(2), mark(3)),
+    )?;
     push(tokens, unnamed_yaml_token_t_data::DocumentStart)
 }
 
@@ -46,11 +54,17 @@ fn push_head(alloc: Global, tokens: &mut Vec<yaml_token_t>) -> Result<()> {
 fn push_sequence(alloc: Global, tokens: &mut Vec<yaml_token_t>) -> Result<()> {
     let style = YAML_DOUBLE_QUOTED_SCALAR_STYLE;
     push(tokens, unnamed_yaml_token_t_data::FlowSequenceStart)?;
-    tokens.push(yaml_token_t::anchor(alloc, b"a", mark(5), mark(6))?)?;
-    tokens.push(yaml_token_t::tag(alloc, b"!e!", b"x", mark(6), mark(7))?)?;
-    tokens.push(yaml_token_t::scalar(alloc, b"b\0", style, mark(7), mark(8))?)?;
+    put(tokens, yaml_token_t::anchor(alloc, b"a", mark(5), mark(6)))?;
+    put(
+        tokens,
+        yaml_token_t::tag(alloc, b"!e!", b"x", mark(6), mark(7)),
+    )?;
+    put(
+        tokens,
+        yaml_token_t::scalar(alloc, b"b\0", style, mark(7), mark(8)),
+    )?;
     push(tokens, unnamed_yaml_token_t_data::FlowEntry)?;
-    tokens.push(yaml_token_t::alias(alloc, b"a", mark(9), mark(10))?)?;
+    put(tokens, yaml_token_t::alias(alloc, b"a", mark(9), mark(10)))?;
     push(tokens, unnamed_yaml_token_t_data::FlowSequenceEnd)?;
     push(tokens, unnamed_yaml_token_t_data::StreamEnd)
 }
@@ -75,7 +89,7 @@ fn have_events(alloc: Global) -> Result<bool> {
     let end = write_events(&mut parser, &mut lines);
     Ok(
         [
-            end == run_end_t::Ended,
+            end.outcome() == Outcome::Ended,
             lines.as_slice() == EVENTS.as_bytes(),
         ] == [true; 2],
     )

@@ -6,11 +6,11 @@ use std::alloc::{AllocError, Global};
 use token_lines::{MAX_TOKENS, write_event, yaml_line_source_t};
 use unsafe_libyaml::{
     YAML_MEMORY_ERROR, YAML_READER_ERROR, ZERO_MARK, yaml_error_type_t, yaml_event_t,
-    yaml_list_source_t, yaml_parser_between_documents, yaml_parser_initialize, yaml_parser_load,
+    yaml_list_source_t, yaml_parser_between_documents, yaml_parser_initialize,
     yaml_parser_load_all, yaml_parser_parse, yaml_parser_parse_all, yaml_parser_t,
     yaml_source_fault_t,
 };
-use vectors_common::{gives_event, push_tokens, unless, unless_made};
+use vectors_common::{gives_event, next_nodes, push_tokens, unless, unless_made};
 
 type Parser = yaml_parser_t<yaml_list_source_t>;
 
@@ -74,7 +74,7 @@ fn goes_on(alloc: Global, parser: &mut Parser, wanted: &str) -> bool {
 
 fn goes_on_after_a_load(alloc: Global, two: &str) -> Result<bool> {
     let mut parser = yaml_parser_initialize(alloc, list_of(alloc, two)?);
-    let is_loaded = !is_error(&yaml_parser_load(&mut parser));
+    let is_loaded = next_nodes(&mut parser) == Some(Ok(1));
     let wanted = "DOCUMENT-START 10:0:10 11:0:11 0 - 0\n";
     Ok([is_loaded, goes_on(alloc, &mut parser, wanted)] == [true; 2])
 }
@@ -91,11 +91,16 @@ fn gives_nothing_at_once(alloc: Global) -> bool {
     [is_error(&run), is_error(&all)] == [true; 2]
 }
 
+fn fails(parser: &mut Parser) -> bool {
+    let answer = yaml_parser_parse(parser);
+    is_error(&answer)
+}
+
 /// Whether a list without a fault of its own, and without a token, ends by a reader's fault.
 fn ends_by_a_reader(alloc: Global) -> bool {
     let mut parser = yaml_parser_initialize(alloc, yaml_list_source_t::from(Vec::new(alloc)));
     [
-        is_error(&yaml_parser_parse(&mut parser)),
+        fails(&mut parser),
         parser.prefix().error == YAML_READER_ERROR,
     ] == [true; 2]
 }

@@ -84,7 +84,18 @@ fn write_yielded<S: yaml_token_source_t + Drop>(
 
 /// Whether an iterator over the parser's composed events yields another item.
 fn has_more<S: yaml_token_source_t + Drop>(parser: &mut yaml_parser_t<S>) -> bool {
-    !yaml_parser_between_documents(parser) || yaml_parser_composed_events(parser).next().is_some()
+    if !yaml_parser_between_documents(parser) {
+        return true;
+    }
+    let item = yaml_parser_composed_events(parser).next();
+    is_item(&item)
+}
+
+fn is_item<T>(item: &Option<T>) -> bool {
+    match item {
+        Some(_) => true,
+        None => false,
+    }
 }
 
 /// Writes an item, and returns its fault.

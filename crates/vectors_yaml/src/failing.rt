@@ -104,11 +104,23 @@ fn count_lists(
 ) -> Result<()> {
     let index = read_text(rt, format!(in rt.alloc(); "{folder}/index")?.as_str())?;
     for line in index.lines() {
-        let (texts, _) = line.split_once(": ").unwrap_or((line, ""));
-        let (name, _) = texts.split_once(' ').unwrap_or((texts, ""));
-        if table.has(name) {
-            count_list(rt, table, folder, name, reading)?;
-        }
+        count_line(rt, table, folder, line, reading)?;
+    }
+    Ok(())
+}
+
+/// Counts the list of a line of an index, if it is asked for.
+fn count_line(
+    rt: &(impl Files + Print + AllocGlobal),
+    table: &mut Table<'_>,
+    folder: &str,
+    line: &str,
+    reading: Reading,
+) -> Result<()> {
+    let (texts, _) = line.split_once(": ").unwrap_or((line, ""));
+    let (name, _) = texts.split_once(' ').unwrap_or((texts, ""));
+    if table.has(name) {
+        count_list(rt, table, folder, name, reading)?;
     }
     Ok(())
 }

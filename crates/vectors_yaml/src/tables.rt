@@ -39,6 +39,14 @@ impl Given {
     }
 }
 
+/// Where a text of a list stands: in which table, of which list, and under which name.
+#[derive(Copy, Clone)]
+struct Place<'a> {
+    table: &'a str,
+    name: &'a str,
+    text: &'a str,
+}
+
 /// A text of a list: its name, the list's token lines, and what is wanted.
 #[derive(Copy, Clone)]
 pub struct Text<'a> {
@@ -160,39 +168,57 @@ fn show_text(
     count: &mut Count,
 ) -> Result<()> {
     count.texts = count.texts.wrapping_add(1);
-    if !is_right(rt, table, name, text)? {
+    if !is_right(rt, Place { table, name, text })? {
         count.differ = count.differ.wrapping_add(1);
     }
     Ok(())
 }
 
-fn is_right(
+/// Whether a text of a list is right.
+fn is_right(rt: &(impl Files + Print + AllocGlobal), place: Place<'_>) -> Result<bool> {
+    let tokens = read_part(rt, place, "tokens")?;
+    is_right_over(rt, place, tokens.as_str())
+}
+
+fn is_right_over(
     rt: &(impl Files + Print + AllocGlobal),
-    table: &str,
-    name: &str,
-    text: &str,
+    place: Place<'_>,
+    tokens: &str,
 ) -> Result<bool> {
-    let view = view_of(text)?;
-    let is_same = SAME_IN_LIBYAML.contains(&table);
-    let tokens = read_part(rt, table, name, "tokens")?;
-    let wanted = read_part(rt, table, name, text)?;
-    let events = read_part(rt, table, name, "events")?;
+    let wanted = read_part(rt, place, place.text)?;
+    is_given(rt, place, tokens, wanted.as_str())
+}
+
+fn is_given(
+    rt: &(impl Files + Print + AllocGlobal),
+    place: Place<'_>,
+    tokens: &str,
+    wanted: &str,
+) -> Result<bool> {
+    let Place { table, name, text } = place;
     let name = format!(in rt.alloc(); "{table}/{name}.{text}")?;
     let text = Text {
         name: name.as_str(),
-        tokens: tokens.as_str(),
-        wanted: wanted.as_str(),
+        tokens,
+        wanted,
     };
-    Ok(is_text_right(rt, view, is_same, text)? && is_composed(rt, view, text, events.as_str())?)
+    are_given(rt, place, text)
+}
+
+/// Whether the text is given in each way, and the list's events compose as far as its loads say.
+fn are_given(
+    rt: &(impl Files + Print + AllocGlobal),
+    place: Place<'_>,
+    text: Text<'_>,
+) -> Result<bool> {
+    let view = view_of(place.text)?;
+    let is_same = SAME_IN_LIBYAML.contains(&place.table);
+    Ok(is_text_right(rt, view, is_same, text)? && is_composed(rt, place, view, text)?)
 }
 
 /// Reads a text of a list.
-fn read_part(
-    rt: &(impl Files + AllocGlobal),
-    table: &str,
-    name: &str,
-    part: &str,
-) -> Result<String> {
+fn read_part(rt: &(impl Files + AllocGlobal), place: Place<'_>, part: &str) -> Result<String> {
+    let Place { table, name, .. } = place;
     read_text(
         rt,
         format!(in rt.alloc(); "{table}/{name}.{part}")?.as_str(),
@@ -201,22 +227,24 @@ fn read_part(
 
 /// Whether the list's events compose as far as its loads say, where the text is of these.
 fn is_composed(
-    rt: &(impl Print + AllocGlobal),
+    rt: &(impl Files + Print + AllocGlobal),
+    place: Place<'_>,
     view: View,
     text: Text<'_>,
-    events: &str,
-) -> io::Result<bool> {
+) -> Result<bool> {
     match view {
-        View::Given(Given::Nodes) => {
-            let given = Given::Nodes;
-            composed::are_composed(rt, Case { text, given }, events)
-        }
-        View::Given(Given::NodesWithin(most)) => {
-            let given = Given::NodesWithin(most);
-            composed::are_composed(rt, Case { text, given }, events)
-        }
-        _ => Ok(true),
+        View::Given(Given::Events) | View::Strict(_) | View::Asked => Ok(true),
+        View::Given(given) => are_composed(rt, place, Case { text, given }),
     }
+}
+
+fn are_composed(
+    rt: &(impl Files + Print + AllocGlobal),
+    place: Place<'_>,
+    case: Case<'_>,
+) -> Result<bool> {
+    let events = read_part(rt, place, "events")?;
+    Ok(composed::are_composed(rt, case, events.as_str())?)
 }
 
 fn view_of(text: &str) -> Result<View> {
