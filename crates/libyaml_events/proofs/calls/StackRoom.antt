@@ -1,5 +1,5 @@
 -- How large the stacks get, at each moment: of states one more than collections are open, of marks as many.
-use Rattle.std.proofs.Common.{◌≡◌, ◌≤◌, ◌+◌, arith, ℕ, zero, suc, List, [], ◌∷◌, length, Option, Some, None, Bool, true, false, ap}
+use Rattle.std.proofs.Common.{◌≡◌, ◌≤◌, ◌+◌, arith, ℕ, zero, suc, List, [], ◌∷◌, length, Option, Some, None, Bool, true}
 use Rattle.libyaml_types.specs.declared.enums.yaml_parser_state_t.{yaml_parser_state_t}
 use Rattle.libyaml_grammar.specs.grammar.Events.{Event}
 use Rattle.libyaml_grammar.specs.grammar.Tokens.{Mark, Token}
@@ -10,7 +10,7 @@ use Rattle.libyaml_events.specs.sources.History.{ForHistory}
 use Rattle.libyaml_events.specs.sources.Pushed.{Fed}
 use Rattle.libyaml_events.proofs.calls.Marked.{MarksAt, MarksFit, OneMore, marked, owned}
 use Rattle.libyaml_events.proofs.calls.StageFacts.{depth}
-use Rattle.libyaml_events.proofs.calls.StackStages.{DueOn, GoodIn, InPair, Inside, IsStack, NodeDue, StackOn, around, deeper}
+use Rattle.libyaml_events.proofs.calls.StackStages.{GoodIn, InPair, Inside, IsStack, NodeDue, StackOn, around, deeper}
 use Rattle.libyaml_events.proofs.machine.StepKinds as step_kinds
 use Rattle.libyaml_events.proofs.machine.StepKinds.{Kind, kind, kind_of}
 use Rattle.libyaml_events.proofs.pushes.HistoryInvariant.{fed_to, ran_staged}
@@ -18,13 +18,10 @@ use Rattle.libyaml_events.proofs.pushes.HistoryInvariant.{fed_to, ran_staged}
 -- a mark more than those of the states below
 one_more : (b : Bool) (n : ℕ) (Fits : List Mark → Type 0) (ms : List Mark) → OneMore b Fits ms
     → ((l : List Mark) → Fits l → length l ≤ n) → length ms ≤ suc n
-one_more false n Fits ms h f = let i = f ms h in omega arith
-one_more true n Fits [] h f = absurd h
-one_more true n Fits (m ∷ ms) h f = let i = f ms h in omega arith
+one_more b n Fits ms h f = grind arith
 
 none_over : (ss : List yaml_parser_state_t) (ms : List Mark) (n : ℕ) → ss ≡ [] → MarksFit ss ms → length ms ≤ n
-none_over [] ms n e f = let g : length ms ≡ zero = ap length f in omega arith
-none_over (s ∷ ss) ms n e f = absurd cc
+none_over ss ms n e f = grind arith
 
 -- at most a mark for each collection around
 around_holds : (ss : List yaml_parser_state_t) (ms : List Mark) → IsStack ss → MarksFit ss ms → length ms ≤ around ss
@@ -41,53 +38,29 @@ around_holds (s ∷ ss) ms h f = go (kind s) h f (λ l. around_holds ss l)
 
 module _ (ss : List yaml_parser_state_t) (ms : List Mark) (st : Stage) where
   inside : (b : Bool) → Inside ss st → OneMore b (MarksFit ss) ms → length ms ≤ open_collections st
-  inside b h f =
-      let i = one_more b (around ss) (MarksFit ss) ms f (λ l g. around_holds ss l h.0 g) in
-      let e : open_collections st ≡ suc (around ss) = ap open_collections h.1 in omega arith
+  inside b h f = grind (arith, one_more, around_holds)
 
   in_pair : (b : Bool) → InPair ss st → OneMore b (MarksFit ss) ms → length ms ≤ open_collections st
-  in_pair b h f =
-      let i = one_more b (around ss) (MarksFit ss) ms f (λ l g. around_holds ss l h.0 g) in
-      let e : open_collections st ≡ suc (suc (around ss)) = ap open_collections h.1 in omega arith
+  in_pair b h f = grind (arith, one_more, around_holds)
 
 due : (ss : List yaml_parser_state_t) (ms : List Mark) (st : Stage) → NodeDue ss st → MarksFit ss ms
     → length ms ≤ open_collections st
-due [] ms st h f = absurd h
-due (s ∷ ss) ms st h f = go (kind s) h f
-  where
-    go : (k : Kind) → DueOn k ss st → OneMore (owned k) (MarksFit ss) ms → length ms ≤ open_collections st
-    go step_kinds.root_end h f = none_over ss ms _ h.0 f
-    go step_kinds.indentless h f = inside ss ms st false h f
-    go step_kinds.inner h f = inside ss ms st true h f
-    go step_kinds.pair h f = in_pair ss ms st true h f
-    go _ h f = absurd h
+due ss ms st h f = grind (arith, none_over, inside, in_pair)
 
 -- at most a mark for each open collection
 marks_open : (k : Kind) (ss : List yaml_parser_state_t) (ms : List Mark) (o : Option Token) (st : Stage)
     → GoodIn k ss o st → MarksAt k ss ms → length ms ≤ open_collections st
-marks_open step_kinds.stream_start ss ms o st h f = none_over ss ms _ h.0 f
-marks_open step_kinds.between ss ms o st h f = none_over ss ms _ h.0 f
-marks_open step_kinds.node_due ss ms o st h f = due ss ms st h f
-marks_open step_kinds.root_end ss ms o st h f = none_over ss ms _ h.0 f
-marks_open step_kinds.pair_key ss ms o st h f = in_pair ss ms st true h f
-marks_open step_kinds.pair ss ms o st h f = in_pair ss ms st true h f
-marks_open step_kinds.stream_end ss ms o st h f = none_over ss ms _ h.0 f
-marks_open step_kinds.indentless ss ms o st h f = inside ss ms st false h f
-marks_open step_kinds.inner ss ms o st h f = inside ss ms st true h f
+marks_open k ss ms o st h f = grind (arith, none_over, due, in_pair, inside)
 
 -- after a call
 module _ {S : Type 0} (p : Parser S) where
   pub call_marks : ForHistory p (λ _ given. length p.config.marks ≤ open_collections (stage_of given))
-  call_marks asked given h = marks_open (kind p.config.state) p.config.states p.config.marks p.config.lookahead
-      (stage_of given) (ran_staged h).good (marked h)
+  call_marks asked given h = grind (arith, marks_open, ran_staged, marked)
 
 -- within a push, and between two
 module _ {w : Want} {c : Config} {l : List Token} {g : List Event} where
   pub fed_depth : (o : Option Token) → Fed w c o l g → length c.states ≤ open_collections (stage_of g) + 1
-  fed_depth None h =
-      let d = depth (kind_of w c) c.states c.lookahead (stage_of g) (fed_to h).good.0 in omega arith
-  fed_depth (Some t) h =
-      let d = depth (kind_of w c) c.states c.lookahead (stage_of g) (fed_to h).good.0 in omega arith
+  fed_depth o h = grind (arith, depth, fed_to)
 
   pub fed_marks : (o : Option Token) → Fed w c o l g → length c.marks ≤ open_collections (stage_of g)
   fed_marks None h

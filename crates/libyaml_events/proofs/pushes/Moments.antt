@@ -41,9 +41,7 @@ next_further (amid w c None l g) b (i, (t, h))
 next_further (amid w c (Some t) l g) b h = by (step w c t) h
   where
     by : (o : Progressed) → StepLeads o l g b → Further (amid w c (Some t) l g) b
-    by (Err f) i = absurd i
-    by (Ok (Wants v, d)) i = subst (Further (amid w c (Some t) l g)) (sym i) (same_tokens _ _ refl (omega arith))
-    by (Ok (Given e, d)) i = subst (Further (amid w c (Some t) l g)) (sym i) (same_tokens _ _ refl (snoc_length g e))
+    by o i = grind (arith, same_tokens, snoc_length)
 
 further : {a b : Moment} → Trace a b → Further a b
 further {a} here = same_tokens a a refl (omega arith)
@@ -62,9 +60,7 @@ one_next (amid w c None l g) x y (i, (t, h)) (j, (u, k)) r s e
     = h ∙ (ap (λ (z : Token). amid w c (Some z) (l ++ z ∷ []) g) same ∙ sym k)
   where
     same : t ≡ u
-    same = head_same t u r s (prefix_same l (t ∷ r) (u ∷ s) (sym (append_assoc l (t ∷ []) r)
-        ∙ (ap (λ (m : Moment). tokens m ++ r) (sym h)
-        ∙ (e ∙ (ap (λ (m : Moment). tokens m ++ s) k ∙ append_assoc l (u ∷ []) s)))))
+    same = grind (arith, head_same, prefix_same, append_assoc)
 one_next (amid w c (Some t) l g) x y h k r s e = by (step w c t) h k
   where
     by : (o : Progressed) → StepLeads o l g x → StepLeads o l g y → x ≡ y

@@ -11,7 +11,7 @@ use Rattle.libyaml_events.specs.machine.Config.{Config, without_lookahead, token
 use Rattle.libyaml_events.specs.machine.Growth.{may_grow}
 use Rattle.libyaml_events.specs.machine.Machine.{Progressed, step}
 use Rattle.libyaml_events.specs.machine.Steps.{FailsAs, Steps}
-use Rattle.libyaml_events.specs.machine.StepsOnto.{FailsOnto, by_list, by_step}
+use Rattle.libyaml_events.specs.machine.StepsOnto.{FailsOnto}
 use Rattle.libyaml_events.specs.machine.Want.{Want, AtState, Given, Wants}
 use Rattle.libyaml_events.specs.parsers.EventsLeft.{held_rank, rank}
 use Rattle.libyaml_events.specs.parsers.Left.{without_stacks}
@@ -114,13 +114,7 @@ module _ (Full : Type 0) (w0 : Want) (c0 : Config) (t : Token) (before : List Ev
   pub fails_onto : (Room : Type 0) → (Room → Full)
       → (x : yaml_error_type_t) (w' : Want) (new : Config) (more : List Event) → FailsOnto Room w old u x new
       → more ≡ now → Takes Full (push_parser_at w0 c0) t before (Err x) (push_parser_at w' (without_stacks new)) more
-  fails_onto Room full x w' new more f m =
-      rw (← m) at (by f)
-    where
-      by : FailsOnto Room w old u x new → Takes Full (push_parser_at w0 c0) t before (Err x) (push_parser_at w' (without_stacks new)) now
-      by (by_step h grows) = fails x w' new h grows
-      by (by_list e mid h i j room) =
-          rw (← i) at (no_room e mid h w' (without_stacks new) j (full room))
+  fails_onto Room full x w' new more f m = grind (arith, fails, no_room)
 
   -- an event is given
   module _ (e : Event) (mid : Config) (h : Steps (step w old u) old (Ok (Given e)) mid) (more : List Event)
@@ -130,9 +124,7 @@ module _ (Full : Type 0) (w0 : Want) (c0 : Config) (t : Token) (before : List Ev
 
     pub given_fed : (o : Option Token) → mid.lookahead ≡ o → (l : List Token) (g : List Event) → Fed w0 c0 None l g
         → Fed AtState (without_lookahead mid) o (l ++ t ∷ []) (g ++ (k.added ++ e ∷ []))
-    given_fed o i l g f = rw i at
-        (subst (Fed AtState (without_lookahead mid) mid.lookahead (l ++ t ∷ [])) (append_assoc g k.added (e ∷ []))
-        (gives_on w old u (k.fed l g f) e mid h))
+    given_fed o i l g f = grind (arith, append_assoc, gives_on)
 
     given_few : (l : List Token) (g : List Event) → Fed w0 c0 None l g → length (k.added ++ e ∷ []) ≤ 4
     given_few l g f = by (fed_to f).running
