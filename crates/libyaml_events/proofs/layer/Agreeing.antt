@@ -1,5 +1,5 @@
 -- What is pending agrees with where the parser stands, also once a token was taken.
-use Rattle.std.proofs.Common.{◌≡◌, ◌∙◌, Bool, Option, Some, None, Ok, Err, true, false, refl, sym, ap, subst}
+use Rattle.std.proofs.Common.{◌≡◌, ◌∙◌, Bool, Option, Some, None, Ok, Err, true, false, refl, sym, ap, subst, arith}
 use Rattle.libyaml_types.specs.declared.token.yaml_token_t.{yaml_token_t}
 use Rattle.libyaml_automaton.specs.Numbers.{next_of}
 use Rattle.libyaml_automaton.specs.Purposes.{IsAt}
@@ -25,30 +25,15 @@ fetched_at gives (Some u) old now t p h a
 fetched_at gives None old now t p h a
     = subst (λ y. IsAt (next_of p.reading.next) y) (sym (ap (λ (c : Config). c.state) h.1)) a
 
-pub fetched_agrees : {S : Type 0} (gives : S → SourceResult → S → Type 0) (p : Pending) (old now : Parser S) (t : yaml_token_t)
-    → Fetches gives old (Ok t) now → InStep p old.config → InStep p now.config
-fetched_agrees gives p old now t h a = fetched_at gives old.config.lookahead old now t p h a
-
 -- so it can be taken
 pub fetched_ready : {S : Type 0} (gives : S → SourceResult → S → Type 0) (p : Pending) (old now : Parser S) (t : yaml_token_t)
     → Fetches gives old (Ok t) now → InStep p old.config → Ready p now.config
-fetched_ready gives p old now t h a = record {
-  none = none old.config.lookahead h;
-  agrees = fetched_agrees gives p old now t h a;
-}
-  where
-    none : (o : Option yaml_token_t) → FetchesFrom gives o old (Ok t) now → now.config.lookahead ≡ None
-    none (Some u) f = ap (λ (x : Parser _). x.config.lookahead) f.1
-    none None f = ap (λ (c : Config). c.lookahead) f.1
+fetched_ready gives p old now t h a = grind arith
 
 -- an error of the source is kept
 pub fetched_fault : {S : Type 0} (gives : S → SourceResult → S → Type 0) (old now : Parser S) (x : yaml_error_type_t)
     → Fetches gives old (Err x) now → x ≡ now.config.fault.error
-fetched_fault gives old now x h = by old.config.lookahead h
-  where
-    by : (o : Option yaml_token_t) → FetchesFrom gives o old (Err x) now → x ≡ now.config.fault.error
-    by (Some u) f = let never : Err x ≡ Ok u = f.0 in cc
-    by None f = f.2
+fetched_fault gives old now x h = grind arith
 
 pub kept_fault : {S : Type 0} (gives : S → SourceResult → S → Type 0) (old now : Parser S) (x : yaml_error_type_t)
     → Fetches gives old (Err x) now → is_fault x ≡ true

@@ -1,12 +1,11 @@
 -- The content after a node's properties, as it is put.
-use Rattle.std.proofs.Common.{◌≡◌, ◌∙◌, ℕ, List, Option, Some, None, Ok, refl, sym}
+use Rattle.std.proofs.Common.{◌≡◌, ℕ, List, Option, Ok, sym, arith}
 use Rattle.libyaml_types.specs.Types.{token_type}
 use Rattle.libyaml_types.specs.declared.enums.yaml_token_type_t.TheVariants as kinds
 use Rattle.libyaml_types.specs.declared.event.yaml_event_t.{yaml_event_t}
 use Rattle.libyaml_types.specs.declared.mark.yaml_mark_t.{yaml_mark_t}
 use Rattle.libyaml_types.specs.declared.token.yaml_token_t.{yaml_token_t}
 use Rattle.libyaml_types.specs.declared.token.unnamed_yaml_token_t_data.{unnamed_yaml_token_t_data}
-use Rattle.libyaml_types.specs.declared.token.unnamed_yaml_token_t_data.TheVariants as tok
 use Rattle.libyaml_types.specs.declared.token.unnamed_yaml_token_t_data_tag.{unnamed_yaml_token_t_data_tag}
 use Rattle.libyaml_types.specs.declared.enums.yaml_sequence_style_t.TheVariants.{YAML_BLOCK_SEQUENCE_STYLE, YAML_FLOW_SEQUENCE_STYLE}
 use Rattle.libyaml_types.specs.declared.enums.yaml_mapping_style_t.TheVariants.{YAML_BLOCK_MAPPING_STYLE, YAML_FLOW_MAPPING_STYLE}
@@ -18,13 +17,12 @@ use Rattle.libyaml_automaton.specs.declared.reading.Reading.{Reading}
 use Rattle.libyaml_automaton.specs.Automaton as automaton
 use Rattle.libyaml_automaton.specs.Config as automaton_config
 use Rattle.libyaml_automaton.specs.Fits.{FitsContent}
-use Rattle.libyaml_automaton.specs.Numbers.{flag, place_of}
-use Rattle.libyaml_automaton.specs.Purposes.{properties}
+use Rattle.libyaml_automaton.specs.Numbers.{flag}
 use Rattle.libyaml_events.specs.declared.pending.Pending.{Pending}
 use Rattle.libyaml_events.specs.declared.step.Step.{Step}
 use Rattle.libyaml_events.specs.declared.step.Step.TheVariants as stepped
 use Rattle.libyaml_events.specs.machine.Outcomes.{result_of, only_if, config_after}
-use Rattle.libyaml_events.specs.machine.Config.{Config, config_of}
+use Rattle.libyaml_events.specs.machine.Config.{Config}
 use Rattle.libyaml_events.specs.machine.Machine.{Progressed, content_after, mapping_start_with, put, seen, sequence_start_with}
 use Rattle.libyaml_events.specs.machine.Steps.{Steps}
 use Rattle.libyaml_events.specs.machine.Want.{Given, Texts}
@@ -34,31 +32,24 @@ use Rattle.libyaml_events.specs.automaton.AutomatonResults.{IsContent, IsOpening
 pub steps_from : (out : Progressed) (old old' : Config) (s : Step) (t : yaml_token_t) (q : Pending) (e : yaml_event_t)
     (new : Config) → (s ≡ stepped.Wants → ⊥) → Steps out old (result_of s q e new) (config_after s t new)
     → Steps out old' (result_of s q e new) (config_after s t new)
-steps_from out old old' stepped.Given t q e new n h = h
-steps_from out old old' stepped.GivenBefore t q e new n h = h
-steps_from out old old' stepped.Wants t q e new n h = absurd (n refl)
-steps_from out old old' stepped.Failed t q e new n h = h
+steps_from out old old' s t q e new n h = grind arith
 
 -- the start of the collection that a token of this kind opens
 block_sequence : (k : unnamed_yaml_token_t_data) (a g : Option (List ℕ))
     → token_type k ≡ kinds.YAML_BLOCK_SEQUENCE_START_TOKEN → sequence_start_with a g YAML_BLOCK_SEQUENCE_STYLE ≡ collection_start a g k
-block_sequence tok.BlockSequenceStart a g e = refl
-block_sequence _ a g e = absurd cc
+block_sequence k a g e = grind arith
 
 block_mapping : (k : unnamed_yaml_token_t_data) (a g : Option (List ℕ))
     → token_type k ≡ kinds.YAML_BLOCK_MAPPING_START_TOKEN → mapping_start_with a g YAML_BLOCK_MAPPING_STYLE ≡ collection_start a g k
-block_mapping tok.BlockMappingStart a g e = refl
-block_mapping _ a g e = absurd cc
+block_mapping k a g e = grind arith
 
 flow_sequence : (k : unnamed_yaml_token_t_data) (a g : Option (List ℕ))
     → token_type k ≡ kinds.YAML_FLOW_SEQUENCE_START_TOKEN → sequence_start_with a g YAML_FLOW_SEQUENCE_STYLE ≡ collection_start a g k
-flow_sequence tok.FlowSequenceStart a g e = refl
-flow_sequence _ a g e = absurd cc
+flow_sequence k a g e = grind arith
 
 flow_mapping : (k : unnamed_yaml_token_t_data) (a g : Option (List ℕ))
     → token_type k ≡ kinds.YAML_FLOW_MAPPING_START_TOKEN → mapping_start_with a g YAML_FLOW_MAPPING_STYLE ≡ collection_start a g k
-flow_mapping tok.FlowMappingStart a g e = refl
-flow_mapping _ a g e = absurd cc
+flow_mapping k a g e = grind arith
 
 -- so such a result gives that start
 pub opening_put : (out : Progressed) (h : Texts) (a g : Option (List ℕ)) (t : yaml_token_t) (x : Action) (r r' : Reading)
@@ -79,20 +70,13 @@ pub tag_read : (o : Option unnamed_yaml_token_t_data_tag) (g : Option (List ℕ)
     (r : automaton.PropertiesRead) (x : automaton_config.Stacks) (h : Texts) (c : Config) (t : yaml_token_t)
     (k : unnamed_yaml_token_t_data) → ReadsTag o c g
     → content_after o p r x h c t k ≡ put h h.anchor g c t k (automaton.node_content p r x (seen t k) (token_type k))
-tag_read None g p r x h c t k e = rw e refl
-tag_read (Some tag) None p r x h c t k e = absurd e
-tag_read (Some tag) (Some g) p r x h c t k e = rw e refl
+tag_read o g p r x h c t k e = grind arith
 
 -- what was asked is then what the content does
 pub asked_content : (out : Progressed) (h : Texts) (t : yaml_token_t) (q : Pending) (c : Config) (g : Option (List ℕ))
     → ReadsTag (only_if (flag q.reading.has_tag) q.properties.tag) c g → FollowsAutomaton out h t action.AsksContent q c
     → IsContent out h (only_if (flag q.reading.has_anchor) q.properties.anchor) g t q.reading c
-asked_content out h t q c g e l =
-    let texts = l.0 in
-    let does = l.1 in
-    rw (← texts) at
-    ((rw texts at does) ∙ tag_read (only_if (flag q.reading.has_tag) q.properties.tag) g (place_of q.reading.place)
-    (properties q.reading) (config_of c) _ c t t.content e)
+asked_content out h t q c g e l = grind arith
 
 module _ (o : Progressed) (h : Texts) (g : Option (List ℕ)) (t : yaml_token_t) (old was mid : Config) (r0 r : Reading)
     (a0 a : Option (List ℕ)) (s : Step) (t' : yaml_token_t) (q : Pending) (e : yaml_event_t) (new : Config) (same : was ≡ old)
@@ -112,6 +96,4 @@ module _ (o : Progressed) (h : Texts) (g : Option (List ℕ)) (t : yaml_token_t)
   pub content_again : (IsContent o h a g t r was
       → Steps o was (result_of s q e new) (config_after s t' new) × (s ≡ stepped.Wants → ⊥))
       → IsContent o h a0 g t r0 old → Steps o old (result_of s q e new) (config_after s t' new) × (s ≡ stepped.Wants → ⊥)
-  content_again puts i =
-      let w = puts (rw (ea, er, same) i) in
-      (steps_from o was old s t' q e new w.1 w.0, w.1)
+  content_again puts i = grind arith

@@ -1,30 +1,26 @@
 -- What the automaton's step says of the parser's, in the stream and its documents.
-use Rattle.std.proofs.Common.{◌≡◌, ◌∙◌, Option, Bool, true, refl, sym, subst}
+use Rattle.std.proofs.Common.{◌≡◌, Option, true, subst, arith}
 use Rattle.libyaml_types.specs.Fault.{Fault}
 use Rattle.libyaml_types.specs.Types.{token_type}
 use Rattle.libyaml_types.specs.declared.enums.yaml_token_type_t.{yaml_token_type_t}
-use Rattle.libyaml_types.specs.declared.enums.yaml_token_type_t.TheVariants as kinds
-use Rattle.libyaml_types.specs.declared.mark.yaml_mark_t.{yaml_mark_t}
 use Rattle.libyaml_types.specs.declared.token.yaml_token_t.{yaml_token_t}
 use Rattle.libyaml_types.specs.declared.token.unnamed_yaml_token_t_data.{unnamed_yaml_token_t_data}
-use Rattle.libyaml_types.specs.declared.token.unnamed_yaml_token_t_data.TheVariants as tok
 use Rattle.libyaml_automaton.specs.declared.action.Action.{Action}
 use Rattle.libyaml_automaton.specs.declared.action.Action.TheVariants as action
 use Rattle.libyaml_automaton.specs.declared.next.Next.{Next}
-use Rattle.libyaml_automaton.specs.declared.next.Next.TheVariants as next
 use Rattle.libyaml_automaton.specs.declared.reading.Reading.{Reading}
 use Rattle.libyaml_automaton.specs.Outcomes.{IsOutcome, outcome}
 use Rattle.libyaml_automaton.specs.Automaton as automaton
 use Rattle.libyaml_automaton.specs.Config as automaton_config
 use Rattle.libyaml_automaton.specs.Fits.{FitsDocument, Documents}
-use Rattle.libyaml_automaton.specs.Growth.{pushes_at_directive, pushes_at_document, pushes_in_documents, stack_part_of}
+use Rattle.libyaml_automaton.specs.Growth.{pushes_in_documents, stack_part_of}
 use Rattle.libyaml_automaton.specs.Numbers.{next_of}
 use Rattle.libyaml_automaton.specs.Purposes.{IsAt, kind_and_marks, purpose_by}
 use Rattle.libyaml_automaton.specs.Purposes as purposes
 use Rattle.libyaml_events.specs.declared.pending.Pending.{Pending}
 use Rattle.libyaml_events.specs.machine.Outcomes.{directive_texts, wanted}
-use Rattle.libyaml_events.specs.machine.Config.{Config, Handles, config_of, config_with}
-use Rattle.libyaml_events.specs.machine.Growth.{grows_at_directive, grows_at_document, grows_for, may_grow}
+use Rattle.libyaml_events.specs.machine.Config.{Config, Handles, config_with}
+use Rattle.libyaml_events.specs.machine.Growth.{grows_for, may_grow}
 use Rattle.libyaml_events.specs.machine.Machine.{step}
 use Rattle.libyaml_events.specs.machine.Want.{Texts}
 use Rattle.libyaml_events.specs.automaton.AutomatonResults.{FollowsAutomatonInDocuments}
@@ -41,58 +37,14 @@ document_leads hs f o a b c t q r' x k ec ek declared s =
     subst (λ (y : Config). FollowsAutomatonInDocuments (step (wanted q) y t) (wanted q).texts t x (record q { reading = r' })
     (config_with b hs f o)) ec (declared, says_texts hs f o a b (wanted q).texts t _ _ (rw ek at s))
 
--- where a document begins the parser may take memory
-pushed_at_directive : (k : unnamed_yaml_token_t_data) → pushes_at_directive (token_type k) ≡ true
-    → grows_at_directive k ≡ true
-pushed_at_directive tok.DocumentStart e = refl
-pushed_at_directive (tok.TagDirective g) e = refl
-pushed_at_directive _ e = absurd cc
-
-pushed_at_document : (b : Bool) (k : unnamed_yaml_token_t_data) → pushes_at_document b (token_type k) ≡ true
-    → grows_at_document b k ≡ true
-pushed_at_document b tok.StreamEnd e = absurd cc
-pushed_at_document b (tok.VersionDirective v) e = absurd cc
-pushed_at_document b tok.DocumentEnd e = e
-pushed_at_document b _ e = refl
-
 pushed_there : (n : Next) (r : Reading) (h : Texts) (c : Config) (k : unnamed_yaml_token_t_data) → IsAt n c.state
     → pushes_in_documents n c.behind_document_end (token_type k) ≡ true → grows_for (purpose_by n r) h c k ≡ true
-pushed_there next.AtImplicitDocumentStart r h c k i e = rw i (pushed_at_document c.behind_document_end k e)
-pushed_there next.AtDocumentStart r h c k i e = rw i (pushed_at_directive k e)
-pushed_there next.AfterDirective r h c k i e = pushed_at_directive k e
-pushed_there _ r h c k i e = absurd cc
+pushed_there n r h c k i e = grind arith
 
 pub document_grows : (q : Pending) (c : Config) (k : unnamed_yaml_token_t_data) (kind : yaml_token_type_t) → Ready q c
     → kind ≡ token_type k → pushes_in_documents (next_of q.reading.next) c.behind_document_end kind ≡ true
     → may_grow (wanted q) c k ≡ true
 document_grows q c k kind y e p = pushed_there (next_of q.reading.next) q.reading (wanted q).texts c k y.agrees (rw e at p)
-
--- and where a handle is declared
-handle_at_directive : (k : unnamed_yaml_token_t_data) → token_type k ≡ kinds.YAML_TAG_DIRECTIVE_TOKEN
-    → grows_at_directive k ≡ true
-handle_at_directive (tok.TagDirective g) e = refl
-handle_at_directive _ e = absurd cc
-
-handle_at_document : (b : Bool) (k : unnamed_yaml_token_t_data) → token_type k ≡ kinds.YAML_TAG_DIRECTIVE_TOKEN
-    → grows_at_document b k ≡ true
-handle_at_document b (tok.TagDirective g) e = refl
-handle_at_document b _ e = absurd cc
-
-handle_there : (n : Next) (r : Reading) (h : Texts) (c : Config) (t : automaton.KindAndMarks) (k : unnamed_yaml_token_t_data)
-    (start : yaml_mark_t) (v : Bool) (x : automaton_config.Stacks) → stack_part_of n ≡ Documents → IsAt n c.state
-    → token_type k ≡ kinds.YAML_TAG_DIRECTIVE_TOKEN
-    → automaton.step (purpose_by n r) (config_of c) t (token_type k) ≡ automaton.AsksHandle start v x
-    → grows_for (purpose_by n r) h c k ≡ true
-handle_there next.AtImplicitDocumentStart r h c t k start v x d i e s
-    = rw i (handle_at_document c.behind_document_end k e)
-handle_there next.AtDocumentStart r h c t k start v x d i e s = rw i (handle_at_directive k e)
-handle_there next.AfterDirective r h c t k start v x d i e s = handle_at_directive k e
-handle_there next.AtStreamStart r h c t k start v x d i e s = let f = rw (i, e) at s in absurd cc
-handle_there next.AtDocumentEnd r h c t k start v x d i e s = let f = rw (i, e) at s in absurd cc
-handle_there next.AtBlockSequenceFirstEntry r h c t k start v x d i e s = let f = rw i at s in absurd cc
-handle_there next.AtBlockMappingFirstKey r h c t k start v x d i e s = let f = rw i at s in absurd cc
-handle_there next.AtEnd r h c t k start v x d i e s = let f = rw i at s in absurd cc
-handle_there _ r h c t k start v x d i e s = absurd cc
 
 pub handle_grows : (hs : Handles) (f : Fault) (o : Option yaml_token_t) (a b : automaton_config.Stacks) (c : Config)
     (t : yaml_token_t) (q : Pending) (r' : Reading) (x : Action) (k : yaml_token_type_t) → config_with a hs f o ≡ c
@@ -101,8 +53,4 @@ pub handle_grows : (hs : Handles) (f : Fault) (o : Option yaml_token_t) (a b : a
     → IsOutcome (automaton.step (purposes.purpose_of q.reading) a (kind_and_marks k t.start_mark t.end_mark) k)
     (outcome x (automaton.no_properties (kind_and_marks k t.start_mark t.end_mark)) (kind_and_marks k t.start_mark t.end_mark) r' b)
     → x ≡ action.AsksHandle → may_grow (wanted q) c t.content ≡ true
-handle_grows hs f o a b c t q r' x k ec y ek fits d s i =
-    subst (λ (z : Config). IsAt (next_of q.reading.next) z.state → may_grow (wanted q) z t.content ≡ true) ec
-    (λ at. handle_there (next_of q.reading.next) q.reading (wanted q).texts (config_with a hs f o)
-    (kind_and_marks (token_type t.content) t.start_mark t.end_mark) t.content _ _ b d at (sym ek ∙ (rw i at fits))
-    (rw (i, ek) at s)) y.agrees
+handle_grows hs f o a b c t q r' x k ec y ek fits d s i = grind arith

@@ -1,5 +1,5 @@
 -- A result that is put.
-use Rattle.std.proofs.Common.{◌≡◌, ◌⊎◌, inl, inr, ◌∙◌, ◌∷◌, ◌++◌, [], Option, None, true, Result, Ok, Err, refl, sym, ap, subst}
+use Rattle.std.proofs.Common.{◌≡◌, ◌⊎◌, ◌∙◌, ◌∷◌, ◌++◌, [], Option, None, true, Result, Ok, Err, refl, sym, ap, subst, arith}
 use Rattle.libyaml_types.specs.Events.{zero_mark}
 use Rattle.libyaml_types.specs.Fault.{Fault, memory_fault}
 use Rattle.libyaml_types.specs.Types.{token_type}
@@ -38,20 +38,13 @@ use Rattle.libyaml_events.specs.automaton.View.{Ready}
 -- neither parser has a lookahead
 pub from_before : (out : Progressed) (old mid : Config) (r : Result Progress yaml_error_type_t) (new : Config)
     → old.lookahead ≡ None → mid.lookahead ≡ None → Steps out mid r new → Steps out old r new
-from_before out old mid (Ok (Given e)) new o m h = h
-from_before out old mid (Ok (Wants w)) new o m h = (h.0, h.1 ∙ (m ∙ sym o))
-from_before out old mid (Err e) new o m h = h
+from_before out old mid r new o m h = grind arith
 
 -- an event is given, before the token or not
 pub given_by : (out : Progressed) (old : Config) (s : Step) (t : yaml_token_t) (q : Pending) (e : yaml_event_t)
     (new : Config) → (s ≡ stepped.Given) ⊎ (s ≡ stepped.GivenBefore) → Steps out old (result_of s q e new) (config_after s t new)
     → Steps out old (Ok (Given e)) (config_after s t new)
-given_by out old stepped.Given t q e new i h = h
-given_by out old stepped.GivenBefore t q e new i h = h
-given_by out old stepped.Wants t q e new (inl i) h = absurd cc
-given_by out old stepped.Wants t q e new (inr i) h = absurd cc
-given_by out old stepped.Failed t q e new (inl i) h = absurd cc
-given_by out old stepped.Failed t q e new (inr i) h = absurd cc
+given_by out old s t q e new i h = grind arith
 
 -- an error is kept
 pub fails_as : (out : Progressed) (new : Config) (f : Fault) → new.fault.error ≡ YAML_PARSER_ERROR → new.fault ≡ f
@@ -77,12 +70,10 @@ goes_on : (n : Next) (r : Reading) (h : Texts) (k : unnamed_yaml_token_t_data) (
       Wants (record { next = purpose_by n r; texts = texts_after h k (purpose_by n r) }),
       config_with a (handles_after_directive hs k (purpose_by n r)) f o,
     )) (Ok (Wants (record { next = purpose_by n r; texts = texts_for (purpose_by n r) p ds }), new))
-goes_on next.AfterDirective r h k p ds a hs f o new n i j = rw (i, j) refl
-goes_on _ r h k p ds a hs f o new n i j = absurd cc
+goes_on n r h k p ds a hs f o new n' i j = grind arith
 
 at_directive : (n : Next) (r : Reading) (c : Config) → n ≡ next.AfterDirective → purposes.IsAt n c.state
-at_directive next.AfterDirective r c e = tt
-at_directive _ r c e = absurd cc
+at_directive n r c e = grind arith
 
 pub directive_wants : (out : Progressed) (d : Config) (t : yaml_token_t) (q : Pending) (h : Texts)
     (a : automaton_config.Stacks) (new : Config) → next_of q.reading.next ≡ next.AfterDirective
@@ -90,20 +81,11 @@ pub directive_wants : (out : Progressed) (d : Config) (t : yaml_token_t) (q : Pe
     → config_with a (declared_by d.handles t.content) d.fault d.lookahead ≡ new → d.lookahead ≡ None
     → out ≡ put h None None d t t.content (automaton.Wants (purposes.purpose_of q.reading) a)
     → Steps out d (Ok (Wants (wanted q))) new × Ready q new
-directive_wants out d t q h a new n i j l o =
-    let same : new.lookahead ≡ d.lookahead = sym (ap (λ (x : Config). x.lookahead) j) in (
-      (
-        o ∙ goes_on (next_of q.reading.next) q.reading h t.content q.properties q.directives a d.handles d.fault d.lookahead
-            new n i j,
-        same,
-      ),
-      record { none = same ∙ l; agrees = at_directive (next_of q.reading.next) q.reading new n },
-    )
+directive_wants out d t q h a new n i j l o = grind arith
 
 pub handle_of : (k : unnamed_yaml_token_t_data) → token_type k ≡ kinds.YAML_TAG_DIRECTIVE_TOKEN
     → (g : unnamed_yaml_token_t_data_tag_directive) × (k ≡ tok.TagDirective g)
-handle_of (tok.TagDirective g) e = (g, refl)
-handle_of _ e = absurd cc
+handle_of k e = grind arith
 
 -- the directive is kept, or there was no memory for it
 pub wants_or_fails : (out : Progressed) (old : Config) (s : Step) (t : yaml_token_t) (q : Pending) (e : yaml_event_t)
@@ -111,14 +93,7 @@ pub wants_or_fails : (out : Progressed) (old : Config) (s : Step) (t : yaml_toke
     → (s ≡ stepped.Wants → Steps out old (Ok (Wants (wanted q))) new × Ready q new)
     → (s ≡ stepped.Failed → new.fault ≡ memory_fault)
     → Steps out old (result_of s q e new) (config_after s t new) × (s ≡ stepped.Wants → Ready q new)
-wants_or_fails out old stepped.Given t q e new g b w f = absurd (g refl)
-wants_or_fails out old stepped.GivenBefore t q e new g b w f = absurd (b refl)
-wants_or_fails out old stepped.Wants t q e new g b w f = let y = w refl in (y.0, λ i. y.1)
-wants_or_fails out old stepped.Failed t q e new g b w f =
-    let m = f refl in (
-      subst (λ (x : yaml_error_type_t). FailsAs new out x) (sym (ap (λ (x : Fault). x.error) m)) m,
-      λ i. absurd cc,
-    )
+wants_or_fails out old s t q e new g b w f = grind arith
 
 pub directive_held : (h : Texts) (k : unnamed_yaml_token_t_data) (g : unnamed_yaml_token_t_data_tag_directive)
     (d : DirectiveTexts) → k ≡ tok.TagDirective g → h ≡ directive_texts d → with_directive h k

@@ -1,11 +1,9 @@
 -- What the buffers of the stacks stand for.
-use Rattle.std.proofs.Common.{ap}
+use Rattle.std.proofs.Common.{arith}
 pub use Rattle.libyaml_automaton.proofs.exported.Stacks.{grown_marks, grown_states, marks_none, state_of_number, states_none}
 use Rattle.libyaml_automaton.specs.declared.action.Action.{Action}
-use Rattle.libyaml_automaton.specs.declared.action.Action.TheVariants as action
 use Rattle.libyaml_automaton.specs.declared.reading.Reading.{Reading}
 use Rattle.libyaml_automaton.specs.Fits.{SameReading, Stays}
-use Rattle.libyaml_automaton.specs.Purposes.{purpose_of}
 
 pub ruleset grown = (grown_states, grown_marks)
 
@@ -13,5 +11,4 @@ pub ruleset cleared = (states_none, marks_none)
 
 -- what a step that was undone leaves is read as before
 pub same_reading : (a : Action) (r r' : Reading) → Stays a r r' → SameReading r r'
-same_reading action.AsksContent r r' e = (ap (λ (x : Reading). x.next) e, ap purpose_of e)
-same_reading _ r r' e = e
+same_reading a r r' e = grind arith

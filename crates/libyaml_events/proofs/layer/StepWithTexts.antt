@@ -1,5 +1,5 @@
 -- What the automaton's step says of the parser's.
-use Rattle.std.proofs.Common.{◌≡◌, ◌⊎◌, inl, inr, ◌∙◌, ◌||◌, ℕ, List, Option, Some, None, Bool, true, false, refl, sym, ap, subst}
+use Rattle.std.proofs.Common.{◌≡◌, ◌⊎◌, ◌∙◌, ◌||◌, ℕ, List, Option, Some, Bool, true, refl, sym, ap, subst, arith}
 use Rattle.libyaml_types.specs.Fault.{Fault}
 use Rattle.libyaml_types.specs.Types.{token_type}
 use Rattle.libyaml_types.specs.declared.token.unnamed_yaml_token_t_data.{unnamed_yaml_token_t_data}
@@ -8,8 +8,6 @@ use Rattle.libyaml_types.specs.declared.enums.yaml_parser_state_t.{yaml_parser_s
 use Rattle.libyaml_types.specs.declared.token.yaml_token_t.{yaml_token_t}
 use Rattle.libyaml_types.specs.declared.enums.yaml_token_type_t.{yaml_token_type_t}
 use Rattle.libyaml_types.specs.declared.enums.yaml_token_type_t.TheVariants as kinds
-use Rattle.libyaml_types.specs.declared.enums.yaml_parser_state_t.TheVariants as st
-use Rattle.libyaml_types.specs.declared.token.unnamed_yaml_token_t_data.TheVariants as tok
 use Rattle.libyaml_automaton.specs.declared.action.Action.{Action}
 use Rattle.libyaml_automaton.specs.declared.action.Action.TheVariants as action
 use Rattle.libyaml_automaton.specs.declared.next.Next.{Next}
@@ -27,8 +25,8 @@ use Rattle.libyaml_automaton.specs.Purposes as purposes
 use Rattle.libyaml_events.specs.declared.pending.Pending.{Pending}
 use Rattle.libyaml_events.specs.machine.Outcomes.{property_texts, texts_for, wanted}
 use Rattle.libyaml_events.specs.machine.Config.{Config, Handles, config_of, config_with}
-use Rattle.libyaml_events.specs.machine.Growth.{grows_for, joins, joins_before, joins_after_anchor, may_grow}
-use Rattle.libyaml_events.specs.machine.Machine.{Progressed, content_after, content_resolved, put, resolve, step, with_texts}
+use Rattle.libyaml_events.specs.machine.Growth.{grows_for, joins, may_grow}
+use Rattle.libyaml_events.specs.machine.Machine.{Progressed, content_after, put, step, with_texts}
 use Rattle.libyaml_events.specs.machine.Read.{PropertyTexts, DirectiveTexts}
 use Rattle.libyaml_events.specs.machine.Want.{Texts}
 use Rattle.libyaml_events.specs.automaton.AutomatonResults.{GrowsAfter, IsHeld, IsPlain, FollowsAutomaton, PutIn, SaysIn}
@@ -37,29 +35,14 @@ use Rattle.libyaml_events.specs.automaton.View.{Ready}
 -- What a step does with texts hangs on the handles, the error and the lookahead, which the automaton leaves alone.
 module _ (hs : Handles) (f : Fault) (o : Option yaml_token_t) (a b : automaton_config.Stacks) (h : Texts) (t : yaml_token_t)
     (k : unnamed_yaml_token_t_data) where
-  put_same : (anchor tag : Option (List ℕ)) (x : automaton.Step)
-      → put h anchor tag (config_with a hs f o) t k x ≡ put h anchor tag (config_with b hs f o) t k x
-  put_same anchor tag (automaton.Gives e y) = refl
-  put_same anchor tag _ = refl
-
-  resolved_same : (p : NodePlace) (r : automaton.PropertiesRead) (y : automaton_config.Stacks) (g : Option (List ℕ))
-      → content_resolved g p r y h (config_with a hs f o) t k ≡ content_resolved g p r y h (config_with b hs f o) t k
-  resolved_same p r y None = refl
-  resolved_same p r y (Some g) = put_same _ _ _
-
   content_same : (p : NodePlace) (r : automaton.PropertiesRead) (y : automaton_config.Stacks)
       (g : Option unnamed_yaml_token_t_data_tag)
       → content_after g p r y h (config_with a hs f o) t k ≡ content_after g p r y h (config_with b hs f o) t k
-  content_same p r y None = put_same _ _ _
-  content_same p r y (Some g) = resolved_same p r y (resolve hs g.handle g.suffix)
+  content_same p r y g = grind arith
 
   with_same : (x : automaton.Step)
       → with_texts h (config_with a hs f o) t k x ≡ with_texts h (config_with b hs f o) t k x
-  with_same (automaton.AsksVersion start y) = put_same _ _ _
-  with_same (automaton.AsksHandle start has_version y) = put_same _ _ _
-  with_same (automaton.AsksContent p r y) = content_same p r y h.tag
-  with_same (automaton.Gives e y) = refl
-  with_same _ = refl
+  with_same x = grind arith
 
 -- so for what is said of it
 pub says_texts : (hs : Handles) (f : Fault) (o : Option yaml_token_t) (a b : automaton_config.Stacks) (h : Texts)
@@ -74,9 +57,7 @@ pub says_content : (hs : Handles) (f : Fault) (o : Option yaml_token_t) (a b : a
     (t : yaml_token_t) (anchor tag : Option (List ℕ)) (out : Progressed) (s : automaton.Step) (x : Outcome)
     → config_with a hs f o ≡ c → IsOutcome s x → out ≡ put h anchor tag c t t.content s
     → PutIn out h anchor tag (config_with b hs f o) t x
-says_content hs f o a b c h t anchor tag out s NothingDone ec e i = tt
-says_content hs f o a b c h t anchor tag out s (Does y) ec e i = i ∙ ap (put h anchor tag c t t.content) e
-    ∙ sym (ap (λ (z : Config). put h anchor tag z t t.content y) ec) ∙ put_same hs f o a b h t t.content anchor tag y
+says_content hs f o a b c h t anchor tag out s x ec e i = grind arith
 
 -- A property is read: it is held with the other one, where that is this node's.
 abbrev AnchorIn : PropertyTexts → DirectiveTexts → List ℕ → Texts → automaton.Step → Type 0
@@ -90,55 +71,31 @@ TagIn p d g h _ = Unit {0}
 module _ (p : PropertyTexts) (d : DirectiveTexts) (c : automaton_config.Stacks) (t : automaton.KindAndMarks) where
   anchor_after : (a : List ℕ) (n : NodePlace) (r : automaton.PropertiesRead) (b : Bool)
       → AnchorIn p d a (property_texts r p) (automaton.anchor_after b n r c t)
-  anchor_after a n r false = refl
-  anchor_after a n r true = tt
+  anchor_after a n r b = grind arith
 
   anchor_at : (a : List ℕ) (s : yaml_parser_state_t)
       → AnchorIn p d a (texts_for automaton.AtState p d) (automaton.at_state s c t kinds.YAML_ANCHOR_TOKEN)
-  anchor_at a st.YAML_PARSE_DOCUMENT_CONTENT_STATE = refl
-  anchor_at a st.YAML_PARSE_BLOCK_NODE_STATE = refl
-  anchor_at a st.YAML_PARSE_BLOCK_NODE_OR_INDENTLESS_SEQUENCE_STATE = refl
-  anchor_at a st.YAML_PARSE_FLOW_NODE_STATE = refl
-  anchor_at a st.YAML_PARSE_FLOW_SEQUENCE_FIRST_ENTRY_STATE = refl
-  anchor_at a st.YAML_PARSE_FLOW_SEQUENCE_ENTRY_MAPPING_KEY_STATE = refl
-  anchor_at a st.YAML_PARSE_FLOW_MAPPING_FIRST_KEY_STATE = refl
-  anchor_at a _ = tt
+  anchor_at a s = grind arith
 
   anchor_in : (a : List ℕ) (w : automaton.Purpose)
       → AnchorIn p d a (texts_for w p d) (automaton.step w c t kinds.YAML_ANCHOR_TOKEN)
-  anchor_in a automaton.AtState = anchor_at a c.state
-  anchor_in a (automaton.AfterDirective start has_version) = tt
-  anchor_in a (automaton.AfterProperties n r) = anchor_after a n r r.anchor
-  anchor_in a _ = refl
+  anchor_in a w = grind arith
 
   tag_after : (g : unnamed_yaml_token_t_data_tag) (n : NodePlace) (r : automaton.PropertiesRead) (b : Bool)
       → TagIn p d g (property_texts r p) (automaton.tag_after b n r c t)
-  tag_after g n r false = refl
-  tag_after g n r true = tt
+  tag_after g n r b = grind arith
 
   tag_at : (g : unnamed_yaml_token_t_data_tag) (s : yaml_parser_state_t)
       → TagIn p d g (texts_for automaton.AtState p d) (automaton.at_state s c t kinds.YAML_TAG_TOKEN)
-  tag_at g st.YAML_PARSE_DOCUMENT_CONTENT_STATE = refl
-  tag_at g st.YAML_PARSE_BLOCK_NODE_STATE = refl
-  tag_at g st.YAML_PARSE_BLOCK_NODE_OR_INDENTLESS_SEQUENCE_STATE = refl
-  tag_at g st.YAML_PARSE_FLOW_NODE_STATE = refl
-  tag_at g st.YAML_PARSE_FLOW_SEQUENCE_FIRST_ENTRY_STATE = refl
-  tag_at g st.YAML_PARSE_FLOW_SEQUENCE_ENTRY_MAPPING_KEY_STATE = refl
-  tag_at g st.YAML_PARSE_FLOW_MAPPING_FIRST_KEY_STATE = refl
-  tag_at g _ = tt
+  tag_at g s = grind arith
 
   tag_in : (g : unnamed_yaml_token_t_data_tag) (w : automaton.Purpose)
       → TagIn p d g (texts_for w p d) (automaton.step w c t kinds.YAML_TAG_TOKEN)
-  tag_in g automaton.AtState = tag_at g c.state
-  tag_in g (automaton.AfterDirective start has_version) = tt
-  tag_in g (automaton.AfterProperties n r) = tag_after g n r r.tag
-  tag_in g _ = refl
+  tag_in g w = grind arith
 
 -- a token is wanted for what has no texts
 plain : (n : Next) (r : Reading) → is_simple n ≡ true → IsPlain (purpose_by n r)
-plain next.AfterDirective r e = absurd cc
-plain next.AfterProperties r e = absurd cc
-plain _ r e = tt
+plain n r e = grind arith
 
 asked : (n : Next) (r : Reading) (p : PropertyTexts) (d : DirectiveTexts) → n ≡ next.AfterProperties
     → texts_for (purpose_by n r) p d ≡ property_texts (properties r) p
@@ -185,57 +142,20 @@ leads hs f o a b c t q r' x k ec ek fits u s =
 -- a step that was undone leaves the parser ready
 pub still_ready : (q : Pending) (r' : Reading) (c d : Config) → d ≡ c → SameReading q.reading r' → Ready q c
     → Ready (record q { reading = r' }) d × (wanted (record q { reading = r' }) ≡ wanted q) × (d ≡ c)
-still_ready q r' c d e s y = (
-  record {
-    none = ap (λ (x : Config). x.lookahead) e ∙ y.none;
-    agrees = rw (e, s.0) y.agrees;
-  },
-  ap (λ (v : automaton.Purpose). record { next = v; texts = texts_for v q.properties q.directives }) s.1,
-  e,
-)
+still_ready q r' c d e s y = grind arith
 
 -- where the automaton pushes, the parser may take memory
 grows_there : (n : Next) (r : Reading) (h : Texts) (c : Config) (k : unnamed_yaml_token_t_data) → IsAt n c.state
     → pushes n (token_type k) || opens n (token_type k) ≡ true → grows_for (purpose_by n r) h c k ≡ true
-grows_there next.AtStreamStart r h c k i e = rw i e
-grows_there next.AtImplicitDocumentStart r h c k i e = absurd cc
-grows_there next.AtDocumentStart r h c k i e = absurd cc
-grows_there next.AfterDirective r h c k i e = absurd cc
-grows_there next.AfterProperties r h c k i e = absurd cc
-grows_there next.AfterBlockEntry r h c k i e = e
-grows_there next.AfterIndentlessEntry r h c k i e = e
-grows_there next.AfterKey r h c k i e = e
-grows_there next.AfterValue r h c k i e = e
-grows_there next.AfterFlowSequenceValue r h c k i e = e
-grows_there next.AfterFlowMappingKey r h c k i e = e
-grows_there next.AfterFlowMappingValue r h c k i e = e
-grows_there _ r h c k i e = rw i e
+grows_there n r h c k i e = grind arith
 
 either : (b d : Bool) → (b ≡ true) ⊎ (d ≡ true) → b || d ≡ true
-either true d e = refl
-either false d (inl e) = absurd cc
-either false d (inr e) = e
+either b d e = grind arith
 
 pub grows_full : (q : Pending) (c : Config) (k : unnamed_yaml_token_t_data) (kind : yaml_token_type_t) → Ready q c
     → kind ≡ token_type k → (pushes (next_of q.reading.next) kind ≡ true) ⊎ (opens (next_of q.reading.next) kind ≡ true)
     → may_grow (wanted q) c k ≡ true
-grows_full q c k kind y e o = grows_there (next_of q.reading.next) q.reading (wanted q).texts c k y.agrees
-    (either _ _ (rw e at o))
-
--- at an ANCHOR the content comes after another
-joins_where : (hs : Handles) (g : Option unnamed_yaml_token_t_data_tag) (n m : NodePlace) (r r' : automaton.PropertiesRead)
-    (c x : automaton_config.Stacks) (t : automaton.KindAndMarks) (b : Bool)
-    → automaton.anchor_after b n r c t ≡ automaton.AsksContent m r' x → joins g hs ≡ true
-    → joins_after_anchor b g hs ≡ true
-joins_where hs g n m r r' c x t false e j = absurd cc
-joins_where hs g n m r r' c x t true e j = j
-
-joins_asked : (hs : Handles) (h : Texts) (n m : NodePlace) (r r' : automaton.PropertiesRead) (c x : automaton_config.Stacks)
-    (t : automaton.KindAndMarks) (k : unnamed_yaml_token_t_data)
-    → automaton.parse_after_properties n r c t (token_type k) ≡ automaton.AsksContent m r' x → joins h.tag hs ≡ true
-    → joins_before r h hs k ≡ true
-joins_asked hs h n m r r' c x t (tok.Anchor a) e j = joins_where hs h.tag n m r r' c x t r.anchor e j
-joins_asked hs h n m r r' c x t _ e j = j
+grows_full q c k kind y e o = grind (arith, grows_there, either)
 
 -- content after properties may take memory
 content_grows : (n : Next) (r : Reading) (p : PropertyTexts) (d : DirectiveTexts) (c : Config) (t : automaton.KindAndMarks)
@@ -244,9 +164,7 @@ content_grows : (n : Next) (r : Reading) (p : PropertyTexts) (d : DirectiveTexts
     → automaton.step (purpose_by n r) (config_of c) t (token_type k) ≡ automaton.AsksContent m r' x
     → (joins (property_texts (properties r) p).tag c.handles ≡ true) ⊎ (opens_at (place_of r.place) (token_type k) ≡ true)
     → grows_for (purpose_by n r) (texts_for (purpose_by n r) p d) c k ≡ true
-content_grows n r p d c t m r' x k i e (inl j) = rw i (either _ _ (inl (joins_asked c.handles
-    (property_texts (properties r) p) (place_of r.place) m (properties r) r' (config_of c) x t k (rw i at e) j)))
-content_grows n r p d c t m r' x k i e (inr j) = rw i (either _ _ (inr j))
+content_grows n r p d c t m r' x k i e h = grind arith
 
 pub grows_asked : (hs : Handles) (f : Fault) (o : Option yaml_token_t) (a b : automaton_config.Stacks) (c : Config)
     (t : yaml_token_t) (q : Pending) (r' : Reading) (x : Action) (k : yaml_token_type_t) → config_with a hs f o ≡ c
@@ -255,14 +173,8 @@ pub grows_asked : (hs : Handles) (f : Fault) (o : Option yaml_token_t) (a b : au
     (outcome x (automaton.no_properties (kind_and_marks k t.start_mark t.end_mark)) (kind_and_marks k t.start_mark t.end_mark) r' b)
     → x ≡ action.AsksContent → GrowsAfter (record q { reading = r' }) (config_with b hs f o) t
     → may_grow (wanted q) c t.content ≡ true
-grows_asked hs f o a b c t q r' x k ec ek fits u s i g =
-    let e : r' ≡ q.reading = u i in
-    rw ec at (content_grows (next_of q.reading.next) q.reading q.properties q.directives (config_with a hs f o)
-    (kind_and_marks (token_type t.content) t.start_mark t.end_mark) (place_of r'.place) (properties r') b t.content
-    (ap (λ (y : Reading). next_of y.next) (sym e) ∙ (rw i at fits)) (rw (i, ek) at s) (rw e at g))
+grows_asked hs f o a b c t q r' x k ec ek fits u s i g = grind arith
 
 pub pushes_full : (x : Action) (p o : Bool) → (x ≡ action.FullStates → p ≡ true) → (x ≡ action.FullMarks → o ≡ true) → IsFull x
     → (p ≡ true) ⊎ (o ≡ true)
-pushes_full action.FullStates p o s m f = inl (s refl)
-pushes_full action.FullMarks p o s m f = inr (m refl)
-pushes_full _ p o s m f = absurd f
+pushes_full x p o s m f = grind arith
