@@ -1,27 +1,20 @@
 -- What the machine makes of directives and handles is what the grammar says of them.
-use Rattle.std.specs.Prelude.{◌||◌, not, bytes_eq}
-use Rattle.std.proofs.Common.{◌≡◌, ℕ, ◌++◌, List, [], ◌∷◌, Option, Some, None, refl, sym, ap, ◌∙◌, Bool, true, false, cond, codes, is_some, append_assoc}
-use Rattle.std.specs.Cmp.Lexicographic.{nat_list_eq_equiv, nat_list_cmp_total}
+use Rattle.std.specs.Prelude.{◌||◌, bytes_eq}
+use Rattle.std.proofs.Common.{◌≡◌, ℕ, ◌++◌, List, [], ◌∷◌, Option, Some, None, refl, sym, ap, ◌∙◌, Bool, true, false, cond, codes, is_some, append_assoc, arith}
+use Rattle.std.specs.Cmp.Lexicographic.{nat_list_cmp_total}
 use Rattle.std.specs.FinMap.{get, insert, get-from_entries}
 use Rattle.libyaml_events.specs.machine.Machine as parser_machine
 use Rattle.libyaml_events.specs.machine.Machine.{put, step_at, or_default, resolve, seen, with_prefix}
-use Rattle.libyaml_grammar.specs.partial.PartialFaults.{directive_fault}
 use Rattle.libyaml_grammar.specs.grammar.Tokens.{HandleDeclared, Mark, Marks, TagDirective, TagName, Token, VersionAsked, VersionDirective, tok}
 use Rattle.libyaml_grammar.specs.grammar.Trees.{Directives, directive, no_directives, tag_directive, version}
-use Rattle.libyaml_grammar.specs.grammar.Events.{Event, declaration, prefix_of, resolved, tag_directives_of, tag_directives_then, tag_from, version_of}
-use Rattle.libyaml_grammar.specs.grammar.Order.{declares, is_known, is_accepted, no_version}
+use Rattle.libyaml_grammar.specs.grammar.Events.{Event, declaration, prefix_of, resolved, tag_directives_then, version_of}
+use Rattle.libyaml_grammar.specs.grammar.Order.{declares, is_known, no_version}
 use Rattle.libyaml_grammar.proofs.exported.Reading.{keeps_order}
-use Rattle.libyaml_events.specs.machine.Config.{Config, Handles, config_of}
-use Rattle.libyaml_events.proofs.machine.Link.{End, after, after_directives, directive_ends, directive_texts, handles_of, waits}
+use Rattle.libyaml_events.specs.machine.Config.{Config}
+use Rattle.libyaml_events.proofs.machine.Link.{End, after, after_directives, directive_ends, handles_of, waits}
 use Rattle.libyaml_grammar.proofs.exported.TextMaps.{inserted}
-use Rattle.libyaml_automaton.specs.Automaton.{AfterDirective}
-use Rattle.libyaml_automaton.specs.Automaton as automaton
 use Rattle.libyaml_types.specs.declared.directive.yaml_tag_directive_t.{yaml_tag_directive_t}
 use Rattle.libyaml_types.specs.declared.directive.yaml_version_directive_t.{yaml_version_directive_t}
-
--- comparing texts
-same_swapped : (a b : List ℕ) → bytes_eq a b ≡ bytes_eq b a
-same_swapped a b = nat_list_eq_equiv.symm a b
 
 -- a handle in the map of handles
 abbrev text_or : Bool → List ℕ → List ℕ → List ℕ
@@ -30,12 +23,7 @@ text_or u x y = elim u [ true ↦ x | false ↦ y ]
 default_same : (h : List ℕ) → parser_machine.undeclared_prefix h
     ≡ cond (bytes_eq (codes "!") h) (Some (codes "!"))
     (cond (bytes_eq (codes "!!") h) (Some (codes "tag:yaml.org,2002:")) None)
-default_same h = ap (λ (u : Bool). cond u (Some (codes "!"))
-    (cond (bytes_eq h (codes "!!")) (Some (codes "tag:yaml.org,2002:")) None))
-    (same_swapped h (codes "!"))
-    ∙ ap (λ (u : Bool). cond (bytes_eq (codes "!") h) (Some (codes "!"))
-    (cond u (Some (codes "tag:yaml.org,2002:")) None))
-    (same_swapped h (codes "!!"))
+default_same h = grind arith
 
 none_declared : (h : List ℕ) → get (handles_of no_directives) h ≡ None
 none_declared h = get-from_entries nat_list_cmp_total [] h
@@ -91,34 +79,14 @@ found (directive ds (tag_directive d m)) h e = ap (λ (o : Option (List ℕ)). o
 
 pub resolve_is : (ds : Directives) (t : TagName) → is_known ds t.handle ≡ true
     → resolve (handles_of ds) t.handle t.suffix ≡ Some (resolved ds t)
-resolve_is ds t e = go t.handle e
-  where
-    go : (h : List ℕ) → is_known ds h ≡ true → resolve (handles_of ds) h t.suffix ≡ Some (tag_from ds h t.suffix)
-    go [] e = refl
-    go (x ∷ h) e = ap (λ (o : Option (List ℕ)). with_prefix o t.suffix) (found ds (x ∷ h) e)
+resolve_is ds t e = grind (arith, found)
 
 not_found : (ds : Directives) (h : List ℕ) → Known ds h ≡ false → or_default (get (handles_of ds) h) h ≡ None
-not_found ds h e = go (declares ds h) refl e
-  where
-    ends : (u v : Bool) → u || v ≡ false
-        → cond u (Some (codes "!")) (cond v (Some (codes "tag:yaml.org,2002:")) None) ≡ None
-    ends true v e = absurd cc
-    ends false true e = absurd cc
-    ends false false e = refl
-
-    go : (u : Bool) → declares ds h ≡ u → u || (bytes_eq (codes "!") h || bytes_eq (codes "!!") h) ≡ false
-        → or_default (get (handles_of ds) h) h ≡ None
-    go true f e = absurd cc
-    go false f e = ap (λ (o : Option (List ℕ)). or_default o h) (undeclared ds h f)
-        ∙ (default_same h ∙ ends (bytes_eq (codes "!") h) (bytes_eq (codes "!!") h) e)
+not_found ds h e = grind (arith, undeclared, default_same)
 
 pub resolve_not : (ds : Directives) (t : TagName) → is_known ds t.handle ≡ false
     → resolve (handles_of ds) t.handle t.suffix ≡ None
-resolve_not ds t e = go t.handle e
-  where
-    go : (h : List ℕ) → is_known ds h ≡ false → resolve (handles_of ds) h t.suffix ≡ None
-    go [] e = absurd cc
-    go (x ∷ h) e = ap (λ (o : Option (List ℕ)). with_prefix o t.suffix) (not_found ds (x ∷ h) e)
+resolve_not ds t e = grind (arith, not_found)
 
 -- directives
 version_found : (ds : Directives) → no_version ds ≡ true → version_of ds ≡ None
@@ -139,18 +107,7 @@ pub version_after : (s : Mark) (ds : Directives) (c : Config) (v : VersionAsked)
       directive_ends (keeps_order ds no_directives (VersionDirective v)) ds (VersionDirective v) m
           (waits (after_directives s (directive ds (version v m))) c),
     )
-version_after s ds c v m f r = go (no_version ds) refl (is_accepted v.major v.minor) refl
-  where
-    go : (n : Bool) → no_version ds ≡ n → (u : Bool) → is_accepted v.major v.minor ≡ u
-        → after (step_at (after_directives s ds) c (tok (VersionDirective v) m) (VersionDirective v)) f r
-        ≡ (
-          r,
-          directive_ends (keeps_order ds no_directives (VersionDirective v)) ds (VersionDirective v) m
-              (waits (after_directives s (directive ds (version v m))) c),
-        )
-    go true e true g = rw (version_found ds e, e, g) refl
-    go true e false g = rw (version_found ds e, e, g) (rw (e, directive_fault) refl)
-    go false e u g = rw ((version_there ds e).1, e) (rw (e, directive_fault) refl)
+version_after s ds c v m f r = grind (arith, waits, version_found, version_there)
 
 directives_then : (ds : Directives) (r : List yaml_tag_directive_t)
     → tag_directives_then ds r ≡ tag_directives_then ds [] ++ r
@@ -170,30 +127,5 @@ pub tag_after : (s : Mark) (ds : Directives) (c : Config) (d : HandleDeclared) (
           (waits (after_directives s (directive ds (tag_directive d m)))
           (record c { handles = insert c.handles d.handle d.prefix })),
     )
-tag_after s ds c d m f r h = go (declares ds d.handle) refl
-  where
-    after_it : Bool → List Event × End
-    after_it u = after (put (directive_texts ds) None None c (tok (TagDirective d) m) (TagDirective d)
-        (automaton.tag_directive u s (is_some (version_of ds)) (config_of c) (seen (tok (TagDirective d) m) (TagDirective d)))) f r
-
-    goes_on : End
-    goes_on = waits (after_directives s (directive ds (tag_directive d m)))
-        (record c { handles = insert c.handles d.handle d.prefix })
-
-    new : waits (record {
-      next = AfterDirective s (is_some (version_of ds));
-      texts = record (directive_texts ds) { tag_directives = tag_directives_of ds ++ declaration d ∷ [] };
-    })
-        (record c { handles = insert c.handles d.handle d.prefix }) ≡ goes_on
-    new = ap (λ (x : List yaml_tag_directive_t). waits
-        (record {
-          next = AfterDirective s (is_some (version_of ds));
-          texts = record (directive_texts ds) { tag_directives = x };
-        })
-        (record c { handles = insert c.handles d.handle d.prefix })) (sym (directives_then ds (declaration d ∷ [])))
-
-    go : (u : Bool) → declares ds d.handle ≡ u
-        → after_it (is_some (get c.handles d.handle))
-        ≡ (r, directive_ends (not (declares ds d.handle)) ds (TagDirective d) m goes_on)
-    go true e = rw (ap (λ (x : Handles). get x d.handle) h ∙ (already_declared ds d.handle e).1, e) refl
-    go false e = rw (ap (λ (x : Handles). get x d.handle) h ∙ undeclared ds d.handle e, e) (ap (λ (x : End). (r, x)) new)
+tag_after s ds c d m f r h =
+    grind (arith, is_some, waits, directives_then, already_declared, undeclared)

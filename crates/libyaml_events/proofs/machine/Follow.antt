@@ -1,5 +1,5 @@
 -- The machine follows the grammar: all that one token makes it do at a position is what the grammar says of it.
-use Rattle.std.proofs.Common.{◌≡◌, ℕ, suc, List, [], ◌∷◌, Option, Some, None, refl, ap, ◌∙◌, Bool, true, false, Ok}
+use Rattle.std.proofs.Common.{◌≡◌, ℕ, suc, List, [], ◌∷◌, Option, Some, None, refl, ap, ◌∙◌, Bool, true, false, Ok, arith}
 use Rattle.std.proofs.lemmas.Bool.{and_parts}
 use Rattle.libyaml_events.specs.machine.Machine.{Progressed, content_after, content_resolved, put, seen, with_texts}
 use Rattle.libyaml_events.specs.machine.Want.{Given, AtState, no_texts}
@@ -7,8 +7,7 @@ use Rattle.libyaml_events.specs.machine.Config.{config_of as without_texts, Conf
 use Rattle.libyaml_automaton.specs.Automaton as automaton
 use Rattle.libyaml_types.specs.Types.{token_type}
 use Rattle.libyaml_grammar.specs.partial.PartialTrees.{declared, open_collection, BlockPlace, Open, PartPlace, Place, block, entry, explicit_root, flow_entry, flow_key, flow_value, implicit_root, indentless_entry, part_place, root, slot}
-use Rattle.libyaml_grammar.specs.grammar.Tokens.{Alias, Anchor, BlockEnd, BlockEntry, BlockMappingStart, BlockSequenceStart, Content, DocumentEnd, DocumentStart, FlowMappingEnd, FlowMappingStart, FlowSequenceEnd, FlowSequenceStart, Key, Marks, Scalar, ScalarText, StreamEnd, StreamStart, Tag}
-use Rattle.libyaml_grammar.specs.grammar.Tokens.{TagDirective, Token, Value, VersionDirective, marks_of, tok}
+use Rattle.libyaml_grammar.specs.grammar.Tokens.{Alias, Anchor, BlockEnd, BlockEntry, BlockMappingStart, BlockSequenceStart, Content, DocumentEnd, DocumentStart, FlowMappingEnd, FlowSequenceEnd, Key, Marks, ScalarText, StreamEnd, Tag, TagDirective, Token, Value, VersionDirective, marks_of, tok}
 use Rattle.libyaml_grammar.specs.grammar.Trees.{Before, BlockItems, BlockNode, BlockSlot, Directive, Directives, Documents, FlowMember, FlowNode, FlowSlot, Free, Parts, Properties, alone, anchor, anchor_tag, following, block_mapping, block_sequence, collection, directive, ended, explicit, flow}
 use Rattle.libyaml_grammar.specs.grammar.Trees.{flow_node, flow_nothing, free, implicit, indentless, item, key, last, mapping, no_directives, no_last, no_parts, no_value, node, nothing, opened, pair, part, scalar, sequence, single, slot_of, tag, tag_anchor, value, whole, with_value}
 use Rattle.libyaml_grammar.specs.grammar.Events.{Event, alone_of, directive_start, document_end_at, document_start_at, empty_at, end_at, end_of, first_directive, scalar_of, tag_of}
@@ -52,17 +51,11 @@ documents_follow n d _ m r = refl
 -- where a whole node fills its place
 block_waits : (c : BlockPlace) (x : BlockNode)
     → waits AtState (popped (node_config (block c))) ≡ waits (want_of (fill c x)) (config_of (fill c x))
-block_waits (root (implicit_root f)) x = refl
-block_waits (slot (part_place c o m ps k v)) x = refl
-block_waits _ x = refl
+block_waits c x = grind arith
 
 flow_waits : (p : Place) (x : FlowNode)
     → waits AtState (popped (node_config p)) ≡ waits (want_of (fill_flow p x)) (config_of (fill_flow p x))
-flow_waits (block c) x = block_waits c (flow x)
-flow_waits (flow_entry (open_collection p o sequence m is)) x = refl
-flow_waits (flow_key (open_collection p o sequence m is) k) x = refl
-flow_waits (flow_value (open_collection p o sequence m is) k y v) x = refl
-flow_waits _ x = refl
+flow_waits p x = grind arith
 
 popped_flow : (p : Place) (x : FlowNode) (k : Content) (m : Marks)
     → without_lookahead (staying (tok k m) (popped (node_config p))) ≡ config_of (fill_flow p x)
@@ -174,22 +167,9 @@ abbrev UnlessEnded : Bool → Type 0 → Type 0
 UnlessEnded true A = Unit {0}
 UnlessEnded false A = A
 
-unless_ended : (b : Bool) {A : Type 0} → A → UnlessEnded b A
-unless_ended true h = tt
-unless_ended false h = h
-
 node_follows : (n : ℕ) (p : Place) (k : Content) (m : Marks) (r : List Event)
     → UnlessEnded (ends_empty p k) (Node n p k m r)
-node_follows n p (Scalar v) m r = unless_ended (ends_empty p (Scalar v)) (scalar_follows p None v m r)
-node_follows n (block (root (implicit_root f))) _ m r = refl
-node_follows n (block (root (explicit_root b ds s))) _ m r = assumption
-node_follows n (block (entry c o s is e)) _ m r = assumption
-node_follows n (block (slot (part_place c o s ps t v))) _ m r = assumption
-node_follows n (block (indentless_entry (part_place c o s ps t v) y is e)) _ m r = assumption
-node_follows n (flow_entry (open_collection p o sequence s is)) _ m r = refl
-node_follows n (flow_key (open_collection p o sequence s is) e) _ m r = assumption
-node_follows n (flow_value (open_collection p o sequence s is) e y v) _ m r = assumption
-node_follows n _ _ m r = assumption
+node_follows n p k m r = grind arith
 
 nothing_follows : (n : ℕ) (p : Place) (k : Content) (m : Marks) (r : List Event) → IsDue p
     → spends (suc (suc (suc (suc n)))) (want_of (due p None)) (config_of (due p None)) k m r ≡ (
@@ -257,10 +237,7 @@ alone_given p ps k m = Ok (Given (alone_of (declared p) ps), staying (tok k m) (
 
 only_is : (p : Place) (ps : Properties) (k : Content) (m : Marks)
     → with_none p ps k m ≡ alone_given p ps k m
-only_is p (anchor a x) k m = refl
-only_is p (tag h x) k m = refl
-only_is p (anchor_tag a x h y) k m = refl
-only_is p (tag_anchor h x a y) k m = refl
+only_is p ps k m = grind arith
 
 content_is : (p : Place) (ps : Properties) (k : Content) (m : Marks) → properties_in_order (declared p) ps true ≡ true
     → at_content p ps k m ≡ with_tag p ps k m
@@ -293,34 +270,21 @@ none_follow n p ps k m r = ap (λ (x : Progressed). after x (more (suc (suc (suc
 sequence_follows : (n : ℕ) (p : Place) (ps : Properties) (m : Marks) (r : List Event)
     → LeadsAfter n p ps BlockSequenceStart m r (with_tag p ps BlockSequenceStart m) (on_block_sequence p (Some ps) m)
     (given_on_block_sequence p (Some ps) m r)
-sequence_follows n (block (root t)) ps m r = refl
-sequence_follows n (block _) ps m r = refl
-sequence_follows n p ps m r = none_follow n p ps BlockSequenceStart m r
+sequence_follows n p ps m r = grind arith
 
 mapping_follows : (n : ℕ) (p : Place) (ps : Properties) (m : Marks) (r : List Event)
     → LeadsAfter n p ps BlockMappingStart m r (with_tag p ps BlockMappingStart m) (on_block_mapping p (Some ps) m)
     (given_on_block_mapping p (Some ps) m r)
-mapping_follows n (block (root t)) ps m r = refl
-mapping_follows n (block _) ps m r = refl
-mapping_follows n p ps m r = none_follow n p ps BlockMappingStart m r
+mapping_follows n p ps m r = grind arith
 
 entry_follows : (n : ℕ) (p : Place) (ps : Properties) (m : Marks) (r : List Event)
     → LeadsAfter n p ps BlockEntry m r (with_tag p ps BlockEntry m) (on_block_entry p (Some ps) m)
     (given_on_block_entry p (Some ps) m r)
-entry_follows n (block (slot c)) ps m r = refl
-entry_follows n p ps m r = none_follow n p ps BlockEntry m r
+entry_follows n p ps m r = grind arith
 
 content_follows : (n : ℕ) (p : Place) (ps : Properties) (k : Content) (m : Marks) (r : List Event) → (IsProperty k → ⊥)
     → LeadsAfter n p ps k m r (with_tag p ps k m) (on_due p (Some ps) k m) (given_on_due p (Some ps) k m r)
-content_follows n p ps (Anchor a) m r w = absurd (w tt)
-content_follows n p ps (Tag h) m r w = absurd (w tt)
-content_follows n p ps (Scalar v) m r w = scalar_follows p (Some ps) v m r
-content_follows n p ps FlowSequenceStart m r w = refl
-content_follows n p ps FlowMappingStart m r w = refl
-content_follows n p ps BlockSequenceStart m r w = sequence_follows n p ps m r
-content_follows n p ps BlockMappingStart m r w = mapping_follows n p ps m r
-content_follows n p ps BlockEntry m r w = entry_follows n p ps m r
-content_follows n p ps k m r w = none_follow n p ps k m r
+content_follows n p ps k m r w = grind (arith, scalar_follows, sequence_follows, mapping_follows, entry_follows, none_follow)
 
 -- a token after properties
 abbrev Behaves : ℕ → Place → Properties → Content → Marks → List Event → Type 0
@@ -410,8 +374,7 @@ headed_follows n b ds d _ m r = refl
 unopened_follows : (n : ℕ) (k : Content) (m : Marks) (r : List Event)
     → spends (suc n) AtState (config_of unopened) k m r
     ≡ (given_at_unopened k m r, step_ends (at_unopened k m) no_directives k m)
-unopened_follows n (StreamStart e) m r = refl
-unopened_follows n _ m r = refl
+unopened_follows n k m r = grind arith
 
 -- all that a token makes the machine do at a position is what the grammar says of it
 pub follows : (n : ℕ) (q : Position) (k : Content) (m : Marks) (r : List Event) → IsMet q

@@ -134,10 +134,7 @@ room w c k = room_for w.next c.state k
 
 -- a rank is small
 pub rank_small : (s : yaml_parser_state_t) (k : Content) → rank s k ≤ 5
-rank_small st.YAML_PARSE_INDENTLESS_SEQUENCE_ENTRY_STATE BlockEntry = omega arith
-rank_small st.YAML_PARSE_BLOCK_MAPPING_KEY_STATE Value = omega arith
-rank_small st.YAML_PARSE_BLOCK_MAPPING_VALUE_STATE Value = omega arith
-rank_small _ k = omega arith
+rank_small s k = grind arith
 
 -- what a step leads to, by the states and marks on the stacks
 abbrev pub OnStacks : Type 0
