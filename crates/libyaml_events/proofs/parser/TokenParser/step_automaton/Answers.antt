@@ -1,4 +1,4 @@
-use Rattle.std.proofs.Common.{None, true, ◌≡◌, ◌∙◌, ap, rules}
+use Rattle.std.proofs.Common.{None, true, ◌≡◌, ◌∙◌, rules, arith}
 use Rattle.std.specs.Vec.{with_items}
 use Rattle.std.proofs.lemmas.List.{with_items_is}
 use Rattle.libyaml_types.specs.Fault.{fault_of}
@@ -6,7 +6,6 @@ use Rattle.libyaml_automaton.specs.declared.action.Action.TheVariants as action
 use Rattle.libyaml_automaton.specs.Config.{stacks_of}
 use Rattle.libyaml_automaton.specs.Growth.{opens, pushes}
 use Rattle.libyaml_automaton.specs.Numbers.{next_of}
-use Rattle.libyaml_events.specs.declared.parser.TokenParser.TheInside.{Inside}
 use Rattle.libyaml_events.specs.machine.Config.{config_with}
 use Rattle.libyaml_events.proofs.layer.Stacks.{same_reading}
 use Rattle.libyaml_events.proofs.layer.StepWithTexts.{grows_asked, grows_full, leads, pushes_full, still_ready}
@@ -15,8 +14,7 @@ use Rattle.libyaml_events.proofs.parser.TokenParser.step_automaton.Goals as goal
 -- the parser before the step, by its buffers
 was : (c : goal.After-self-2-1) → config_with (stacks_of c.self-inside.inside.0.0.automaton c.as_mut_slice.result.now
     c.as_mut_slice-2.result.now) c.self-inside.inside.0.1.0 (fault_of c.self-inside.inside.0.1.1.1.0) None ≡ c.args.self.now
-was c = rw (c.as_mut_slice.ensures.value, c.as_mut_slice-2.ensures.value)
-    (ap (λ (x : Inside). config_with x.automaton x.handles (fault_of x.prefix) None) c.self-inside.view_is ∙ c.self.view_is)
+was c = grind arith
 
 -- the buffers after the step are what the step left
 states : (c : goal.After-self-2-1) → (with_items c.self-inside.inside.0.0.states c.step.new.states).items ≡ c.step.new.states

@@ -1,4 +1,4 @@
-use Rattle.std.proofs.Common.{None, ◌≡◌, ◌∙◌, ap, rules, true}
+use Rattle.std.proofs.Common.{None, ◌≡◌, ap, rules, true, arith}
 use Rattle.std.specs.Vec.{with_items}
 use Rattle.std.proofs.lemmas.List.{with_items_is}
 use Rattle.libyaml_types.specs.Fault.{fault_of}
@@ -6,7 +6,6 @@ use Rattle.libyaml_automaton.specs.declared.action.Action.TheVariants as action
 use Rattle.libyaml_automaton.specs.Config.{stacks_of}
 use Rattle.libyaml_automaton.specs.Growth.{pushes_in_documents}
 use Rattle.libyaml_automaton.specs.Numbers.{flag, next_of}
-use Rattle.libyaml_events.specs.declared.parser.TokenParser.TheInside.{Inside}
 use Rattle.libyaml_events.specs.machine.Config.{Config, config_with}
 use Rattle.libyaml_events.proofs.layer.StepWithTexts.{still_ready}
 use Rattle.libyaml_events.proofs.layer.Directives.{document_grows, document_leads, handle_grows}
@@ -16,14 +15,12 @@ use Rattle.libyaml_events.proofs.parser.TokenParser.step_automaton_in_documents.
 was : (c : goal.After-self-1) → config_with (stacks_of c.self-inside.inside.0.0.automaton c.as_mut_slice.result.now
     c.self-inside.inside.0.0.marks.items) c.self-inside.inside.0.1.0 (fault_of c.self-inside.inside.0.1.1.1.0) None
     ≡ c.args.self.now
-was c = rw c.as_mut_slice.ensures.value
-    (ap (λ (x : Inside). config_with x.automaton x.handles (fault_of x.prefix) None) c.self-inside.view_is ∙ c.self.view_is)
+was c = grind arith
 
 -- the buffer after the step is what the step left
 states : (c : goal.After-self-1) → (with_items c.self-inside.inside.0.0.states c.document_step.new.states).items
     ≡ c.document_step.new.states
-states c = with_items_is c.self-inside.inside.0.0.states c.document_step.new.states
-    (c.document_step.auto.states ∙ c.as_mut_slice.ensures.len)
+states c = grind (arith, with_items_is)
 
 pub returns-clause-led : goal.returns-clause-led
 returns-clause-led c = rw (states c) (document_leads c.self-inside.inside.0.1.0 (fault_of c.self-inside.inside.0.1.1.1.0) None
