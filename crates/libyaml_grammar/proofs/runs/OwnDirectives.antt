@@ -1,12 +1,10 @@
 -- The events of a document depend on its own directives alone, and but for its start on the prefixes that these give.
-use Rattle.std.proofs.Common.{◌≡◌, ℕ, List, [], ◌∷◌, ◌++◌, Option, Some, None, true, false, refl, ap, ◌∙◌}
-use Rattle.libyaml_grammar.specs.grammar.Events.{Event, Layout, alone_of, anchor_of, before_events, before_part, block_layout, block_node_events, block_slot_events, document_start_at, documents_events, end_at, end_of, first_block, first_directive, first_block_entry, first_of, first_of_properties}
-use Rattle.libyaml_grammar.specs.grammar.Events.{flow_items_events, flow_last_events, flow_layout, flow_member_events, flow_node_events, flow_slot_events, free_events, is_missing, items_events, last_of_properties, member_end, opens_pair, parts_events, plain_flag, prefix_of, quoted_flag, resolved}
-use Rattle.libyaml_grammar.specs.grammar.Events.{scalar_at, scalar_of, slot_events, start_at, start_of, tag_from, tag_of}
-use Rattle.libyaml_grammar.specs.grammar.Tokens.{Mark, Marks, ScalarText, TagName}
-use Rattle.libyaml_grammar.specs.grammar.Trees.{Before, BlockItems, BlockNode, BlockSlot, Directives, FlowItems, FlowLast, FlowMember, FlowNode, FlowSlot, Free, Parts, Properties, Slot, Sort, alias, alone, anchor, anchor_tag, block_mapping, block_sequence, collection, empty, explicit, flow}
-use Rattle.libyaml_grammar.specs.grammar.Trees.{flow_node, flow_nothing, implicit, indentless, item, last, mapping, more_items, no_directives, no_items, no_last, no_parts, no_value, node, nothing, pair, part, scalar, sequence, single, slot_of, tag, tag_anchor, with_value}
-use Rattle.libyaml_types.specs.declared.enums.yaml_scalar_style_t.TheVariants.{YAML_PLAIN_SCALAR_STYLE}
+use Rattle.std.proofs.Common.{◌≡◌, ℕ, List, [], ◌∷◌, ◌++◌, Option, true, false, refl, ap, ◌∙◌, arith}
+use Rattle.libyaml_grammar.specs.grammar.Events.{Event, Layout, alone_of, before_events, before_part, block_layout, block_node_events, block_slot_events, document_start_at, documents_events, end_at, end_of, first_block, first_directive, first_block_entry, flow_items_events, flow_last_events}
+use Rattle.libyaml_grammar.specs.grammar.Events.{flow_layout, flow_member_events, flow_node_events, flow_slot_events, free_events, items_events, member_end, opens_pair, parts_events, prefix_of, scalar_of, slot_events, start_of}
+use Rattle.libyaml_grammar.specs.grammar.Tokens.{Mark, Marks, ScalarText}
+use Rattle.libyaml_grammar.specs.grammar.Trees.{Before, BlockItems, BlockNode, BlockSlot, Directives, FlowItems, FlowLast, FlowMember, FlowNode, FlowSlot, Free, Parts, Properties, Slot, Sort, alias, alone, block_mapping, block_sequence, collection, empty, explicit, flow, flow_node, flow_nothing}
+use Rattle.libyaml_grammar.specs.grammar.Trees.{implicit, indentless, item, last, mapping, more_items, no_directives, no_items, no_last, no_parts, no_value, node, nothing, pair, part, scalar, sequence, single, slot_of, with_value}
 use Rattle.libyaml_grammar.proofs.exported.Splits.{block_slot_splits}
 
 pub explicit_own : (ds : Directives) (s : Marks) (x : BlockSlot) (m : Mark) → (e : List Event)
@@ -32,33 +30,14 @@ implicit_own n = (
 )
 
 module _ (ds es : Directives) (same : (h : List ℕ) → prefix_of ds h ≡ prefix_of es h) where
-  resolved_alike : (t : TagName) → resolved ds t ≡ resolved es t
-  resolved_alike t = go t.handle
-    where
-      go : (h : List ℕ) → tag_from ds h t.suffix ≡ tag_from es h t.suffix
-      go [] = refl
-      go (x ∷ h) = ap (λ (p : List ℕ). p ++ t.suffix) (same (x ∷ h))
-
-  tags_alike : (o : Option Properties) → tag_of ds o ≡ tag_of es o
-  tags_alike None = refl
-  tags_alike (Some (anchor a m)) = refl
-  tags_alike (Some (tag t m)) = ap (λ (x : List ℕ). Some x) (resolved_alike t)
-  tags_alike (Some (anchor_tag a m t n)) = ap (λ (x : List ℕ). Some x) (resolved_alike t)
-  tags_alike (Some (tag_anchor t m a n)) = ap (λ (x : List ℕ). Some x) (resolved_alike t)
-
   starts_alike : (k : Sort) (s : Layout) (o : Option Properties) (m : Marks) → start_of ds k s o m ≡ start_of es k s o m
-  starts_alike k s o m = ap (λ (t : Option (List ℕ)). start_at k (anchor_of o) t (is_missing t) s
-      (first_of o m.start) m.end) (tags_alike o)
+  starts_alike k s o m = grind arith
 
   scalars_alike : (o : Option Properties) (v : ScalarText) (m : Marks) → scalar_of ds o v m ≡ scalar_of es o v m
-  scalars_alike o v m = ap (λ (t : Option (List ℕ)). scalar_at (anchor_of o) t v.value (plain_flag t v.style)
-      (quoted_flag t v.style) v.style
-      (first_of o m.start) m.end) (tags_alike o)
+  scalars_alike o v m = grind arith
 
   alone_alike : (p : Properties) → alone_of ds p ≡ alone_of es p
-  alone_alike p = ap (λ (t : Option (List ℕ)). scalar_at (anchor_of (Some p)) t [] (is_missing t) false
-      YAML_PLAIN_SCALAR_STYLE (first_of_properties p)
-      (last_of_properties p)) (tags_alike (Some p))
+  alone_alike p = grind arith
 
   -- an event and what follows it
   after_alike : (x y : Event) (l r : List Event) → x ≡ y → l ≡ r → x ∷ l ≡ y ∷ r

@@ -1,13 +1,12 @@
 -- A TAG goes on exactly where a node may begin, or after an ANCHOR that begins one.
-use Rattle.std.specs.Prelude.{◌&&◌}
-use Rattle.std.proofs.Common.{◌≡◌, ℕ, List, [], ◌∷◌, ◌++◌, Some, refl, sym, ap, ◌∙◌, subst, Bool, true, false, inl, inr, ◌↔◌, append-nil}
+use Rattle.std.proofs.Common.{◌≡◌, ℕ, List, [], ◌∷◌, ◌++◌, Some, refl, sym, ap, ◌∙◌, subst, Bool, true, inl, inr, ◌↔◌, append-nil, arith}
 use Rattle.libyaml_grammar.specs.grammar.Tokens.{Anchor, Marks, Tag, TagName, Token, tok, zero_marks}
 use Rattle.libyaml_grammar.specs.grammar.Trees.{anchor_tag, tag}
 use Rattle.libyaml_grammar.specs.partial.PartialTrees.{Place, at_tag_after, content_due, place_tokens}
 use Rattle.libyaml_grammar.specs.grammar.ValidLists.{IsViablePrefix, IsValidList}
 use Rattle.libyaml_grammar.specs.partial.Fits.{NodeBegins}
 use Rattle.libyaml_grammar.proofs.exported.Positions.{Position, due, position_in_order, position_rest, position_tokens, unopened}
-use Rattle.libyaml_grammar.proofs.exported.Reading.{Step, bad, checked, goes, is_legal, over, reads, reads_all, step}
+use Rattle.libyaml_grammar.proofs.exported.Reading.{Step, checked, goes, is_legal, reads, reads_all, step}
 use Rattle.libyaml_grammar.proofs.trees.Append.{partial_append}
 use Rattle.libyaml_grammar.proofs.exported.Cases.{IsTagHeld, TagGoes, step_tag}
 use Rattle.libyaml_grammar.proofs.exported.Completion.{begin_reads, goes_before, position_begins, read_order, reads_append}
@@ -31,20 +30,14 @@ same_prefix (a ∷ s) (b ∷ r) x y e =
     head e f = cc
 
 legal_step : (s : Step) (b : Bool) (p : Position) → checked s b ≡ goes p → s ≡ goes p
-legal_step (goes q) true p e = e
-legal_step (goes q) false p e = cc
-legal_step (bad c) b p e = cc
-legal_step over b p e = cc
+legal_step s b p e = grind arith
 
 module _ (l : List Token) (m : Marks) (s : List ℕ) where
   abbrev whole_tag : TagName
   whole_tag = record { handle = []; suffix = s }
 
   same_tag : (h : TagName) (n : Marks) → tok (Tag h) n ≡ tok (Tag whole_tag) m → h ≡ whole_tag
-  same_tag h n e = inside h whole_tag (ap (λ (t : Token). t.content) e)
-    where
-      inside : (h k : TagName) → Tag h ≡ Tag k → h ≡ k
-      inside h k e = cc
+  same_tag h n e = grind arith
 
   -- the position after the TAG holds it
   held : (x : Position) (b : Bool) → IsTagHeld x b m → position_tokens x [] ≡ l ++ tok (Tag whole_tag) m ∷ []

@@ -1,6 +1,6 @@
 -- A partial tree's tokens, and their order, are those of its right edge; so its tokens with a list after them are its
 -- tokens followed by the list.
-use Rattle.std.proofs.Common.{◌≡◌, List, [], ◌++◌, refl, sym, ap, ◌∙◌, Bool}
+use Rattle.std.proofs.Common.{◌≡◌, List, [], ◌++◌, refl, sym, ◌∙◌, Bool, arith}
 use Rattle.std.proofs.lemmas.List.{append_cancel_right}
 use Rattle.libyaml_grammar.specs.grammar.Trees.{BlockNode, BlockSlot, Documents, FlowNode, FlowSlot, alone, following, block_node_tokens, block_slot_tokens, documents_tokens, explicit, flow, flow_node, flow_node_tokens, flow_nothing, flow_slot_tokens, free, implicit, indentless, item, no_directives}
 use Rattle.libyaml_grammar.specs.grammar.Trees.{no_value, node, nothing, pair, part, single, slot_of, with_value}
@@ -65,7 +65,4 @@ partial_append c r = sym ((edge_told c).0 r) ∙ feeds_keep (partial_tokens c []
 
 -- two partial trees with equal tokens before one list have equal tokens before each
 pub partial_swap : (c d : PartialTree) (r a : List Token) → partial_tokens c r ≡ partial_tokens d r → partial_tokens c a ≡ partial_tokens d a
-partial_swap c d r a e = partial_append c a
-    ∙ (ap (λ (l : List Token). l ++ a) (append_cancel_right (partial_tokens c []) (partial_tokens d []) r (sym (partial_append c r)
-    ∙ (e ∙ partial_append d r)))
-    ∙ sym (partial_append d a))
+partial_swap c d r a e = grind (arith, partial_append, append_cancel_right)

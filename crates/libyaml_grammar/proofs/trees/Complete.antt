@@ -1,16 +1,15 @@
 -- Reading is complete: fed with the tokens of a tree, a position leads to its place filled with that tree, wherever the
 -- next token is taken there. So a stream's tokens lead to the stream.
-use Rattle.std.proofs.Common.{◌≡◌, List, [], ◌∷◌, Option, Some, None, refl, sym, ap, ◌∙◌, subst, Bool}
-use Rattle.libyaml_grammar.specs.grammar.Tokens.{Alias, Anchor, BlockEnd, BlockEntry, BlockMappingStart, BlockSequenceStart, Content, DocumentEnd, DocumentStart, FlowEntry, FlowMappingEnd, FlowMappingStart, FlowSequenceEnd, FlowSequenceStart, Key, Marks, Scalar, StreamEnd, Tag, TagDirective, Token}
-use Rattle.libyaml_grammar.specs.grammar.Tokens.{Value, VersionDirective, marks_of, tok}
-use Rattle.libyaml_grammar.specs.grammar.Trees.{Before, BlockItems, BlockNode, BlockSlot, Directive, Directives, Documents, Ended, FlowItems, FlowLast, FlowMember, FlowNode, FlowSlot, Free, Parts, Properties, Slot, Sort, Stream, again, alias, alone, anchor, before_tokens, following, block_mapping}
+use Rattle.std.proofs.Common.{◌≡◌, List, [], ◌∷◌, Option, Some, None, refl, ap, ◌∙◌, Bool, arith}
+use Rattle.libyaml_grammar.specs.grammar.Tokens.{Alias, Anchor, BlockEnd, BlockEntry, BlockMappingStart, BlockSequenceStart, Content, DocumentEnd, DocumentStart, FlowEntry, FlowMappingEnd, FlowMappingStart, FlowSequenceEnd, FlowSequenceStart, Key, Marks, Scalar, Tag, Token, Value, tok}
+use Rattle.libyaml_grammar.specs.grammar.Trees.{Before, BlockItems, BlockNode, BlockSlot, Directive, Directives, Documents, Ended, FlowItems, FlowLast, FlowMember, FlowNode, FlowSlot, Free, Parts, Properties, Slot, Sort, Stream, again, alias, alone, before_tokens, following, block_mapping}
 use Rattle.libyaml_grammar.specs.grammar.Trees.{block_node_tokens, block_sequence, block_slot_tokens, closing, collection, directive, directive_token, directives_tokens, documents_tokens, empty, ended, ended_tokens, explicit, flow, flow_items_tokens, flow_last_tokens, flow_member_tokens, flow_node}
 use Rattle.libyaml_grammar.specs.grammar.Trees.{flow_node_tokens, flow_nothing, flow_slot_tokens, free, free_tokens, implicit, indentless, item, items_tokens, key, last, mapping, more_items, no_directives, no_items, no_last, no_parts, no_value, node, nothing, once, opened, opening, option_tokens}
-use Rattle.libyaml_grammar.specs.grammar.Trees.{pair, part, parts_tokens, properties_tokens, scalar, sequence, single, slot_of, slot_tokens, tokens, value, version, whole, with_value}
+use Rattle.libyaml_grammar.specs.grammar.Trees.{pair, part, parts_tokens, properties_tokens, scalar, sequence, single, slot_of, slot_tokens, tokens, value, with_value}
 use Rattle.libyaml_grammar.specs.grammar.Events.{Event}
-use Rattle.libyaml_grammar.specs.partial.PartialTrees.{BlockPlace, PartialTree, Open, PartPlace, Place, block, content_due, entry, explicit_root, flow_entry, flow_key, flow_value, implicit_root, indentless_entry, open_collection, part_place, root, slot}
+use Rattle.libyaml_grammar.specs.partial.PartialTrees.{BlockPlace, Open, PartPlace, Place, block, entry, explicit_root, flow_entry, flow_key, flow_value, implicit_root, indentless_entry, open_collection, part_place, root, slot}
 use Rattle.libyaml_grammar.proofs.exported.Positions.{Position, between, done, due, flow_after, flow_due, flow_keyed, headed, in_indentless, in_mapping, in_sequence, unopened}
-use Rattle.libyaml_grammar.proofs.exported.Reading.{Step, bad, after_whole, feed, feeds, fill, fill_block_slot, fill_flow, fill_flow_slot, fill_part, goes, leave, on_due, or_bad, over, step, then_all}
+use Rattle.libyaml_grammar.proofs.exported.Reading.{Step, bad, after_whole, feed, feeds, fill, fill_block_slot, fill_flow, fill_flow_slot, fill_part, goes, leave, on_due, over, step, then_all}
 use Rattle.libyaml_grammar.proofs.exported.ReadSteps.{ReadStep, begins_explicit, ends_indentless, ends_stream, fails, first_handle, first_version, is_past, lacks_value, moves, no_stream, read_step}
 
 -- the token is taken
@@ -29,12 +28,10 @@ abbrev Follows : Position → Position → Type 0
 Follows q p = (k : Content) (m : Marks) → Takes (step p k m) → step q k m ≡ step p k m
 
 follows_feeds : (q p : Position) → Follows q p → (r : List Token) → Ready p r → feeds r q ≡ feeds r p
-follows_feeds q p f [] h = absurd h
-follows_feeds q p f (t ∷ r) h = ap (λ (s : Step). then_all s (feeds r)) (f t.content (marks_of t) h)
+follows_feeds q p f r h = grind arith
 
 follows_ready : (q p : Position) → Follows q p → (r : List Token) → Ready p r → Ready q r
-follows_ready q p f [] h = h
-follows_ready q p f (t ∷ r) h = subst Takes (sym (f t.content (marks_of t) h)) h
+follows_ready q p f r h = grind arith
 
 -- a token that begins a node
 abbrev pub Begins : Content → Type 0
@@ -47,13 +44,6 @@ Begins FlowMappingStart = Unit {0}
 Begins BlockSequenceStart = Unit {0}
 Begins BlockMappingStart = Unit {0}
 Begins _ = ⊥
-
--- after a whole node the step is that of what is after it
-pub whole_step : (p : Place) (n : FlowNode) (k : Content) (m : Marks)
-    → step (fill_flow p n) k m ≡ after_whole (fill_flow p n) k m
-whole_step (block (root (implicit_root f))) n k m = refl
-whole_step (block (slot (part_place c o s ps r v))) n k m = refl
-whole_step _ n k m = refl
 
 -- a token that begins a node, after what is whole and in no place where a node is expected
 abbrev BeginsAfter : Position → Content → Type 0
@@ -77,48 +67,15 @@ never (ends_stream (free f)) b h = b
 never (moves _ v) b h = b
 never _ b h = b
 
-node_begins_after : (p : Place) (n : FlowNode) (k : Content) → Begins k → BeginsAfter (fill_flow p n) k
-node_begins_after (block (root (implicit_root f))) n k b = b
-node_begins_after (block (slot (part_place c o s ps t v))) n k b = b
-node_begins_after _ n k b = b
-
 -- properties alone, or nothing: where the token is taken after it, that is what the place does
 abbrev held : Place → Option Properties → Position
 held p None = leave p
 held p (Some ps) = fill_flow p (alone ps)
 
-or_bad_takes : (s : Step) (c : PartialTree) → Takes s → or_bad s c ≡ s
-or_bad_takes (goes x) c h = refl
-or_bad_takes (bad x) c h = absurd h
-or_bad_takes over c h = absurd h
-
-held_entry : (p : Place) (o : Option Properties) (m : Marks) → Takes (after_whole (held p o) BlockEntry m)
-    → on_due p o BlockEntry m ≡ after_whole (held p o) BlockEntry m
-held_entry (block (slot (part_place c o s es r v))) None m h = absurd h
-held_entry (block (slot (part_place c o s es r v))) (Some ps) m h = absurd h
-held_entry p None m h = or_bad_takes (after_whole (leave p) BlockEntry m) (content_due p) h
-held_entry p (Some ps) m h = refl
-
 held_step : (p : Place) (o : Option Properties) (k : Content) (m : Marks) → (Begins k → ⊥)
     → Takes (after_whole (held p o) k m)
     → on_due p o k m ≡ after_whole (held p o) k m
-held_step p o (Alias a) m n h = absurd (n tt)
-held_step p o (Anchor a) m n h = absurd (n tt)
-held_step p o (Tag a) m n h = absurd (n tt)
-held_step p o (Scalar v) m n h = absurd (n tt)
-held_step p o FlowSequenceStart m n h = absurd (n tt)
-held_step p o FlowMappingStart m n h = absurd (n tt)
-held_step p o BlockSequenceStart m n h = absurd (n tt)
-held_step p o BlockMappingStart m n h = absurd (n tt)
-held_step p o BlockEntry m n h = held_entry p o m h
-held_step p None k m n h = or_bad_takes (after_whole (leave p) k m) (content_due p) h
-held_step p (Some ps) k m n h = refl
-
-alone_follows : (p : Place) (ps : Properties) → Follows (due p (Some ps)) (fill_flow p (alone ps))
-alone_follows p ps k m h =
-    let e = whole_step p (alone ps) k m in
-    held_step p (Some ps) k m (λ b. never (read_step m (fill_flow p (alone ps)) k)
-    (node_begins_after p (alone ps) k b) h) (subst Takes e h) ∙ sym e
+held_step p o k m n h = grind arith
 
 leave_follows : (p : Place) → Follows (due p None) (leave p)
 leave_follows (block (root (implicit_root f))) k m h = refl
@@ -131,13 +88,11 @@ leave_follows p k m h = held_step p None k m (λ b. never (read_step m (leave p)
 -- properties that come first
 properties_feed : (ps : Properties) (p : Place) (r : List Token)
     → feeds (properties_tokens ps r) (due p None) ≡ feeds r (due p (Some ps))
-properties_feed (anchor a m) p r = refl
-properties_feed _ p r = refl
+properties_feed ps p r = grind arith
 
 pub option_feeds : (o : Option Properties) (p : Place) (r : List Token)
     → feeds (option_tokens o r) (due p None) ≡ feeds r (due p o)
-option_feeds None p r = refl
-option_feeds (Some ps) p r = properties_feed ps p r
+option_feeds o p r = grind arith
 
 -- the position at a place of which no token has come
 abbrev pub home : Place → Position
@@ -145,39 +100,23 @@ home (block (root (implicit_root f))) = between (free f)
 home (flow_entry c) = flow_due c
 home p = due p None
 
--- a token that begins a node does there what it does where the node is expected
-home_step : (p : Place) (k : Content) (m : Marks) → Begins k → step (home p) k m ≡ on_due p None k m
-home_step (block (root (implicit_root f))) (VersionDirective a) m b = absurd b
-home_step (block (root (implicit_root f))) (TagDirective a) m b = absurd b
-home_step (block (root (implicit_root f))) DocumentStart m b = absurd b
-home_step (block (root (implicit_root f))) DocumentEnd m b = absurd b
-home_step (block (root (implicit_root f))) StreamEnd m b = absurd b
-home_step (flow_entry c) Key m b = absurd b
-home_step (flow_entry c) FlowSequenceEnd m b = absurd b
-home_step (flow_entry c) FlowMappingEnd m b = absurd b
-home_step _ k m b = refl
-
 -- the list begins with such a token
 abbrev pub BeginsNode : List Token → Type 0
 BeginsNode [] = ⊥
 BeginsNode (t ∷ r) = Begins t.content
 
 pub home_feeds : (p : Place) (l : List Token) → BeginsNode l → feeds l (home p) ≡ feeds l (due p None)
-home_feeds p [] b = absurd b
-home_feeds p (t ∷ r) b = ap (λ (s : Step). then_all s (feeds r)) (home_step p t.content (marks_of t) b)
+home_feeds p l b = grind arith
 
 properties_begin : (ps : Properties) (r : List Token) → BeginsNode (properties_tokens ps r)
-properties_begin (anchor a m) r = tt
-properties_begin _ r = tt
+properties_begin ps r = grind arith
 
 pub option_begins : (o : Option Properties) (k : Content) (m : Marks) (r : List Token) → Begins k
     → BeginsNode (option_tokens o (tok k m ∷ r))
-option_begins None k m r b = b
-option_begins (Some ps) k m r b = properties_begin ps (tok k m ∷ r)
+option_begins o k m r b = grind arith
 
 pub opening_begins : (k : Sort) → Begins (opening k)
-opening_begins sequence = tt
-opening_begins mapping = tt
+opening_begins k = grind arith
 
 pub flow_node_begins : (n : FlowNode) (r : List Token) → BeginsNode (flow_node_tokens n r)
 flow_node_begins (alias a m) r = tt
@@ -192,13 +131,11 @@ block_node_begins (block_mapping o m ps n) r = option_begins o BlockMappingStart
 
 pub opening_feeds : (k : Sort) (m : Marks) (p : Place) (o : Option Properties) (r : List Token)
     → feeds (tok (opening k) m ∷ r) (due p o) ≡ feeds r (flow_due (open_collection p o k m no_items))
-opening_feeds sequence m p o r = refl
-opening_feeds mapping m p o r = refl
+opening_feeds k m p o r = grind arith
 
 -- a pair whose key has come, and no VALUE
 keyed_follows : (c : Open) (e : Marks) (x : FlowSlot) → Follows (flow_keyed c e x) (flow_after c (pair e x no_value))
-keyed_follows c e x Value m h = absurd h
-keyed_follows c e x k m h = refl
+keyed_follows c e x k m h = grind arith
 
 -- the position after the last token of a part on the right edge, and that of the whole part
 abbrev pub edge_flow : Place → FlowNode → Position
@@ -211,13 +148,11 @@ edge_block c n = fill c n
 
 flow_edge_whole : (n : FlowNode) (p : Place) (r : List Token) → Ready (fill_flow p n) r
     → feeds r (edge_flow p n) ≡ feeds r (fill_flow p n)
-flow_edge_whole (alone ps) p r h = follows_feeds (due p (Some ps)) (fill_flow p (alone ps)) (alone_follows p ps) r h
-flow_edge_whole _ p r h = refl
+flow_edge_whole n p r h = grind arith
 
 block_edge_whole : (n : BlockNode) (c : BlockPlace) (r : List Token) → Ready (fill c n) r
     → feeds r (edge_block c n) ≡ feeds r (fill c n)
-block_edge_whole (flow n) c r h = flow_edge_whole n (block c) r h
-block_edge_whole _ c r h = refl
+block_edge_whole n c r h = grind arith
 
 mutual
   pub flow_node_edge : (n : FlowNode) (p : Place) (r : List Token)
@@ -266,8 +201,7 @@ mutual
 -- after an indentless sequence the mapping goes on
 indentless_follows : (c : PartPlace) (o : Option Properties) (is : BlockItems) (e : Marks) (n : BlockSlot)
     → Follows (in_indentless c o is e n) (fill_part c (indentless o is e n))
-indentless_follows (part_place c x s ps r v) o is e n BlockEntry m h = absurd h
-indentless_follows (part_place c x s ps r v) o is e n k m h = refl
+indentless_follows c o is e n k m h = grind arith
 
 mutual
   pub block_node_edge : (n : BlockNode) (c : BlockPlace) (r : List Token)
@@ -320,10 +254,7 @@ heads b (directive ds d) = headed b ds d
 
 pub directive_feed : (b : Before) (ds : Directives) (d : Directive)
     → feed (heads b ds) (directive_token d) ≡ goes (headed b ds d)
-directive_feed (free f) no_directives (version x m) = refl
-directive_feed (following f) no_directives (version x m) = refl
-directive_feed b (directive ds d) (version x m) = refl
-directive_feed _ _ _ = refl
+directive_feed b ds d = grind arith
 
 pub directive_feeds : (b : Before) (ds : Directives) (d : Directive) (r : List Token)
     → feeds (directive_token d ∷ r) (heads b ds) ≡ feeds r (headed b ds d)
@@ -336,14 +267,10 @@ directives_read (directive ds d) b r = directives_read ds b (directive_token d �
 
 pub start_feeds : (b : Before) (ds : Directives) (m : Marks) (r : List Token)
     → feeds (tok DocumentStart m ∷ r) (heads b ds) ≡ feeds r (due (block (root (explicit_root b ds m))) None)
-start_feeds (free f) no_directives m r = refl
-start_feeds (following d) no_directives m r = refl
-start_feeds b (directive ds d) m r = refl
+start_feeds b ds m r = grind arith
 
 pub directive_ready : (b : Before) (d : Directive) → Takes (feed (between b) (directive_token d))
-directive_ready (free f) (version x m) = tt
-directive_ready (following f) (version x m) = tt
-directive_ready _ _ = tt
+directive_ready b d = grind arith
 
 pub directives_ready : (ds : Directives) (b : Before) (r : List Token) → Ready (between b) r
     → Ready (between b) (directives_tokens ds r)
@@ -351,8 +278,7 @@ directives_ready no_directives b r h = h
 directives_ready (directive ds d) b r h = directives_ready ds b (directive_token d ∷ r) (directive_ready b d)
 
 pub start_ready : (b : Before) (m : Marks) → Takes (feed (between b) (tok DocumentStart m))
-start_ready (free f) m = tt
-start_ready (following d) m = tt
+start_ready b m = grind arith
 
 mutual
   documents_read : (d : Documents) (r : List Token) → Ready (between (following d)) r
@@ -377,5 +303,4 @@ mutual
   before_reads (following d) r h = documents_read d r h
 
 pub stream_reads : (t : Stream) → feeds (tokens t) unopened ≡ goes (done t)
-stream_reads (whole (free f) m) = before_reads (free f) (tok StreamEnd m ∷ []) tt
-stream_reads (whole (following d) m) = before_reads (following d) (tok StreamEnd m ∷ []) tt
+stream_reads t = grind (arith, before_reads)

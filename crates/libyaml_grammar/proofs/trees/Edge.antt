@@ -1,5 +1,5 @@
 -- The position that a partial tree's tokens lead to: its right edge, with all that is open around it.
-use Rattle.std.proofs.Common.{◌≡◌, List, ◌∷◌, Option, Some, None, refl, ◌∙◌}
+use Rattle.std.proofs.Common.{◌≡◌, List, ◌∷◌, Option, Some, None, refl, ◌∙◌, arith}
 use Rattle.libyaml_grammar.specs.grammar.Tokens.{Anchor, BlockEntry, BlockMappingStart, BlockSequenceStart, Key, Marks, Token, Value, tok}
 use Rattle.libyaml_grammar.specs.grammar.Trees.{Before, BlockItems, BlockSlot, Directive, Directives, Documents, FlowMember, FlowSlot, Parts, Properties, Sort, anchor, before_tokens, following, block_node_tokens, block_slot_tokens, directive, directive_token, directives_tokens, documents_tokens}
 use Rattle.libyaml_grammar.specs.grammar.Trees.{empty, explicit, flow_node, flow_node_tokens, flow_nothing, flow_slot_tokens, free, implicit, indentless, item, key, no_directives, no_items, no_parts, no_value, node, nothing, opening, option_tokens, pair, part, single, slot_of, value, with_value}
@@ -21,13 +21,11 @@ edge_flow_slot p (flow_node n) = edge_flow p n
 
 slot_edge : (x : BlockSlot) (c : BlockPlace) (r : List Token)
     → feeds (block_slot_tokens x r) (due (block c) None) ≡ feeds r (edge_slot c x)
-slot_edge nothing c r = refl
-slot_edge (node n) c r = block_node_edge n c r
+slot_edge x c r = grind (arith, block_node_edge)
 
 flow_slot_edge : (x : FlowSlot) (p : Place) (r : List Token)
     → feeds (flow_slot_tokens x r) (due p None) ≡ feeds r (edge_flow_slot p x)
-flow_slot_edge flow_nothing p r = refl
-flow_slot_edge (flow_node n) p r = flow_node_edge n p r
+flow_slot_edge x p r = grind (arith, flow_node_edge)
 
 -- a collection that begins at a place of which no token has come
 home_sequence : (o : Option Properties) (c : BlockPlace) (m : Marks) (r : List Token)

@@ -1,13 +1,13 @@
 -- STREAM-END alone leads past the stream's end, so a list without it never stands there.
 use Rattle.std.specs.Prelude.{◌||◌}
-use Rattle.std.proofs.Common.{◌≡◌, List, [], ◌∷◌, refl, sym, ap, ◌∙◌, subst, Bool, true, false}
-use Rattle.libyaml_grammar.specs.grammar.Tokens.{Content, Marks, StreamEnd, Token, marks_of, tok}
-use Rattle.libyaml_grammar.specs.grammar.Trees.{BlockNode, FlowNode, Stream, flow}
+use Rattle.std.proofs.Common.{◌≡◌, List, [], ◌∷◌, refl, sym, ap, ◌∙◌, subst, Bool, true, false, arith}
+use Rattle.libyaml_grammar.specs.grammar.Tokens.{Content, Marks, StreamEnd, Token, tok}
+use Rattle.libyaml_grammar.specs.grammar.Trees.{BlockNode, FlowNode, Stream}
 use Rattle.libyaml_grammar.specs.grammar.Events.{Event}
 use Rattle.libyaml_grammar.specs.grammar.ValidLists.{has_end, is_end}
-use Rattle.libyaml_grammar.specs.partial.PartialTrees.{BlockPlace, Place, block, implicit_root, part_place, root, slot}
+use Rattle.libyaml_grammar.specs.partial.PartialTrees.{BlockPlace, Place}
 use Rattle.libyaml_grammar.proofs.exported.Positions.{Position, done}
-use Rattle.libyaml_grammar.proofs.exported.Reading.{Step, bad, checked, feed, fill, fill_flow, goes, is_legal, over, reads, reads_all, then_all}
+use Rattle.libyaml_grammar.proofs.exported.Reading.{Step, bad, checked, fill, fill_flow, goes, over, reads, reads_all, then_all}
 use Rattle.libyaml_grammar.proofs.exported.ReadSteps.{ReadStep, a_scalar, an_alias, closes_at_mapping, closes_at_sequence, closes_mapping, closes_sequence, ends_mapping, ends_sequence, fails, is_past, leaves, moves, read_step}
 
 abbrev pub DoneAt : Position → Bool → Type 0
@@ -20,13 +20,10 @@ Done (bad c) b = Unit {0}
 Done over b = Unit {0}
 
 fill_open : (c : BlockPlace) (x : BlockNode) → DoneAt (fill c x) false
-fill_open (root (implicit_root f)) x = refl
-fill_open (slot (part_place c o m ps k v)) x = refl
-fill_open _ x = refl
+fill_open c x = grind arith
 
 fill_flow_open : (p : Place) (x : FlowNode) → DoneAt (fill_flow p x) false
-fill_flow_open (block c) x = fill_open c (flow x)
-fill_flow_open _ x = refl
+fill_flow_open p x = grind arith
 
 ends : {m : Marks} {q : Position} {k : Content} {s : Step} {g : List Event → List Event} {l : Bool}
     → ReadStep m q k s g l → Done s (is_end k)
@@ -45,14 +42,10 @@ ends (closes_at_mapping p) = fill_flow_open p _
 ends _ = refl
 
 checked_done : (s : Step) (b x : Bool) → Done s x → Done (checked s b) x
-checked_done (goes q) true x h = h
-checked_done (goes q) false x h = tt
-checked_done (bad c) b x h = tt
-checked_done over b x h = tt
+checked_done s b x h = grind arith
 
 pub reads_done : (q : Position) (t : Token) → Done (reads q t) (is_end t.content)
-reads_done q t = checked_done (feed q t) (is_legal q t.content) (is_end t.content)
-    (ends (read_step (marks_of t) q t.content))
+reads_done q t = grind (arith, checked_done, ends, read_step)
 
 -- a list without STREAM-END that is read from before the stream's end does not lead past it
 pub stays_open : (l : List Token) (q p : Position) → DoneAt q false → has_end l ≡ false → reads_all l q ≡ goes p
@@ -76,11 +69,4 @@ stays_open (t ∷ l) q p d n e =
 
 -- STREAM-END leads past the stream's end
 pub ends_done : (q p : Position) (m : Marks) → reads q (tok StreamEnd m) ≡ goes p → (t : Stream) × (p ≡ done t)
-ends_done q p m e = go p (subst (λ (s : Step). Done s true) e (reads_done q (tok StreamEnd m)))
-  where
-    no : true ≡ false → ⊥
-    no x = cc
-
-    go : (p : Position) → DoneAt p true → (t : Stream) × (p ≡ done t)
-    go (done t) h = (t, refl)
-    go _ h = absurd (no h)
+ends_done q p m e = grind arith

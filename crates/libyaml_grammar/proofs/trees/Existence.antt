@@ -1,19 +1,17 @@
 -- Where reading stops with a partial tree, the rules name that one: what ends it, what its place wants, and whether its
 -- token is a directive or a TAG.
-use Rattle.std.specs.Prelude.{◌&&◌, not}
-use Rattle.std.proofs.Common.{◌≡◌, List, [], ◌∷◌, Option, Some, None, refl, sym, ap, ◌∙◌, subst, ◌⊎◌, inl, inr, ⊎_elim, Bool, true, false}
+use Rattle.std.proofs.Common.{◌≡◌, List, [], ◌∷◌, Some, None, sym, ap, ◌∙◌, subst, ◌⊎◌, inl, inr, ⊎_elim, Bool, true, false, arith}
 use Rattle.std.proofs.lemmas.Bool.{true_from_ne_false}
-use Rattle.libyaml_grammar.specs.grammar.Tokens.{Anchor, AnchorName, Content, DocumentEnd, DocumentStart, Marks, StreamEnd, TagDirective, Token, VersionDirective, tok}
-use Rattle.libyaml_grammar.specs.grammar.Trees.{Before, Directive, Directives, Documents, Free, Properties, anchor, anchor_tag, following, directive, explicit, flow_nothing, free, implicit, indentless, item, no_directives, no_value, node, nothing, pair, part, slot_of, tag, tag_directive, version}
-use Rattle.libyaml_grammar.specs.grammar.Trees.{with_value}
-use Rattle.libyaml_grammar.specs.grammar.Order.{declares, is_accepted, is_known, no_version}
+use Rattle.libyaml_grammar.specs.grammar.Tokens.{Anchor, AnchorName, Content, Marks, Token, tok}
+use Rattle.libyaml_grammar.specs.grammar.Trees.{Before, Directive, Directives, Documents, Free, anchor, anchor_tag, following, directive, explicit, flow_nothing, free, implicit, indentless, item, no_directives, no_value, node, nothing, pair, part, slot_of, tag, with_value}
+use Rattle.libyaml_grammar.specs.grammar.Order.{is_known}
 use Rattle.libyaml_grammar.specs.grammar.Events.{Event}
 use Rattle.libyaml_grammar.specs.partial.PartialTrees.{PartialTree, Place, at_directive, at_tag, at_tag_after, before_stream, block, content_due, declared, document_due, entry, entry_due, explicit_root, flow_key, flow_value, implicit_root, indentless_entry, part_due, part_place, place_tokens, root}
 use Rattle.libyaml_grammar.specs.partial.PartialTrees.{separator_due, slot, start_due}
-use Rattle.libyaml_grammar.specs.partial.Fits.{EndsEmpty, FitsDirective, IsUnknownTag, WantsContent, empty_root, ends_empty, ends_empty_document, is_directive, last_empty}
+use Rattle.libyaml_grammar.specs.partial.Fits.{EndsEmpty, FitsDirective, IsUnknownTag, WantsContent, empty_root, is_directive, last_empty}
 use Rattle.libyaml_grammar.proofs.exported.Positions.{Position, between, due, headed, unopened}
-use Rattle.libyaml_grammar.proofs.exported.Reading.{Step, bad, bad_same, broken, checked, feeds, goes, goes_same, is_legal, over, reads, reads_all, step}
-use Rattle.libyaml_grammar.proofs.exported.OnePartialTree.{content_fails, step_partial, stops_at_tag, stops_at_tag_after}
+use Rattle.libyaml_grammar.proofs.exported.Reading.{Step, bad, bad_same, broken, checked, feeds, goes, goes_same, is_legal, reads, reads_all, step}
+use Rattle.libyaml_grammar.proofs.exported.OnePartialTree.{step_partial, stops_at_tag, stops_at_tag_after}
 use Rattle.libyaml_grammar.proofs.exported.Orders.{reads_to}
 use Rattle.libyaml_grammar.proofs.exported.ReadSteps.{ReadStep, a_tag, fails, leaves, moves, no_document, no_document_start, no_stream, read_step, tag_after_anchor}
 use Rattle.libyaml_grammar.proofs.trees.Edge.{partial_reads, edge_documents, place_reads, reached}
@@ -23,8 +21,7 @@ use Rattle.libyaml_grammar.proofs.trees.Complete.{home}
 
 -- an order cut is that of the position
 order_or_goes : (q : Position) (b : Bool) (c : PartialTree) → checked (goes q) b ≡ bad c → broken q ≡ c
-order_or_goes q true c e = cc
-order_or_goes q false c e = cc
+order_or_goes q b c e = grind arith
 
 -- a cut by order
 abbrev IsOrderPartial : PartialTree → Type 0
@@ -34,35 +31,13 @@ IsOrderPartial (at_tag p) = Unit {0}
 IsOrderPartial (at_tag_after p a m) = Unit {0}
 IsOrderPartial _ = ⊥
 
-broken_due : (p : Place) (o : Option Properties) → IsOrderPartial (broken (due p o))
-broken_due p (Some (tag h m)) = tt
-broken_due p (Some (anchor_tag a m h n)) = tt
-broken_due p _ = tt
-
-broken_is : (q : Position) → IsOrderPartial (broken q)
-broken_is (headed b ds d) = tt
-broken_is (due p o) = broken_due p o
-broken_is _ = tt
-
 -- where a token is bad at no cut of the order, the step fails
 step_or_order : (s : Step) (l : Bool) (c : PartialTree) → checked s l ≡ bad c → (s ≡ bad c) ⊎ IsOrderPartial c
-step_or_order (goes x) l c e = inr (subst IsOrderPartial (order_or_goes x l c e) (broken_is x))
-step_or_order (bad d) l c e = inl e
-step_or_order over l c e = absurd cc
+step_or_order s l c e = grind arith
 
 step_fails : (q : Position) (k : Content) (m : Marks) (c : PartialTree) → (IsOrderPartial c → ⊥) → reads q (tok k m) ≡ bad c
     → step q k m ≡ bad c
 step_fails q k m c n e = ⊎_elim (λ f. f) (λ f. absurd (n f)) (step_or_order (step q k m) (is_legal q k) c e)
-
-ends_nothing : (p : Place) (k : Content) (m : Marks) → reads (home p) (tok k m) ≡ bad (content_due p)
-    → ends_empty p k ≡ false
-ends_nothing p k m e = content_fails (read_step m (home p) k) p (step_fails (home p) k m (content_due p) (λ f. f) e)
-
-directive_ends_empty : (k : Content) → is_directive k ≡ true → ends_empty_document k ≡ true
-directive_ends_empty DocumentStart e = refl
-directive_ends_empty DocumentEnd e = refl
-directive_ends_empty StreamEnd e = refl
-directive_ends_empty k e = e
 
 -- a cut that is neither of its place nor of the order does not come there
 not_left : (p : Place) (k : Content) (m : Marks) (c : PartialTree) → (c ≡ content_due p → ⊥) → (IsOrderPartial c → ⊥)
@@ -78,9 +53,7 @@ bad_ends_root (explicit b ds s (node x)) k m e = tt
 bad_ends_root (implicit f x) k m e = tt
 
 directive_ends_root : (d : Documents) (k : Content) → is_directive k ≡ true → EndsEmpty (empty_root d) k
-directive_ends_root (explicit b ds s nothing) k e = directive_ends_empty k e
-directive_ends_root (explicit b ds s (node x)) k e = tt
-directive_ends_root (implicit f x) k e = tt
+directive_ends_root d k e = grind arith
 
 abbrev pub StopsAt : PartialTree → Content → Marks → Type 0
 StopsAt c k m = reads (reached c) (tok k m) ≡ bad c
@@ -105,8 +78,7 @@ gives_empty_end (separator_due c (pair y x (with_value v flow_nothing))) k m d e
 gives_empty_end _ k m d e = tt
 
 pub gives_content : (c : PartialTree) (k : Content) (m : Marks) → StopsAt c k m → WantsContent c k
-gives_content (content_due p) k m e = ends_nothing p k m e
-gives_content _ k m e = tt
+gives_content c k m e = grind arith
 
 abbrev pub IsTagPartial : PartialTree → Type 0
 IsTagPartial (at_tag p) = Unit {0}
@@ -171,14 +143,7 @@ start_fails _ b ds d e = cc
 no_root : (f : Free) (k : Content) (m : Marks)
     → reads (between (free f)) (tok k m) ≡ bad (content_due (block (root (implicit_root f))))
     → is_directive k ≡ false
-no_root f (VersionDirective x) m e = let h
-    = order_or_goes (headed (free f) no_directives (version x m))
-    (no_version no_directives && is_accepted x.major x.minor)
-    (content_due (block (root (implicit_root f)))) e in cc
-no_root f (TagDirective x) m e = let h
-    = order_or_goes (headed (free f) no_directives (tag_directive x m)) (not (declares no_directives x.handle))
-    (content_due (block (root (implicit_root f)))) e in cc
-no_root f _ m e = refl
+no_root f k m e = grind arith
 
 pub gives_directive : (c : PartialTree) (k : Content) (m : Marks) → StopsAt c k m → FitsDirective c k
 gives_directive (document_due d) k m e

@@ -1,5 +1,5 @@
 -- The tokens of each production determine it, with the same tokens after it: it is put into a stream.
-use Rattle.std.proofs.Common.{◌≡◌, List, [], ◌∷◌, None, refl, sym, ap, ◌∙◌}
+use Rattle.std.proofs.Common.{◌≡◌, List, [], ◌∷◌, None, sym, ap, ◌∙◌, arith}
 use Rattle.libyaml_grammar.specs.grammar.Tokens.{BlockEnd, BlockMappingStart, BlockSequenceStart, DocumentStart, FlowSequenceEnd, FlowSequenceStart, Key, StreamEnd, StreamStart, Token, Value, tok, zero_marks}
 use Rattle.libyaml_grammar.specs.grammar.Trees.{Before, BlockItems, BlockNode, BlockSlot, Directives, Documents, FlowItems, FlowLast, FlowMember, FlowNode, FlowSlot, Parts, Properties, Slot, Stream, alone, before_tokens, following, block_mapping, block_node_tokens, block_sequence, block_slot_tokens}
 use Rattle.libyaml_grammar.specs.grammar.Trees.{collection, directives_tokens, documents_tokens, explicit, flow, flow_items_tokens, flow_last_tokens, flow_member_tokens, flow_node_tokens, flow_slot_tokens, free, items_tokens, last, no_directives, no_items, no_last, no_parts, no_value, node, nothing}
@@ -81,8 +81,7 @@ entries_cut s (last e) = separator_due (open_collection (block top) None sequenc
 partial_entries : (s : FlowItems) (u : FlowLast) (r : List Token)
     → partial_tokens (entries_cut s u) r ≡ in_stream
     (tok FlowSequenceStart zero_marks ∷ flow_items_tokens s (flow_last_tokens u r))
-partial_entries s no_last r = refl
-partial_entries s (last e) r = refl
+partial_entries s u r = grind arith
 
 pub entries_law : (s t : FlowItems) (u v : FlowLast) (r : List Token)
     → flow_items_tokens s (flow_last_tokens u r) ≡ flow_items_tokens t (flow_last_tokens v r)
@@ -130,8 +129,7 @@ place_at d (due p o) = p
 place_at d q = d
 
 home_place : (d p : Place) → place_at d (home p) ≡ p
-home_place d (block (root (implicit_root f))) = refl
-home_place d _ = refl
+home_place d p = grind arith
 
 pub place_law : (p q : Place) (r : List Token) → place_tokens p r ≡ place_tokens q r → p ≡ q
 place_law p q r e =

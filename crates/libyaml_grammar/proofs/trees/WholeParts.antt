@@ -1,10 +1,10 @@
 -- No collection's tokens begin those of another, and no valid list another.
-use Rattle.std.proofs.Common.{◌≡◌, ℕ, zero, suc, List, [], ◌∷◌, ◌++◌, Option, Some, None, refl, sym, ap, ◌∙◌, subst}
+use Rattle.std.proofs.Common.{◌≡◌, ℕ, zero, suc, List, [], ◌∷◌, ◌++◌, Option, refl, sym, ap, ◌∙◌, subst, arith}
 use Rattle.std.proofs.lemmas.List.{append_cancel_left}
 use Rattle.libyaml_grammar.specs.grammar.Tokens.{BlockEnd, BlockEntry, BlockMappingStart, BlockSequenceStart, Content, FlowEntry, FlowMappingEnd, FlowMappingStart, FlowSequenceEnd, FlowSequenceStart, Marks, Scalar, Token, tok}
-use Rattle.libyaml_grammar.specs.grammar.Trees.{BlockItems, BlockNode, BlockSlot, FlowItems, FlowLast, FlowMember, FlowNode, FlowSlot, FlowValue, IsCollection, Parts, Properties, Role, Slot, Sort, alias, alone, anchor, block_mapping, block_node_tokens, block_sequence, block_slot_tokens, closing}
-use Rattle.libyaml_grammar.specs.grammar.Trees.{collection, empty, flow, flow_items_tokens, flow_last_tokens, flow_member_tokens, flow_node, flow_node_tokens, flow_nothing, flow_slot_tokens, flow_value_tokens, indentless, item, items_tokens, key, last, mapping, more_items, no_items, no_last}
-use Rattle.libyaml_grammar.specs.grammar.Trees.{no_parts, no_value, node, nothing, opening, option_tokens, pair, part, parts_tokens, properties_tokens, role_token, scalar, sequence, single, slot_of, slot_tokens, value, with_value}
+use Rattle.libyaml_grammar.specs.grammar.Trees.{BlockItems, BlockNode, BlockSlot, FlowItems, FlowLast, FlowMember, FlowNode, FlowSlot, FlowValue, IsCollection, Parts, Properties, Role, Slot, Sort, alias, alone, block_mapping, block_node_tokens, block_sequence, block_slot_tokens, closing, collection}
+use Rattle.libyaml_grammar.specs.grammar.Trees.{empty, flow, flow_items_tokens, flow_last_tokens, flow_member_tokens, flow_node, flow_node_tokens, flow_nothing, flow_slot_tokens, flow_value_tokens, indentless, item, items_tokens, last, more_items, no_items, no_last, no_parts, no_value, node}
+use Rattle.libyaml_grammar.specs.grammar.Trees.{nothing, opening, option_tokens, pair, part, parts_tokens, properties_tokens, role_token, scalar, single, slot_of, slot_tokens, with_value}
 use Rattle.libyaml_grammar.specs.grammar.ValidLists.{IsValidList}
 use Rattle.libyaml_grammar.specs.runs.StreamEnds.{up_to_end}
 use Rattle.libyaml_grammar.proofs.exported.Positions.{done, unopened}
@@ -34,26 +34,21 @@ after_inner (t ∷ l) n = turned t.content n l (after_inner l)
 
 -- a part leaves no collection open
 properties_inner : (p : Properties) (r : List Token) (n : ℕ) → after_inner (properties_tokens p r) n ≡ after_inner r n
-properties_inner (anchor x m) r n = refl
-properties_inner _ r n = refl
+properties_inner p r n = grind arith
 
 option_inner : (o : Option Properties) (r : List Token) (n : ℕ) → after_inner (option_tokens o r) n ≡ after_inner r n
-option_inner None r n = refl
-option_inner (Some p) r n = properties_inner p r n
+option_inner o r n = grind arith
 
 opening_inner : (k : Sort) (m : Marks) (r : List Token) (n : ℕ)
     → after_inner (tok (opening k) m ∷ r) n ≡ after_inner r (suc n)
-opening_inner sequence m r n = refl
-opening_inner mapping m r n = refl
+opening_inner k m r n = grind arith
 
 closing_inner : (k : Sort) (m : Marks) (r : List Token) (n : ℕ)
     → after_inner (tok (closing k) m ∷ r) n ≡ closed n r (after_inner r)
-closing_inner sequence m r n = refl
-closing_inner mapping m r n = refl
+closing_inner k m r n = grind arith
 
 role_inner : (k : Role) (m : Marks) (r : List Token) (n : ℕ) → after_inner (tok (role_token k) m ∷ r) n ≡ after_inner r n
-role_inner key m r n = refl
-role_inner value m r n = refl
+role_inner k m r n = grind arith
 
 mutual
   flow_node_inner : (x : FlowNode) (r : List Token) (n : ℕ) → after_inner (flow_node_tokens x r) n ≡ after_inner r n
@@ -128,28 +123,14 @@ after_first [] = []
 after_first (t ∷ l) = opened_by t.content l (after_first l)
 
 option_first : (o : Option Properties) (r : List Token) → after_first (option_tokens o r) ≡ after_first r
-option_first (Some (anchor x m)) r = refl
-option_first _ r = refl
+option_first o r = grind arith
 
 opening_first : (k : Sort) (m : Marks) (r : List Token) → after_first (tok (opening k) m ∷ r) ≡ after_inner r 0
-opening_first sequence m r = refl
-opening_first mapping m r = refl
+opening_first k m r = grind arith
 
 collection_first : (x : BlockNode) (r : List Token) → IsCollection x → after_first (block_node_tokens x r) ≡ r
-collection_first (flow (collection o k m is l e)) r h =
-    option_first o (tok (opening k) m ∷ flow_items_tokens is (flow_last_tokens l (tok (closing k) e ∷ r)))
-    ∙ (opening_first k m (flow_items_tokens is (flow_last_tokens l (tok (closing k) e ∷ r)))
-    ∙ (flow_items_inner is (flow_last_tokens l (tok (closing k) e ∷ r)) 0
-    ∙ (flow_last_inner l (tok (closing k) e ∷ r) 0 ∙ closing_inner k e r 0)))
-collection_first (flow (alias a m)) r h = absurd h
-collection_first (flow (alone p)) r h = absurd h
-collection_first (flow (scalar o v m)) r h = absurd h
-collection_first (block_sequence o m is e) r h =
-    option_first o (tok BlockSequenceStart m ∷ items_tokens is (tok BlockEnd e ∷ r))
-    ∙ items_inner is (tok BlockEnd e ∷ r) 0
-collection_first (block_mapping o m ps e) r h =
-    option_first o (tok BlockMappingStart m ∷ parts_tokens ps (tok BlockEnd e ∷ r))
-    ∙ parts_inner ps (tok BlockEnd e ∷ r) 0
+collection_first x r h =
+    grind (arith, option_first, opening_first, flow_items_inner, flow_last_inner, closing_inner, items_inner, parts_inner)
 
 pub collection_law : (s t : BlockNode) (a b : List Token) → IsCollection s → IsCollection t
     → block_node_tokens s a ≡ block_node_tokens t b → (s ≡ t) × (a ≡ b)
