@@ -1,5 +1,5 @@
 -- What a whole loop over composed events yielded, by the run that was to come.
-use Rattle.std.proofs.Common.{◌≡◌, ◌⊎◌, inl, inr, ◌++◌, ◌∷◌, ℕ, List, [], Some, Ok, Err, refl, sym, ap, subst, ◌∙◌, append-nil}
+use Rattle.std.proofs.Common.{◌≡◌, ◌⊎◌, inl, inr, ◌++◌, ◌∷◌, ℕ, List, [], Some, Ok, Err, refl, sym, ap, subst, ◌∙◌, append-nil, arith}
 use Rattle.libyaml_types.specs.Fault.{Fault, fault_of, memory_fault, SourceResult}
 use Rattle.libyaml_types.specs.Source.{Follows, coming}
 use Rattle.libyaml_types.specs.declared.fault.yaml_parser_t_prefix.{yaml_parser_t_prefix}
@@ -111,12 +111,10 @@ module _ {S : Type 0} (g : Ghosts S)
     from_there = c.leads.loads
 
     faultless : (y : Ending) → bounded_loads n yielded y ≡ as_loads c.documents ++ last_load y ∷ []
-    faultless y = ap (λ (l : List Event). bounded_loads n l y) (sym (append-nil yielded))
-        ∙ (from_there [] y ∙ ap (λ (l : List Load). as_loads c.documents ++ l) (from_none n c.there y))
+    faultless y = grind (arith, append-nil, from_there, from_none)
 
     loads_then : (l : List Load) → loads_from n c.there c.rest x ≡ l → bounded_loads n events x ≡ as_loads c.documents ++ l
-    loads_then l is = ap (λ (e : List Event). bounded_loads n e x) c.first
-        ∙ (from_there c.rest x ∙ ap (λ (k : List Load). as_loads c.documents ++ k) is)
+    loads_then l is = grind arith
 
     up_to : Stops n (g.may_break new.source) c.there ending c.rest x
         → ComposesUpTo n (g.may_break new.source) yielded c.documents ending c.rest x
@@ -127,12 +125,8 @@ module _ {S : Type 0} (g : Ghosts S)
 
     loads : Stops n (g.may_break new.source) c.there ending c.rest x
         → AreLoadsOf g.may_break new c.documents ending (bounded_loads n events x)
-    loads (at_end none same) = in_turn.whole (loads_then (last_load ending ∷ [])
-        (ap (λ (l : List Event). loads_from n c.there l x) none ∙ (from_none n c.there x
-        ∙ ap (λ (y : Ending). last_load y ∷ []) (sym same))))
-    loads (at_event f e later is ends there) = in_turn.whole (loads_then (last_load ending ∷ [])
-        (ap (λ (l : List Event). loads_from n c.there l x) is ∙ (there later x
-        ∙ ap (λ (y : Ending). last_load y ∷ []) (sym ends))))
+    loads (at_end none same) = grind arith
+    loads (at_event f e later is ends there) = grind arith
     loads (early f ends why) = in_turn.cut_short f ends why (loads_from n c.there c.rest x)
         (loads_then (loads_from n c.there c.rest x) refl)
 

@@ -1,5 +1,5 @@
 -- The map of anchors, by its entries.
-use Rattle.std.proofs.Common.{◌≡◌, ◌≤ℤ◌, arith, ℤ, pos, negsuc, ℕ, List, [], ◌∷◌, Option, Some, Bool, true, false, cond, nat_cmp, String, string_bytes, refl, ap, sym, ◌∙◌}
+use Rattle.std.proofs.Common.{◌≡◌, ◌≤ℤ◌, arith, ℤ, pos, ℕ, List, [], ◌∷◌, Option, Some, Bool, cond, nat_cmp, String, string_bytes, refl, ap, sym, ◌∙◌}
 use Rattle.std.specs.Cmp.{eq_by_cmp_equiv}
 use Rattle.std.specs.Cmp.Lexicographic.{slice_cmp, nat_list_cmp_total}
 use Rattle.std.specs.BTreeMap.{BTreeMap, is_at, get_by_text, UpdatesBy}
@@ -12,13 +12,11 @@ use Rattle.std.proofs.lemmas.Map.Lookups.{exact_bytes}
 use Rattle.std.proofs.lemmas.Map.Text.{btree_map_updates_text, is_eq-slice_cmp}
 use Rattle.libyaml_loader.specs.declared.ids.AnchoredNode.{AnchoredNode}
 use Rattle.libyaml_loader.specs.document.Anchors.{anchors_of, anchored_nodes_of}
-use Rattle.std.proofs.lemmas.Int.{ints}
 use Rattle.libyaml_loader.specs.document.Ids.{anchored_node_of, magnitude}
 
 choose : (b : Bool) (c : AnchoredNode) (o : Option AnchoredNode)
     → cond b (Some (anchored_node_of c)) (option_map anchored_node_of o) ≡ option_map anchored_node_of (cond b (Some c) o)
-choose true c o = refl
-choose false c o = refl
+choose b c o = grind arith
 
 module _ {Y : Type 0} where
   find_anchored_node : (es : List (String Y × AnchoredNode)) (q : List ℕ)
@@ -45,5 +43,4 @@ module _ {Y : Type 0} where
       ∙ ap (cond (bytes_eq (string_bytes a) q) (Some (anchored_node_of c))) (get_anchor m q)))
 
 pub magnitude_is : (z : ℤ) → pos 1 ≤ℤ z → z ≡ pos (magnitude z)
-magnitude_is (pos n) h = refl
-magnitude_is (negsuc n) h = absurd (omega (arith, ints))
+magnitude_is z h = grind arith

@@ -1,19 +1,11 @@
 -- What the composer decides of an event is what the loader's machine does.
-use Rattle.std.proofs.Common.{◌≡◌, inl, inr, List, [], ◌∷◌, ℕ, suc, ℤ, pos, length, map, refl, sym, ap, subst, ◌∙◌, Option, Some, None, Bool, true, false, append-nil}
-use Rattle.std.specs.FinMap.{get}
+use Rattle.std.proofs.Common.{◌≡◌, inr, List, ℕ, suc, ℤ, length, map, refl, sym, ap, subst, ◌∙◌, Option, None, true, arith}
 use Rattle.libyaml_types.specs.Types.{event_anchor, event_type}
-use Rattle.libyaml_types.specs.declared.event.unnamed_yaml_event_t_data.TheVariants as ev
 use Rattle.libyaml_types.specs.declared.event.unnamed_yaml_event_t_data.{unnamed_yaml_event_t_data}
-use Rattle.libyaml_types.specs.declared.enums.yaml_node_type_t.TheVariants.{YAML_SEQUENCE_NODE, YAML_MAPPING_NODE}
 use Rattle.libyaml_grammar.specs.grammar.Events.{Event}
 use Rattle.libyaml_grammar.specs.grammar.Tokens.{Mark}
-use Rattle.libyaml_documents.specs.Nodes.{node_at, node_type, type_of}
-use Rattle.libyaml_documents.specs.declared.node.unnamed_yaml_node_t_data.{unnamed_yaml_node_t_data}
-use Rattle.libyaml_documents.specs.declared.node.unnamed_yaml_node_t_data.TheVariants.{Scalar, Sequence, Mapping}
-use Rattle.libyaml_documents.specs.declared.node.yaml_node_t.{yaml_node_t}
-use Rattle.libyaml_graphs.specs.graphs.Graphs.{AnchoredNode, id_or}
-use Rattle.libyaml_graphs.specs.graphs.GraphParts.{Part, alias_part, closing_of, end_part, leaf_part, part_in, part_of, start_part}
-use Rattle.libyaml_graphs.specs.machine.Loader.{Anchors, Loader, OpenNode, bounded_option, failed, going, if_child_fits, on_alias, parent_full, unless_full}
+use Rattle.libyaml_graphs.specs.graphs.GraphParts.{Part, closing_of, part_in, part_of}
+use Rattle.libyaml_graphs.specs.machine.Loader.{Anchors, Loader, bounded_option, failed, going}
 use Rattle.libyaml_composer.specs.declared.deed.Deed.{Deed}
 use Rattle.libyaml_composer.specs.declared.deed.Deed.TheVariants as deed
 use Rattle.libyaml_composer.specs.declared.records.open_t.{open_t}
@@ -21,82 +13,20 @@ use Rattle.libyaml_composer.specs.declared.records.place_t.{place_t}
 use Rattle.libyaml_composer.specs.Composing.{Composer, Told, composer_step, told}
 use Rattle.libyaml_composer.specs.DocumentSoFar as so_far
 use Rattle.libyaml_composer.specs.DocumentSoFar.{DocumentSoFar, IsRefused, anchor_in, anchored, anchored_by, applied_part, event_fact, fault_part, open_of, with_made_node}
-use Rattle.libyaml_composer.specs.Numbers.{is_id}
-use Rattle.libyaml_composer.specs.Represents.{IsNode, PutsNode, DeedFits, Represents, TakesOneMore}
+use Rattle.libyaml_composer.specs.Represents.{IsNode, DeedFits, Represents}
 use Rattle.libyaml_composer.proofs.exported.Follows.{fails_so, goes_on}
 use Rattle.libyaml_composer.proofs.exported.Reasons.{repeated}
 use Rattle.libyaml_loader.specs.declared.context.loader_ctx.{loader_ctx}
-use Rattle.libyaml_graphs.specs.graphs.ComposerFaults.{repeated_anchor}
-use Rattle.libyaml_loader.specs.document.Context.{Decided, Grows, IsListed, Refuses, ComposerMatches, held_of, loader_of, opening_of_document, IsEvent, Named, refusal_of}
+use Rattle.libyaml_loader.specs.document.Context.{Decided, Grows, Refuses, ComposerMatches, held_of, loader_of, opening_of_document, IsEvent, Named, refusal_of}
 use Rattle.libyaml_loader.specs.document.Refusals.{fault_by}
 use Rattle.libyaml_loader.specs.document.Stack.{roomy}
-use Rattle.libyaml_loader.specs.loads.LoadGrowth.{alias_grows, content_grows, load_may_grow, node_grows, parent_grows}
-
--- a sequence takes memory for a child, and a mapping for the value of a key
-sequence_grows : (k : Option ℤ) (x : Option yaml_node_t) → type_of x ≡ YAML_SEQUENCE_NODE → node_grows k x ≡ true
-sequence_grows k None h = absurd cc
-sequence_grows k (Some x) h = go x.content h
-  where
-    go : (c : unnamed_yaml_node_t_data) → node_type c ≡ YAML_SEQUENCE_NODE → content_grows k c ≡ true
-    go (Scalar s) h = absurd cc
-    go (Sequence s) h = refl
-    go (Mapping s) h = absurd cc
-
-pair_grows : (k : ℤ) (x : Option yaml_node_t) → type_of x ≡ YAML_MAPPING_NODE → node_grows (Some k) x ≡ true
-pair_grows k None h = absurd cc
-pair_grows k (Some x) h = go x.content h
-  where
-    go : (c : unnamed_yaml_node_t_data) → node_type c ≡ YAML_MAPPING_NODE → content_grows (Some k) c ≡ true
-    go (Scalar s) h = absurd cc
-    go (Sequence s) h = absurd cc
-    go (Mapping s) h = refl
-
-takes_grow : (d : Deed) → IsListed d → (s : List OpenNode) (nodes : List yaml_node_t) → TakesOneMore d s nodes
-    → parent_grows s nodes ≡ true
-takes_grow deed.Item l [] nodes h = absurd h
-takes_grow deed.Item l (o ∷ s) nodes h = sequence_grows o.key (node_at nodes o.node) h
-takes_grow deed.Value l [] nodes h = absurd h
-takes_grow deed.Value l (o ∷ s) nodes h = ap (λ (k : Option ℤ). node_grows k (node_at nodes o.node)) h.1.1
-    ∙ pair_grows h.1.0 (node_at nodes o.node) h.0
-takes_grow _ l s nodes h = absurd l
-
-listed_put : (d : Deed) → IsListed d → PutsNode d
-listed_put deed.Item l = tt
-listed_put deed.Value l = tt
-listed_put _ l = absurd l
-
-alias_nodes : (b : Bool) (i : ℤ) (a : List ℕ) (m : Mark) (h : DocumentSoFar) → (with_made_node b i (Some (alias_part a m)) h).nodes ≡ h.nodes
-alias_nodes false i a m h = refl
-alias_nodes true i a m h = append-nil h.nodes
+use Rattle.libyaml_loader.specs.loads.LoadGrowth.{load_may_grow}
 
 module _ (n : ℕ) (l : Loader) (h : DocumentSoFar) (same : h.nodes ≡ l.nodes) (s : List open_t) (stack : l.stack ≡ map open_of s)
     (d : Deed) (p : place_t) where
-  listed : (q : Option Part) (k : Loader) → bounded_option n l q ≡ going k → IsListed d → DeedFits d p q h s
-      → load_may_grow l q ≡ true
-  listed None k g is puts = absurd (puts.child (listed_put d is))
-  listed (Some (end_part m)) k g is puts = absurd (puts.child (listed_put d is))
-  listed (Some (leaf_part a x)) k g is puts = refl
-  listed (Some (start_part a x)) k g is puts = refl
-  listed (Some (alias_part a m)) k g is puts = by (get l.anchors a) g
-    where
-      by : (c : Option AnchoredNode)
-          → unless_full false (if_child_fits (parent_full n l.stack l.nodes) (on_alias c m l)) ≡ going k
-          → alias_grows c l ≡ true
-      by None g = absurd cc
-      by (Some c) g = takes_grow d is l.stack l.nodes (rw (← stack) at
-          (subst (TakesOneMore d (map open_of s)) (alias_nodes (is_id p.node) p.node a m h ∙ same) puts.takes))
-
-  noded : (q : Option Part) → IsNode q → load_may_grow l q ≡ true
-  noded None h = absurd h
-  noded (Some (end_part m)) h = absurd h
-  noded (Some (leaf_part a x)) h = refl
-  noded (Some (start_part a x)) h = refl
-  noded (Some (alias_part a m)) h = absurd h
-
   grows_there : (q : Option Part) (k : Loader) → bounded_option n l q ≡ going k → DeedFits d p q h s → Grows d p
       → load_may_grow l q ≡ true
-  grows_there q k g puts (inl made) = noded q (puts.made made.0 made.1)
-  grows_there q k g puts (inr is) = listed q k g is puts
+  grows_there q k g puts h = grind arith
 
 module _ (old : loader_ctx) (new : Composer) (e : Event) (stands : ComposerMatches old) (without : closing_of e ≡ None) (room : ℕ)
     (before p : place_t) (d : Deed)
@@ -137,32 +67,11 @@ module _ (old : loader_ctx) (new : Composer) (e : Event) (stands : ComposerMatch
       go : (d : Deed) → IsRefused d → (d ≡ deed.RepeatedAnchor
           → ctx.first_mark ≡ so_far.first_mark (so_far.anchored_node_named old.anchors (anchor_in (part_of e))) e.start_mark)
           → fault_part d (held_of old) (part_of e) e.start_mark ≡ fault_by (refusal_of d) ctx.first_mark e.start_mark
-      go deed.UndefinedAlias is first = refl
-      go deed.RepeatedAnchor is first = ap (λ (m : Mark). repeated_anchor m e.start_mark) (sym (first refl))
-      go deed.FullList is first = refl
-      go _ is first = absurd is
+      go d is first = grind arith
 
 -- the anchor of an event is that of its part
 pub anchor_at : (k : unnamed_yaml_event_t_data) (m n : Mark) → anchor_in (part_in k m n) ≡ event_anchor k
-anchor_at ev.NoEvent m n = refl
-anchor_at (ev.StreamStart x) m n = refl
-anchor_at ev.StreamEnd m n = refl
-anchor_at (ev.DocumentStart x) m n = refl
-anchor_at (ev.DocumentEnd x) m n = refl
-anchor_at (ev.Alias x) m n = refl
-anchor_at (ev.Scalar x) m n = refl
-anchor_at (ev.SequenceStart x) m n = refl
-anchor_at ev.SequenceEnd m n = refl
-anchor_at (ev.MappingStart x) m n = refl
-anchor_at ev.MappingEnd m n = refl
-
--- and a node's names it
-pub named_at : (k : unnamed_yaml_event_t_data) (m n : Mark) → IsNode (part_in k m n) → (i : ℕ) (xs : Anchors)
-    → anchored_by i (part_in k m n) xs ≡ anchored (event_anchor k) i m xs
-named_at (ev.Scalar x) m n h i xs = refl
-named_at (ev.SequenceStart x) m n h i xs = refl
-named_at (ev.MappingStart x) m n h i xs = refl
-named_at _ m n h i xs = absurd h
+anchor_at k m n = grind arith
 
 -- what is decided of a node whose anchor is the next node's already
 module _ (old named : loader_ctx) (a : Option (List ℕ)) (m : Mark) (e : Event) (id : ℤ) (at : Named old named a m id)
@@ -173,16 +82,11 @@ module _ (old named : loader_ctx) (a : Option (List ℕ)) (m : Mark) (e : Event)
   anchor = sym is.anchor_is ∙ sym (anchor_at e.content e.start_mark e.end_mark)
 
   tells_so : told d p new ≡ composer_step (event_type e.content) (event_fact (held_of old) e) before (roomy room old.collections)
-  tells_so = tells
-      ∙ (ap (λ (i : ℤ). composer_step (event_type e.content) i before (roomy room named.collections))
-      (at.anchored_node ∙ ap (λ (x : Option (List ℕ)). pos (id_or (so_far.anchored_node_named old.anchors x))) anchor)
-      ∙ ap (λ (c : loader_ctx). composer_step (event_type e.content) (event_fact (held_of old) e) before (roomy room c.collections)) at.context)
+  tells_so = grind arith
 
   anchors : anchored a (suc (length old.document.nodes)) m old.anchors
       ≡ anchored_by (suc (length old.document.nodes)) (part_of e) old.anchors
-  anchors = ap (λ (x : Option (List ℕ)). anchored x (suc (length old.document.nodes)) m old.anchors) (sym is.anchor_is)
-      ∙ (ap (λ (x : Mark). anchored (event_anchor e.content) (suc (length old.document.nodes)) x old.anchors) (sym is.mark_is)
-      ∙ sym (named_at e.content e.start_mark e.end_mark node (suc (length old.document.nodes)) old.anchors))
+  anchors = grind arith
 
   pub node_decided : (IsRefused d → ⊥) → (d ≡ deed.FullStack → ⊥)
       → Decided old (record named { collections = new }) (part_of e) e.end_mark d p

@@ -1,5 +1,5 @@
 -- After a document no error is kept.
-use Rattle.std.proofs.Common.{◌≡◌, List, Ok, Err, IfOk, inl, inr, false, sym, ◌∙◌}
+use Rattle.std.proofs.Common.{◌≡◌, List, Ok, Err, IfOk, inl, inr, false, sym, ◌∙◌, arith}
 use Rattle.std.proofs.lemmas.Bool.{true≢false}
 use Rattle.libyaml_events.specs.machine.Config.{Parser}
 use Rattle.libyaml_events.specs.sources.History.{Remembers, has_failed}
@@ -18,5 +18,4 @@ module _ {S : Type 0} (g : Ghosts S) (load : List Event → Ending → Load) (le
   faultless (inl fault) (Ok d) l = absurd (true≢false (sym fault ∙ none))
   faultless (inr (asked, given, history)) (Ok d) (whole taken took loads leaves stands) =
       histories.faultless new _ _ (took.history asked given history).history
-  faultless (inr (asked, given, history)) (Ok d) (at_end taken took loads leaves runs is ended) =
-      histories.faultless new _ _ (took.history asked given history).history
+  faultless (inr (asked, given, history)) (Ok d) (at_end taken took loads leaves runs is ended) = grind arith

@@ -1,6 +1,5 @@
 -- A loaded document is at most twice as large as its events.
 use Rattle.std.proofs.Common.{◌≤◌, ◌*◌, arith, ℕ, List, [], ◌++◌, length, Ok, Err, IfOk, ap, append-nil}
-use Rattle.libyaml_documents.specs.Documents.{Document}
 use Rattle.libyaml_types.specs.declared.source.yaml_token_source_t.{Ghosts}
 use Rattle.libyaml_grammar.specs.runs.Runs.{Ends}
 use Rattle.libyaml_grammar.specs.grammar.Events.{Event}
@@ -20,6 +19,4 @@ linear n g old new (Ok d) (whole taken took loads left between) =
     let a = next_linear (first_stop n [] []) (taken ++ []) Ends d (loads [] Ends) in
     let b = ap length (append-nil taken) in
     (taken, took, omega arith)
-linear n g old new (Ok d) (at_end taken took load left runs empty ended) =
-    let a = ap (λ (c : Document). size c.nodes) empty in
-    (taken, took, omega arith)
+linear n g old new (Ok d) (at_end taken took load left runs empty ended) = grind arith

@@ -1,5 +1,5 @@
 -- What a whole loop over documents yielded, by the run that was to come.
-use Rattle.std.proofs.Common.{◌≡◌, ◌∷◌, ℕ, List, [], None, Some, Ok, Err, inl, inr, refl, sym, ap, subst, ◌∙◌}
+use Rattle.std.proofs.Common.{◌≡◌, ◌∷◌, ℕ, List, [], None, Some, Ok, Err, inl, inr, refl, sym, ap, subst, ◌∙◌, arith}
 use Rattle.std.proofs.lemmas.Bool.{true≢false}
 use Rattle.libyaml_documents.specs.Documents.{Document}
 use Rattle.libyaml_events.specs.machine.Config.{Parser}
@@ -28,22 +28,15 @@ use Rattle.libyaml_types.specs.declared.source.yaml_token_source_t.{Ghosts}
 no_error : {d : Document} {y : yaml_error_type_t} → ◌≡◌ {A = DocumentOrError} (Ok d) (Err y) → ⊥
 no_error h = cc
 
-ok : (a b : Document) → ◌≡◌ {A = DocumentOrError} (Ok a) (Ok b) → a ≡ b
-ok a b h = cc
-
 ends_here : (x : Ending) (d : Document) → last_load x ≡ Ok d → Ends ≡ x
-ends_here Ends d h = refl
-ends_here (Fails f) d h = absurd cc
+ends_here x d h = grind arith
 
 module _ {S : Type 0} (g : Ghosts S) where
   -- a load that returned this document, or failed
   event_result : (new : Parser S) (d : Document) (a : Load) (e : List Event) (x : Ending)
       → UnlessBroken {A = Document} g.may_break (Ok d) new (Answers g.known a (Ok d) new e x)
       → (a ≡ Ok d) × RunToCome g.known new e x
-  event_result new d a e x (no_memory h k) = absurd (no_error h)
-  event_result new d a e x (breaks f b h k) = absurd (no_error h)
-  event_result new d (Ok c) e x (does h) = (ap (λ (z : Document). Ok z) (ok c d (sym h.0)), h.1)
-  event_result new d (Err f) e x (does h) = absurd (no_error h.0)
+  event_result new d a e x h = grind arith
 
   failed : (new : Parser S) (f : yaml_parser_t_prefix) → fault_of f ≡ kept_fault new
       → (l : List Load) (a : Load) (e : List Event) (x : Ending)

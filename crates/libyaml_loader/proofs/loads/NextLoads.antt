@@ -51,9 +51,7 @@ module _ {S : Type 0} (g : Ghosts S) (load : List Event → Ending → Load) (le
       let l = took.runs events ending run in
       inl (ap (λ (x : List Event). load x ending) l.all ∙ gives_it l.later ending
       ∙ ap (λ (p : Parser S). Err (kept_fault p)) (sym (keeps l.run.asked l.run.given l.run.history)))
-  load_of_run old new (Err y) events ending run (by_memory before e parser took keeps grows) =
-      let l = took.runs events ending run in
-      inr (inl (ap (λ (p : Parser S). kept_fault p) (keeps l.run.asked l.run.given l.run.history)))
+  load_of_run old new (Err y) events ending run (by_memory before e parser took keeps grows) = grind arith
 
   pub next_load : (old new : Parser S) (r : DocumentOrError)
       → IfErr r (λ (x : yaml_error_type_t). (x ≡ (kept_fault new).error) × (is_over new ≡ true))

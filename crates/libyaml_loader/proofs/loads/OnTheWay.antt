@@ -1,5 +1,5 @@
 -- A load on the way: the events that it took lead to where its composer stands.
-use Rattle.std.proofs.Common.{◌≡◌, ◌++◌, ◌∷◌, ℕ, List, [], None, Some, Ok, Err, refl, sym, ap, ◌∙◌, append_assoc, true, append-nil, false}
+use Rattle.std.proofs.Common.{◌≡◌, ◌++◌, ◌∷◌, ℕ, List, [], None, Some, Ok, Err, refl, sym, ap, ◌∙◌, append_assoc, true, append-nil, false, arith}
 use Rattle.libyaml_documents.specs.Documents.{Document, empty_document}
 use Rattle.libyaml_events.specs.machine.Config.{Parser}
 use Rattle.libyaml_events.specs.sources.History.{History, between_documents, keeping}
@@ -27,8 +27,7 @@ use Rattle.libyaml_loader.proofs.loads.Taking.{FindsEnd}
 use Rattle.libyaml_graphs.proofs.exported.Leading.{leads_both, leads_none}
 
 none_left : (s : State) → left_from s [] ≡ []
-none_left between = refl
-none_left (within o l) = refl
+none_left s = grind arith
 
 module _ {S : Type 0} (g : Ghosts S) (n : ℕ) where
   -- the events taken since the first parser lead here, and end no document
@@ -61,12 +60,10 @@ module _ {S : Type 0} (g : Ghosts S) (n : ℕ) where
 
     load_after : (e : Event) (rest : List Event) (x : Ending)
         → next_bounded n ((w.taken ++ e ∷ []) ++ rest) x ≡ load_from n here (e ∷ rest) x
-    load_after e rest x = ap (λ (l : List Event). next_bounded n l x) (append_assoc w.taken (e ∷ []) rest)
-        ∙ load_here (e ∷ rest) x
+    load_after e rest x = grind (arith, append_assoc, load_here)
 
     waits : (x : Ending) → next_bounded n w.taken x ≡ last_load x
-    waits x = ap (λ (l : List Event). next_bounded n l x) (sym (append-nil w.taken))
-        ∙ (load_here [] x ∙ nothing_left n here x)
+    waits x = cc (append-nil w.taken, load_here [] x, nothing_left n here x)
 
     -- the next event ends the document
     pub way_ends : (new : Parser S) (e : Event) (o : Opening) (l : Loader) (c : Closing) (d : Document)

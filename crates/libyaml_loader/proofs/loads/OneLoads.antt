@@ -1,5 +1,5 @@
 -- Two outcomes that the contract of a load allows are one.
-use Rattle.std.proofs.Common.{◌≡◌, ◌⊎◌, inl, inr, List, [], ◌∷◌, ◌++◌, None, Ok, Err, IfOk, IfErr, false, refl, sym, ap, ◌∙◌, subst, append_assoc, append-nil}
+use Rattle.std.proofs.Common.{◌≡◌, ◌⊎◌, inl, inr, List, [], ◌∷◌, ◌++◌, None, Ok, Err, IfErr, false, refl, sym, ap, ◌∙◌, subst, append_assoc, append-nil, arith}
 use Rattle.libyaml_documents.specs.Documents.{empty_document}
 use Rattle.libyaml_types.specs.Fault.{SourceResult, Fault, no_fault}
 use Rattle.libyaml_types.specs.declared.source.yaml_token_source_t.{Ghosts}
@@ -15,7 +15,7 @@ use Rattle.libyaml_events.specs.sources.History.{History, source_results, kept_f
 use Rattle.libyaml_events.specs.sources.Needs.{EachNeeded}
 use Rattle.libyaml_events.specs.sources.Parsing.{Cause, FailsBy, of_memory, of_grammar, of_source}
 use Rattle.libyaml_events.proofs.exported.CallsInTurn.{gave_then}
-use Rattle.libyaml_grammar.proofs.exported.Injectivity.{err_same, fault_same, ok_not_err, ok_same, tail_same}
+use Rattle.libyaml_grammar.proofs.exported.Injectivity.{ok_not_err, tail_same}
 use Rattle.libyaml_events.proofs.exported.OneOutcome.{before_last, prefix_same, one_source_proof, ran_once}
 use Rattle.libyaml_events.proofs.exported.RunStops.{RunStop, answers_both, begins_stopped, ended_stop, grammar_stop, one_run_by_answers, source_stop, taken_comparable, token_prefix}
 use Rattle.libyaml_events.proofs.exported.Histories as histories
@@ -29,8 +29,7 @@ more_after [] x y = refl
 more_after (t ∷ l) x y = ap (λ (z : List SourceResult). Ok t ∷ z) (more_after l x y)
 
 both_after : (l : List Token) (x y : List SourceResult) → OneBegins x y → OneBegins (source_results l x) (source_results l y)
-both_after l x y (inl h) = inl (h.0, ap (source_results l) h.1 ∙ more_after l x h.0)
-both_after l x y (inr h) = inr (h.0, ap (source_results l) h.1 ∙ more_after l y h.0)
+both_after l x y h = grind (arith, more_after)
 
 same_after : (l : List Token) (x y : List SourceResult) → source_results l x ≡ source_results l y → x ≡ y
 same_after [] x y e = e
@@ -211,48 +210,12 @@ module _ {S : Type 0} (g : Ghosts S) (load : List Event → Ending → Load) (le
   both_decided : (r s : DocumentOrError) (p q mid other : Parser S) (a b : List Event) (z y : Load) → z ≡ y
       → mid.config ≡ other.config
       → p.max_entries ≡ q.max_entries → Decided z mid a r p → Decided y other b s q → LoadsAlike r p s q
-  both_decided r s p q mid other a b (Ok c) (Ok d) e k m w h =
-      record {
-        result = w.0 ∙ (ap Ok (ok_same c d e) ∙ sym h.0);
-        bound = m;
-        after_document = subst (λ (v : DocumentOrError). IfOk v (λ _. p.config ≡ q.config)) (sym w.0)
-            (sym w.1 ∙ (k ∙ h.1));
-        after_error = subst (λ (v : DocumentOrError). IfErr v (λ _. kept_fault p ≡ kept_fault q)) (sym w.0) tt;
-      }
-  both_decided r s p q mid other a b (Ok c) (Err f) e k m w h = absurd (ok_not_err c f e)
-  both_decided r s p q mid other a b (Err f) (Ok d) e k m w h = absurd (ok_not_err d f (sym e))
-  both_decided r s p q mid other a b (Err f) (Err x) e k m w h =
-      let n = err_same f x e in
-      record {
-        result = w.0 ∙ (ap (λ (v : Fault). Err v.error) n ∙ sym h.0);
-        bound = m;
-        after_document = subst (λ (v : DocumentOrError). IfOk v (λ _. p.config ≡ q.config)) (sym w.0) tt;
-        after_error = subst (λ (v : DocumentOrError). IfErr v (λ _. kept_fault p ≡ kept_fault q)) (sym w.0)
-            (w.1 ∙ (n ∙ sym h.1));
-      }
+  both_decided r s p q mid other a b z y e k m w h = grind arith
 
   both_stopped : (r s : DocumentOrError) (p q mid other : Parser S) (x y : Ending) → x ≡ y
       → mid.config ≡ other.config → StoppedSo x mid r p → StoppedSo y other s q
       → p.max_entries ≡ q.max_entries → LoadsAlike r p s q
-  both_stopped r s p q mid other Ends Ends e k w h m =
-      record {
-        result = w.0 ∙ sym h.0;
-        bound = m;
-        after_document = subst (λ (v : DocumentOrError). IfOk v (λ _. p.config ≡ q.config)) (sym w.0)
-            (sym w.1 ∙ (k ∙ h.1));
-        after_error = subst (λ (v : DocumentOrError). IfErr v (λ _. kept_fault p ≡ kept_fault q)) (sym w.0) tt;
-      }
-  both_stopped r s p q mid other Ends (Fails f) e k w h m = absurd cc
-  both_stopped r s p q mid other (Fails f) Ends e k w h m = absurd cc
-  both_stopped r s p q mid other (Fails f) (Fails x) e k w h m =
-      let n = fault_same f x e in
-      record {
-        result = w.0 ∙ (ap (λ (v : Fault). Err v.error) n ∙ sym h.0);
-        bound = m;
-        after_document = subst (λ (v : DocumentOrError). IfOk v (λ _. p.config ≡ q.config)) (sym w.0) tt;
-        after_error = subst (λ (v : DocumentOrError). IfErr v (λ _. kept_fault p ≡ kept_fault q)) (sym w.0)
-            (w.1 ∙ (n ∙ sym h.1));
-      }
+  both_stopped r s p q mid other x y e k w h m = grind arith
 
   -- what is decided by its events is no run that stopped
   not_both : (m n : List Token) (a b : List Event) (mid : Parser S) (r s : List SourceResult) (z : Load) (x : Ending)
@@ -266,8 +229,7 @@ module _ {S : Type 0} (g : Ghosts S) (load : List Event → Ending → Load) (le
       not_last z (λ y. sym (l w.0 y) ∙ (ap (λ (v : List Event). load v y) (sym w.1) ∙ last y))
 
   turned : (a b : List SourceResult) → OneBegins a b → OneBegins b a
-  turned a b (inl h) = inr h
-  turned a b (inr h) = inl h
+  turned a b h = grind arith
 
   after_asked : (a b : List SourceResult) (m n : List Token) (u v : List SourceResult) → a ≡ source_results m u → b ≡ source_results n v
       → OneBegins a b

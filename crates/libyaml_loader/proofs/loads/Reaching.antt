@@ -1,13 +1,11 @@
 -- One load by events that lead from one state to another and end no document: it comes to the load from there.
-use Rattle.std.proofs.Common.{◌≡◌, ◌++◌, ◌∷◌, ℕ, List, [], Option, Some, None, Ok, Err, refl, sym, ap, ◌∙◌, append-nil}
+use Rattle.std.proofs.Common.{◌≡◌, ◌++◌, ◌∷◌, ℕ, List, [], Option, Some, None, Ok, Err, refl, sym, ap, ◌∙◌, append-nil, arith}
 use Rattle.libyaml_documents.specs.Documents.{Document}
-use Rattle.libyaml_documents.specs.declared.node.yaml_node_t.{yaml_node_t}
 use Rattle.libyaml_grammar.specs.grammar.Events.{Event}
 use Rattle.libyaml_grammar.specs.runs.Runs.{Ending, Ends, Fails}
 use Rattle.libyaml_types.specs.Fault.{Fault, memory_fault}
-use Rattle.libyaml_graphs.specs.graphs.GraphParts.{Closing, Opening, closing_of, graph, opening_of, part_of, parts}
-use Rattle.libyaml_graphs.specs.loads.Bounds.{bounded_loads, first_stop}
-use Rattle.libyaml_graphs.specs.loads.Loads.{Begun, Load, Stop, load_answer, begun, after_document, end_of_document, last_load, load_then, loads_by, next_by}
+use Rattle.libyaml_graphs.specs.graphs.GraphParts.{Closing, Opening, closing_of, opening_of, part_of}
+use Rattle.libyaml_graphs.specs.loads.Loads.{Begun, Load, Stop, last_load, loads_by, next_by}
 use Rattle.libyaml_graphs.specs.machine.Loader.{Loading, State, between, bounded_option, failed, fresh, going, left_from, load_from, within}
 use Rattle.libyaml_graphs.proofs.exported.BoundedLoader.{one_load}
 use Rattle.libyaml_graphs.proofs.exported.LoaderSteps.{goes_on_left, opens_left, passes_left}
@@ -19,26 +17,14 @@ abbrev first : List Load → Load
 first [] = last_load Ends
 first (a ∷ l) = a
 
-first_then : (f : Option Fault) (c : Option Closing) (o : Opening) (nodes : List yaml_node_t) (last : Load) (l : List Load)
-    → first (load_then f c o nodes last l) ≡ load_answer f c o nodes last
-first_then (Some f) c o nodes last l = refl
-first_then None (Some c) o nodes last l = refl
-first_then None None o nodes last l = refl
-
 first_by : (stop : Stop) (x : Ending) (bs : List Begun) → first (loads_by stop x bs) ≡ next_by stop x bs
-first_by stop x [] = refl
-first_by stop x (b ∷ bs) = first_then (stop (parts b.rest)) (end_of_document b.rest) b.opening (graph [] (parts b.rest))
-    (last_load x) (loads_by stop x bs)
+first_by stop x bs = grind arith
 
 first_whole : (c : Option Closing) (a : Load) (l : List Load) → first (whole_then c a l) ≡ a
-first_whole c (Err f) l = refl
-first_whole None (Ok d) l = refl
-first_whole (Some c) (Ok d) l = refl
+first_whole c a l = grind arith
 
 first_load : (n : ℕ) (s : State) (e : List Event) (x : Ending) → first (loads_from n s e x) ≡ load_from n s e x
-first_load n between e x = first_by (first_stop n [] []) x (begun e) ∙ sym (one_load e x n)
-first_load n (within o l) e x = first_whole (end_of_document e) (load_from n (within o l) e x)
-    (bounded_loads n (after_document e) x)
+first_load n s e x = grind (arith, first_by, one_load, first_whole)
 
 -- the first of the loads from a state is the load from there
 pub load_of_first : (n : ℕ) (s : State) (e : List Event) (x : Ending) (a : Load) (l : List Load)
@@ -60,8 +46,7 @@ module _ (n : ℕ) (e : Event) (a rest : List Event)
     (later : (t : State) → Waits n t a → left_from t (a ++ rest) ≡ left_from (after_events n t a) rest) where
   left_step : (s t : State) → Leads n s (e ∷ []) [] t → left_from s (e ∷ (a ++ rest)) ≡ left_from t (a ++ rest)
       → Waits n s (e ∷ a) → left_from s (e ∷ (a ++ rest)) ≡ left_from (after_events n s (e ∷ a)) rest
-  left_step s t h left waits = left ∙ (later t (λ x. sym (h.loads a x) ∙ waits x)
-      ∙ ap (λ (u : State). left_from (after_events n u a) rest) h.state)
+  left_step s t h left waits = grind arith
 
   left_first : (s : State) → Waits n s (e ∷ a) → left_from s (e ∷ (a ++ rest)) ≡ left_from (after_events n s (e ∷ a)) rest
   left_first between waits = go (opening_of e) refl

@@ -1,9 +1,8 @@
 -- What one call of the parser says of the events that a load takes.
-use Rattle.std.proofs.Common.{◌≡◌, ◌∷◌, List, [], Some, Bool, Ok, Err, true, false, refl, sym, ap, ◌∙◌, subst}
+use Rattle.std.proofs.Common.{◌≡◌, ◌∷◌, List, [], Some, Bool, Ok, Err, true, false, refl, sym, ap, ◌∙◌, subst, arith}
 use Rattle.std.proofs.lemmas.Bool.{true≢false}
 use Rattle.libyaml_types.specs.declared.enums.yaml_error_type_t.{yaml_error_type_t}
 use Rattle.libyaml_types.specs.declared.event.unnamed_yaml_event_t_data.{unnamed_yaml_event_t_data}
-use Rattle.libyaml_types.specs.declared.event.unnamed_yaml_event_t_data.TheVariants as ev
 use Rattle.libyaml_types.specs.declared.mark.yaml_mark_t.{yaml_mark_t}
 use Rattle.libyaml_types.specs.Events.{empty_event}
 use Rattle.libyaml_events.specs.sources.Calls.{EventOrError}
@@ -29,8 +28,7 @@ use Rattle.libyaml_loader.specs.loads.Loading.{HasEnded, ParserFails}
 
 outside_end : (k : unnamed_yaml_event_t_data) (m : yaml_mark_t) (c : Closing) → closing_in k m ≡ Some c
     → is_outside_event k ≡ true
-outside_end (ev.DocumentEnd d) m c h = refl
-outside_end _ m c h = absurd cc
+outside_end k m c h = grind arith
 
 module _ {S : Type 0} (g : Ghosts S) where
   -- no event was left
@@ -48,10 +46,7 @@ module _ {S : Type 0} (g : Ghosts S) where
 
     module _ (c : Called) (e : Event) (is : r ≡ Ok e) where
       same : r ≡ Ok empty_event → e ≡ empty_event
-      same h = ok (sym is ∙ h)
-        where
-          ok : ◌≡◌ {A = EventOrError} (Ok e) (Ok empty_event) → e ≡ empty_event
-          ok h = cc
+      same h = grind arith
 
       pub running : is_event e.content ≡ true → is_over old ≡ false
       running an_event = go (is_over old) refl

@@ -1,7 +1,6 @@
 -- A loader that is handed its tokens stands in one way after them, and so two outcomes of one push are one.
-use Rattle.std.proofs.Common.{◌≡◌, ◌++◌, ◌∷◌, ℕ, List, [], Ok, Err, Bool, true, false, refl, sym, ap, ◌∙◌, subst, append-nil}
+use Rattle.std.proofs.Common.{◌≡◌, ◌++◌, ◌∷◌, ℕ, List, [], Ok, Err, Bool, true, false, refl, sym, ap, ◌∙◌, subst, append-nil, arith}
 use Rattle.std.proofs.lemmas.List.{append_cancel_left}
-use Rattle.libyaml_types.specs.declared.enums.yaml_error_type_t.{yaml_error_type_t}
 use Rattle.libyaml_types.specs.Fault.{Fault, memory_fault, no_fault}
 use Rattle.libyaml_grammar.specs.runs.Runs.{Ends}
 use Rattle.libyaml_grammar.specs.grammar.Events.{Event}
@@ -133,12 +132,7 @@ module _ (old : PushLoader) (t : Token)
   alike_ok : (r s : Done) (p q : PushLoader) (after later : List Document) → r ≡ Ok tt → s ≡ Ok tt → after ≡ later
       → p.max_entries ≡ q.max_entries
       → p ≡ q → PushLoadsAlike r p after s q later
-  alike_ok (Ok u) s p q after later i j e b f =
-      record { result = i ∙ sym j; appended = e; bound = b; after_push = f; after_error = tt }
-  alike_ok (Err x) s p q after later i j e b f = absurd (no x i)
-    where
-      no : (x : yaml_error_type_t) → ◌≡◌ {A = Done} (Err x) (Ok tt) → ⊥
-      no x k = cc
+  alike_ok r s p q after later i j e b f = grind arith
 
   alike_err : (r s : Done) (p q : PushLoader) (after later : List Document) → r ≡ Err (loader_fault p).error
       → s ≡ Err (loader_fault q).error → after ≡ later
@@ -152,16 +146,12 @@ module _ (old : PushLoader) (t : Token)
             tt;
         after_error = f;
       }
-  alike_err (Ok u) s p q after later i j e b f = absurd (no u (loader_fault p).error i)
-    where
-      no : (u : Unit {0}) (x : yaml_error_type_t) → ◌≡◌ {A = Done} (Ok u) (Err x) → ⊥
-      no u x k = cc
+  alike_err (Ok u) s p q after later i j e b f = grind arith
 
   both_added : (a b : List Document) (after later : List Document) → after ≡ before ++ a → later ≡ before ++ b
       → documents ++ a ≡ documents ++ b
       → after ≡ later
-  both_added a b after later i j e = i
-      ∙ (ap (λ (y : List Document). before ++ y) (append_cancel_left documents a b e) ∙ sym j)
+  both_added a b after later i j e = grind (arith, append_cancel_left)
 
   pub one_push_loads : (Full More : Type 0) (p q : PushLoader) (after later : List Document) (r s : Done)
       → PushesLoads Full old t before r p after
@@ -194,7 +184,4 @@ pub stopped_push_loads : (Full More : Type 0) (old p q : PushLoader) (t : Token)
     (before after later : List Document) (r s : Done) → loader_has_stopped old ≡ true
     → PushesLoads Full old t before r p after → PushesLoads More old t before s q later
     → (r ≡ s) × (p ≡ q) × (after ≡ later)
-stopped_push_loads Full More old p q t before after later r s h x y =
-    let a = x.stopped h in
-    let b = y.stopped h in
-    (a.2 ∙ sym b.2, a.0 ∙ sym b.0, a.1 ∙ sym b.1)
+stopped_push_loads Full More old p q t before after later r s h x y = grind arith

@@ -24,7 +24,7 @@ use Rattle.libyaml_events.specs.sources.Pushes as pushes
 use Rattle.libyaml_events.specs.sources.Pushes.{Done, NeedsMemory, Pushes, Stops, Takes, done_by, for_event, for_step}
 use Rattle.libyaml_events.proofs.exported.Pushes.{fed_begins_run, fed_count, fed_ended, fed_faultless, fed_determined, fed_whole}
 use Rattle.libyaml_events.proofs.exported.RunStops.{short_run, whole_run}
-use Rattle.libyaml_loader.specs.pushes.Composing.{Composes, RefusesEvent, RefusesOneOf, by_loads, by_memory as no_memory, state_by, composer_state}
+use Rattle.libyaml_loader.specs.pushes.Composing.{Composes, RefusesEvent, RefusesOneOf, by_loads, by_memory as no_memory, composer_state}
 use Rattle.libyaml_graphs.specs.loads.Leads.{Leads, as_loads, loads_from}
 use Rattle.libyaml_loader.specs.pushes.Loaded.{ForLoaded, Loaded, PushLoader, RemembersLoads, loader_has_stopped, loader_keeps_fault, standing_loader}
 use Rattle.libyaml_loader.specs.pushes.PushesLoads.{AreThen, BeginsEachLoads, PushesLoads, StopsLoading, by_memory, by_tokens, in_loader, in_parser}
@@ -48,8 +48,7 @@ are_then n tokens source events x documents here run leads = record {
 prefix_loads : (n : ℕ) (events : List Event) (documents : List Document) (here : State) (all rest : List Event)
     (x : Ending) → all ≡ events ++ rest
     → Leads n between events documents here → bounded_loads n all x ≡ as_loads documents ++ loads_from n here rest x
-prefix_loads n events documents here all rest x is leads = ap (λ (l : List Event). bounded_loads n l x) is
-    ∙ leads.loads rest x
+prefix_loads n events documents here all rest x is leads = grind arith
 
 pub begin_loads : (n : ℕ) (tokens : List Token) (events : List Event) (documents : List Document) (here : State)
     → BeginsEachRun tokens events
@@ -77,8 +76,7 @@ module _ (l : PushLoader) where
   none_kept tokens documents h = ap (λ (f : Fault). is_fault f.error) h.none_kept
 
   pub stopped_at : ForLoaded l (λ tokens _. loader_has_stopped l ≡ has_end tokens)
-  stopped_at tokens documents h = ap (λ (b : Bool). b || pushed.has_stopped l.parser)
-      (none_kept tokens documents h) ∙ fed_ended h.pushed
+  stopped_at tokens documents h = grind (arith, none_kept, fed_ended)
 
   pub begins_loads : ForLoaded l (BeginsEachLoads l.max_entries)
   begins_loads tokens documents h = begin_loads l.max_entries tokens h.events documents l.state
@@ -160,15 +158,7 @@ module _ (Full Room : Type 0) (p q : PushParser) (t : Token) (given : List Event
   first = standing_loader p (composer_state old) (fault_of old.fault) old.max_entries
 
   not_kept : loader_keeps_fault first ≡ false
-  not_kept = go (is_fault old.fault.error) refl
-    where
-      error : (f : Fault) (b : Bool) → b ≡ true → pushes.done_if b f ≡ Ok tt → ⊥
-      error f true h k = cc
-      error f false h k = cc
-
-      go : (b : Bool) → is_fault old.fault.error ≡ b → is_fault old.fault.error ≡ false
-      go true h = absurd (error (fault_of old.fault) (is_fault old.fault.error) h faultless)
-      go false h = h
+  not_kept = grind arith
 
   running : loader_has_stopped first ≡ false → pushed.has_stopped p ≡ false
   running h = (or_parts (loader_keeps_fault first) (pushed.has_stopped p) h).1
@@ -230,10 +220,7 @@ module _ (Full Room : Type 0) (p q : PushParser) (t : Token) (given : List Event
 
   -- an event is refused
   not_ok : (x : yaml_error_type_t) → s ≡ Err x → s ≡ Ok tt → ⊥
-  not_ok x is so = go (sym is ∙ so)
-    where
-      go : ◌≡◌ {A = Done} (Err x) (Ok tt) → ⊥
-      go h = cc
+  not_ok x is so = grind arith
 
   pub pushes_refused : (x : yaml_error_type_t) → s ≡ Err x → PushesLoads Full first t before (Err x) second after
   pushes_refused x is = record {
@@ -293,8 +280,7 @@ module _ (Full Room : Type 0) (p q : PushParser) (t : Token) (given : List Event
   }
     where
       differ : (f : Fault) (b : Bool) → b ≡ false → ◌≡◌ {A = Done} (Err y) (pushes.done_if b f) → ⊥
-      differ f true i h = cc
-      differ f false i h = cc
+      differ f b i h = grind arith
 
       never : RemembersLoads first → ◌≡◌ {A = Done} (Err y) (done_by (pushed.fault_in p)) → ⊥
       never (inl kept) h = true≢false (sym kept ∙ not_kept)
@@ -326,13 +312,10 @@ push_remembers Full old new t before after (Ok u) h k = go (loader_has_stopped o
 
 -- what holds where a call returned without an error
 pub on_ok : (P : Type 0) (s : Done) → OnOk s P → s ≡ Ok tt → P
-on_ok P (Ok u) h is = h
-on_ok P (Err x) h is = absurd cc
+on_ok P s h is = grind arith
 
 -- the parser's error is kept
 pub kept_fault : (q : PushParser) (k : DocumentBuilder) (n : ℕ) (f : Fault) → k.is_open ≡ false → fault_of k.fault ≡ f
     → k.max_entries ≡ n
     → standing_loader q between f n ≡ standing_loader q (composer_state k) (fault_of k.fault) k.max_entries
-kept_fault q k n f none fault bound = sym
-    (ap (λ (b : Bool). standing_loader q (state_by b k.ctx) (fault_of k.fault) k.max_entries) none
-    ∙ (ap (λ (g : Fault). standing_loader q between g k.max_entries) fault ∙ ap (λ (m : ℕ). standing_loader q between f m) bound))
+kept_fault q k n f none fault bound = grind arith

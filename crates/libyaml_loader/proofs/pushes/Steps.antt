@@ -1,11 +1,10 @@
 -- What one event does to the document that is open.
-use Rattle.std.proofs.Common.{◌≡◌, ◌⊎◌, inl, inr, ℕ, List, [], ◌∷◌, Option, Some, None, Bool, Result, Ok, Err, true, refl, sym, ap, subst, ◌∙◌, length, map}
+use Rattle.std.proofs.Common.{◌≡◌, ◌⊎◌, inl, inr, ℕ, List, [], ◌∷◌, Option, Some, None, Bool, Result, Ok, Err, true, refl, sym, ap, subst, ◌∙◌, length, arith}
 use Rattle.std.proofs.lemmas.List.{append-nil}
 use Rattle.std.specs.Cmp.Lexicographic.{nat_list_cmp_total}
 use Rattle.std.specs.FinMap.{get, get-from_entries}
 use Rattle.libyaml_composer.specs.declared.records.open_t.{open_t}
 use Rattle.libyaml_composer.specs.Composing.{Composer}
-use Rattle.libyaml_composer.specs.DocumentSoFar.{open_of}
 use Rattle.libyaml_composer.specs.Represents.{IsCarried, Opens}
 use Rattle.libyaml_loader.specs.document.Stack.{with_document_begun}
 use Rattle.libyaml_types.specs.declared.enums.yaml_error_type_t.{yaml_error_type_t}
@@ -34,10 +33,7 @@ use Rattle.libyaml_graphs.proofs.exported.Leading.{leads_none, opens_there, refu
 -- a new context stands at a fresh machine
 context_is_fresh : (c : loader_ctx) (o : parts.Opening) → c.document ≡ begun_document o.start o.mark
     → c.collections.stack ≡ [] → c.anchors ≡ no_anchors → loader_of c ≡ fresh
-context_is_fresh c o document stack anchors =
-    ap (λ (d : Document). record { nodes = d.nodes; stack = map open_of c.collections.stack; anchors = c.anchors }) document
-    ∙ ap (λ (s : List open_t). record { nodes = []; stack = map open_of s; anchors = c.anchors }) stack
-    ∙ ap (λ (a : loader.Anchors). record { nodes = []; stack = []; anchors = a }) anchors
+context_is_fresh c o document stack anchors = grind arith
 
 -- it begins
 module _ (old c : loader_ctx) (o : parts.Opening) (anchors : old.anchors ≡ no_anchors)

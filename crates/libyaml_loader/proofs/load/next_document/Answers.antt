@@ -1,6 +1,5 @@
-use Rattle.std.proofs.Common.{◌≡◌, ◌<◌, Ok, Err, ap, refl, rules, sym, ◌∙◌, subst, [], ◌∷◌, true, false, arith, inr, Bool, Some}
+use Rattle.std.proofs.Common.{◌≡◌, ◌<◌, Ok, Err, ap, rules, sym, ◌∙◌, subst, [], ◌∷◌, true, false, arith, Bool, Some}
 use Rattle.std.proofs.Math.Nat.{le_refl}
-use Rattle.libyaml_documents.specs.Documents.{Document}
 use Rattle.libyaml_events.specs.parsers.EventsLeft.{events_left}
 use Rattle.libyaml_events.specs.parsers.Stages.{is_event}
 use Rattle.libyaml_events.specs.sources.Calls.{event_result}
@@ -14,8 +13,8 @@ use Rattle.libyaml_loader.specs.document.Context.{loader_of, opening_of_document
 use Rattle.libyaml_events.specs.sources.CallsInTurn.{Took}
 use Rattle.libyaml_loader.specs.loads.Loading.{DocumentOrError, LoadsFrom}
 use Rattle.libyaml_loader.specs.pushes.Composing.{closing_by, ended_by, state_by, composer_state}
-use Rattle.libyaml_loader.proofs.loads.Ended.{has_not_ended, no_error, still_ended}
-use Rattle.libyaml_loader.proofs.loads.OnTheWay.{OnTheWay, way_ends, way_fails, way_finds_end, way_more, way_none, way_refused}
+use Rattle.libyaml_loader.proofs.loads.Ended.{has_not_ended}
+use Rattle.libyaml_loader.proofs.loads.OnTheWay.{way_ends, way_fails, way_finds_end, way_more, way_none, way_refused}
 use Rattle.libyaml_loader.proofs.loads.Taking.{after_close, finds_end, parser_fails, running, took_event}
 use Rattle.libyaml_loader.proofs.load.next_document.Given as given
 use Rattle.libyaml_loader.proofs.load.next_document.Goals as goal
@@ -45,17 +44,7 @@ came g c u ok an_event =
     }
 
 pub loop-composer-init : goal.loop-composer-init
-loop-composer-init g c =
-    let t = g.S.yaml_token_source_t in
-    let n = c.args.composer.max_entries in
-    let none = c.requires.none_open in (
-      subst (λ (b : Bool). OnTheWay t n c.args.parser.now c.args.parser.now
-          (state_by b c.args.composer.ctx)) (sym none) (way_none t n c.args.parser.now),
-      c.requires.sound,
-      refl,
-      le_refl (events_left t.bound c.args.parser.now),
-      λ ended. refl,
-    )
+loop-composer-init g c = grind (arith, way_none, le_refl)
 
 pub take_event-requires : goal.take_event-requires
 take_event-requires g c = record { sound = c.loop-composer.invariant.1 }
@@ -96,11 +85,7 @@ returns-in_err-yaml_parser_parse_into-clause-loads g c =
     (ap (λ r. event_result r call.new.event) c.in_err-yaml_parser_parse_into.was)))
 
 pub returns-in_err-yaml_parser_parse_into-clause-ended : goal.returns-in_err-yaml_parser_parse_into-clause-ended
-returns-in_err-yaml_parser_parse_into-clause-ended g c ended =
-    let call = c.yaml_parser_parse_into in
-    absurd (no_error (sym (call.ensures.next.ended
-    (still_ended c.args.parser.now c.loop-composer.parser c.loop-composer.invariant.4 ended)).0
-    ∙ (ap (λ r. event_result r call.new.event) c.in_err-yaml_parser_parse_into.was)))
+returns-in_err-yaml_parser_parse_into-clause-ended g c ended = grind arith
 
 pub returns-then-not-is_event-clause-loads : goal.returns-then-not-is_event-clause-loads
 returns-then-not-is_event-clause-loads g c =
@@ -115,12 +100,7 @@ returns-then-not-is_event-clause-loads g c =
     c.empty_document.ensures
 
 pub returns-then-not-is_event-clause-ended : goal.returns-then-not-is_event-clause-ended
-returns-then-not-is_event-clause-ended g c ended =
-    let call = c.yaml_parser_parse_into in
-    let i = c.loop-composer.invariant.4 in (
-      ap (λ (d : Document). Ok d) c.empty_document.ensures,
-      (call.ensures.next.ended (still_ended c.args.parser.now c.loop-composer.parser i ended)).1 ∙ i ended,
-    )
+returns-then-not-is_event-clause-ended g c ended = grind arith
 
 pub returns-in-Ok-Some-clause-loads : goal.returns-in-Ok-Some-clause-loads
 returns-in-Ok-Some-clause-loads g c =
@@ -141,17 +121,10 @@ returns-in-Ok-Some-clause-loads g c =
     (ap (λ r. event_result r call.new.event) c.in_ok-yaml_parser_parse_into.was) (closing_by c.in-Ok-Some.closing) ends.1)
 
 pub returns-in-Ok-Some-clause-falls : goal.returns-in-Ok-Some-clause-falls
-returns-in-Ok-Some-clause-falls g c =
-    let low = c.loop-composer.invariant.3 in
-    let fell = (came g (goal.at.returns-in-Ok-Some-clause-falls g c).After-yaml_parser_parse_into _
-    c.in_ok-yaml_parser_parse_into.was (sym c.is_event.ensures ∙ c.if-not-is_event.false)).fell in
-    inr (omega (arith, low, fell))
+returns-in-Ok-Some-clause-falls g c = grind arith
 
 pub returns-in-Ok-Some-clause-ended : goal.returns-in-Ok-Some-clause-ended
-returns-in-Ok-Some-clause-ended g c ended =
-    let k = came g (goal.at.returns-in-Ok-Some-clause-ended g c).After-yaml_parser_parse_into _
-    c.in_ok-yaml_parser_parse_into.was (sym c.is_event.ensures ∙ c.if-not-is_event.false) in
-    absurd (has_not_ended c.args.parser.now c.loop-composer.parser c.loop-composer.invariant.4 k.runs ended)
+returns-in-Ok-Some-clause-ended g c ended = grind arith
 
 pub returns-in-Err-clause-loads : goal.returns-in-Err-clause-loads
 returns-in-Err-clause-loads g c =
@@ -165,7 +138,4 @@ returns-in-Err-clause-loads g c =
     (rw c.loop-composer.invariant.2 at c.in-Err.ensures.composes) c.keep_fault.ensures.kept
 
 pub returns-in-Err-clause-ended : goal.returns-in-Err-clause-ended
-returns-in-Err-clause-ended g c ended =
-    let k = came g (goal.at.returns-in-Err-clause-ended g c).After-yaml_parser_parse_into _
-    c.in_ok-yaml_parser_parse_into.was (sym c.is_event.ensures ∙ c.if-not-is_event.false) in
-    absurd (has_not_ended c.args.parser.now c.loop-composer.parser c.loop-composer.invariant.4 k.runs ended)
+returns-in-Err-clause-ended g c ended = grind arith

@@ -1,4 +1,4 @@
-use Rattle.std.proofs.Common.{sym, ◌∙◌}
+use Rattle.std.proofs.Common.{sym, ◌∙◌, arith}
 use Rattle.std.proofs.lemmas.Bool.{true≢false}
 use Rattle.libyaml_graphs.specs.loads.Bounds.{next_bounded}
 use Rattle.libyaml_graphs.specs.loads.Loads.{left_over}
@@ -18,8 +18,7 @@ loads : (g : given.Over) (c : After-next_document g)
     → LoadsFrom g.S.yaml_token_source_t
     (next_bounded (magnitude c.args.parser.now.max_entries)) left_over c.args.parser.now c.next_document.result
     c.next_document.new.parser
-loads g c =
-    rw (c.new-composer.ensures.bound ∙ c.bound_of.ensures.value) at c.next_document.ensures.loads
+loads g c = grind arith
 
 pub returns-then-has_failed-clause-no_fault : goal.returns-then-has_failed-clause-no_fault
 returns-then-has_failed-clause-no_fault g c = histories.faultless c.args.parser.now
@@ -28,9 +27,7 @@ pub returns-clause-no_fault : goal.returns-clause-no_fault
 returns-clause-no_fault g c = histories.faultless c.args.parser.now
 
 pub returns-then-has_failed-clause-next_load : goal.returns-then-has_failed-clause-next_load
-returns-then-has_failed-clause-next_load g c events ending run =
-    absurd (true≢false (sym c.if-has_failed.true ∙ c.has_failed.ensures ∙ histories.faultless c.args.parser.now
-    run.asked run.given run.history))
+returns-then-has_failed-clause-next_load g c events ending run = grind arith
 
 pub returns-then-has_failed-clause-between : goal.returns-then-has_failed-clause-between
 returns-then-has_failed-clause-between g c = c.requires.between
@@ -49,25 +46,16 @@ pub returns-clause-ended : goal.returns-clause-ended
 returns-clause-ended g c ended none = c.next_document.ensures.ended ended
 
 pub returns-clause-without_root : goal.returns-clause-without_root
-returns-clause-without_root g c =
-    let call = c.next_document in
-    rootless g.S.yaml_token_source_t (magnitude c.args.parser.now.max_entries) c.args.parser.now call.new.parser
-    call.result (loads g (goal.at.returns-clause-without_root g c).After-next_document)
+returns-clause-without_root g c = grind (arith, rootless, loads)
 
 pub returns-then-has_failed-clause-linear : goal.returns-then-has_failed-clause-linear
 returns-then-has_failed-clause-linear g c none = absurd (true≢false (sym c.if-has_failed.true ∙ c.has_failed.ensures ∙ none))
 
 pub returns-clause-linear : goal.returns-clause-linear
-returns-clause-linear g c none =
-    let call = c.next_document in
-    linear (magnitude c.args.parser.now.max_entries) g.S.yaml_token_source_t
-    c.args.parser.now call.new.parser call.result (loads g (goal.at.returns-clause-linear g c).After-next_document)
+returns-clause-linear g c none = grind (arith, linear, loads)
 
 pub returns-then-has_failed-clause-faultless : goal.returns-then-has_failed-clause-faultless
 returns-then-has_failed-clause-faultless g c none = tt
 
 pub returns-clause-faultless : goal.returns-clause-faultless
-returns-clause-faultless g c none =
-    let call = c.next_document in
-    faultless g.S.yaml_token_source_t (next_bounded (magnitude c.args.parser.now.max_entries)) left_over
-    c.args.parser.now call.new.parser none c.remembered.ensures call.result (loads g (goal.at.returns-clause-faultless g c).After-next_document)
+returns-clause-faultless g c none = grind (arith, faultless, loads)

@@ -1,9 +1,8 @@
-use Rattle.std.proofs.Common.{◌≡◌, Ok, Some, false, inl, inr, refl, rules, subst, sym}
-use Rattle.std.proofs.lemmas.Bool.{both_ways, or_parts}
+use Rattle.std.proofs.Common.{◌≡◌, Ok, Some, false, inl, inr, refl, rules, subst, sym, arith}
 use Rattle.libyaml_types.specs.Fault.{Fault}
 use Rattle.libyaml_types.specs.declared.source.yaml_token_source_t.{Ghosts}
 use Rattle.libyaml_grammar.specs.grammar.Events.{Event}
-use Rattle.libyaml_events.specs.machine.Config.{Parser, is_end_state}
+use Rattle.libyaml_events.specs.machine.Config.{Parser}
 use Rattle.libyaml_events.specs.sources.History.{Remembers, has_failed}
 use Rattle.libyaml_events.specs.sources.Iterates.{YieldsEvent}
 use Rattle.libyaml_loader.specs.composed.ComposedEvents.{by_loader}
@@ -13,10 +12,8 @@ use Rattle.libyaml_loader.proofs.composed_events.Yaml_parser_composed_events_tIt
 -- after an event no error is kept
 after_event : {S : Type 0} (g : Ghosts S) (old new : Parser S) (e : Event) → Remembers old
     → YieldsEvent g old (Some (Ok e)) new → has_failed new ≡ false
-after_event g old new e (inl failed) y =
-    absurd (both_ways _ (or_parts (has_failed old) (is_end_state old.config.state) y.0).0 failed)
-after_event g old new e (inr (asked, given, h)) y =
-    y.1.error.faultless (y.1.next.carries_on y.0 asked given h).an_event
+after_event g old new e (inl failed) y = grind arith
+after_event g old new e (inr (asked, given, h)) y = grind arith
 
 pub keep_fault-requires-clause-first : goal.keep_fault-requires-clause-first
 keep_fault-requires-clause-first g c =
@@ -24,9 +21,7 @@ keep_fault-requires-clause-first g c =
     after_event g.S.yaml_token_source_t _ _ _ c.remembered.ensures (rw it at c.next-item.ensures.steps)
 
 pub returns-in_default-take-clause-steps : goal.returns-in_default-take-clause-steps
-returns-in_default-take-clause-steps g c =
-    let it : c.next-item.result ≡ Some (Ok c.in-Some-Ok.event) = search rules in
-    (rw it (rw it at c.next-item.ensures.steps, c.in_default-take.ensures.composes), refl)
+returns-in_default-take-clause-steps g c = grind arith
 
 pub returns-in-Err-clause-steps : goal.returns-in-Err-clause-steps
 returns-in-Err-clause-steps g c =

@@ -1,17 +1,9 @@
-use Rattle.std.proofs.Common.{sym, ◌∙◌}
-use Rattle.std.proofs.lemmas.Bool.{true≢false}
+use Rattle.std.proofs.Common.{sym, arith}
 use Rattle.libyaml_loader.proofs.pushes.Steps.{refused}
 use Rattle.libyaml_loader.proofs.composer.DocumentBuilder.take_event.Goals as goal
 
 pub returns-in-Ok-clause-sound : goal.returns-in-Ok-clause-sound
-returns-in-Ok-clause-sound c =
-    let composed = c.in-Ok.ensures.ok in
-    record {
-      stands = λ h. c.in-Ok.ensures.stands;
-      fresh = λ none. absurd (true≢false (sym c.if-not-self.false ∙ none));
-      bound = composed.bound ∙ c.requires.sound.bound;
-      most = c.requires.sound.most;
-    }
+returns-in-Ok-clause-sound c = grind arith
 
 pub returns-in-Err-clause-composes : goal.returns-in-Err-clause-composes
 returns-in-Err-clause-composes c =
