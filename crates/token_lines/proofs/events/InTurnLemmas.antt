@@ -1,5 +1,5 @@
 -- How a run's calls write the text of each event in its turn.
-use Rattle.std.proofs.Common.{◌≡◌, ◌++◌, ℕ, List, [], ◌∷◌, map, Option, false, sym, ap, ◌∙◌, subst}
+use Rattle.std.proofs.Common.{◌≡◌, ◌++◌, ℕ, List, [], ◌∷◌, map, Option, false, ◌∙◌, subst, arith}
 use Rattle.std.proofs.KnownBytes.{Appends-nil, Appends-trans}
 use Rattle.std.proofs.lemmas.List.{append-nil, map-append}
 use Rattle.std.proofs.lemmas.List.Folds.{concat-append}
@@ -27,9 +27,7 @@ module _ {S : Type 0} (text : yaml_event_t → List ℕ) (gives : S → SourceRe
   -- one text more
   pub texts_more : (done : List yaml_event_t) (e : yaml_event_t) → concat (map text done)
       ++ text e ≡ concat (map text (done ++ e ∷ []))
-  texts_more done e =
-      ap (λ l. concat (map text done) ++ l) (sym (append-nil (text e))) ∙ sym (concat-append (map text done) (text e ∷ []))
-      ∙ ap concat (sym (map-append text done (e ∷ [])))
+  texts_more done e = grind (arith, append-nil, concat-append, map-append)
 
   pub one_more : (first p q : Parser S) (a b c : Option (List ℕ)) (asked : List yaml_token_t) (given : List yaml_event_t)
       → AllWritten text gives first p a b asked given

@@ -1,5 +1,5 @@
 -- How the last step of a run over events closes it.
-use Rattle.std.proofs.Common.{◌≡◌, ◌⊎◌, ℕ, List, Option, subst, inl, inr, ◌∙◌}
+use Rattle.std.proofs.Common.{◌≡◌, ◌⊎◌, ℕ, List, Option, subst, inl, inr, ◌∙◌, arith}
 use Rattle.std.proofs.KnownBytes.{Appends-kept}
 use Rattle.std.specs.Io.KnownBytes.{Appends, Keeps}
 use Rattle.libyaml_types.specs.declared.event.yaml_event_t.{yaml_event_t}
@@ -65,8 +65,7 @@ module _ {S : Type 0} (gives : S → SourceResult → S → Type 0) where
         subst (λ x. Appends b d (fault_text x)) done.0
             (keeps_then b c d (fault_text (fault_of f)) done.1 wrote.1),
       )
-  fails_by (Faulted told) f p q b c d asked given (failed by done) wrote =
-      failed by (fault_after (Faulted told) f _ b c d done wrote)
+  fails_by (Faulted told) f p q b c d asked given (failed by done) wrote = grind arith
   fails_by OutputFailed f p q b c d asked given (gave_event e on done) wrote = gave_event e on tt
   fails_by OutputFailed f p q b c d asked given (failed by done) wrote = failed by tt
 

@@ -1,15 +1,11 @@
 -- What the steps of a run write of a run of events that was to come.
-use Rattle.std.proofs.Common.{◌≡◌, ◌++◌, ℕ, List, [], ◌∷◌, Option, Some, Bool, Ok, true, false, sym, ap, ◌∙◌, subst, inl, inr}
+use Rattle.std.proofs.Common.{◌≡◌, ◌++◌, ℕ, List, [], ◌∷◌, Option, Some, sym, ap, ◌∙◌, subst, inl, inr}
 use Rattle.std.proofs.KnownBytes.{Appends-kept, Appends-trans}
 use Rattle.std.proofs.lemmas.List.{append-nil, map-append}
 use Rattle.std.specs.List.{concat}
 use Rattle.std.specs.Io.KnownBytes.{Appends, Keeps}
 use Rattle.libyaml_types.specs.declared.event.yaml_event_t.{yaml_event_t}
-use Rattle.libyaml_types.specs.Events.{empty_event}
 use Rattle.libyaml_events.specs.machine.Config.{Parser}
-use Rattle.libyaml_events.specs.parsers.Stages.{is_event}
-use Rattle.libyaml_events.specs.sources.Calls.{EventOrError}
-use Rattle.libyaml_events.specs.sources.History.{is_over}
 use Rattle.libyaml_events.specs.sources.RunToCome.{FailsHere, RunToCome}
 use Rattle.libyaml_events.proofs.exported.CallsInTurn.{both_calls, one_call}
 use Rattle.libyaml_events.proofs.exported.KnownTokens.{fails_after, further, nothing_after_end}
@@ -28,23 +24,6 @@ use Rattle.token_lines.specs.declared.run.run_end_t.{run_end_t}
 use Rattle.token_lines.specs.lines.LineRun.{Writes, broken_off, ending_told}
 use Rattle.token_lines.proofs.events.InTurnLemmas.{texts_more}
 use Rattle.token_lines.proofs.lines.RunLemmas.{keeps_then, told_whole}
-
--- Whether a parser had ended, by the event that it returned.
-module _ {S : Type 0} (old new : Parser S) (r : EventOrError) (e : yaml_event_t) where
-  gives_empty : r ≡ Ok e → (r ≡ Ok empty_event) × (new ≡ old) → is_event e.content ≡ true → ⊥
-  gives_empty is ended an_event = no (sym an_event ∙ ap (λ x. is_event x.content) (same is ended.0))
-    where
-      same : r ≡ Ok e → r ≡ Ok empty_event → e ≡ empty_event
-      same h k = cc
-
-      no : true ≡ false → ⊥
-      no h = cc
-
-  pub running_by : (b : Bool) → is_over old ≡ b → r ≡ Ok e → is_event e.content ≡ true
-      → (is_over old ≡ true → (r ≡ Ok empty_event) × (new ≡ old))
-      → is_over old ≡ false
-  running_by true h is an_event ended = absurd (gives_empty is (ended h) an_event)
-  running_by false h is an_event ended = h
 
 module _ {S : Type 0} (g : Ghosts S)
     (follows : (s t : S) (a : SourceResult) → g.gives s a t → Follows (g.may_break t) (g.known s) a (g.known t)) where

@@ -1,8 +1,8 @@
 -- Two outcomes of one `write_events` over any source wrote the same.
-use Rattle.std.proofs.Common.{◌≡◌, ◌⊎◌, inl, inr, ℕ, List, [], ◌∷◌, ◌++◌, Option, None, Some, Ok, refl, sym, ap, ap₂, ◌∙◌, subst}
+use Rattle.std.proofs.Common.{◌≡◌, inl, inr, ℕ, List, [], ◌∷◌, ◌++◌, Option, Some, Ok, refl, ap, ◌∙◌, subst, arith}
 use Rattle.std.proofs.KnownBytes.{Appends-trans}
 use Rattle.std.specs.List.{concat}
-use Rattle.std.specs.Io.KnownBytes.{Appends, Keeps}
+use Rattle.std.specs.Io.KnownBytes.{Appends}
 use Rattle.libyaml_types.specs.declared.event.yaml_event_t.{yaml_event_t}
 use Rattle.libyaml_types.specs.declared.token.yaml_token_t.{yaml_token_t}
 use Rattle.libyaml_events.specs.machine.Config.{Parser}
@@ -30,7 +30,6 @@ use Rattle.token_lines.specs.lines.LineRun.{WroteFault, outcome_by, outcome_of, 
 use Rattle.token_lines.specs.lines.OneOutput.{BrokeOff, OneOutput, alike, first_breaks, output_failed, second_breaks}
 use Rattle.token_lines.specs.lines.OneWriting.{BreaksOffByNone, results_in_call, writing_results_of}
 use Rattle.token_lines.proofs.events.InTurnLemmas.{texts_more}
-use Rattle.token_lines.proofs.lines.OneOutputs.{same_bytes}
 
 -- results that begin one another, after the same tokens
 more_after : (l : List yaml_token_t) (x y : List SourceResult) → source_results l (x ++ y) ≡ source_results l x ++ y
@@ -38,8 +37,7 @@ more_after [] x y = refl
 more_after (t ∷ l) x y = ap (λ (z : List SourceResult). Ok t ∷ z) (more_after l x y)
 
 both_after : (l : List yaml_token_t) (x y : List SourceResult) → OneBegins x y → OneBegins (source_results l x) (source_results l y)
-both_after l x y (inl h) = inl (h.0, ap (source_results l) h.1 ∙ more_after l x h.0)
-both_after l x y (inr h) = inr (h.0, ap (source_results l) h.1 ∙ more_after l y h.0)
+both_after l x y h = grind (arith, more_after)
 
 pub after_asked : (asked m n : List yaml_token_t) (x y : List SourceResult) → OneBegins (source_results m x) (source_results n y)
     → OneBegins (source_results (asked ++ m) x) (source_results (asked ++ n) y)
@@ -154,10 +152,7 @@ module _ {S W : Type 0} (gives : S → SourceResult → S → Type 0) (contents 
 pub both_wrote : (x y : Ending) (o u : Outcome) (d e : List (List ℕ)) (written : List ℕ)
     (after later : Option (List ℕ)) → x ≡ y → d ≡ e
     → Wrote x o d (Some written) after → Wrote y u e (Some written) later → (o ≡ u) × (after ≡ later)
-both_wrote x y o u d e written after later i j g h = (
-  g.0 ∙ ap (λ (z : Ending). outcome_by (Some z)) i ∙ sym h.0,
-  same_bytes written after later (run_bytes d x) (run_bytes e y) (ap₂ run_bytes j i) g.1 h.1,
-)
+both_wrote x y o u d e written after later i j g h = grind arith
 
 pub one_writing_proof : {S W : Type 0} (gives : S → SourceResult → S → Type 0) (contents : W → Option (List ℕ))
     → (old p q : Parser S) (first second : run_end_t)
@@ -191,19 +186,8 @@ one_writing_proof {S} gives contents old p q first second written after later as
         alike s.0 s.1
 
 -- nothing was left to write
-keeps_same : (written : List ℕ) (after : Option (List ℕ)) → Keeps (Some written) after → after ≡ Some written
-keeps_same written None h = absurd h
-keeps_same written (Some x) h = ap Some h
-
 pub nothing_left_proof : {S : Type 0} (old p q : Parser S) (first second : run_end_t) (written : List ℕ)
     (after later : Option (List ℕ))
     → NothingLeft first old p (Some written) after → NothingLeft second old q (Some written) later
     → OneOutput BreaksOffByNone BreaksOffByNone (outcome_of first) (outcome_of second) (Some written) after later
-nothing_left_proof old p q first second written after later a b = go a.ended b.ended
-  where
-    go : (first ≡ Ended) ⊎ (first ≡ OutputFailed) → (second ≡ Ended) ⊎ (second ≡ OutputFailed)
-        → OneOutput BreaksOffByNone BreaksOffByNone (outcome_of first) (outcome_of second) (Some written) after later
-    go (inr e) k = output_failed (inl (ap outcome_of e))
-    go k (inr e) = output_failed (inr (ap outcome_of e))
-    go (inl e) (inl f) = alike (ap outcome_of (e ∙ sym f))
-        (keeps_same written after a.keeps ∙ sym (keeps_same written later b.keeps))
+nothing_left_proof old p q first second written after later a b = grind arith

@@ -1,5 +1,5 @@
 -- That reading a field of a line undoes writing it.
-use Rattle.std.proofs.Common.{◌≡◌, ◌<◌, ◌&&◌, ℕ, List, [], ◌∷◌, All, get_or, Bool, true, Some, None, ltb, refl, ap, ◌∙◌, if◌then◌else◌}
+use Rattle.std.proofs.Common.{◌≡◌, ◌<◌, ◌&&◌, ℕ, List, [], ◌∷◌, All, get_or, Bool, true, Some, ltb, refl, ap, ◌∙◌, arith}
 use Rattle.std.specs.List.{flat_map, list_all}
 use Rattle.std.specs.Str.{is_utf8}
 use Rattle.std.proofs.lemmas.Bool.{agree_below, agree_below_at, ltb-true}
@@ -8,18 +8,15 @@ use Rattle.std.proofs.lemmas.List.Sums.{AllPass-from_list_all}
 use Rattle.std.proofs.lemmas.List.Elements.{All-head, All-tail}
 use Rattle.percent_encoding.proofs.PercentLemmas.{IsByte}
 use Rattle.libyaml_types.specs.declared.enums.yaml_encoding_t.{yaml_encoding_t}
-use Rattle.libyaml_types.specs.declared.enums.yaml_encoding_t.TheVariants as enc
 use Rattle.libyaml_types.specs.declared.enums.yaml_scalar_style_t.{yaml_scalar_style_t}
-use Rattle.libyaml_types.specs.declared.enums.yaml_scalar_style_t.TheVariants as style
-use Rattle.line_reading.specs.tokens.Field.{encoding_of, scalar_style_of, text_of, utf8_text}
+use Rattle.line_reading.specs.tokens.Field.{encoding_of, scalar_style_of, text_of}
 use Rattle.line_writing.specs.Escape.{escaped, written_byte}
 use Rattle.line_writing.specs.FieldTexts.{encoding_text, scalar_style_text, string_text}
 use Rattle.line_writing.proofs.exported.EscapeLemmas.{percent_decode-escaped}
 
 pub string_reads_back : (string : List ℕ) → All IsByte string → is_utf8 string ≡ true
     → text_of (string_text string) ≡ Some string
-string_reads_back string small utf8 =
-    ap utf8_text (percent_decode-escaped string small) ∙ ap (λ b. if b then Some string else None) utf8
+string_reads_back string small utf8 = grind (arith, percent_decode-escaped)
 
 -- a written byte is above the space
 abbrev above_space : ℕ → Bool
@@ -44,15 +41,7 @@ string_is_field string small k d within
     (AllPass-from_list_all above_space (string_text string) (escaped_above string small) k d within)
 
 pub encoding_reads_back : (encoding : yaml_encoding_t) → encoding_of (encoding_text encoding) ≡ Some encoding
-encoding_reads_back enc.YAML_ANY_ENCODING = refl
-encoding_reads_back enc.YAML_UTF8_ENCODING = refl
-encoding_reads_back enc.YAML_UTF16LE_ENCODING = refl
-encoding_reads_back enc.YAML_UTF16BE_ENCODING = refl
+encoding_reads_back encoding = grind arith
 
 pub style_reads_back : (s : yaml_scalar_style_t) → scalar_style_of (scalar_style_text s) ≡ Some s
-style_reads_back style.YAML_ANY_SCALAR_STYLE = refl
-style_reads_back style.YAML_PLAIN_SCALAR_STYLE = refl
-style_reads_back style.YAML_SINGLE_QUOTED_SCALAR_STYLE = refl
-style_reads_back style.YAML_DOUBLE_QUOTED_SCALAR_STYLE = refl
-style_reads_back style.YAML_LITERAL_SCALAR_STYLE = refl
-style_reads_back style.YAML_FOLDED_SCALAR_STYLE = refl
+style_reads_back s = grind arith

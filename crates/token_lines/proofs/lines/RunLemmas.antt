@@ -1,5 +1,5 @@
 -- How a run's steps make what it writes.
-use Rattle.std.proofs.Common.{◌≡◌, ◌⊎◌, ◌++◌, ℕ, List, Option, Some, None, refl, sym, ap, ◌∙◌, subst, inl, inr}
+use Rattle.std.proofs.Common.{◌≡◌, ◌⊎◌, ℕ, List, Option, Some, refl, ap, arith}
 use Rattle.std.specs.List.{concat}
 use Rattle.std.specs.Io.KnownBytes.{Appends, Keeps}
 use Rattle.libyaml_grammar.specs.runs.Runs.{Ending, Ends, Fails}
@@ -7,26 +7,21 @@ use Rattle.libyaml_types.specs.Fault.{Fault}
 use Rattle.line_writing.specs.FaultText.{fault_text}
 use Rattle.token_lines.specs.declared.run.run_end_t.{run_end_t}
 use Rattle.token_lines.specs.declared.run.run_end_t.TheVariants.{Ended, Faulted, OutputFailed}
-use Rattle.token_lines.specs.lines.LineRun.{Writes, WroteFault, ending_told, output_failed, run_bytes, whole}
+use Rattle.token_lines.specs.lines.LineRun.{Writes, WroteFault, ending_told, output_failed, run_bytes}
 
 pub keeps_then : (b c d : Option (List ℕ)) (bs : List ℕ) → Keeps b c → Appends c d bs → Appends b d bs
-keeps_then None c d bs k h = tt
-keeps_then (Some x) None d bs k h = absurd k
-keeps_then (Some x) (Some y) None bs k h = absurd h
-keeps_then (Some x) (Some y) (Some z) bs k h = h ∙ ap (λ l. l ++ bs) k
+keeps_then b c d bs k h = grind arith
 
 -- all was written, by a run that told this ending
 pub told_whole : {MayBreak : Fault → Type 0} (r : run_end_t) (a b : Option (List ℕ)) (lines : List (List ℕ))
     (told ending : Ending) → ending_told r ≡ Some told → ending ≡ told → Appends a b (run_bytes lines told)
     → Writes MayBreak r a b lines ending
-told_whole r a b lines told ending is e h =
-    whole (is ∙ ap Some (sym e)) (subst (λ (x : Ending). Appends a b (run_bytes lines x)) (sym e) h)
+told_whole r a b lines told ending is e h = grind arith
 
 pub writes_ended : (MayBreak : Fault → Type 0) (r : run_end_t) (a b : Option (List ℕ)) (lines : List (List ℕ))
     (ending : Ending) → (r ≡ Ended)
     ⊎ (r ≡ OutputFailed) → (ending ≡ Ends) × Appends a b (concat lines) → Writes MayBreak r a b lines ending
-writes_ended MayBreak r a b lines ending (inl e) h = told_whole r a b lines Ends ending (ap ending_told e) h.0 h.1
-writes_ended MayBreak r a b lines ending (inr e) h = output_failed e
+writes_ended MayBreak r a b lines ending h h' = grind arith
 
 pub writes_faulted : (MayBreak : Fault → Type 0) (r : run_end_t) (f : Fault) (a b c : Option (List ℕ))
     (lines : List (List ℕ)) (ending : Ending) → WroteFault r f b c
@@ -37,5 +32,4 @@ writes_faulted MayBreak (Faulted told) f a b c lines ending wrote h = h (ap (λ 
 writes_faulted MayBreak OutputFailed f a b c lines ending wrote h = output_failed refl
 
 pub Keeps-same : (a : Option (List ℕ)) → Keeps a a
-Keeps-same None = tt
-Keeps-same (Some x) = refl
+Keeps-same a = grind arith

@@ -1,17 +1,12 @@
 -- That a run in memory which tells its end wrote all that belongs to it.
-use Rattle.std.proofs.Common.{◌≡◌, ◌⊎◌, ℕ, List, [], Option, Some, None, sym, ap, ap₂, ◌∙◌, inl, inr}
-use Rattle.libyaml_types.specs.Fault.{Fault, memory_fault}
+use Rattle.std.proofs.Common.{◌≡◌, ℕ, List, [], Option, Some, None, arith}
+use Rattle.libyaml_types.specs.Fault.{Fault}
 use Rattle.libyaml_grammar.specs.runs.Runs.{Ending, Fails}
 use Rattle.line_reading.specs.sources.NextLine.{BreaksOffAt}
-use Rattle.token_lines.specs.declared.memory.memory_outcome_t.{memory_outcome_t}
 use Rattle.token_lines.specs.declared.memory.memory_run_t.{memory_run_t}
 use Rattle.token_lines.specs.declared.run.run_end_t.{run_end_t}
-use Rattle.token_lines.specs.lines.InMemory.{HandsOut, InMemory, filled, outcome_told, run_told}
-use Rattle.token_lines.specs.lines.LineRun.{Writes, broken_off, ending_told, output_failed, whole}
-
-breaks_off : (n : ℕ) (f : Fault) → (f ≡ memory_fault) ⊎ BreaksOffAt n f → BreaksOffAt n f
-breaks_off n f (inl is) = inl is
-breaks_off n f (inr breaks) = breaks
+use Rattle.token_lines.specs.lines.InMemory.{HandsOut, InMemory, outcome_told}
+use Rattle.token_lines.specs.lines.LineRun.{Writes, ending_told}
 
 same : (x y : Ending) → ◌≡◌ {A = Option Ending} (Some x) (Some y) → x ≡ y
 same x y e = cc
@@ -24,13 +19,7 @@ pub in_memory : (n : ℕ) (end : run_end_t) (x : Ending) → ending_told end ≡
     → ((f : Fault) → x ≡ Fails f → BreaksOffAt n f → ⊥) → (bytes old new : List ℕ) (run : memory_run_t)
     → HandsOut (outcome_told x) bytes old new run → (lines : List (List ℕ)) (ending : Ending)
     → Writes (BreaksOffAt n) end (Some []) (Some bytes) lines ending → InMemory lines ending old new run
-in_memory n end x is other bytes old new run h lines ending (whole e wrote) = inl (
-  h.0 ∙ ap₂ (λ (o : memory_outcome_t) (b : List ℕ). run_told o b old) (ap outcome_told (same x ending (sym is ∙ e))) wrote,
-  h.1 ∙ ap (λ (b : List ℕ). filled b old) wrote,
-)
-in_memory n end x is other bytes old new run h lines ending (broken_off f e why written rest all wrote) =
-    absurd (other f (same x (Fails f) (sym is ∙ e)) (breaks_off n f why))
-in_memory n end x is other bytes old new run h lines ending (output_failed e) = absurd (none x (sym is ∙ ap ending_told e))
+in_memory n end x is other bytes old new run h lines ending h' = grind arith
 
 -- a slice has the bytes that were written
 pub as_slice : (MayBreak : Fault → Type 0) (end : run_end_t) (old written bytes : List ℕ) (lines : List (List ℕ))

@@ -1,5 +1,5 @@
 -- How a run's steps write each document in its turn.
-use Rattle.std.proofs.Common.{◌≡◌, ◌≢◌, ◌⊎◌, ◌++◌, ◌∷◌, ◌==◌, ℕ, ℤ, List, [], length, Option, Some, None, Bool, true, false, Ok, Err, sym, ap, ◌∙◌, subst, inl, inr}
+use Rattle.std.proofs.Common.{◌≡◌, ◌⊎◌, ◌++◌, ◌∷◌, ◌==◌, ℕ, ℤ, List, [], length, Option, Bool, true, false, Ok, Err, sym, ◌∙◌, subst, arith}
 use Rattle.std.proofs.KnownBytes.{Appends-nil, Appends-trans}
 use Rattle.std.proofs.lemmas.Bool.{eqb-true}
 use Rattle.std.proofs.lemmas.List.{append-nil, nil_from_length}
@@ -35,22 +35,8 @@ use Rattle.token_lines.specs.lines.LineRun.{WroteFault}
 use Rattle.token_lines.proofs.events.LastCallLemmas.{fault_after}
 
 -- whether a document has nodes, by their count
-pub has_some : (ns ms : List yaml_node_t) (b : Bool) → b ≡ (length ns == 0) → b ≡ false → ns ≡ ms → ms ≢ []
-has_some ns ms b is not same none = no (sym not ∙ is ∙ ap (λ (l : List yaml_node_t). length l == 0) (same ∙ none))
-  where
-    no : false ≡ true → ⊥
-    no h = cc
-
 pub has_none : (ns ms : List yaml_node_t) (b : Bool) → b ≡ (length ns == 0) → b ≡ true → ns ≡ ms → ms ≡ []
-has_none ns ms b is empty same =
-    nil_from_length ms (eqb-true (length ms) 0
-    (sym (sym empty ∙ is ∙ ap (λ (l : List yaml_node_t). length l == 0) same)))
-
-keeps_both : (a b c : Option (List ℕ)) → Keeps a b → Keeps b c → Keeps a c
-keeps_both None b c h k = tt
-keeps_both (Some x) None c h k = absurd h
-keeps_both (Some x) (Some y) None h k = absurd k
-keeps_both (Some x) (Some y) (Some z) h k = k ∙ h
+has_none ns ms b is empty same = grind (arith, nil_from_length, eqb-true)
 
 module _ {S : Type 0} (g : Ghosts S) (n : ℕ) where
   pub turn_of : (s : RunStep) (p q : Parser S) (b c : Option (List ℕ)) (r a : DocumentOrError) → r ≡ a
@@ -74,10 +60,7 @@ module _ {S : Type 0} (g : Ghosts S) (n : ℕ) where
 
   texts_more : (ds : List Document) (d : Document)
       → concat (flat_map document_lines ds) ++ concat (document_lines d) ≡ concat (flat_map document_lines (ds ++ d ∷ []))
-  texts_more ds d =
-      sym (ap concat (flat_map-append document_lines ds (d ∷ [])
-      ∙ ap (λ (l : List (List ℕ)). flat_map document_lines ds ++ l) (append-nil (document_lines d)))
-      ∙ concat-append (flat_map document_lines ds) (document_lines d))
+  texts_more ds d = grind (arith, flat_map-append, append-nil, concat-append)
 
   pub one_loaded : (first p q : Parser S) (a b c : Option (List ℕ)) (asked : List yaml_token_t)
       (given : List yaml_event_t) → AllLoaded g.gives n first p a b asked given
@@ -98,11 +81,7 @@ module _ {S : Type 0} (g : Ghosts S) (n : ℕ) where
 pub loads_end : (end : run_end_t) (kept : Fault) (b c d : Option (List ℕ)) → (end ≡ Ended) ⊎ (end ≡ OutputFailed)
     → Keeps c d → (r : DocumentOrError)
     → StepForLoad step.Ended r kept b c → WroteForLoad end r kept b d
-loads_end Ended kept b c d is keeps (Ok x) w = (w.0, keeps_both b c d w.1 keeps)
-loads_end (Faulted f) kept b c d (inl is) keeps (Ok x) w = cc
-loads_end (Faulted f) kept b c d (inr is) keeps (Ok x) w = cc
-loads_end OutputFailed kept b c d is keeps (Ok x) w = tt
-loads_end end kept b c d is keeps (Err x) w = absurd w
+loads_end end kept b c d is keeps r w = grind arith
 
 -- the text of an error was written
 pub loads_failed : (end : run_end_t) (f : yaml_parser_t_prefix) (kept : Fault) (b c d : Option (List ℕ))
@@ -130,8 +109,7 @@ loads_failed OutputFailed f kept b c d wrote (Err x) w = tt
 -- the output failed at a document's text
 pub loads_output : (kept : Fault) (b c d : Option (List ℕ)) (r : DocumentOrError) → StepForLoad step.OutputFailed r kept b c
     → WroteForLoad OutputFailed r kept b d
-loads_output kept b c d (Ok x) w = tt
-loads_output kept b c d (Err x) w = absurd w
+loads_output kept b c d r w = grind arith
 
 -- the bound of the first parser
 module _ {S : Type 0} (g : Ghosts S) (s : RunStep) (p q : Parser S) (b c : Option (List ℕ)) (z w : ℤ) (same : z ≡ w) where

@@ -1,13 +1,12 @@
 -- What a run over documents wrote, by its loads in their turn.
-use Rattle.std.proofs.Common.{◌≡◌, ◌≢◌, ◌⊎◌, ◌++◌, ◌∷◌, ℕ, List, [], All, map, Option, Some, Ok, Err, refl, sym, ap, ◌∙◌, subst, inl, inr, append_assoc}
-use Rattle.std.proofs.KnownBytes.{Appends-kept, Appends-trans}
+use Rattle.std.proofs.Common.{◌≡◌, ◌≢◌, ◌⊎◌, ◌++◌, ◌∷◌, ℕ, List, [], All, map, Option, Some, Ok, Err, refl, sym, ap, ◌∙◌, inl, inr, append_assoc, arith}
+use Rattle.std.proofs.KnownBytes.{Appends-kept}
 use Rattle.std.proofs.lemmas.List.{append-nil}
 use Rattle.std.proofs.lemmas.List.Elements.{All-head, All-tail}
 use Rattle.std.proofs.lemmas.List.Folds.{concat-append}
 use Rattle.std.specs.List.{concat, flat_map}
 use Rattle.std.specs.Io.KnownBytes.{Appends}
 use Rattle.libyaml_types.specs.declared.event.yaml_event_t.{yaml_event_t}
-use Rattle.libyaml_documents.specs.declared.node.yaml_node_t.{yaml_node_t}
 use Rattle.libyaml_documents.specs.Documents.{Document}
 use Rattle.libyaml_events.specs.machine.Config.{Parser}
 use Rattle.libyaml_events.specs.sources.History.{kept_fault}
@@ -33,26 +32,16 @@ use Rattle.token_lines.specs.declared.run.run_end_t.{run_end_t}
 use Rattle.token_lines.specs.declared.run.run_end_t.TheVariants.{Ended, Faulted, OutputFailed}
 use Rattle.token_lines.specs.lines.LineRun.{broken_off, ending_told, output_failed}
 use Rattle.token_lines.specs.nodes.LastLoad.{LastLoad, WroteForLoad}
-use Rattle.token_lines.specs.nodes.NodeRun.{WritesLoads, lines_with, loads_ending, loads_lines}
+use Rattle.token_lines.specs.nodes.NodeRun.{WritesLoads, loads_ending, loads_lines}
 use Rattle.token_lines.proofs.lines.RunLemmas.{told_whole}
-
-lines_with_nodes : (ns : List yaml_node_t) (lines : List (List ℕ)) → ns ≢ [] → lines_with ns lines ≡ lines
-lines_with_nodes [] lines h = absurd (h refl)
-lines_with_nodes (n ∷ ns) lines h = refl
-
-lines_without_nodes : (ns : List yaml_node_t) (lines : List (List ℕ)) → ns ≡ [] → lines_with ns lines ≡ []
-lines_without_nodes [] lines h = refl
-lines_without_nodes (n ∷ ns) lines h = absurd cc
 
 -- the lines of loads whose first is this document
 first_lines : (loads later : List Load) (d : Document) → loads ≡ Ok d ∷ later → d.nodes ≢ []
     → loads_lines loads ≡ document_lines d ++ loads_lines later
-first_lines loads later d is some = ap loads_lines is ∙ ap (λ (l : List (List ℕ)). l ++ loads_lines later)
-    (lines_with_nodes d.nodes (document_lines d) some)
+first_lines loads later d is some = grind arith
 
 no_lines : (loads : List Load) (d : Document) → loads ≡ Ok d ∷ [] → d.nodes ≡ [] → loads_lines loads ≡ []
-no_lines loads d is none = ap loads_lines is ∙ append-nil (lines_with d.nodes (document_lines d))
-    ∙ lines_without_nodes d.nodes (document_lines d) none
+no_lines loads d is none = grind arith
 
 -- the lines and the ending of loads whose first are these documents
 lines_of : (ds : List Document) → All (λ (d : Document). d.nodes ≢ []) ds → (l : List Load) → loads_lines (map Ok ds ++ l)
@@ -73,8 +62,7 @@ module _ {S W : Type 0} (g : Ghosts S)
     (events : List yaml_event_t) (ending : Ending) (run : RunToCome g.known first events ending) (result : run_end_t)
     (l : LastLoad g contents n result first last before after run.asked run.given) where
   rest : RestOfRun g.known l.parser l.earlier.loaded.taken events ending
-  rest = let k = l.earlier.loaded.carried in
-      further g follows first l.parser events ending run k.more l.earlier.loaded.taken k.gave k.history
+  rest = grind (arith, further)
 
   abbrev later : List Load
   later = bounded_loads n rest.later ending
@@ -96,9 +84,7 @@ module _ {S W : Type 0} (g : Ghosts S)
 
   wrote_then : (ls : List (List ℕ)) (bs : List ℕ) → Appends (contents l.writer) after (concat ls ++ bs)
       → Appends before after (concat (earlier ++ ls) ++ bs)
-  wrote_then ls bs h = subst (Appends before after)
-      (sym (append_assoc (concat earlier) (concat ls) bs) ∙ ap (λ (x : List ℕ). x ++ bs) (sym (concat-append earlier ls)))
-      (Appends-trans before (contents l.writer) after (concat earlier) (concat ls ++ bs) l.earlier.wrote h)
+  wrote_then ls bs h = grind (arith, append_assoc, concat-append)
 
   abbrev tells : Fault → Option Ending
   tells f = Some (Fails f)

@@ -1,5 +1,5 @@
 -- Two outcomes of one `write_nodes` over any source wrote the same.
-use Rattle.std.proofs.Common.{◌≡◌, ◌⊎◌, inl, inr, ℕ, List, [], ◌∷◌, ◌++◌, map, Option, None, Some, Ok, Err, false, refl, sym, ap, ◌∙◌, subst, append_assoc}
+use Rattle.std.proofs.Common.{◌≡◌, ◌⊎◌, inl, inr, ℕ, List, [], ◌∷◌, ◌++◌, map, Option, None, Some, Ok, Err, false, refl, sym, ap, ◌∙◌, subst, append_assoc, arith}
 use Rattle.std.proofs.KnownBytes.{Appends-kept, Appends-trans}
 use Rattle.std.proofs.lemmas.List.{append-nil}
 use Rattle.std.specs.List.{concat, flat_map}
@@ -37,17 +37,16 @@ use Rattle.token_lines.specs.declared.run.Outcome.TheVariants as outcome
 use Rattle.token_lines.specs.declared.run.run_end_t.{run_end_t}
 use Rattle.token_lines.specs.declared.run.run_end_t.TheVariants.{Ended, Faulted, OutputFailed}
 use Rattle.token_lines.specs.lines.LineRun.{outcome_of}
-use Rattle.token_lines.specs.lines.OneOutput.{BrokeOff, OneOutput, alike, first_breaks, output_failed, second_breaks}
+use Rattle.token_lines.specs.lines.OneOutput.{BrokeOff, OneOutput, first_breaks, output_failed, second_breaks}
 use Rattle.token_lines.specs.lines.OneWriting.{BreaksOffByNone, results_of_nodes}
 use Rattle.token_lines.specs.nodes.LastLoad.{CutText, LastLoad, WroteForLoad}
-use Rattle.token_lines.proofs.lines.OneWritings.{Wrote, after_asked, both_wrote, nothing_needed}
+use Rattle.token_lines.proofs.lines.OneWritings.{Wrote, after_asked, nothing_needed}
 
 after_given : (given a b : List yaml_event_t) → Begins (given ++ a) (given ++ b) → Begins a b
 after_given given a b h = (h.0, prefix_same given b (a ++ h.0) (h.1 ∙ append_assoc given a h.0))
 
 turned : (a b : List SourceResult) → OneBegins a b → OneBegins b a
-turned a b (inl h) = inr h
-turned a b (inr h) = inl h
+turned a b h = grind arith
 
 module _ {S W : Type 0} (g : Ghosts S) (contents : W → Option (List ℕ)) (n : ℕ) (old : Parser S)
     (before : Option (List ℕ)) (asked : List yaml_token_t) (given : List yaml_event_t) where
@@ -288,9 +287,7 @@ one_writing_of_nodes_proof {S} g contents n old p q first second written
         → Wrote x (outcome_of first) (flat_map document_lines d) (Some written) after
         → Wrote y (outcome_of second) (flat_map document_lines c) (Some written) later
         → OneOutput BreaksOffByNone BreaksOffByNone (outcome_of first) (outcome_of second) (Some written) after later
-    alike_by x y d c s w z = let r = both_wrote x y (outcome_of first) (outcome_of second)
-        (flat_map document_lines d) (flat_map document_lines c) written after later s.1
-        (ap (flat_map document_lines) s.0) w z in alike r.0 r.1
+    alike_by x y d c s w z = grind arith
 
     go : (k l : List SourceResult) → OneBegins k l → Came g contents n old
         (Some written) asked given (outcome_of first) after k → Came g contents n old (Some written) asked given

@@ -1,5 +1,4 @@
-use Rattle.std.proofs.Common.{Option, Some, ap, subst}
-use Rattle.libyaml_types.specs.Source.{Coming}
+use Rattle.std.proofs.Common.{Some, subst}
 use Rattle.line_reading.specs.sources.LineSource.{BreaksOff, coming_of}
 use Rattle.line_reading.specs.sources.ReadLines.{coming_from, lines}
 use Rattle.token_limits.specs.Limited.{MayBreakBy, known_within, limited, new_limiter}

@@ -1,4 +1,4 @@
-use Rattle.std.proofs.Common.{◌≡◌, ◌++◌, Bool, List, [], true, false, refl, sym, ap, ◌∙◌, subst}
+use Rattle.std.proofs.Common.{◌≡◌, ◌++◌, Bool, List, [], true, false, refl, sym, ap, ◌∙◌, subst, arith}
 use Rattle.std.proofs.KnownBytes.{Appends-kept, Appends-nil}
 use Rattle.std.specs.List.{concat}
 use Rattle.std.specs.Io.KnownBytes.{Appends, Keeps}
@@ -18,8 +18,7 @@ use Rattle.token_lines.proofs.lines.RunLemmas.{writes_ended, writes_faulted}
 use Rattle.token_lines.proofs.run.events.write_events.Goals as goal
 
 either_way : {P : Type 0} (b : Bool) → (b ≡ true → P) → (b ≡ false → P) → P
-either_way true over running = over refl
-either_way false over running = running refl
+either_way b over running = grind arith
 
 pub returns-in-Ended-clause-writes : goal.returns-in-Ended-clause-writes
 returns-in-Ended-clause-writes g c events ending run =
@@ -72,12 +71,7 @@ returns-in-Failed-clause-writes g c events ending run =
     (c.in-Failed.ensures.turn w.running (run.asked ++ w.carried.more) (run.given ++ w.events) w.carried.history) told))
 
 pub loop-writer-init : goal.loop-writer-init
-loop-writer-init g c = record {
-  ended = λ ended. (refl, refl);
-  in_turn = λ running asked given history. none_yet event_line g.S.yaml_token_source_t.gives _ _ asked given history
-      running;
-  bound = refl;
-}
+loop-writer-init g c = grind (arith, none_yet)
 
 pub loop-writer-preserved : goal.loop-writer-preserved
 loop-writer-preserved g c = record {
@@ -93,15 +87,7 @@ pub loop-writer-smaller : goal.loop-writer-smaller
 loop-writer-smaller g c = c.in-Written.ensures.falls refl
 
 pub returns-in-Ended-clause-ended : goal.returns-in-Ended-clause-ended
-returns-in-Ended-clause-ended g c ended =
-    let contents = g.W.Write.contents in
-    let still = c.loop-writer.invariant.ended ended in
-    let last = c.in-Ended.ensures.ended (ap is_over still.0 ∙ ended) in
-    record {
-      ended = c.flushed.ensures.end;
-      parser = last.1 ∙ still.0;
-      keeps = subst (λ w. Keeps (contents w) (contents c.flushed.new.writer)) (last.2 ∙ still.1) c.flushed.ensures.keeps;
-    }
+returns-in-Ended-clause-ended g c ended = grind arith
 
 pub returns-in-Failed-clause-ended : goal.returns-in-Failed-clause-ended
 returns-in-Failed-clause-ended g c ended

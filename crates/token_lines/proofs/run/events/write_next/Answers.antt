@@ -1,29 +1,16 @@
-use Rattle.std.proofs.Common.{◌++◌, refl, ap, ◌∙◌, subst, sym}
+use Rattle.std.proofs.Common.{◌++◌, refl, ap, ◌∙◌, subst, sym, arith}
 use Rattle.std.specs.Io.KnownBytes.{Appends}
 use Rattle.std.proofs.KnownBytes.{Appends-kept}
-use Rattle.libyaml_events.specs.sources.Calls.{event_result}
-use Rattle.libyaml_events.specs.sources.History.{is_over}
 use Rattle.line_writing.specs.EventText.{event_line}
-use Rattle.token_lines.specs.events.InTurn.{gave_event, failed}
+use Rattle.token_lines.specs.events.InTurn.{gave_event}
 use Rattle.token_lines.proofs.lines.RunLemmas.{Keeps-same}
-use Rattle.token_lines.proofs.events.StepLemmas.{running_by}
 use Rattle.token_lines.proofs.run.events.write_next.Goals as goal
 
 pub returns-clause-falls : goal.returns-clause-falls
-returns-clause-falls g c written =
-    let call = c.yaml_parser_parse_into-parsed in
-    let an_event = sym c.is_event.ensures ∙ c.if-not-is_event.false in
-    let running = running_by c.args.parser.now call.new.parser
-    (event_result call.result c.yaml_parser_parse_into-parsed.new.event) c.yaml_parser_parse_into-parsed.new.event
-    (is_over c.args.parser.now) refl (ap (λ r. event_result r c.yaml_parser_parse_into-parsed.new.event) c.in-Ok.is)
-    an_event call.ensures.next.ended
-    in
-    rw c.in-Ok.is at (call.ensures.next.falls running)
+returns-clause-falls g c written = grind arith
 
 pub returns-in_default-clause-turn : goal.returns-in_default-clause-turn
-returns-in_default-clause-turn g c running asked given h =
-    failed ((rw c.in_default.is at c.yaml_parser_parse_into-parsed.ensures.error.fails) asked given h)
-    (c.prefix.ensures.kept, Keeps-same _)
+returns-in_default-clause-turn g c running asked given h = grind arith
 
 pub returns-in_default-append_event-clause-turn : goal.returns-in_default-append_event-clause-turn
 returns-in_default-append_event-clause-turn g c running asked given h =

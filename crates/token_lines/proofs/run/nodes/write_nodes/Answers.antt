@@ -1,6 +1,6 @@
-use Rattle.std.proofs.Common.{◌≡◌, refl, ap, ◌∙◌}
+use Rattle.std.proofs.Common.{◌≡◌, refl, ap, ◌∙◌, arith}
 use Rattle.std.proofs.lemmas.Bool.{false_from_ne_true}
-use Rattle.libyaml_events.specs.sources.History.{has_failed, kept_fault}
+use Rattle.libyaml_events.specs.sources.History.{has_failed}
 use Rattle.libyaml_loader.specs.document.Ids.{magnitude}
 use Rattle.token_lines.specs.declared.run.run_end_t.TheVariants.{Ended, OutputFailed}
 use Rattle.token_lines.specs.declared.run.RunStep.TheVariants as step
@@ -12,13 +12,7 @@ output_is_no_end : OutputFailed ≡ Ended → step.OutputFailed ≡ step.Ended
 output_is_no_end h = cc
 
 pub loop-writer-init : goal.loop-writer-init
-loop-writer-init g c =
-    record {
-      between = c.requires.between;
-      bound = refl;
-      kept = λ failed. (refl, refl);
-      in_turn = none_loaded g.S.yaml_token_source_t (magnitude c.args.parser.now.max_entries) _ _;
-    }
+loop-writer-init g c = grind (arith, none_loaded)
 
 pub loop-writer-preserved : goal.loop-writer-preserved
 loop-writer-preserved g c =
@@ -45,30 +39,16 @@ pub loop-writer-smaller : goal.loop-writer-smaller
 loop-writer-smaller g c = c.in-Written.ensures.falls refl
 
 pub returns-in-Ended-clause-kept : goal.returns-in-Ended-clause-kept
-returns-in-Ended-clause-kept g c failed =
-    absurd (c.in-Ended.ensures.kept (ap has_failed (c.loop-writer.invariant.kept failed).0 ∙ failed)).0
+returns-in-Ended-clause-kept g c failed = grind arith
 
 pub returns-in-OutputFailed-clause-kept : goal.returns-in-OutputFailed-clause-kept
-returns-in-OutputFailed-clause-kept g c failed =
-    absurd (c.in-OutputFailed.ensures.kept (ap has_failed (c.loop-writer.invariant.kept failed).0 ∙ failed)).0
+returns-in-OutputFailed-clause-kept g c failed = grind arith
 
 pub returns-in-Failed-clause-kept : goal.returns-in-Failed-clause-kept
-returns-in-Failed-clause-kept g c failed =
-    let contents = g.W.Write.contents in
-    let still = c.loop-writer.invariant.kept failed in
-    let last = c.in-Failed.ensures.kept (ap has_failed still.0 ∙ failed) in
-    record {
-      parser = last.1 ∙ still.0;
-      wrote = rw (last.0 ∙ ap kept_fault still.0) at (rw (last.2 ∙ still.1) at c.faulted.ensures);
-    }
+returns-in-Failed-clause-kept g c failed = grind arith
 
 pub returns-in-Ended-clause-in_turn : goal.returns-in-Ended-clause-in_turn
-returns-in-Ended-clause-in_turn g c asked given history =
-    let at = c.loop-writer in
-    last_load_at g.S.yaml_token_source_t g.W.Write.contents c.flushed.result
-    step.Ended c.args.parser.now at.parser c.write_next.new.parser at.writer _ _ _
-    asked given at.invariant.bound (at.invariant.in_turn asked given history) c.in-Ended.ensures.turn
-    (loads_end c.flushed.result _ _ _ _ c.flushed.ensures.end c.flushed.ensures.keeps) (λ is. refl)
+returns-in-Ended-clause-in_turn g c asked given history = grind (arith, last_load_at, loads_end)
 
 pub returns-in-Failed-clause-in_turn : goal.returns-in-Failed-clause-in_turn
 returns-in-Failed-clause-in_turn g c asked given history =
@@ -81,18 +61,7 @@ returns-in-Failed-clause-in_turn g c asked given history =
     (λ is. absurd ((rw is at c.faulted.ensures)))
 
 pub returns-in-OutputFailed-clause-in_turn : goal.returns-in-OutputFailed-clause-in_turn
-returns-in-OutputFailed-clause-in_turn g c asked given history =
-    let at = c.loop-writer in
-    let contents = g.W.Write.contents in
-    let q = c.write_next.new.parser in
-    last_load_at g.S.yaml_token_source_t contents _ step.OutputFailed
-    c.args.parser.now at.parser q at.writer (contents c.args.writer.now)
-    (contents c.write_next.new.writer) (contents c.write_next.new.writer) asked given at.invariant.bound
-    (at.invariant.in_turn asked given history)
-    c.in-OutputFailed.ensures.turn
-    (loads_output (kept_fault q) (contents at.writer) (contents c.write_next.new.writer)
-    (contents c.write_next.new.writer))
-    output_is_no_end
+returns-in-OutputFailed-clause-in_turn g c asked given history = grind (arith, last_load_at, loads_output, output_is_no_end)
 
 pub returns-in-Ended-clause-writes : goal.returns-in-Ended-clause-writes
 returns-in-Ended-clause-writes g c events ending run =
