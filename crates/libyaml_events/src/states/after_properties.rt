@@ -68,8 +68,8 @@ impl TokenParser {
         self.put_content(None, token, pending, out)
     }
 
-    /// Puts the content of a node after its properties, with its tag in full. A scalar's kind is named here, so
-    /// that its step is compiled by itself: without a further jump, and without what other contents need.
+    /// Puts the content of a node after its properties, with its tag in full. A scalar's kind is named here,
+    /// so that its step is compiled by itself: without a further jump, and without what other contents need.
     #[inline(always)]
     fn put_content(
         &mut self,

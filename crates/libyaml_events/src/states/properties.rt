@@ -15,8 +15,8 @@ use libyaml_types::{
 use std::alloc::Global;
 use std::mem;
 
-/// Puts the anchor of a token, moved out of it, into `held`, which holds none. The text that is kept goes into
-/// the token's place.
+/// Puts the anchor of a token, moved out of it, into `held`, which holds none. The text that is kept goes
+/// into the token's place.
 #[inline(always)]
 fn put_anchor(
     spare: &mut String,
