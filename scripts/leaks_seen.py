@@ -3,7 +3,7 @@
 
     python3 scripts/leaks_seen.py [LEAK..]        (no word: each of LEAKS)
 
-Each is made in a copy, and `rt run` proves and builds `vectors_hostile` over it. Texts are let go of by hand in
+In a copy each is planted in turn, and `rt run` proves and builds `vectors_hostile` over it. Texts are let go of by hand in
 `libyaml_events/src/states`, where `mem::forget` stands in place of a drop: LEAKS has one at each such place but
 `forget_anchor`, over which no run is known that holds an anchor, and one for the bound on what is kept, for handles, and for
 half a document. Some minutes each; needs `rt`, and GNU time.
@@ -60,31 +60,35 @@ def planted(leak, crates):
     return path, text[:place] + new + text[place + len(old) :]
 
 
-def seen(leak):
-    """The first work over which a leak is seen; None where it is not, and what was said where it isn't built."""
-    with tempfile.TemporaryDirectory() as folder:
-        room = Path(folder)
-        copied(room)
-        (room / "scripts/gate").mkdir(parents=True)
-        shutil.copy2(TOP / "scripts/gate/flat_memory.sh", room / "scripts/gate")
-        path, text = planted(leak, room / "crates")
-        path.write_text(text)
-        run = subprocess.run(["rt", "run", "--", "work", "kept", "1"], cwd=room / "crates/vectors_hostile", stdin=subprocess.DEVNULL, capture_output=True, text=True)
-        if not (room / "crates/vectors_hostile/out/vectors_hostile").exists():
-            return f"not built: {(run.stdout + run.stderr)[-1000:]}", False
-        run = subprocess.run(["sh", "scripts/gate/flat_memory.sh"], cwd=room, capture_output=True, text=True)
-        works = [line.partition(":")[0] for line in run.stdout.splitlines() if line.endswith(": not flat")]
-        return (f"seen in {' '.join(works)}", True) if works else ("not seen", False)
+def seen(leak, room):
+    """Whether a leak is seen, planted in this copy, and in words where; what was said if it isn't built."""
+    path, text = planted(leak, room / "crates")
+    was = path.read_text()
+    program = room / "crates/vectors_hostile/out/vectors_hostile"
+    program.unlink(missing_ok=True)
+    path.write_text(text)
+    run = subprocess.run(["rt", "run", "--", "work", "kept", "1"], cwd=room / "crates/vectors_hostile", stdin=subprocess.DEVNULL, capture_output=True, text=True)
+    path.write_text(was)
+    if not program.exists():
+        return f"not built: {(run.stdout + run.stderr)[-1000:]}", False
+    run = subprocess.run(["sh", "scripts/gate/flat_memory.sh"], cwd=room, capture_output=True, text=True)
+    works = [line.partition(":")[0] for line in run.stdout.splitlines() if line.endswith(": not flat")]
+    return (f"seen in {' '.join(works)}", True) if works else ("not seen", False)
 
 
 def main(words):
     if not set(words) <= set(LEAKS):
         sys.exit(__doc__)
     unseen = 0
-    for leak in words or LEAKS:
-        says, is_seen = seen(leak)
-        print(f"{leak}: {says}", flush=True)
-        unseen += not is_seen
+    with tempfile.TemporaryDirectory() as folder:
+        room = Path(folder)
+        copied(room)
+        (room / "scripts/gate").mkdir(parents=True)
+        shutil.copy2(TOP / "scripts/gate/flat_memory.sh", room / "scripts/gate")
+        for leak in words or LEAKS:
+            says, is_seen = seen(leak, room)
+            print(f"{leak}: {says}", flush=True)
+            unseen += not is_seen
     if unseen:
         sys.exit(f"{unseen} not seen")
 
