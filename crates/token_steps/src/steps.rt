@@ -131,7 +131,7 @@ impl steps_t {
             return Did::Bad;
         }
         self.read.settle(&self.machine);
-        match self.machine.step(
+        match self.machine.step::<false>(
             &mut self.read,
             states,
             marks,
