@@ -1,10 +1,9 @@
 -- What the bound on lists does to it.
-use Rattle.std.proofs.Common.{◌≡◌, ◌∷◌, ◌++◌, ℕ, zero, suc, ℤ, pos, List, [], length, nat_lt, ltb-true, lt-ltb, ◌≤◌, arith, Option, Some, None, Bool, true, false, not, refl, ap, ◌∙◌, codes, if◌then◌else◌}
+use Rattle.std.proofs.Common.{◌≡◌, ◌∷◌, ◌++◌, ℕ, zero, suc, ℤ, List, [], length, nat_lt, ltb-true, lt-ltb, ◌≤◌, arith, Option, Some, None, Bool, true, false, not, refl, ap, ◌∙◌, codes, if◌then◌else◌}
 use Rattle.std.specs.Prelude.{slice_get}
 use Rattle.libyaml_types.specs.declared.event.unnamed_yaml_event_t_data.{unnamed_yaml_event_t_data}
 use Rattle.libyaml_types.specs.declared.event.unnamed_yaml_event_t_data.TheVariants as ev
 use Rattle.libyaml_documents.specs.declared.node.unnamed_yaml_node_t_data.{unnamed_yaml_node_t_data}
-use Rattle.libyaml_documents.specs.declared.node.unnamed_yaml_node_t_data.TheVariants.{Scalar, Sequence, Mapping}
 use Rattle.libyaml_documents.specs.declared.node.yaml_node_t.{yaml_node_t}
 use Rattle.libyaml_types.specs.Fault.{memory_fault}
 use Rattle.libyaml_grammar.specs.grammar.Events.{event}
@@ -46,16 +45,7 @@ not_less a n = grind arith
 
 full_same : (n : ℕ) (k : Option ℤ) (c : unnamed_yaml_node_t_data) → Sound k c
     → orig_loader.is_full n (with_half k c) ≡ content_full n k c
-full_same n None (Scalar s) h = refl
-full_same n None (Sequence s) h = not_less (length s.items) n
-full_same n None (Mapping m) h
-    = ap (λ (u : Bool). if u then false else not (nat_lt (length m.pairs) n)) (none_waits m.pairs h) ∙ not_less
-    (length m.pairs) n
-full_same n (Some k) (Scalar s) h = absurd h
-full_same n (Some k) (Sequence s) h = absurd h
-full_same n (Some k) (Mapping m) h
-    = ap (λ (u : Bool). if u then false else not
-    (nat_lt (length (m.pairs ++ record { key = k; value = pos 0 } ∷ [])) n)) (last_waits m.pairs k h.0)
+full_same n k c h = grind (arith, not_less, none_waits, last_waits)
 
 place_full : (n p : ℕ) (hs : List Held) → AllSound hs
     → orig_loader.full_at n p (halves hs) ≡ node_full n (key_in p hs) (slice_get (nodes_in hs) p)

@@ -1,6 +1,6 @@
 -- Where the runs there and here are the same, so are the loads. Where they part, the loads are the same after an error of
 -- the events before, and else the documents of these begin both.
-use Rattle.std.proofs.Common.{◌≡◌, ◌∷◌, ◌++◌, ◌∙◌, ℕ, List, [], Ok, Err, map, refl, sym, ap}
+use Rattle.std.proofs.Common.{◌≡◌, ◌∷◌, ◌++◌, ◌∙◌, ℕ, List, [], Ok, Err, map, refl, sym, ap, arith}
 use Rattle.libyaml_types.specs.declared.event.unnamed_yaml_event_t_data.{unnamed_yaml_event_t_data}
 use Rattle.libyaml_types.specs.declared.event.unnamed_yaml_event_t_data.TheVariants as ev
 use Rattle.libyaml_types.specs.Fault.{Fault}
@@ -25,8 +25,7 @@ data Shares (a b c : List Load) : Type 0 where
 
 more : (d : Document) {a b c : List Load} → Shares a b c → Shares (Ok d ∷ a) (Ok d ∷ b) (Ok d ∷ c)
 more d (equal e) = equal (ap (λ (l : List Load). Ok d ∷ l) e)
-more d (begin documents left right front e f) = begin (d ∷ documents) left right (ap (λ (l : List Load). Ok d ∷ l) front)
-    (ap (λ (l : List Load). Ok d ∷ l) e) (ap (λ (l : List Load). Ok d ∷ l) f)
+more d (begin documents left right front e f) = begin (d ∷ documents) left right (cc) (cc) (cc)
 
 module _ (n : ℕ) (r t : List Event) (x y : Ending) where
   abbrev Shared : List Event → Type 0
@@ -37,18 +36,13 @@ module _ (n : ℕ) (r t : List Event) (x y : Ending) where
   event_shared (ev.DocumentStart d) m m' b ih between = ih (within (record { start = d; mark = m }) new_loader)
   event_shared _ m m' b ih between = ih between
   event_shared (ev.DocumentEnd d) m m' b ih (within o l) = more _ (ih between)
-  event_shared k m m' b ih (within o l) = loaded k
+  event_shared k m m' b ih (within o l) = go (orig_loader.load_event n l (event k m m'))
     where
       go : (v : LoaderResult) → Shares (elim v [ FAIL f ↦ Err f ∷ [] | OK q ↦ original_loads_from n (within o q) b Ends ])
           (elim v [ FAIL f ↦ Err f ∷ [] | OK q ↦ original_loads_from n (within o q) (b ++ r) x ])
           (elim v [ FAIL f ↦ Err f ∷ [] | OK q ↦ original_loads_from n (within o q) (b ++ t) y ])
       go (FAIL f) = equal refl
       go (OK q) = ih (within o q)
-
-      loaded : (k : unnamed_yaml_event_t_data) → Shares (original_loads_from n (within o l) (event k m m' ∷ b) Ends)
-          (original_loads_from n (within o l) (event k m m' ∷ b ++ r) x) (original_loads_from n (within o l) (event k m m' ∷ b ++ t) y)
-      loaded (ev.DocumentEnd d) = more _ (ih between)
-      loaded k = go (orig_loader.load_event n l (event k m m'))
 
   shared : (b : List Event) → Shared b
   shared [] between = begin [] _ _ refl refl refl
@@ -67,16 +61,15 @@ loads_compared n l f a b there here compares alike = go compares
 
     go : Compares (new_original_parser (map as_held l) f) there.events there.ending here.events here.ending
         → LoadsCompare n (new_original_parser (map as_held l) f) a b
-    go (same e x) = same_loads (there.all ∙ (ap (λ (z : List Event). loads_there n z there.ending) e
-        ∙ (ap (λ (z : Ending). loads_there n here.events z) x ∙ sym here_too)))
+    go (same e x) = same_loads (grind (arith, there.all, here_too))
     go (parts before e' d' q reached differs e d later_there later_here) = by
         (shared n e' d' there.ending here.ending before between)
       where
         a_is : a ≡ loads_there n (before ++ e') there.ending
-        a_is = there.all ∙ ap (λ (z : List Event). loads_there n z there.ending) e
+        a_is = cc (there.all)
 
         b_is : b ≡ loads_there n (before ++ d') here.ending
-        b_is = here_too ∙ ap (λ (z : List Event). loads_there n z here.ending) d
+        b_is = cc (here_too)
 
         by : Shares (loads_there n before Ends) (loads_there n (before ++ e') there.ending)
             (loads_there n (before ++ d') here.ending) → LoadsCompare n (new_original_parser (map as_held l) f) a b

@@ -1,5 +1,5 @@
 -- The original's loader over the events of a document.
-use Rattle.std.proofs.Common.{◌≡◌, ◌∷◌, ◌++◌, ℕ, suc, List, [], length, nat_lt, Option, Some, Bool, true, false, Ok, Err, refl, sym, ap, ◌∙◌, arith}
+use Rattle.std.proofs.Common.{◌≡◌, ◌∷◌, ◌++◌, ℕ, List, [], length, nat_lt, Option, Some, Bool, true, false, Ok, Err, refl, sym, ap, ◌∙◌, arith}
 use Rattle.libyaml_types.specs.declared.event.unnamed_yaml_event_t_data.{unnamed_yaml_event_t_data}
 use Rattle.libyaml_types.specs.declared.event.unnamed_yaml_event_t_data.TheVariants as ev
 use Rattle.libyaml_types.specs.Fault.{Fault}
@@ -43,12 +43,7 @@ module _ (n : ℕ) (o : Opening) (x : Ending) where
         (orig_loader.original_loads_from n orig_loader.between (after_document r) x)
 
     over_is : (q : Part) → over_there n q b ≡ nat_lt n (length (following q es))
-    over_is (alias_part a m) = sym s.few
-    over_is (leaf_part a y)
-        = not_less (length (halves b.held)) n ∙ ap (λ (i : ℕ). nat_lt n (suc i)) (halves_length b.held ∙ s.stands.size)
-    over_is (start_part a y)
-        = not_less (length (halves b.held)) n ∙ ap (λ (i : ℕ). nat_lt n (suc i)) (halves_length b.held ∙ s.stands.size)
-    over_is (end_part m) = sym s.few
+    over_is q = grind (arith, not_less, halves_length, s.few, s.stands.size)
 
     grown : full_there n p b ≡ one_above n (sizes (build es p b).held)
     grown = part_full n p b h ∙ sym (list_grows p n es b no_anchors e s.stands.there s.short)
@@ -124,9 +119,6 @@ module _ (n : ℕ) (o : Opening) (x : Ending) where
   event_same _ m m' r ih es F b xs s g h = ih es F b xs s g h
 
   pub document_same : (r : List Event) → Same r
-  document_same [] es F b xs s g h = go x
-    where
-      go : (y : Ending) → orig_loader.original_loads_from n (orig_loader.within o (there xs b)) [] y ≡ last_load y ∷ []
-      go y = grind arith
+  document_same [] es F b xs s g h = grind arith
   document_same (e ∷ r) es F b xs s g h
       = event_same e.content e.start_mark e.end_mark r (document_same r) es F b xs s g h

@@ -1,5 +1,5 @@
 -- The original's nodes beside ours: a mapping whose key waits has a pair without value there.
-use Rattle.std.proofs.Common.{◌≡◌, ◌∷◌, ◌++◌, ◌&&◌, ℕ, zero, suc, ℤ, pos, List, [], Option, Some, None, Bool, true, false, not, refl, ap, ◌∙◌, if◌then◌else◌, arith}
+use Rattle.std.proofs.Common.{◌≡◌, ◌∷◌, ◌++◌, ◌&&◌, ℕ, zero, suc, ℤ, pos, List, [], Option, Some, None, Bool, true, false, not, refl, ap, arith}
 use Rattle.libyaml_documents.specs.Nodes.{changed_at}
 use Rattle.libyaml_documents.specs.declared.node.unnamed_yaml_node_t_data.{unnamed_yaml_node_t_data}
 use Rattle.libyaml_documents.specs.declared.node.unnamed_yaml_node_t_data.TheVariants.{Scalar, Sequence, Mapping}
@@ -57,11 +57,7 @@ id_not_zero z h = grind arith
 
 pub none_waits : (ps : List yaml_node_pair_t) → AllFull ps → orig_loader.waits ps ≡ false
 none_waits [] h = refl
-none_waits (p ∷ []) h
-    = ap (λ (u : Bool). not (orig_loader.is_zero p.key) && u) (id_not_zero p.value h.0) ∙ no_both (not (orig_loader.is_zero p.key))
-  where
-    no_both : (b : Bool) → b && false ≡ false
-    no_both b = grind arith
+none_waits (p ∷ []) h = grind (arith, id_not_zero)
 none_waits (p ∷ q ∷ ps) h = none_waits (q ∷ ps) h.1
 
 pub last_waits : (ps : List yaml_node_pair_t) (k : ℤ) → IsId k
@@ -84,22 +80,7 @@ full_append (q ∷ ps) p h i = (h.0, full_append ps p h.1 i)
 added : (i : ℕ) (k : Option ℤ) (c : unnamed_yaml_node_t_data) → Sound k c
     → orig_loader.content_with_child (suc i) (with_half k c) ≡ with_half (key_after_child k (pos (suc i)) c)
     (content_and_child k (pos (suc i)) c)
-added i None (Scalar s) h = refl
-added i None (Sequence s) h = refl
-added i None (Mapping m) h
-    = ap (λ (u : Bool). Mapping
-    (record m {
-      pairs = if u then with_value (suc i) m.pairs else m.pairs ++
-          record { key = pos (suc i); value = pos 0 } ∷ [];
-    }))
-    (none_waits m.pairs h)
-added i (Some k) (Scalar s) h = absurd h
-added i (Some k) (Sequence s) h = absurd h
-added i (Some k) (Mapping m) h = ap (λ (u : Bool). Mapping (record m {
-  pairs = if u then with_value (suc i) (m.pairs ++ record { key = k; value = pos 0 } ∷ [])
-      else (m.pairs ++ record { key = k; value = pos 0 } ∷ []) ++ record { key = pos (suc i); value = pos 0 } ∷ [];
-})) (last_waits m.pairs k h.0)
-    ∙ ap (λ (l : List yaml_node_pair_t). Mapping (record m { pairs = l })) (last_value (suc i) m.pairs k)
+added i k c h = grind (arith, none_waits, last_waits, last_value)
 
 stays_sound : (i : ℕ) (k : Option ℤ) (c : unnamed_yaml_node_t_data) → Sound k c
     → Sound (key_after_child k (pos (suc i)) c) (content_and_child k (pos (suc i)) c)
@@ -111,12 +92,8 @@ with_child_there i x = record x { content = orig_loader.content_with_child i x.c
 pub held_there : (p i : ℕ) (hs : List Held) → AllSound hs
     → changed_at p (with_child_there (suc i)) (halves hs) ≡ halves (change p (hold (suc i)) hs)
 held_there p i [] h = refl
-held_there zero i (x ∷ hs) h
-    = ap (λ (c : unnamed_yaml_node_t_data).
-    record { tag = x.node.tag; content = c; start_mark = x.node.start_mark; end_mark = x.node.end_mark } ∷ halves
-    hs)
-    (added i x.key x.node.content h.0)
-held_there (suc p) i (x ∷ hs) h = ap (λ (l : List yaml_node_t). half x ∷ l) (held_there p i hs h.1)
+held_there zero i (x ∷ hs) h = grind (arith, added i x.key x.node.content h.0)
+held_there (suc p) i (x ∷ hs) h = cc (held_there p i hs h.1)
 
 pub hold_sound : (p i : ℕ) (hs : List Held) → AllSound hs → AllSound (change p (hold (suc i)) hs)
 hold_sound p i [] h = tt

@@ -1,8 +1,7 @@
 -- At a document's end no key waits, so the nodes are the same.
-use Rattle.std.proofs.Common.{◌≡◌, ◌∷◌, ◌++◌, ℕ, ℤ, pos, List, [], Option, None, true, refl, sym, ap, ◌∙◌, append-nil}
+use Rattle.std.proofs.Common.{◌≡◌, ◌∷◌, ◌++◌, ℕ, pos, List, [], None, true, refl, sym, ap, ◌∙◌, append-nil, arith}
 use Rattle.std.proofs.Math.Bool.{not-not}
 use Rattle.libyaml_documents.specs.declared.node.unnamed_yaml_node_t_data.TheVariants.{Sequence, Mapping}
-use Rattle.libyaml_documents.specs.declared.node.yaml_node_t.{yaml_node_t}
 use Rattle.libyaml_grammar.specs.grammar.Events.{Event, end_at as end_event}
 use Rattle.libyaml_grammar.specs.grammar.Nesting.{AllHavePairs, HasPairs, Value, Values, alias_value, collection_value, first_value, no_values, scalar_value, value_events, values_events}
 use Rattle.libyaml_grammar.specs.grammar.Trees.{mapping, sequence}
@@ -12,7 +11,7 @@ use Rattle.libyaml_graphs.proofs.exported.Building.{even_list, ids_even, values_
 use Rattle.libyaml_documents.specs.declared.node.unnamed_yaml_node_t_data_mapping.{unnamed_yaml_node_t_data_mapping}
 use Rattle.libyaml_documents.specs.declared.node.unnamed_yaml_node_t_data_sequence.{unnamed_yaml_node_t_data_sequence}
 use Rattle.libyaml_graphs.proofs.exported.Building as built
-use Rattle.rust_original.proofs.loads.Halves.{halves, with_half}
+use Rattle.rust_original.proofs.loads.Halves.{halves}
 
 -- at a document's end no key waits
 abbrev NoneWaits : List Held → Type 0
@@ -21,16 +20,7 @@ NoneWaits (h ∷ hs) = (h.key ≡ None) × NoneWaits hs
 
 pub none_half : (hs : List Held) → NoneWaits hs → halves hs ≡ nodes_in hs
 none_half [] w = refl
-none_half (h ∷ hs) w
-    = ap (λ (k : Option ℤ).
-    record {
-      tag = h.node.tag;
-      content = with_half k h.node.content;
-      start_mark = h.node.start_mark;
-      end_mark =
-          h.node.end_mark;
-    } ∷ halves hs) w.0
-    ∙ ap (λ (l : List yaml_node_t). h.node ∷ l) (none_half hs w.1)
+none_half (h ∷ hs) w = grind (arith, none_half hs w.1)
 
 sequence_key : (s : unnamed_yaml_node_t_data_sequence) (is : List ℕ) → built.grown_key None (Sequence s) is ≡ None
 sequence_key s [] = refl

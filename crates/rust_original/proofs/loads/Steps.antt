@@ -1,6 +1,6 @@
 -- What an event does to the original's loader, without the bound.
 use Rattle.std.specs.Prelude.{bytes_eq}
-use Rattle.std.proofs.Common.{◌≡◌, ◌∷◌, ◌++◌, ℕ, suc, List, [], length, Option, Some, None, Bool, true, false, refl, sym, ap, ◌∙◌, subst, codes, if◌then◌else◌, cond, arith}
+use Rattle.std.proofs.Common.{◌≡◌, ◌∷◌, ◌++◌, ℕ, suc, List, [], length, Option, Some, None, Bool, true, false, refl, ap, ◌∙◌, codes, if◌then◌else◌, cond, arith}
 use Rattle.std.specs.Cmp.Lexicographic as lex
 use Rattle.libyaml_types.specs.declared.event.unnamed_yaml_event_t_data.{unnamed_yaml_event_t_data}
 use Rattle.libyaml_types.specs.declared.event.unnamed_yaml_event_t_data.TheVariants as ev
@@ -11,7 +11,7 @@ use Rattle.libyaml_grammar.specs.grammar.Tokens.{Mark}
 use Rattle.libyaml_graphs.specs.graphs.ComposerFaults.{alias_fault, anchor_fault, composer_part_fault}
 use Rattle.libyaml_documents.specs.LoadedNodes.{mapping_loaded, scalar_loaded, sequence_loaded}
 use Rattle.libyaml_graphs.specs.graphs.GraphParts.{Part, alias_part, following, end_part, part_in, anchored_node_start}
-use Rattle.libyaml_graphs.specs.graphs.Graphs.{AnchoredNode, Start, anchored_node, carries, id_or}
+use Rattle.libyaml_graphs.specs.graphs.Graphs.{AnchoredNode, Start, anchored_node, carries}
 use Rattle.libyaml_graphs.proofs.exported.Building.{Built, Held, bare, build, hold_top}
 use Rattle.rust_original.specs.loader.Loader as orig_loader
 use Rattle.rust_original.specs.loader.Loader.{FAIL, LoaderResult, OK, alias_of, yaml_alias_data_t}
@@ -37,15 +37,11 @@ anchored_node_id : (a : List ℕ) (es : List Start) (c : AnchoredNode) → ancho
 anchored_node_id a [] c e = absurd cc
 anchored_node_id a (s ∷ es) c e = go (carries s.anchor a) (λ k. anchored_node_id a es c k) e
   where
-    same : (d : AnchoredNode) → Some d ≡ Some c → d ≡ c
-    same d h = cc
-
     go : (u : Bool) → (anchored_node a es ≡ Some c → (i : ℕ) × (c.id ≡ suc i))
         → ◌≡◌ {A = Option AnchoredNode}
         (elim u [ true ↦ Some (record { id = suc (length es); mark = s.mark }) | false ↦ anchored_node a es ]) (Some c)
         → (i : ℕ) × (c.id ≡ suc i)
-    go true ih h
-        = (length es, sym (ap (λ (d : AnchoredNode). d.id) (same (record { id = suc (length es); mark = s.mark }) h)))
+    go true ih h = (length es, cc)
     go false ih h = ih h
 
 halves_append : (hs : List Held) (x : yaml_node_t) → halves (hs ++ bare x ∷ []) ≡ halves hs ++ x ∷ []
@@ -89,29 +85,7 @@ node_add xs i (p ∷ s) hs h
 alias_follows : (a : List ℕ) (m : Mark) (es : List Start) (b : Built) (xs : List yaml_alias_data_t) → Agrees es xs
     → AllSound b.held
     → Follows (load_alias (there xs b) a m) (alias_fault (anchored_node a es) m) es (build es (alias_part a m) b)
-alias_follows a m es b xs g h = go (alias_of xs a) (anchored_node a es) (g a) refl
-  where
-    go : (o c : Option AnchoredNode) → o ≡ c → anchored_node a es ≡ c
-        → Follows (elim o [
-          | Some found ↦ OK (orig_loader.child_added (there xs b) found.id)
-          | None ↦ orig_loader.yaml_parser_set_composer_error (codes "found undefined alias") m
-        ]) (alias_fault c m) es
-        (record { places = b.places; held = hold_top (id_or c) b.places b.held })
-    go None None e k = refl
-    go None (Some c) e k = absurd cc
-    go (Some o) None e k = absurd cc
-    go (Some o) (Some c) e k =
-        let i = anchored_node_id a es c k in
-        let same : o.id ≡ suc i.0 = ap id_or e ∙ i.1 in (
-          refl,
-          (
-            xs,
-            ap (orig_loader.child_added (there xs b)) same ∙ (node_add xs i.0 b.places b.held h
-                ∙ ap (λ (n : ℕ). there xs (record { places = b.places; held = hold_top n b.places b.held })) (sym i.1)),
-            g,
-            subst (λ (n : ℕ). AllSound (hold_top n b.places b.held)) (sym i.1) (top_sound i.0 b.places b.held h),
-          ),
-        )
+alias_follows a m es b xs g h = grind (arith, g a, anchored_node_id a es, node_add, top_sound)
 
 -- a node put after the others
 abbrev or_else : Option AnchoredNode → Option AnchoredNode → Option AnchoredNode
@@ -135,16 +109,7 @@ alias_more (e ∷ xs) d a = go (bytes_eq e.anchor a) (alias_more xs d a)
 agrees_more : (xs : List yaml_alias_data_t) (es : List Start) (b : List ℕ) (m : Mark) → Agrees es xs
     → alias_of xs b ≡ None → Agrees (record { anchor = Some b; mark = m } ∷ es)
     (xs ++ record { anchor = b; anchored_node = record { id = suc (length es); mark = m } } ∷ [])
-agrees_more xs es b m g e a
-    = alias_more xs (record { anchor = b; anchored_node = record { id = suc (length es); mark = m } }) a ∙ go (bytes_eq b a)
-    refl
-  where
-    go : (u : Bool) → u ≡ bytes_eq b a
-        → or_else (alias_of xs a) (cond u (Some (record { id = suc (length es); mark = m })) None)
-        ≡ elim u [ true ↦ Some (record { id = suc (length es); mark = m }) | false ↦ anchored_node a es ]
-    go true s = ap (λ (o : Option AnchoredNode). or_else o (Some (record { id = suc (length es); mark = m })))
-        (subst (λ (y : List ℕ). alias_of xs y ≡ None) (lex.same_text b a s) e)
-    go false s = or_none (alias_of xs a) ∙ g a
+agrees_more xs es b m g e a = grind (arith, alias_more, lex.same_text b a, g a)
 
 abbrev opened : Bool → ℕ → Built → Built
 opened true n b = record { places = n ∷ b.places; held = b.held }
@@ -168,13 +133,7 @@ module _ (x : yaml_node_t) (opens : Bool) (es : List Start) (b : Built) (size : 
       → finish_there opens (record { aliases = ys; nodes = halves b.held ++ x ∷ []; ctx = ids b.places })
       (suc (length (halves b.held)))
       ≡ there ys (put opens x (length es) b)
-  finished ys
-      = ap (λ (l : List yaml_node_t). finish_there opens (record { aliases = ys; nodes = l; ctx = ids b.places })
-      (suc (length (halves b.held))))
-      (sym (halves_append b.held x)) ∙
-      (ap (λ (n : ℕ). finish_there opens
-      (record { aliases = ys; nodes = halves (b.held ++ bare x ∷ []); ctx = ids b.places }) (suc n)) index_is
-      ∙ go opens)
+  finished ys = rw (← (halves_append b.held x), index_is) (go opens)
     where
       go : (o : Bool)
           → finish_there o (record { aliases = ys; nodes = halves (b.held ++ bare x ∷ []); ctx = ids b.places })
@@ -211,18 +170,7 @@ end_follows : (n : Mark) (xs : List yaml_alias_data_t) (es : List Start) (s : Li
     → Follows (OK (orig_loader.node_ended (there xs (record { places = s; held = hs })) (event k m n))) None es
     (build es (end_part n) (record { places = s; held = hs }))
 end_follows n xs es [] hs k m g h = (refl, (xs, refl, g, h))
-end_follows n xs es (p ∷ s) hs k m g h
-    = (
-      refl,
-      (
-        xs,
-        ap
-            (λ (l : List yaml_node_t). let r : orig_loader.OriginalLoader = record { aliases = xs; nodes = l; ctx = ids s } in r)
-            (ended_there p n hs),
-        g,
-        end_sound p n hs h,
-      ),
-    )
+end_follows n xs es (p ∷ s) hs k m g h = (refl, (xs, cc (ended_there p n hs), g, end_sound p n hs h))
 
 pub event_follows : (k : unnamed_yaml_event_t_data) (m n : Mark) (es : List Start) (b : Built)
     (xs : List yaml_alias_data_t) → length b.held ≡ length es → Agrees es xs

@@ -1,15 +1,14 @@
 -- A call of each parser, where they stand to one another, does the same, and they stand so again.
-use Rattle.std.proofs.Common.{◌≡◌, ◌∷◌, ◌∙◌, ◌||◌, List, None, Bool, false, refl, ap, if◌then◌else◌, arith}
+use Rattle.std.proofs.Common.{◌≡◌, ◌∷◌, List, None, Bool, false, arith}
 use Rattle.libyaml_types.specs.declared.directive.yaml_tag_directive_t.{yaml_tag_directive_t}
 use Rattle.libyaml_types.specs.declared.enums.yaml_parser_state_t.{yaml_parser_state_t}
 use Rattle.libyaml_types.specs.declared.enums.yaml_parser_state_t.TheVariants as st
-use Rattle.libyaml_types.specs.Events.{empty_event}
 use Rattle.libyaml_types.specs.Fault.{Fault}
 use Rattle.libyaml_grammar.specs.grammar.ValidLists.{is_end}
 use Rattle.libyaml_grammar.specs.grammar.Tokens.{Mark, Token}
 use Rattle.libyaml_events.specs.machine.Config.{Config, Handles, is_end_state, without_lookahead}
 use Rattle.libyaml_events.specs.machine.Want.{AtState}
-use Rattle.rust_original.specs.parser.Parser.{Mends, OK, OriginalParser, yaml_parser_state_machine}
+use Rattle.rust_original.specs.parser.Parser.{Mends, OriginalParser, yaml_parser_state_machine}
 use Rattle.rust_original.specs.parser.Runs.{as_here, call}
 use Rattle.rust_original.proofs.parser.Documents as documents
 use Rattle.rust_original.proofs.parser.States as states
@@ -29,18 +28,13 @@ module _ (f : Fault) (x : Fault) (ss : List yaml_parser_state_t) where
   entered : (s' s : yaml_parser_state_t) (ms : List Mark) (tags : List yaml_tag_directive_t) (hs : Handles)
       (be flag : Bool) (t : Token) (l : List Token) → Opens s' s → Below ss
       → Agree tags hs → is_end t.content ≡ false → Same s s' (t.start_mark ∷ ms) ms tags hs be flag false l (t ∷ l)
-  entered st.YAML_PARSE_BLOCK_SEQUENCE_FIRST_ENTRY_STATE st.YAML_PARSE_BLOCK_SEQUENCE_ENTRY_STATE ms tags hs be flag t l i
-      b a e
-      = states.block_sequence_first_entry f tags hs be flag x ss a b ms t l e
-  entered st.YAML_PARSE_BLOCK_MAPPING_FIRST_KEY_STATE st.YAML_PARSE_BLOCK_MAPPING_KEY_STATE ms tags hs be flag t l i b a e
-      = states.block_mapping_first_key f tags hs be flag x ss a b ms t l e
-  entered st.YAML_PARSE_FLOW_SEQUENCE_FIRST_ENTRY_STATE st.YAML_PARSE_FLOW_SEQUENCE_FIRST_ENTRY_STATE ms tags hs be flag t
-      l i b a e
-      = states.flow_sequence_first_entry f tags hs be flag x ss a b ms t l e
-  entered st.YAML_PARSE_FLOW_MAPPING_FIRST_KEY_STATE st.YAML_PARSE_FLOW_MAPPING_FIRST_KEY_STATE ms tags hs be flag t l i b
-      a e
-      = states.flow_mapping_first_key f tags hs be flag x ss a b ms t l e
-  entered _ _ ms tags hs be flag t l i b a e = absurd i
+  entered s' s ms tags hs be flag t l i b a e = grind (
+    arith,
+    states.block_sequence_first_entry f tags hs be flag x ss a b ms t l e,
+    states.block_mapping_first_key f tags hs be flag x ss a b ms t l e,
+    states.flow_sequence_first_entry f tags hs be flag x ss a b ms t l e,
+    states.flow_mapping_first_key f tags hs be flag x ss a b ms t l e,
+  )
 
   within : (s : yaml_parser_state_t) (ms : List Mark) (tags : List yaml_tag_directive_t) (hs : Handles) (be flag : Bool)
       (l : List Token) → IsInside s → Below ss → Agree tags hs → Same s s ms ms tags hs be flag false l l
@@ -91,43 +85,18 @@ module _ (f : Fault) (x : Fault) (ss : List yaml_parser_state_t) where
 pub flagged : {ss : List yaml_parser_state_t} {s s' : yaml_parser_state_t} {ms ms' : List Mark} {tags : List
     yaml_tag_directive_t} {hs : Handles} {be flag ended : Bool} {l l' : List Token}
     → Fits ss s s' ms ms' tags hs be flag ended l l' → ended ≡ is_end_state s
-flagged before = refl
-flagged first = refl
-flagged after_end = refl
-flagged (following e) = refl
-flagged root_end = refl
-flagged (entering {s} {s'} i b a e) = go s' s i
-  where
-    go : (s' s : yaml_parser_state_t) → Opens s' s → false ≡ is_end_state s
-    go s' s i = grind arith
-flagged (inside {s} i b a) = go s i
-  where
-    go : (s : yaml_parser_state_t) → IsInside s → false ≡ is_end_state s
-    go s i = grind arith
-flagged over = refl
+flagged fits = grind arith
 
 -- and both states are the last one
 both_end : {ss : List yaml_parser_state_t} {s s' : yaml_parser_state_t} {ms ms' : List Mark} {tags : List
     yaml_tag_directive_t} {hs : Handles} {be flag ended : Bool} {l l' : List Token}
     → Fits ss s s' ms ms' tags hs be flag ended l l' → is_end_state s' ≡ is_end_state s
-both_end before = refl
-both_end first = refl
-both_end after_end = refl
-both_end (following e) = refl
-both_end root_end = refl
-both_end (entering {s} {s'} i b a e) = go s' s i
-  where
-    go : (s' s : yaml_parser_state_t) → Opens s' s → is_end_state s' ≡ is_end_state s
-    go s' s i = grind arith
-both_end (inside i b a) = refl
-both_end over = refl
+both_end fits = grind arith
 
 -- a parser that has not ended calls its state's function
 begun_call : (m : Mends) (q : OriginalParser) → q.stream_end_produced ≡ false → is_end_state q.state ≡ false
     → call m q ≡ yaml_parser_state_machine m q.state q
-begun_call m q h k
-    = ap (λ (u : Bool). if u || is_end_state q.state then OK empty_event q else yaml_parser_state_machine m q.state q) h
-    ∙ ap (λ (u : Bool). if u then OK empty_event q else yaml_parser_state_machine m q.state q) k
+begun_call m q h k = grind arith
 
 -- a call of both
 pub call_same : (f : Fault) (q : OriginalParser) (d : Config) (l : List Token) → SamePlace f q d l → is_end_state d.state ≡ false

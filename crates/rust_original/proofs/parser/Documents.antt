@@ -1,12 +1,11 @@
 -- Between documents, both parsers do the same.
-use Rattle.std.proofs.Common.{◌≡◌, ◌∷◌, ◌||◌, ◌&&◌, pos, List, [], Option, Some, None, Bool, true, false, not, refl, sym, subst, codes, if◌then◌else◌, is_some, arith}
+use Rattle.std.proofs.Common.{◌≡◌, ◌∷◌, ◌||◌, ◌&&◌, pos, List, [], Option, Some, None, Bool, true, false, not, refl, codes, if◌then◌else◌, is_some, arith}
 use Rattle.std.specs.Ordering.{int_eq}
 use Rattle.libyaml_types.specs.declared.directive.yaml_tag_directive_t.{yaml_tag_directive_t}
 use Rattle.libyaml_types.specs.declared.directive.yaml_version_directive_t.{yaml_version_directive_t}
 use Rattle.libyaml_types.specs.declared.enums.yaml_parser_state_t.{yaml_parser_state_t}
 use Rattle.libyaml_types.specs.declared.enums.yaml_parser_state_t.TheVariants as st
 use Rattle.libyaml_types.specs.Fault.{Fault}
-use Rattle.libyaml_grammar.specs.partial.FaultTexts.{document_start_fault}
 use Rattle.libyaml_grammar.specs.grammar.Tokens.{Content, DocumentEnd, DocumentStart, HandleDeclared, Mark, StreamEnd, StreamStart, TagDirective, Token, VersionAsked, VersionDirective}
 use Rattle.libyaml_automaton.specs.Automaton as automaton
 use Rattle.libyaml_events.specs.machine.Config.{Config, Handles, config_of, no_handles}
@@ -16,7 +15,7 @@ use Rattle.rust_original.specs.parser.Parser as orig
 use Rattle.rust_original.specs.parser.Parser.{ParserResult, OriginalParser, default_tag_directives, directive_named, directives_from}
 use Rattle.rust_original.specs.parser.Runs.{as_here}
 use Rattle.rust_original.proofs.parser.Handles.{Reads, agree, defaults_appended, none_declared, reads_more}
-use Rattle.rust_original.proofs.parser.Relation.{standing, Matches, fed, feed, first, inside, is_document_end, over, stopped, there, tk}
+use Rattle.rust_original.proofs.parser.Relation.{standing, Matches, fed, feed, first, inside, is_document_end, over, there, tk}
 
 module _ (f : Fault) (x : Fault) (ss : List yaml_parser_state_t) (ms : List Mark) where
   abbrev pub here : yaml_parser_state_t → Bool → Handles → Config
@@ -27,18 +26,10 @@ module _ (f : Fault) (x : Fault) (ss : List yaml_parser_state_t) (ms : List Mark
   par s' flag tags l = there f tags flag s' false (here s' false no_handles) l
 
   -- before the stream
-  stream_start_token : (be flag : Bool) (k : Content) (m n : Mark) (l : List Token) → be ≡ false → flag ≡ false
-      → Matches f (orig.yaml_parser_parse_stream_start (par st.YAML_PARSE_STREAM_START_STATE false [] (tk k m n ∷ l)))
-      (feed f AtState (here st.YAML_PARSE_STREAM_START_STATE false no_handles) (tk k m n ∷ l))
-  stream_start_token be flag (StreamStart s) m n l d e
-      = (refl, standing refl first tt)
-  stream_start_token be flag k m n l d e = refl
-
   pub stream_start : (l : List Token)
       → Matches f (orig.yaml_parser_parse_stream_start (par st.YAML_PARSE_STREAM_START_STATE false [] l))
       (feed f AtState (here st.YAML_PARSE_STREAM_START_STATE false no_handles) l)
-  stream_start [] = refl
-  stream_start (t ∷ l) = stream_start_token false false t.content t.start_mark t.end_mark l refl refl
+  stream_start l = grind (arith, standing, first)
 
   -- the directives of a document that begins at a mark, from a token on
   abbrev directive_texts : Option yaml_version_directive_t → List yaml_tag_directive_t → Texts
@@ -91,14 +82,10 @@ module _ (f : Fault) (x : Fault) (ss : List yaml_parser_state_t) (ms : List Mark
     directive_token a o ts (VersionDirective v) m n l tags hs ih r = version_token a o ts v m n l tags hs ih r
     directive_token a o ts (TagDirective g) m n l tags hs ih r = tag_token a o ts g m n l tags hs ih r
     directive_token a o ts DocumentStart m n l tags hs ih r
-        = subst (λ y. Matches f y
-        (feed f (after_directive a o ts) (here s be hs) (tk DocumentStart m n ∷ l)))
-        (sym (defaults_appended (par s' flag tags (tk DocumentStart m n ∷ l)) m (next_there a o ts))) (
-          refl,
-          standing refl (inside tt tt (agree tags hs r)) tt,
-        )
-    directive_token a o ts k m n l tags hs ih r = subst (λ y. Matches f y (stopped (document_start_fault m)))
-        (sym (defaults_appended (par s' flag tags (tk k m n ∷ l)) m (next_there a o ts))) refl
+        = rw (defaults_appended (par s' flag tags (tk DocumentStart m n ∷ l)) m (next_there a o ts))
+        (refl, standing refl (inside tt tt (agree tags hs r)) tt)
+    directive_token a o ts k m n l tags hs ih r
+        = rw (defaults_appended (par s' flag tags (tk k m n ∷ l)) m (next_there a o ts)) refl
 
     directives : (l : List Token) → Follows l
     directives [] a o ts tags hs r = refl
@@ -121,35 +108,18 @@ module _ (f : Fault) (x : Fault) (ss : List yaml_parser_state_t) (ms : List Mark
     explicit k m n l = directives (tk k m n ∷ l) m None [] [] no_handles none_declared
 
   -- where a document may be implicit: the first one
-  first_token : (k : Content) (m n : Mark) (l : List Token)
-      → Matches f
-      (orig.yaml_parser_parse_document_start as_here
-      (par st.YAML_PARSE_IMPLICIT_DOCUMENT_START_STATE false [] (tk k m n ∷ l)) true)
-      (feed f AtState (here st.YAML_PARSE_IMPLICIT_DOCUMENT_START_STATE false no_handles) (tk k m n ∷ l))
-  first_token StreamEnd m n l = (refl, standing refl over tt)
-  first_token (VersionDirective v) m n l
-      = explicit st.YAML_PARSE_IMPLICIT_DOCUMENT_START_STATE st.YAML_PARSE_IMPLICIT_DOCUMENT_START_STATE false false
-      (VersionDirective v) m n l
-  first_token (TagDirective g) m n l
-      = explicit st.YAML_PARSE_IMPLICIT_DOCUMENT_START_STATE st.YAML_PARSE_IMPLICIT_DOCUMENT_START_STATE false false
-      (TagDirective g) m n l
-  first_token DocumentStart m n l
-      = explicit st.YAML_PARSE_IMPLICIT_DOCUMENT_START_STATE st.YAML_PARSE_IMPLICIT_DOCUMENT_START_STATE false false
-      DocumentStart m n l
-  first_token DocumentEnd m n l
-      = implicit st.YAML_PARSE_IMPLICIT_DOCUMENT_START_STATE st.YAML_PARSE_IMPLICIT_DOCUMENT_START_STATE false false
-      DocumentEnd m n l
-  first_token k m n l
-      = implicit st.YAML_PARSE_IMPLICIT_DOCUMENT_START_STATE st.YAML_PARSE_IMPLICIT_DOCUMENT_START_STATE false false k m
-      n l
-
   pub first_document : (l : List Token)
       → Matches f
       (orig.yaml_parser_parse_document_start as_here (par st.YAML_PARSE_IMPLICIT_DOCUMENT_START_STATE false [] l)
       true)
       (feed f AtState (here st.YAML_PARSE_IMPLICIT_DOCUMENT_START_STATE false no_handles) l)
   first_document [] = refl
-  first_document (t ∷ l) = first_token t.content t.start_mark t.end_mark l
+  first_document (t ∷ l) =
+      let begins = explicit st.YAML_PARSE_IMPLICIT_DOCUMENT_START_STATE st.YAML_PARSE_IMPLICIT_DOCUMENT_START_STATE false false
+      t.content t.start_mark t.end_mark l in
+      let bare = implicit st.YAML_PARSE_IMPLICIT_DOCUMENT_START_STATE st.YAML_PARSE_IMPLICIT_DOCUMENT_START_STATE false false
+      t.content t.start_mark t.end_mark l in
+      grind (arith, standing, over)
 
   -- one after an explicit end
   pub bare_document : (l : List Token)
@@ -157,28 +127,12 @@ module _ (f : Fault) (x : Fault) (ss : List yaml_parser_state_t) (ms : List Mark
       (orig.yaml_parser_parse_document_start as_here (par st.YAML_PARSE_DOCUMENT_START_STATE true [] l) false)
       (feed f AtState (here st.YAML_PARSE_IMPLICIT_DOCUMENT_START_STATE true no_handles) l)
   bare_document [] = refl
-  bare_document (t ∷ l) = go t.content t.start_mark t.end_mark (bare_document l)
-    where
-      go : (k : Content) (m n : Mark)
-          → Matches f
-          (orig.yaml_parser_parse_document_start as_here (par st.YAML_PARSE_DOCUMENT_START_STATE true [] l) false)
-          (feed f AtState (here st.YAML_PARSE_IMPLICIT_DOCUMENT_START_STATE true no_handles) l) → Matches f
-          (orig.yaml_parser_parse_document_start as_here
-          (par st.YAML_PARSE_DOCUMENT_START_STATE true [] (tk k m n ∷ l)) false)
-          (feed f AtState (here st.YAML_PARSE_IMPLICIT_DOCUMENT_START_STATE true no_handles) (tk k m n ∷ l))
-      go StreamEnd m n ih = (refl, standing refl over tt)
-      go (VersionDirective v) m n ih
-          = explicit st.YAML_PARSE_IMPLICIT_DOCUMENT_START_STATE st.YAML_PARSE_DOCUMENT_START_STATE true true
-          (VersionDirective v) m n l
-      go (TagDirective g) m n ih
-          = explicit st.YAML_PARSE_IMPLICIT_DOCUMENT_START_STATE st.YAML_PARSE_DOCUMENT_START_STATE true true
-          (TagDirective g) m n l
-      go DocumentStart m n ih
-          = explicit st.YAML_PARSE_IMPLICIT_DOCUMENT_START_STATE st.YAML_PARSE_DOCUMENT_START_STATE true true
-          DocumentStart m n l
-      go DocumentEnd m n ih = ih
-      go k m n ih
-          = implicit st.YAML_PARSE_IMPLICIT_DOCUMENT_START_STATE st.YAML_PARSE_DOCUMENT_START_STATE true true k m n l
+  bare_document (t ∷ l) =
+      let begins = explicit st.YAML_PARSE_IMPLICIT_DOCUMENT_START_STATE st.YAML_PARSE_DOCUMENT_START_STATE true true
+      t.content t.start_mark t.end_mark l in
+      let bare = implicit st.YAML_PARSE_IMPLICIT_DOCUMENT_START_STATE st.YAML_PARSE_DOCUMENT_START_STATE true true
+      t.content t.start_mark t.end_mark l in
+      grind (arith, bare_document l, standing, over)
 
   -- where it may not be implicit
   pub next_document : (be : Bool) (k : Content) (m n : Mark) (l : List Token) → is_document_end k ≡ false
@@ -186,7 +140,6 @@ module _ (f : Fault) (x : Fault) (ss : List yaml_parser_state_t) (ms : List Mark
       (orig.yaml_parser_parse_document_start as_here
       (par st.YAML_PARSE_DOCUMENT_START_STATE false [] (tk k m n ∷ l)) false)
       (feed f AtState (here st.YAML_PARSE_DOCUMENT_START_STATE be no_handles) (tk k m n ∷ l))
-  next_document be StreamEnd m n l e = (refl, standing refl over tt)
-  next_document be DocumentEnd m n l e = absurd cc
-  next_document be k m n l e
-      = explicit st.YAML_PARSE_DOCUMENT_START_STATE st.YAML_PARSE_DOCUMENT_START_STATE be false k m n l
+  next_document be k m n l e =
+      let begins = explicit st.YAML_PARSE_DOCUMENT_START_STATE st.YAML_PARSE_DOCUMENT_START_STATE be false k m n l in
+      grind (arith, standing, over)

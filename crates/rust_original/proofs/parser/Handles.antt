@@ -1,6 +1,6 @@
 -- A list of tag directives gives each handle the prefix that the map of handles gives.
 use Rattle.std.specs.Prelude.{bytes_eq}
-use Rattle.std.proofs.Common.{◌≡◌, ◌∷◌, ◌++◌, ℕ, List, [], Option, Some, None, Bool, true, false, cond, codes, refl, sym, ap, ◌∙◌, subst, arith}
+use Rattle.std.proofs.Common.{◌≡◌, ◌∷◌, ◌++◌, ℕ, List, [], Option, Some, None, cond, codes, refl, sym, arith}
 use Rattle.std.specs.Cmp.Lexicographic.{texts_ties, nat_list_eq_equiv, nat_list_cmp_total}
 use Rattle.std.specs.Cmp.Lexicographic as lex
 use Rattle.std.specs.FinMap.{get, insert, get-from_entries}
@@ -32,24 +32,11 @@ or_none o = grind arith
 one_more : (tags : List yaml_tag_directive_t) (d : yaml_tag_directive_t) (h : List ℕ)
     → directive_named (tags ++ d ∷ []) h ≡ or_else (directive_named tags h) (cond (bytes_eq d.handle h) (Some d.prefix) None)
 one_more [] d h = refl
-one_more (e ∷ tags) d h = go (one_more tags d h) (bytes_eq e.handle h)
-  where
-    go : directive_named (tags ++ d ∷ []) h ≡ or_else (directive_named tags h)
-        (cond (bytes_eq d.handle h) (Some d.prefix) None) → (u : Bool)
-        → cond u (Some e.prefix) (directive_named (tags ++ d ∷ []) h)
-        ≡ or_else (cond u (Some e.prefix) (directive_named tags h)) (cond (bytes_eq d.handle h) (Some d.prefix) None)
-    go ih u = grind arith
+one_more (e ∷ tags) d h = grind (arith, one_more tags d h)
 
 pub reads_more : (tags : List yaml_tag_directive_t) (hs : Handles) (g p : List ℕ) → Reads tags hs
     → directive_named tags g ≡ None → Reads (tags ++ declares g p ∷ []) (insert hs g p)
-reads_more tags hs g p r e h = one_more tags (declares g p) h ∙ (go (bytes_eq g h) refl ∙ sym (inserted hs g p h))
-  where
-    go : (u : Bool) → u ≡ bytes_eq g h
-        → or_else (directive_named tags h) (cond u (Some p) None) ≡ cond u (Some p) (get hs h)
-    go true s
-        = ap (λ (o : Option (List ℕ)). or_else o (Some p))
-        (subst (λ (y : List ℕ). directive_named tags y ≡ None) (lex.same_text g h s) e)
-    go false s = or_none (directive_named tags h) ∙ r h
+reads_more tags hs g p r e h = grind (arith, one_more, inserted, lex.same_text g h, r h)
 
 -- the defaults
 abbrev with_default : List yaml_tag_directive_t → yaml_tag_directive_t → Option (List ℕ) → List yaml_tag_directive_t
@@ -61,20 +48,7 @@ after tags d = with_default tags d (directive_named tags d.handle)
 
 found : (tags : List yaml_tag_directive_t) (d : yaml_tag_directive_t) (h : List ℕ)
     → directive_named (after tags d) h ≡ or_else (directive_named tags h) (cond (bytes_eq d.handle h) (Some d.prefix) None)
-found tags d h = go (directive_named tags d.handle) refl
-  where
-    there : (x : List ℕ) → directive_named tags d.handle ≡ Some x → (u : Bool) → u ≡ bytes_eq d.handle h
-        → directive_named tags h ≡ or_else (directive_named tags h) (cond u (Some d.prefix) None)
-    there x e true s =
-        let i : directive_named tags h ≡ Some x
-        = subst (λ (y : List ℕ). directive_named tags y ≡ Some x) (lex.same_text d.handle h s) e in
-        i ∙ sym (ap (λ (o : Option (List ℕ)). or_else o (Some d.prefix)) i)
-    there x e false s = sym (or_none (directive_named tags h))
-
-    go : (o : Option (List ℕ)) → directive_named tags d.handle ≡ o
-        → directive_named (with_default tags d o) h ≡ or_else (directive_named tags h)
-        (cond (bytes_eq d.handle h) (Some d.prefix) None)
-    go o e = grind (arith, one_more, there)
+found tags d h = grind (arith, one_more, lex.same_text d.handle h)
 
 abbrev bang : yaml_tag_directive_t
 bang = declares (codes "!") (codes "!")

@@ -171,19 +171,7 @@ Matches f (FAIL g) (stopped h) = g ≡ h
 pub popped_fits :
     (ss : List yaml_parser_state_t) {ms : List Mark} {tags : List yaml_tag_directive_t} {hs : Handles} {be flag : Bool}
     {l : List Token} → Below ss → Agree tags hs → Fits (below ss) (top ss) (top ss) ms ms tags hs be flag false l l
-popped_fits [] b a = absurd b
-popped_fits (st.YAML_PARSE_DOCUMENT_END_STATE ∷ ss) b a = root_end
-popped_fits (st.YAML_PARSE_BLOCK_SEQUENCE_ENTRY_STATE ∷ ss) b a = inside tt b a
-popped_fits (st.YAML_PARSE_INDENTLESS_SEQUENCE_ENTRY_STATE ∷ ss) b a = inside tt b a
-popped_fits (st.YAML_PARSE_BLOCK_MAPPING_KEY_STATE ∷ ss) b a = inside tt b a
-popped_fits (st.YAML_PARSE_BLOCK_MAPPING_VALUE_STATE ∷ ss) b a = inside tt b a
-popped_fits (st.YAML_PARSE_FLOW_SEQUENCE_ENTRY_STATE ∷ ss) b a = inside tt b a
-popped_fits (st.YAML_PARSE_FLOW_SEQUENCE_ENTRY_MAPPING_VALUE_STATE ∷ ss) b a = inside tt b a
-popped_fits (st.YAML_PARSE_FLOW_SEQUENCE_ENTRY_MAPPING_END_STATE ∷ ss) b a = inside tt b a
-popped_fits (st.YAML_PARSE_FLOW_MAPPING_KEY_STATE ∷ ss) b a = inside tt b a
-popped_fits (st.YAML_PARSE_FLOW_MAPPING_VALUE_STATE ∷ ss) b a = inside tt b a
-popped_fits (st.YAML_PARSE_FLOW_MAPPING_EMPTY_VALUE_STATE ∷ ss) b a = inside tt b a
-popped_fits (_ ∷ ss) b a = absurd b
+popped_fits ss b a = grind (arith, root_end, inside)
 
 -- no such state is on the stack
 pub popped_fresh : (ss : List yaml_parser_state_t) (o : Option Token) → Below ss → IsFresh (top ss) o

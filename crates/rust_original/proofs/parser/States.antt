@@ -4,18 +4,22 @@ use Rattle.libyaml_types.specs.declared.directive.yaml_tag_directive_t.{yaml_tag
 use Rattle.libyaml_types.specs.declared.enums.yaml_parser_state_t.{yaml_parser_state_t}
 use Rattle.libyaml_types.specs.declared.enums.yaml_parser_state_t.TheVariants as st
 use Rattle.libyaml_types.specs.declared.enums.yaml_token_type_t.TheVariants as kinds
+use Rattle.libyaml_types.specs.Types.{token_type}
 use Rattle.libyaml_types.specs.Fault.{Fault}
 use Rattle.libyaml_grammar.specs.grammar.ValidLists.{is_end}
-use Rattle.libyaml_grammar.specs.grammar.Tokens.{BlockEnd, BlockEntry, Content, DocumentEnd, DocumentStart, FlowEntry, FlowMappingEnd, FlowSequenceEnd, Key, Mark, StreamEnd, TagDirective, Token, Value, VersionDirective}
+use Rattle.libyaml_grammar.specs.grammar.Tokens.{BlockEntry, Content, DocumentEnd, FlowEntry, Key, Mark, Token, Value}
+use Rattle.libyaml_automaton.specs.declared.node_place.NodePlace.{NodePlace}
 use Rattle.libyaml_automaton.specs.declared.node_place.NodePlace.TheVariants.{Block, BlockOrIndentlessSequence, Flow}
 use Rattle.libyaml_automaton.specs.Automaton as automaton
-use Rattle.libyaml_events.specs.machine.Config.{Config, Handles}
+use Rattle.libyaml_automaton.specs.Automaton.{is_block_place, may_be_indentless}
+use Rattle.libyaml_events.specs.machine.Config.{Config, Handles, config_of}
+use Rattle.libyaml_events.specs.machine.Machine.{seen, with_texts}
 use Rattle.libyaml_events.specs.machine.Want.{AtState, Want, no_texts}
 use Rattle.rust_original.specs.parser.Parser as orig
 use Rattle.rust_original.specs.parser.Parser.{OriginalParser, ParserResult, is_one_of}
 use Rattle.rust_original.specs.parser.Runs.{as_here}
 use Rattle.rust_original.proofs.parser.Nodes.{parsed}
-use Rattle.rust_original.proofs.parser.Relation.{Agree, Below, Matches, standing, following as after_document, after_end, feed, inside, popped_fits, popped_fresh, there, tk}
+use Rattle.rust_original.proofs.parser.Relation.{Agree, Below, Matches, standing, following as after_document, after_end, fed, feed, inside, popped_fits, popped_fresh, there, tk}
 
 -- a token is wanted for this, and no text is held
 abbrev following : automaton.Purpose → Want
@@ -57,343 +61,213 @@ module _ (f : Fault) (tags : List yaml_tag_directive_t) (hs : Handles) (be flag 
       abbrev pub Alike : (OriginalParser → ParserResult) → Want → yaml_parser_state_t → (there here : List Token) → Type 0
       Alike call w s l l' = Matches f (call (par s' false ms l)) (feed f w (here s ms) l')
 
-      -- where a token comes, and whatever comes
-      abbrev OfToken : (OriginalParser → ParserResult) → yaml_parser_state_t → Type 0
-      OfToken call s = (k : Content) (m n : Mark) (l : List Token) → Alike call AtState s (tk k m n ∷ l) (tk k m n ∷ l)
-
+      -- whatever comes
       abbrev pub OfTokens : (OriginalParser → ParserResult) → yaml_parser_state_t → Type 0
       OfTokens call s = (l : List Token) → Alike call AtState s l l
 
-      -- block sequences
-      after_item : (a b : Mark) (k : Content) (m n : Mark) (l : List Token)
-          → Alike (λ p. orig.yaml_parser_parse_block_sequence_entry p false) (following (automaton.AfterBlockEntry b)) st.YAML_PARSE_BLOCK_SEQUENCE_ENTRY_STATE
-          (tk BlockEntry a b ∷ tk k m n ∷ l) (tk k m n ∷ l)
-      after_item a b BlockEntry m n l = (refl, standing refl (inside tt inner agree) tt)
-      after_item a b BlockEnd m n l = (refl, standing refl (inside tt inner agree) tt)
-      after_item a b k m n l
-          = parsed f tags hs agree be flag x st.YAML_PARSE_BLOCK_SEQUENCE_ENTRY_STATE s' ms Block
-          (st.YAML_PARSE_BLOCK_SEQUENCE_ENTRY_STATE ∷ ss) inner k m n l
+      -- a node, after which the parser goes on from the states of this stack
+      node : (s : yaml_parser_state_t) (p : NodePlace) (rest : List yaml_parser_state_t) → Below rest → (u : Token)
+          (l : List Token) → let c : Config = record (here s ms) { states = rest } in Matches f
+          (orig.yaml_parser_parse_node (there f tags flag s' false c (u ∷ l)) (is_block_place p) (may_be_indentless p))
+          (fed f (with_texts no_texts c u u.content (automaton.parse_node p (config_of c) (seen u u.content)
+          (token_type u.content))) l)
+      node s p rest b u l = parsed f tags hs agree be flag x s s' ms p rest b u.content u.start_mark u.end_mark l
 
-      item_token : OfToken (λ p. orig.yaml_parser_parse_block_sequence_entry p false) st.YAML_PARSE_BLOCK_SEQUENCE_ENTRY_STATE
-      item_token BlockEntry m n [] = refl
-      item_token BlockEntry m n (u ∷ l) = after_item m n u.content u.start_mark u.end_mark l
-      item_token BlockEnd m n l = (refl, standing refl (popped_fits ss inner agree) (popped_fresh ss _ inner))
-      item_token k m n l = refl
+      -- block sequences
+      after_item : (t u : Token) (l : List Token) → t.content ≡ BlockEntry
+          → Alike (λ p. orig.yaml_parser_parse_block_sequence_entry p false) (following (automaton.AfterBlockEntry t.end_mark)) st.YAML_PARSE_BLOCK_SEQUENCE_ENTRY_STATE
+          (t ∷ u ∷ l) (u ∷ l)
+      after_item t u l e =
+          let at_node = node st.YAML_PARSE_BLOCK_SEQUENCE_ENTRY_STATE Block
+          (st.YAML_PARSE_BLOCK_SEQUENCE_ENTRY_STATE ∷ ss) inner u l in
+          grind (arith, standing, inside)
 
       pub block_sequence_entry : OfTokens (λ p. orig.yaml_parser_parse_block_sequence_entry p false)
           st.YAML_PARSE_BLOCK_SEQUENCE_ENTRY_STATE
-      block_sequence_entry [] = refl
-      block_sequence_entry (t ∷ l) = item_token t.content t.start_mark t.end_mark l
+      block_sequence_entry l = grind (arith, after_item, standing, popped_fits, popped_fresh)
 
       -- indentless sequences
-      after_indentless_item : (a b : Mark) (k : Content) (m n : Mark) (l : List Token)
-          → Alike orig.yaml_parser_parse_indentless_sequence_entry (following (automaton.AfterIndentlessEntry b)) st.YAML_PARSE_INDENTLESS_SEQUENCE_ENTRY_STATE
-          (tk BlockEntry a b ∷ tk k m n ∷ l) (tk k m n ∷ l)
-      after_indentless_item a b BlockEntry m n l = (refl, standing refl (inside tt inner agree) tt)
-      after_indentless_item a b Key m n l = (refl, standing refl (inside tt inner agree) tt)
-      after_indentless_item a b Value m n l = (refl, standing refl (inside tt inner agree) tt)
-      after_indentless_item a b BlockEnd m n l = (refl, standing refl (inside tt inner agree) tt)
-      after_indentless_item a b k m n l
-          = parsed f tags hs agree be flag x st.YAML_PARSE_INDENTLESS_SEQUENCE_ENTRY_STATE s' ms Block
-          (st.YAML_PARSE_INDENTLESS_SEQUENCE_ENTRY_STATE ∷ ss) inner k m n l
-
-      indentless_sequence_entry_token : OfToken orig.yaml_parser_parse_indentless_sequence_entry
-          st.YAML_PARSE_INDENTLESS_SEQUENCE_ENTRY_STATE
-      indentless_sequence_entry_token BlockEntry m n [] = refl
-      indentless_sequence_entry_token BlockEntry m n (u ∷ l)
-          = after_indentless_item m n u.content u.start_mark u.end_mark l
-      indentless_sequence_entry_token k m n l
-          = (refl, standing refl (popped_fits ss inner agree) (popped_fresh ss _ inner))
+      after_indentless_item : (t u : Token) (l : List Token) → t.content ≡ BlockEntry
+          → Alike orig.yaml_parser_parse_indentless_sequence_entry (following (automaton.AfterIndentlessEntry t.end_mark)) st.YAML_PARSE_INDENTLESS_SEQUENCE_ENTRY_STATE
+          (t ∷ u ∷ l) (u ∷ l)
+      after_indentless_item t u l e =
+          let at_node = node st.YAML_PARSE_INDENTLESS_SEQUENCE_ENTRY_STATE Block
+          (st.YAML_PARSE_INDENTLESS_SEQUENCE_ENTRY_STATE ∷ ss) inner u l in
+          grind (arith, standing, inside)
 
       pub indentless_sequence_entry : OfTokens orig.yaml_parser_parse_indentless_sequence_entry
           st.YAML_PARSE_INDENTLESS_SEQUENCE_ENTRY_STATE
-      indentless_sequence_entry [] = refl
-      indentless_sequence_entry (t ∷ l) = indentless_sequence_entry_token t.content t.start_mark t.end_mark l
+      indentless_sequence_entry l = grind (arith, after_indentless_item, standing, popped_fits, popped_fresh)
 
       -- block mappings
-      after_key : (a b : Mark) (k : Content) (m n : Mark) (l : List Token)
-          → Alike (λ p. orig.yaml_parser_parse_block_mapping_key as_here p false) (following (automaton.AfterKey b)) st.YAML_PARSE_BLOCK_MAPPING_KEY_STATE
-          (tk Key a b ∷ tk k m n ∷ l) (tk k m n ∷ l)
-      after_key a b Key m n l = (refl, standing refl (inside tt inner agree) tt)
-      after_key a b Value m n l = (refl, standing refl (inside tt inner agree) tt)
-      after_key a b BlockEnd m n l = (refl, standing refl (inside tt inner agree) tt)
-      after_key a b k m n l
-          = parsed f tags hs agree be flag x st.YAML_PARSE_BLOCK_MAPPING_KEY_STATE s' ms BlockOrIndentlessSequence
-          (st.YAML_PARSE_BLOCK_MAPPING_VALUE_STATE ∷ ss) inner k m n l
-
-      block_mapping_key_token : OfToken (λ p. orig.yaml_parser_parse_block_mapping_key as_here p false)
-          st.YAML_PARSE_BLOCK_MAPPING_KEY_STATE
-      block_mapping_key_token Key m n [] = refl
-      block_mapping_key_token Key m n (u ∷ l) = after_key m n u.content u.start_mark u.end_mark l
-      block_mapping_key_token Value m n l = (refl, standing refl (inside tt inner agree) tt)
-      block_mapping_key_token BlockEnd m n l
-          = (refl, standing refl (popped_fits ss inner agree) (popped_fresh ss _ inner))
-      block_mapping_key_token k m n l = refl
+      after_key : (t u : Token) (l : List Token) → t.content ≡ Key
+          → Alike (λ p. orig.yaml_parser_parse_block_mapping_key as_here p false) (following (automaton.AfterKey t.end_mark)) st.YAML_PARSE_BLOCK_MAPPING_KEY_STATE
+          (t ∷ u ∷ l) (u ∷ l)
+      after_key t u l e =
+          let at_node = node st.YAML_PARSE_BLOCK_MAPPING_KEY_STATE BlockOrIndentlessSequence
+          (st.YAML_PARSE_BLOCK_MAPPING_VALUE_STATE ∷ ss) inner u l in
+          grind (arith, standing, inside)
 
       pub block_mapping_key : OfTokens (λ p. orig.yaml_parser_parse_block_mapping_key as_here p false)
           st.YAML_PARSE_BLOCK_MAPPING_KEY_STATE
-      block_mapping_key [] = refl
-      block_mapping_key (t ∷ l) = block_mapping_key_token t.content t.start_mark t.end_mark l
+      block_mapping_key l = grind (arith, after_key, inside, standing, popped_fits, popped_fresh)
 
-      after_value : (a b : Mark) (k : Content) (m n : Mark) (l : List Token)
-          → Alike orig.yaml_parser_parse_block_mapping_value (following (automaton.AfterValue b)) st.YAML_PARSE_BLOCK_MAPPING_VALUE_STATE
-          (tk Value a b ∷ tk k m n ∷ l) (tk k m n ∷ l)
-      after_value a b Key m n l = (refl, standing refl (inside tt inner agree) tt)
-      after_value a b Value m n l = (refl, standing refl (inside tt inner agree) tt)
-      after_value a b BlockEnd m n l = (refl, standing refl (inside tt inner agree) tt)
-      after_value a b k m n l
-          = parsed f tags hs agree be flag x st.YAML_PARSE_BLOCK_MAPPING_VALUE_STATE s' ms BlockOrIndentlessSequence
-          (st.YAML_PARSE_BLOCK_MAPPING_KEY_STATE ∷ ss) inner k m n l
+      after_value : (t u : Token) (l : List Token) → t.content ≡ Value
+          → Alike orig.yaml_parser_parse_block_mapping_value (following (automaton.AfterValue t.end_mark)) st.YAML_PARSE_BLOCK_MAPPING_VALUE_STATE
+          (t ∷ u ∷ l) (u ∷ l)
+      after_value t u l e =
+          let at_node = node st.YAML_PARSE_BLOCK_MAPPING_VALUE_STATE BlockOrIndentlessSequence
+          (st.YAML_PARSE_BLOCK_MAPPING_KEY_STATE ∷ ss) inner u l in
+          grind (arith, standing, inside)
 
-      block_mapping_value_token : OfToken orig.yaml_parser_parse_block_mapping_value st.YAML_PARSE_BLOCK_MAPPING_VALUE_STATE
-      block_mapping_value_token Value m n [] = refl
-      block_mapping_value_token Value m n (u ∷ l) = after_value m n u.content u.start_mark u.end_mark l
-      block_mapping_value_token k m n l = (refl, standing refl (inside tt inner agree) tt)
-
-      pub block_mapping_value : OfTokens orig.yaml_parser_parse_block_mapping_value st.YAML_PARSE_BLOCK_MAPPING_VALUE_STATE
-      block_mapping_value [] = refl
-      block_mapping_value (t ∷ l) = block_mapping_value_token t.content t.start_mark t.end_mark l
+      pub block_mapping_value : OfTokens orig.yaml_parser_parse_block_mapping_value
+          st.YAML_PARSE_BLOCK_MAPPING_VALUE_STATE
+      block_mapping_value l = grind (arith, after_value, inside, standing)
 
       -- flow sequences
       -- an entry, after a separator, or at once after the collection's start
-      sequence_entry : (a b : Mark) (k : Content) (m n : Mark) (l : List Token)
+      sequence_entry : (t u : Token) (l : List Token) → t.content ≡ FlowEntry
           → Alike (λ p. orig.yaml_parser_parse_flow_sequence_entry p false) AtState st.YAML_PARSE_FLOW_SEQUENCE_FIRST_ENTRY_STATE
-          (tk FlowEntry a b ∷ tk k m n ∷ l) (tk k m n ∷ l)
-      sequence_entry a b FlowSequenceEnd m n l
-          = (refl, standing refl (popped_fits ss inner agree) (popped_fresh ss _ inner))
-      sequence_entry a b Key m n l = (refl, standing refl (inside tt inner agree) tt)
-      sequence_entry a b k m n l
-          = parsed f tags hs agree be flag x st.YAML_PARSE_FLOW_SEQUENCE_FIRST_ENTRY_STATE s' ms Flow
-          (st.YAML_PARSE_FLOW_SEQUENCE_ENTRY_STATE ∷ ss) inner k m n l
-
-      flow_sequence_entry_token : OfToken (λ p. orig.yaml_parser_parse_flow_sequence_entry p false)
-          st.YAML_PARSE_FLOW_SEQUENCE_ENTRY_STATE
-      flow_sequence_entry_token FlowEntry m n [] = refl
-      flow_sequence_entry_token FlowEntry m n (u ∷ l) = sequence_entry m n u.content u.start_mark u.end_mark l
-      flow_sequence_entry_token FlowSequenceEnd m n l
-          = (refl, standing refl (popped_fits ss inner agree) (popped_fresh ss _ inner))
-      flow_sequence_entry_token k m n l = refl
+          (t ∷ u ∷ l) (u ∷ l)
+      sequence_entry t u l e =
+          let at_node = node st.YAML_PARSE_FLOW_SEQUENCE_FIRST_ENTRY_STATE Flow
+          (st.YAML_PARSE_FLOW_SEQUENCE_ENTRY_STATE ∷ ss) inner u l in
+          grind (arith, inside, standing, popped_fits, popped_fresh)
 
       pub flow_sequence_entry : OfTokens (λ p. orig.yaml_parser_parse_flow_sequence_entry p false)
           st.YAML_PARSE_FLOW_SEQUENCE_ENTRY_STATE
-      flow_sequence_entry [] = refl
-      flow_sequence_entry (t ∷ l) = flow_sequence_entry_token t.content t.start_mark t.end_mark l
-
-      pair_key_token : OfToken (orig.yaml_parser_parse_flow_sequence_entry_mapping_key as_here)
-          st.YAML_PARSE_FLOW_SEQUENCE_ENTRY_MAPPING_KEY_STATE
-      pair_key_token Value m n l = (refl, standing refl (inside tt inner agree) tt)
-      pair_key_token FlowEntry m n l = (refl, standing refl (inside tt inner agree) tt)
-      pair_key_token FlowSequenceEnd m n l = (refl, standing refl (inside tt inner agree) tt)
-      pair_key_token k m n l
-          = parsed f tags hs agree be flag x st.YAML_PARSE_FLOW_SEQUENCE_ENTRY_MAPPING_KEY_STATE s' ms Flow
-          (st.YAML_PARSE_FLOW_SEQUENCE_ENTRY_MAPPING_VALUE_STATE ∷ ss) inner k m n l
+      flow_sequence_entry l = grind (arith, sequence_entry, standing, popped_fits, popped_fresh)
 
       pub pair_key : OfTokens (orig.yaml_parser_parse_flow_sequence_entry_mapping_key as_here)
           st.YAML_PARSE_FLOW_SEQUENCE_ENTRY_MAPPING_KEY_STATE
       pair_key [] = refl
-      pair_key (t ∷ l) = pair_key_token t.content t.start_mark t.end_mark l
+      pair_key (t ∷ l) =
+          let at_node = node st.YAML_PARSE_FLOW_SEQUENCE_ENTRY_MAPPING_KEY_STATE Flow
+          (st.YAML_PARSE_FLOW_SEQUENCE_ENTRY_MAPPING_VALUE_STATE ∷ ss) inner t l in
+          grind (arith, inside, standing)
 
-      after_pair_value : (a b : Mark) (k : Content) (m n : Mark) (l : List Token)
+      after_pair_value : (t u : Token) (l : List Token) → t.content ≡ Value
           → Alike orig.yaml_parser_parse_flow_sequence_entry_mapping_value (following automaton.AfterFlowSequenceValue) st.YAML_PARSE_FLOW_SEQUENCE_ENTRY_MAPPING_VALUE_STATE
-          (tk Value a b ∷ tk k m n ∷ l) (tk k m n ∷ l)
-      after_pair_value a b FlowEntry m n l = (refl, standing refl (inside tt inner agree) tt)
-      after_pair_value a b FlowSequenceEnd m n l = (refl, standing refl (inside tt inner agree) tt)
-      after_pair_value a b k m n l
-          = parsed f tags hs agree be flag x st.YAML_PARSE_FLOW_SEQUENCE_ENTRY_MAPPING_VALUE_STATE s' ms Flow
-          (st.YAML_PARSE_FLOW_SEQUENCE_ENTRY_MAPPING_END_STATE ∷ ss) inner k m n l
-
-      pair_value_token : OfToken orig.yaml_parser_parse_flow_sequence_entry_mapping_value
-          st.YAML_PARSE_FLOW_SEQUENCE_ENTRY_MAPPING_VALUE_STATE
-      pair_value_token Value m n [] = refl
-      pair_value_token Value m n (u ∷ l) = after_pair_value m n u.content u.start_mark u.end_mark l
-      pair_value_token k m n l = (refl, standing refl (inside tt inner agree) tt)
+          (t ∷ u ∷ l) (u ∷ l)
+      after_pair_value t u l e =
+          let at_node = node st.YAML_PARSE_FLOW_SEQUENCE_ENTRY_MAPPING_VALUE_STATE Flow
+          (st.YAML_PARSE_FLOW_SEQUENCE_ENTRY_MAPPING_END_STATE ∷ ss) inner u l in
+          grind (arith, standing, inside)
 
       pub pair_value : OfTokens orig.yaml_parser_parse_flow_sequence_entry_mapping_value
           st.YAML_PARSE_FLOW_SEQUENCE_ENTRY_MAPPING_VALUE_STATE
-      pair_value [] = refl
-      pair_value (t ∷ l) = pair_value_token t.content t.start_mark t.end_mark l
+      pair_value l = grind (arith, after_pair_value, inside, standing)
 
       pub pair_end : OfTokens orig.yaml_parser_parse_flow_sequence_entry_mapping_end
           st.YAML_PARSE_FLOW_SEQUENCE_ENTRY_MAPPING_END_STATE
       pair_end h = grind (arith, standing, inside)
 
       -- flow mappings
-      flow_key : (a b c d : Mark) (k : Content) (m n : Mark) (l : List Token)
+      flow_key : (s t u : Token) (l : List Token) → s.content ≡ FlowEntry → t.content ≡ Key
           → Alike (λ p. orig.yaml_parser_parse_flow_mapping_key p false) (following automaton.AfterFlowMappingKey) st.YAML_PARSE_FLOW_MAPPING_FIRST_KEY_STATE
-          (tk FlowEntry a b ∷ tk Key c d ∷ tk k m n ∷ l) (tk k m n ∷ l)
-      flow_key a b c d Value m n l = (refl, standing refl (inside tt inner agree) tt)
-      flow_key a b c d FlowEntry m n l = (refl, standing refl (inside tt inner agree) tt)
-      flow_key a b c d FlowMappingEnd m n l = (refl, standing refl (inside tt inner agree) tt)
-      flow_key a b c d k m n l
-          = parsed f tags hs agree be flag x st.YAML_PARSE_FLOW_MAPPING_FIRST_KEY_STATE s' ms Flow
-          (st.YAML_PARSE_FLOW_MAPPING_VALUE_STATE ∷ ss) inner k m n l
+          (s ∷ t ∷ u ∷ l) (u ∷ l)
+      flow_key s t u l e k =
+          let at_node = node st.YAML_PARSE_FLOW_MAPPING_FIRST_KEY_STATE Flow
+          (st.YAML_PARSE_FLOW_MAPPING_VALUE_STATE ∷ ss) inner u l in
+          grind (arith, inside, standing)
 
-      mapping_entry : (a b : Mark) (k : Content) (m n : Mark) (l : List Token)
+      mapping_entry : (t u : Token) (l : List Token) → t.content ≡ FlowEntry
           → Alike (λ p. orig.yaml_parser_parse_flow_mapping_key p false) AtState st.YAML_PARSE_FLOW_MAPPING_FIRST_KEY_STATE
-          (tk FlowEntry a b ∷ tk k m n ∷ l) (tk k m n ∷ l)
-      mapping_entry a b FlowMappingEnd m n l
-          = (refl, standing refl (popped_fits ss inner agree) (popped_fresh ss _ inner))
-      mapping_entry a b Key m n [] = refl
-      mapping_entry a b Key m n (u ∷ l) = flow_key a b m n u.content u.start_mark u.end_mark l
-      mapping_entry a b k m n l
-          = parsed f tags hs agree be flag x st.YAML_PARSE_FLOW_MAPPING_FIRST_KEY_STATE s' ms Flow
-          (st.YAML_PARSE_FLOW_MAPPING_EMPTY_VALUE_STATE ∷ ss) inner k m n l
+          (t ∷ u ∷ l) (u ∷ l)
+      mapping_entry t u l e =
+          let at_node = node st.YAML_PARSE_FLOW_MAPPING_FIRST_KEY_STATE Flow
+          (st.YAML_PARSE_FLOW_MAPPING_EMPTY_VALUE_STATE ∷ ss) inner u l in
+          grind (arith, flow_key, standing, popped_fits, popped_fresh)
 
-      flow_mapping_key_token : OfToken (λ p. orig.yaml_parser_parse_flow_mapping_key p false) st.YAML_PARSE_FLOW_MAPPING_KEY_STATE
-      flow_mapping_key_token FlowEntry m n [] = refl
-      flow_mapping_key_token FlowEntry m n (u ∷ l) = mapping_entry m n u.content u.start_mark u.end_mark l
-      flow_mapping_key_token FlowMappingEnd m n l
-          = (refl, standing refl (popped_fits ss inner agree) (popped_fresh ss _ inner))
-      flow_mapping_key_token k m n l = refl
+      pub flow_mapping_key : OfTokens (λ p. orig.yaml_parser_parse_flow_mapping_key p false)
+          st.YAML_PARSE_FLOW_MAPPING_KEY_STATE
+      flow_mapping_key l = grind (arith, mapping_entry, standing, popped_fits, popped_fresh)
 
-      pub flow_mapping_key : OfTokens (λ p. orig.yaml_parser_parse_flow_mapping_key p false) st.YAML_PARSE_FLOW_MAPPING_KEY_STATE
-      flow_mapping_key [] = refl
-      flow_mapping_key (t ∷ l) = flow_mapping_key_token t.content t.start_mark t.end_mark l
-
-      after_flow_value : (a b : Mark) (k : Content) (m n : Mark) (l : List Token)
+      after_flow_value : (t u : Token) (l : List Token) → t.content ≡ Value
           → Alike (λ p. orig.yaml_parser_parse_flow_mapping_value p false) (following automaton.AfterFlowMappingValue) st.YAML_PARSE_FLOW_MAPPING_VALUE_STATE
-          (tk Value a b ∷ tk k m n ∷ l) (tk k m n ∷ l)
-      after_flow_value a b FlowEntry m n l = (refl, standing refl (inside tt inner agree) tt)
-      after_flow_value a b FlowMappingEnd m n l = (refl, standing refl (inside tt inner agree) tt)
-      after_flow_value a b k m n l
-          = parsed f tags hs agree be flag x st.YAML_PARSE_FLOW_MAPPING_VALUE_STATE s' ms Flow
-          (st.YAML_PARSE_FLOW_MAPPING_KEY_STATE ∷ ss) inner k m n l
-
-      flow_mapping_value_token : OfToken (λ p. orig.yaml_parser_parse_flow_mapping_value p false)
-          st.YAML_PARSE_FLOW_MAPPING_VALUE_STATE
-      flow_mapping_value_token Value m n [] = refl
-      flow_mapping_value_token Value m n (u ∷ l) = after_flow_value m n u.content u.start_mark u.end_mark l
-      flow_mapping_value_token k m n l = (refl, standing refl (inside tt inner agree) tt)
+          (t ∷ u ∷ l) (u ∷ l)
+      after_flow_value t u l e =
+          let at_node = node st.YAML_PARSE_FLOW_MAPPING_VALUE_STATE Flow
+          (st.YAML_PARSE_FLOW_MAPPING_KEY_STATE ∷ ss) inner u l in
+          grind (arith, standing, inside)
 
       pub flow_mapping_value : OfTokens (λ p. orig.yaml_parser_parse_flow_mapping_value p false)
           st.YAML_PARSE_FLOW_MAPPING_VALUE_STATE
-      flow_mapping_value [] = refl
-      flow_mapping_value (t ∷ l) = flow_mapping_value_token t.content t.start_mark t.end_mark l
+      flow_mapping_value l = grind (arith, after_flow_value, inside, standing)
 
       pub flow_mapping_empty_value : OfTokens (λ p. orig.yaml_parser_parse_flow_mapping_value p true)
           st.YAML_PARSE_FLOW_MAPPING_EMPTY_VALUE_STATE
       flow_mapping_empty_value h = grind (arith, standing, inside)
 
-      first_sequence_token : OfToken (orig.sequence_entry_after_start true) st.YAML_PARSE_FLOW_SEQUENCE_FIRST_ENTRY_STATE
-      first_sequence_token FlowSequenceEnd m n l
-          = (refl, standing refl (popped_fits ss inner agree) (popped_fresh ss _ inner))
-      first_sequence_token Key m n l = (refl, standing refl (inside tt inner agree) tt)
-      first_sequence_token k m n l
-          = parsed f tags hs agree be flag x st.YAML_PARSE_FLOW_SEQUENCE_FIRST_ENTRY_STATE s' ms Flow
-          (st.YAML_PARSE_FLOW_SEQUENCE_ENTRY_STATE ∷ ss) inner k m n l
-
-      first_sequence_entry : OfTokens (orig.sequence_entry_after_start true) st.YAML_PARSE_FLOW_SEQUENCE_FIRST_ENTRY_STATE
+      first_sequence_entry : OfTokens (orig.sequence_entry_after_start true)
+          st.YAML_PARSE_FLOW_SEQUENCE_FIRST_ENTRY_STATE
       first_sequence_entry [] = refl
-      first_sequence_entry (t ∷ l) = first_sequence_token t.content t.start_mark t.end_mark l
+      first_sequence_entry (t ∷ l) =
+          let at_node = node st.YAML_PARSE_FLOW_SEQUENCE_FIRST_ENTRY_STATE Flow
+          (st.YAML_PARSE_FLOW_SEQUENCE_ENTRY_STATE ∷ ss) inner t l in
+          grind (arith, inside, standing, popped_fits, popped_fresh)
 
-      first_flow_key : (c d : Mark) (k : Content) (m n : Mark) (l : List Token)
+      first_flow_key : (t u : Token) (l : List Token) → t.content ≡ Key
           → Alike (orig.mapping_key_after_start true) (following automaton.AfterFlowMappingKey) st.YAML_PARSE_FLOW_MAPPING_FIRST_KEY_STATE
-          (tk Key c d ∷ tk k m n ∷ l) (tk k m n ∷ l)
-      first_flow_key c d Value m n l = (refl, standing refl (inside tt inner agree) tt)
-      first_flow_key c d FlowEntry m n l = (refl, standing refl (inside tt inner agree) tt)
-      first_flow_key c d FlowMappingEnd m n l = (refl, standing refl (inside tt inner agree) tt)
-      first_flow_key c d k m n l
-          = parsed f tags hs agree be flag x st.YAML_PARSE_FLOW_MAPPING_FIRST_KEY_STATE s' ms Flow
-          (st.YAML_PARSE_FLOW_MAPPING_VALUE_STATE ∷ ss) inner k m n l
+          (t ∷ u ∷ l) (u ∷ l)
+      first_flow_key t u l e =
+          let at_node = node st.YAML_PARSE_FLOW_MAPPING_FIRST_KEY_STATE Flow
+          (st.YAML_PARSE_FLOW_MAPPING_VALUE_STATE ∷ ss) inner u l in
+          grind (arith, standing, inside)
 
-      first_mapping_token : OfToken (orig.mapping_key_after_start true) st.YAML_PARSE_FLOW_MAPPING_FIRST_KEY_STATE
-      first_mapping_token FlowMappingEnd m n l
-          = (refl, standing refl (popped_fits ss inner agree) (popped_fresh ss _ inner))
-      first_mapping_token Key m n [] = refl
-      first_mapping_token Key m n (u ∷ l) = first_flow_key m n u.content u.start_mark u.end_mark l
-      first_mapping_token k m n l
-          = parsed f tags hs agree be flag x st.YAML_PARSE_FLOW_MAPPING_FIRST_KEY_STATE s' ms Flow
-          (st.YAML_PARSE_FLOW_MAPPING_EMPTY_VALUE_STATE ∷ ss) inner k m n l
-
-      first_mapping_key : OfTokens (orig.mapping_key_after_start true) st.YAML_PARSE_FLOW_MAPPING_FIRST_KEY_STATE
+      first_mapping_key : OfTokens (orig.mapping_key_after_start true)
+          st.YAML_PARSE_FLOW_MAPPING_FIRST_KEY_STATE
       first_mapping_key [] = refl
-      first_mapping_key (t ∷ l) = first_mapping_token t.content t.start_mark t.end_mark l
+      first_mapping_key (t ∷ l) =
+          let at_node = node st.YAML_PARSE_FLOW_MAPPING_FIRST_KEY_STATE Flow
+          (st.YAML_PARSE_FLOW_MAPPING_EMPTY_VALUE_STATE ∷ ss) inner t l in
+          grind (arith, first_flow_key, standing, popped_fits, popped_fresh)
 
       -- a document's content, and nodes
-      document_content_token : OfToken orig.yaml_parser_parse_document_content st.YAML_PARSE_DOCUMENT_CONTENT_STATE
-      document_content_token (VersionDirective v) m n l
-          = (refl, standing refl (popped_fits ss inner agree) (popped_fresh ss _ inner))
-      document_content_token (TagDirective g) m n l
-          = (refl, standing refl (popped_fits ss inner agree) (popped_fresh ss _ inner))
-      document_content_token DocumentStart m n l
-          = (refl, standing refl (popped_fits ss inner agree) (popped_fresh ss _ inner))
-      document_content_token DocumentEnd m n l
-          = (refl, standing refl (popped_fits ss inner agree) (popped_fresh ss _ inner))
-      document_content_token StreamEnd m n l
-          = (refl, standing refl (popped_fits ss inner agree) (popped_fresh ss _ inner))
-      document_content_token k m n l
-          = parsed f tags hs agree be flag x st.YAML_PARSE_DOCUMENT_CONTENT_STATE s' ms Block (ss) inner k m n l
-
-      pub document_content : OfTokens orig.yaml_parser_parse_document_content st.YAML_PARSE_DOCUMENT_CONTENT_STATE
+      pub document_content : OfTokens orig.yaml_parser_parse_document_content
+          st.YAML_PARSE_DOCUMENT_CONTENT_STATE
       document_content [] = refl
-      document_content (t ∷ l) = document_content_token t.content t.start_mark t.end_mark l
+      document_content (t ∷ l) =
+          let at_node = node st.YAML_PARSE_DOCUMENT_CONTENT_STATE Block ss inner t l in
+          grind (arith, standing, popped_fits, popped_fresh)
 
       pub block_node : OfTokens (λ p. orig.yaml_parser_parse_node p true false) st.YAML_PARSE_BLOCK_NODE_STATE
       block_node [] = refl
-      block_node (t ∷ l)
-          = parsed f tags hs agree be flag x st.YAML_PARSE_BLOCK_NODE_STATE s' ms Block ss inner t.content t.start_mark
-          t.end_mark l
+      block_node (t ∷ l) = node st.YAML_PARSE_BLOCK_NODE_STATE Block ss inner t l
 
       pub block_node_or_indentless_sequence : OfTokens (λ p. orig.yaml_parser_parse_node p true true)
           st.YAML_PARSE_BLOCK_NODE_OR_INDENTLESS_SEQUENCE_STATE
       block_node_or_indentless_sequence [] = refl
       block_node_or_indentless_sequence (t ∷ l)
-          = parsed f tags hs agree be flag x st.YAML_PARSE_BLOCK_NODE_OR_INDENTLESS_SEQUENCE_STATE s' ms
-          BlockOrIndentlessSequence ss inner t.content t.start_mark t.end_mark l
+          = node st.YAML_PARSE_BLOCK_NODE_OR_INDENTLESS_SEQUENCE_STATE BlockOrIndentlessSequence ss inner t l
 
       pub flow_node : OfTokens (λ p. orig.yaml_parser_parse_node p false false) st.YAML_PARSE_FLOW_NODE_STATE
       flow_node [] = refl
-      flow_node (t ∷ l)
-          = parsed f tags hs agree be flag x st.YAML_PARSE_FLOW_NODE_STATE s' ms Flow ss inner t.content t.start_mark
-          t.end_mark l
+      flow_node (t ∷ l) = node st.YAML_PARSE_FLOW_NODE_STATE Flow ss inner t l
 
     pub block_sequence_first_entry : (ms : List Mark) (t : Token) (l : List Token) → is_end t.content ≡ false
         → Matches f
         (orig.yaml_parser_parse_block_sequence_entry
         (par st.YAML_PARSE_BLOCK_SEQUENCE_FIRST_ENTRY_STATE false ms (t ∷ l)) true)
         (feed f AtState (here st.YAML_PARSE_BLOCK_SEQUENCE_ENTRY_STATE (t.start_mark ∷ ms)) l)
-    block_sequence_first_entry ms t l e
-        = skipped t e
-        (λ b. Matches f
-        (orig.yaml_parser_parse_block_sequence_entry
-        (par st.YAML_PARSE_BLOCK_SEQUENCE_FIRST_ENTRY_STATE b (t.start_mark ∷ ms) l) false)
-        (feed f AtState (here st.YAML_PARSE_BLOCK_SEQUENCE_ENTRY_STATE (t.start_mark ∷ ms)) l))
-        (block_sequence_entry st.YAML_PARSE_BLOCK_SEQUENCE_FIRST_ENTRY_STATE (t.start_mark ∷ ms) l)
+    block_sequence_first_entry ms t l e = grind (arith, skipped, end_same, block_sequence_entry)
 
     pub block_mapping_first_key : (ms : List Mark) (t : Token) (l : List Token) → is_end t.content ≡ false
         → Matches f
         (orig.yaml_parser_parse_block_mapping_key as_here
         (par st.YAML_PARSE_BLOCK_MAPPING_FIRST_KEY_STATE false ms (t ∷ l)) true)
         (feed f AtState (here st.YAML_PARSE_BLOCK_MAPPING_KEY_STATE (t.start_mark ∷ ms)) l)
-    block_mapping_first_key ms t l e
-        = skipped t e
-        (λ b. Matches f
-        (orig.yaml_parser_parse_block_mapping_key as_here
-        (par st.YAML_PARSE_BLOCK_MAPPING_FIRST_KEY_STATE b (t.start_mark ∷ ms) l) false)
-        (feed f AtState (here st.YAML_PARSE_BLOCK_MAPPING_KEY_STATE (t.start_mark ∷ ms)) l))
-        (block_mapping_key st.YAML_PARSE_BLOCK_MAPPING_FIRST_KEY_STATE (t.start_mark ∷ ms) l)
+    block_mapping_first_key ms t l e = grind (arith, skipped, end_same, block_mapping_key)
 
     pub flow_sequence_first_entry : (ms : List Mark) (t : Token) (l : List Token) → is_end t.content ≡ false
         → Matches f
         (orig.yaml_parser_parse_flow_sequence_entry
         (par st.YAML_PARSE_FLOW_SEQUENCE_FIRST_ENTRY_STATE false ms (t ∷ l)) true)
         (feed f AtState (here st.YAML_PARSE_FLOW_SEQUENCE_FIRST_ENTRY_STATE (t.start_mark ∷ ms)) l)
-    flow_sequence_first_entry ms t l e
-        = skipped t e
-        (λ b. Matches f
-        (orig.sequence_entry_after_start true
-        (par st.YAML_PARSE_FLOW_SEQUENCE_FIRST_ENTRY_STATE b (t.start_mark ∷ ms) l))
-        (feed f AtState (here st.YAML_PARSE_FLOW_SEQUENCE_FIRST_ENTRY_STATE (t.start_mark ∷ ms)) l))
-        (first_sequence_entry st.YAML_PARSE_FLOW_SEQUENCE_FIRST_ENTRY_STATE (t.start_mark ∷ ms) l)
+    flow_sequence_first_entry ms t l e = grind (arith, skipped, end_same, first_sequence_entry)
 
     pub flow_mapping_first_key : (ms : List Mark) (t : Token) (l : List Token) → is_end t.content ≡ false
         → Matches f
         (orig.yaml_parser_parse_flow_mapping_key (par st.YAML_PARSE_FLOW_MAPPING_FIRST_KEY_STATE false ms (t ∷ l))
         true) (feed f AtState (here st.YAML_PARSE_FLOW_MAPPING_FIRST_KEY_STATE (t.start_mark ∷ ms)) l)
-    flow_mapping_first_key ms t l e
-        = skipped t e
-        (λ b. Matches f
-        (orig.mapping_key_after_start true
-        (par st.YAML_PARSE_FLOW_MAPPING_FIRST_KEY_STATE b (t.start_mark ∷ ms) l))
-        (feed f AtState (here st.YAML_PARSE_FLOW_MAPPING_FIRST_KEY_STATE (t.start_mark ∷ ms)) l))
-        (first_mapping_key st.YAML_PARSE_FLOW_MAPPING_FIRST_KEY_STATE (t.start_mark ∷ ms) l)
+    flow_mapping_first_key ms t l e = grind (arith, skipped, end_same, first_mapping_key)

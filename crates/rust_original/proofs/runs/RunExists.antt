@@ -1,5 +1,5 @@
 -- Over every list there is a run: with each call a number falls.
-use Rattle.std.proofs.Common.{◌≡◌, ◌≤◌, ◌<◌, ◌+◌, ◌*◌, ◌∷◌, ◌++◌, ◌⊎◌, ◌||◌, ℕ, zero, suc, arith, inl, inr, List, [], length, Option, Some, None, Bool, true, false, Ok, refl, sym, ap, ◌∙◌, subst, append-nil, append_assoc}
+use Rattle.std.proofs.Common.{◌≡◌, ◌≤◌, ◌<◌, ◌+◌, ◌*◌, ◌∷◌, ◌++◌, ◌⊎◌, ℕ, zero, suc, arith, inl, inr, List, [], length, Option, Some, None, Bool, true, false, Ok, refl, sym, ap, ◌∙◌, subst, append-nil, append_assoc}
 use Rattle.std.proofs.lemmas.List.{length-append}
 use Rattle.libyaml_types.specs.declared.directive.yaml_tag_directive_t.{yaml_tag_directive_t}
 use Rattle.libyaml_types.specs.declared.enums.yaml_parser_state_t.{yaml_parser_state_t}
@@ -19,11 +19,11 @@ use Rattle.libyaml_events.specs.sources.Pushed.{Fed}
 use Rattle.libyaml_events.proofs.exported.Pushes as push_lemmas
 use Rattle.libyaml_events.proofs.exported.Pushes.{fed_count, fed_ended, fed_nests, fed_whole, gives_end, hand_runs, none_kept}
 use Rattle.libyaml_events.proofs.exported.RunStops.{whole_run}
-use Rattle.rust_original.specs.parser.Differences.{Differs, bare_document, call_here, pair_key, value_first}
+use Rattle.rust_original.specs.parser.Differences.{Differs, call_here, pair_key}
 use Rattle.rust_original.specs.parser.Parser.{FAIL, Mends, OK, ParserResult, OriginalParser, SKIP_TOKEN, is_one_of, scalar_event_with, set_state}
 use Rattle.rust_original.specs.parser.Runs.{Runs, call, ends, fails, goes_on, new_original_parser}
 use Rattle.rust_original.proofs.parser.Calls.{call_same, flagged}
-use Rattle.rust_original.proofs.parser.Relation.{standing, Agree, Below, Fits, HereCall, IsFresh, Matches, Opens, SamePlace, before, following, after_end, entering, first, inside, over, root_end, there, there_with, tk, tokens_of}
+use Rattle.rust_original.proofs.parser.Relation.{standing, Agree, Below, Fits, HereCall, IsFresh, Matches, Opens, SamePlace, before, entering, inside, tk}
 use Rattle.rust_original.proofs.runs.MachineCalls as does
 use Rattle.rust_original.proofs.runs.MachineCalls.{Does}
 use Rattle.rust_original.proofs.runs.Ended.{NoEnd}
@@ -57,14 +57,9 @@ pair_stands : {ss : List yaml_parser_state_t} {s s' : yaml_parser_state_t} {ms m
     yaml_tag_directive_t} {hs : Handles} {be flag ended : Bool} {l l' : List Token}
     → Fits ss s s' ms ms' tags hs be flag ended l l' → s' ≡ st.YAML_PARSE_FLOW_SEQUENCE_ENTRY_MAPPING_KEY_STATE
     → Below ss × Agree tags hs × (s ≡ st.YAML_PARSE_FLOW_SEQUENCE_ENTRY_MAPPING_KEY_STATE) × (ms' ≡ ms) × (l' ≡ l)
-pair_stands before e = absurd cc
-pair_stands first e = absurd cc
-pair_stands after_end e = absurd cc
-pair_stands (following i) e = absurd cc
-pair_stands root_end e = absurd cc
-pair_stands (entering {s} {s'} i b a n) e = absurd (opens_pair_key s (subst (λ (x : yaml_parser_state_t). Opens x s) e i))
+pair_stands (entering {s} {s'} i b a n) e = absurd (opens_pair_key s (rw e at i))
 pair_stands (inside i b a) e = (b, a, e, refl, refl)
-pair_stands over e = absurd cc
+pair_stands _ e = absurd cc
 
 fresh_none : (s : yaml_parser_state_t) (o : Option Token) → s ≡ st.YAML_PARSE_FLOW_SEQUENCE_ENTRY_MAPPING_KEY_STATE
     → IsFresh s o → o ≡ None
@@ -99,9 +94,7 @@ module _ (f : Fault) (m : Mends) (b : Bool)
 
   over_flag : (q : OriginalParser) (d : Config) (rest l : List Token) (g : List Event) → Along q d rest l g
       → ended_or_failed d ≡ q.stream_end_produced
-  over_flag q d rest l g a
-      = ap (λ (u : Bool). u || is_end_state d.state) (none_kept a.fed)
-      ∙ (sym (flagged a.stands.fits) ∙ ap (λ (p : OriginalParser). p.stream_end_produced) (sym a.stands.is))
+  over_flag q d rest l g a = grind (arith, none_kept a.fed, flagged a.stands.fits, a.stands.is)
 
   failed_here : (q : OriginalParser) (d : Config) (rest l : List Token) (g : List Event) → Along q d rest l g → (x : Fault)
       → call m q ≡ FAIL x → (b ≡ false → IsRun (l ++ rest) f g (Fails x)) → HasRun q (l ++ rest) g
@@ -186,22 +179,17 @@ module _ (f : Fault) (m : Mends) (b : Bool)
   parted : (n : ℕ) (q : OriginalParser) (d : Config) (rest l : List Token) (g : List Event) → Along q d rest l g
       → 4 * most < suc n + length g → ended_or_failed d ≡ false → Next n → b ≡ true
       → {o u : ParserResult} → Differs q o u → call m q ≡ o → HasRun q (l ++ rest) g
-  parted n q d rest l g a less begun next may (value_first p t k due e i) c
-      = failed_here q d rest l g a _ c (λ j. absurd (not_both j may))
-  parted n q d rest l g a less begun next may (bare_document p t k s e i h j) c
-      = failed_here q d rest l g a _ c (λ v. absurd (not_both v may))
   parted n q d rest l g a less begun next may (pair_key t k s e i) c =
       let fits = pair_stands a.stands.fits (sym (ap (λ (p : OriginalParser). p.state) a.stands.is) ∙ s) in
       let none = fresh_none d.state d.lookahead fits.2 a.stands.fresh in
-      let tokens : tokens_of d.lookahead rest ≡ t ∷ k = sym fits.4 ∙ (sym (ap (λ (p : OriginalParser). p.tokens) a.stands.is) ∙ e) in
-      let left : rest ≡ t ∷ k = ap (λ (o : Option Token). tokens_of o rest) (sym none) ∙ tokens in
+      let left : rest ≡ t ∷ k = cc in
       let hand : Fed AtState (without_lookahead d) (Some (empty_token t.end_mark)) (l ++ empty_token t.end_mark ∷ []) g
-      = push_lemmas.takes AtState (without_lookahead d) l g (empty_token t.end_mark)
-      (subst (λ (o : Option Token). Fed AtState (without_lookahead d) o l g) none a.fed) begun in
+      = push_lemmas.takes AtState (without_lookahead d) l g (empty_token t.end_mark) (rw none at a.fed) begun in
       let led = empty_step t.end_mark d fits.2 in
       let one : length (l ++ empty_token t.end_mark ∷ []) ≡ length l + 1 = length-append l (empty_token t.end_mark ∷ []) in
       let gone : length rest ≡ suc (length k) = ap length left in
       let few = a.few in
+      let past = no_end t.content t.start_mark t.end_mark i in
       after_event n q (set_state st.YAML_PARSE_FLOW_SEQUENCE_ENTRY_MAPPING_VALUE_STATE (SKIP_TOKEN q))
       (empty_at t.end_mark) (after_pair_key d) k (l ++ empty_token t.end_mark ∷ []) (l ++ rest) g c (record {
         stands = record {
@@ -211,14 +199,7 @@ module _ (f : Fault) (m : Mends) (b : Bool)
           ended = false;
           marks = d.marks;
           tokens = k;
-          is = ap goes a.stands.is
-              ∙ (ap (λ (y : List Mark). goes (there_with f a.stands.tags a.stands.flag a.stands.state a.stands.ended d y
-              a.stands.tokens)) fits.3
-              ∙ (ap (λ (y : List Token). goes (there f a.stands.tags a.stands.flag a.stands.state a.stands.ended d y))
-              (fits.4 ∙ tokens)
-              ∙ ap (λ (u : Bool). there f a.stands.tags a.stands.flag
-              st.YAML_PARSE_FLOW_SEQUENCE_ENTRY_MAPPING_VALUE_STATE u (after_pair_key d) k)
-              (no_end t.content t.start_mark t.end_mark i)));
+          is = grind arith;
           fits = inside tt fits.0 fits.1;
           fresh = tt;
         };
@@ -226,9 +207,7 @@ module _ (f : Fault) (m : Mends) (b : Bool)
         few = omega arith;
       })
       (gives_end hand (empty_at t.end_mark) (after_pair_key d) led) (λ j. absurd (not_both j may)) less next
-    where
-      goes : OriginalParser → OriginalParser
-      goes p = set_state st.YAML_PARSE_FLOW_SEQUENCE_ENTRY_MAPPING_VALUE_STATE (SKIP_TOKEN p)
+  parted n q d rest l g a less begun next may i c = failed_here q d rest l g a _ c (λ j. absurd (not_both j may))
 
   total : (n : ℕ) → Next n
   total zero q d rest l g a less k =

@@ -1,5 +1,5 @@
 -- A call does the same there and here but at the three places.
-use Rattle.std.proofs.Common.{◌≡◌, ◌∷◌, ◌⊎◌, ◌||◌, if◌then◌else◌, inl, inr, List, [], None, Bool, true, false, refl, sym, ap, ◌∙◌, subst, codes, arith}
+use Rattle.std.proofs.Common.{◌≡◌, ◌∷◌, ◌⊎◌, inl, inr, List, [], None, Bool, true, false, refl, sym, ap, ◌∙◌, subst, codes, arith}
 use Rattle.libyaml_types.specs.declared.enums.yaml_parser_state_t.{yaml_parser_state_t}
 use Rattle.libyaml_types.specs.declared.enums.yaml_parser_state_t.TheVariants as st
 use Rattle.libyaml_types.specs.declared.enums.yaml_token_type_t.TheVariants as kinds
@@ -14,7 +14,7 @@ use Rattle.rust_original.specs.parser.Parser.{FAIL, Mends, OK, ParserResult, Ori
 use Rattle.rust_original.specs.parser.Runs.{Runs, as_here, as_there, ends, fails, goes_on}
 use Rattle.rust_original.specs.parser.Differences.{Compares, Differs, bare_document, after_entry, after_start, by_call, call_here, call_there, here, pair_key, parts, same, value_first}
 use Rattle.rust_original.proofs.parser.Handles.{defaults_appended}
-use Rattle.libyaml_events.specs.machine.Config.{is_end_state, is_fault}
+use Rattle.libyaml_events.specs.machine.Config.{is_fault}
 use Rattle.rust_original.proofs.parser.Relation.{tk}
 
 abbrev pub Apart : OriginalParser → ParserResult → ParserResult → Type 0
@@ -130,10 +130,8 @@ apart_at p st.YAML_PARSE_DOCUMENT_START_STATE e = go (starts p.tokens p)
   where
     go : Starts p → Apart p (start_there p) (start_here p)
     go (inl i) = inl i
-    go (inr h) = inr (subst (λ (o : ParserResult). Differs p o (start_here p)) (sym h.fault_there)
-        (subst (λ (u : ParserResult). Differs p
-        (FAIL (parser_fault (codes "did not find expected <document start>") h.t.start_mark)) u) (sym h.begun_here)
-        (bare_document h.q h.t h.l e h.ended h.skipped h.tokens h.kind)))
+    go (inr h) = inr (rw (h.fault_there, h.begun_here)
+        (bare_document h.q h.t h.l e h.ended h.skipped h.tokens h.kind))
 apart_at p _ e = inl refl
 
 pub apart : (p : OriginalParser) → Apart p (call_there p) (call_here p)
@@ -144,15 +142,7 @@ may_differ p = grind (arith, apart)
 
 -- runs
 ok_same : {e d : Event} {p q : OriginalParser} → OK e p ≡ OK d q → (e ≡ d) × (p ≡ q)
-ok_same {p} h = (ap event_of h, ap (parser_of p) h)
-  where
-    event_of : ParserResult → Event
-    event_of (OK e p) = e
-    event_of (FAIL f) = empty_event
-
-    parser_of : OriginalParser → ParserResult → OriginalParser
-    parser_of r (OK e p) = p
-    parser_of r (FAIL f) = r
+ok_same {p} h = grind arith
 
 fail_same : {f g : Fault} → FAIL f ≡ FAIL g → f ≡ g
 fail_same h = grind arith
@@ -161,14 +151,13 @@ apart_outcomes : {e : Event} {p : OriginalParser} {f : Fault} → OK e p ≡ FAI
 apart_outcomes h = cc
 
 both_flags : {p q : OriginalParser} → p ≡ q → p.stream_end_produced ≡ true → q.stream_end_produced ≡ false → ⊥
-both_flags e h k = let i : true ≡ false = sym h ∙ (ap (λ (r : OriginalParser). r.stream_end_produced) e ∙ k) in cc
+both_flags e h k = grind arith
 
 longer : {p q : OriginalParser} {e d : Event} {l m : List Event} {x y : Ending} → call_there p ≡ OK e q → call_here p ≡ OK e q
     → q.stream_end_produced ≡ false → e ≡ d → Compares q l x m y → Compares p (e ∷ l) x (d ∷ m) y
-longer {d} {l} i j f h (same a b) = same (ap (λ (z : Event). z ∷ l) h ∙ ap (λ (z : List Event). d ∷ z) a) b
+longer {d} {l} i j f h (same a b) = grind (arith, same)
 longer {e} {m} i j f h (parts before e' d' r reached differs a b s t)
-    = parts (e ∷ before) e' d' r (by_call i j f reached) differs (ap (λ (z : List Event). e ∷ z) a)
-    (ap (λ (z : Event). z ∷ m) (sym h) ∙ ap (λ (z : List Event). e ∷ z) b) s t
+    = parts (e ∷ before) e' d' r (by_call i j f reached) differs (cc) (cc) s t
 
 pub compared : {p : OriginalParser} {e : List Event} {x : Ending} → Runs as_there p e x → (d : List Event) (y : Ending)
     → Runs as_here p d y → Compares p e x d y
@@ -203,34 +192,22 @@ compared {p} {e} {x} (fails {f = f} i) d y s = go (apart p) d y s
 -- one run
 pub one_run : {m : Mends} {p : OriginalParser} {e : List Event} {x : Ending} → Runs m p e x → (d : List Event) (y : Ending)
     → Runs m p d y → (e ≡ d) × (x ≡ y)
-one_run (ends i f) d y (ends j g) = let k = ok_same (sym i ∙ j) in (ap (λ (z : Event). z ∷ []) k.0, refl)
-one_run (ends i f) d y (goes_on j g later) = absurd (both_flags (ok_same (sym i ∙ j)).1 f g)
-one_run (ends i f) d y (fails j) = absurd (apart_outcomes (sym i ∙ j))
-one_run (goes_on i f rest) d y (ends j g) = absurd (both_flags (sym (ok_same (sym i ∙ j)).1) g f)
-one_run {m} (goes_on {e = a} {later = l} i f rest) d y (goes_on {e = b} {later = n} j g later) =
-    let k = ok_same (sym i ∙ j) in
-    let h = one_run rest n y (subst (λ (z : OriginalParser). Runs m z n y) (sym k.1) later) in
-    (ap (λ (z : Event). z ∷ l) k.0 ∙ ap (λ (z : List Event). b ∷ z) h.0, h.1)
-one_run (goes_on i f rest) d y (fails j) = absurd (apart_outcomes (sym i ∙ j))
-one_run (fails i) d y (ends j g) = absurd (apart_outcomes (sym j ∙ i))
-one_run (fails i) d y (goes_on j g later) = absurd (apart_outcomes (sym j ∙ i))
-one_run (fails i) d y (fails j) = (refl, ap Fails (fail_same (sym i ∙ j)))
+one_run (ends i f) d y (ends j g) = grind arith
+one_run (ends i f) d y (goes_on j g later) = grind arith
+one_run (ends i f) d y (fails j) = grind arith
+one_run (goes_on i f rest) d y (ends j g) = grind arith
+one_run {m} (goes_on {e = a} {later = l} i f rest) d y (goes_on {e = b} {later = n} j g later)
+    = grind (arith, one_run rest n y)
+one_run (goes_on i f rest) d y (fails j) = grind arith
+one_run (fails i) d y (ends j g) = grind arith
+one_run (fails i) d y (goes_on j g later) = grind arith
+one_run (fails i) d y (fails j) = grind arith
 
 -- after the stream's end, and after an error
 pub after_the_end : (m : Mends) (kept : Fault) (p : OriginalParser) → p.stream_end_produced ≡ true
     → yaml_parser_parse m kept p ≡ OK empty_event p
-after_the_end m kept p h
-    = ap (λ (u : Bool). if u || (is_fault kept.error || is_end_state p.state) then OK empty_event p else
-    yaml_parser_state_machine m p.state p) h
+after_the_end m kept p h = grind arith
 
 pub after_a_fault : (m : Mends) (kept : Fault) (p : OriginalParser) → is_fault kept.error ≡ true
     → yaml_parser_parse m kept p ≡ OK empty_event p
-after_a_fault m kept p h
-    = ap (λ (u : Bool). if p.stream_end_produced || (u || is_end_state p.state) then OK empty_event p else machine) h
-    ∙ always p.stream_end_produced
-  where
-    machine : ParserResult
-    machine = yaml_parser_state_machine m p.state p
-
-    always : (u : Bool) → (if u || true then OK empty_event p else machine) ≡ OK empty_event p
-    always u = grind arith
+after_a_fault m kept p h = grind arith

@@ -1,5 +1,5 @@
 -- A run that is computed within so many calls is a run.
-use Rattle.std.proofs.Common.{◌≡◌, ◌∷◌, ℕ, zero, suc, List, [], Option, Some, None, Bool, true, false, refl, ap, subst}
+use Rattle.std.proofs.Common.{◌≡◌, ◌∷◌, ℕ, zero, suc, List, [], Option, Some, None, Bool, true, false, refl, arith}
 use Rattle.libyaml_grammar.specs.runs.Runs.{Ending, Ends, Fails}
 use Rattle.libyaml_grammar.specs.grammar.Events.{Event}
 use Rattle.rust_original.specs.parser.Parser.{FAIL, Mends, OK, ParserResult, OriginalParser}
@@ -8,18 +8,6 @@ use Rattle.rust_original.specs.parser.Runs.{Runs, call, ends, fails, goes_on, ru
 abbrev Given : Type 0
 Given = List Event × Option Ending
 
-same_some : (x y : Ending) → Some x ≡ Some y → x ≡ y
-same_some x y h = cc
-
-events_are : {g h : Given} → g ≡ h → g.0 ≡ h.0
-events_are e = ap (λ (g : Given). g.0) e
-
-ending_is : {g h : Given} → g ≡ h → g.1 ≡ h.1
-ending_is e = ap (λ (g : Given). g.1) e
-
-none_given : (e : List Event) (x : Ending) → (let g : Given = ([], None) in g) ≡ (e, Some x) → ⊥
-none_given e x h = let i : None ≡ Some x = ending_is h in cc
-
 abbrev Later : Mends → ℕ → Type 0
 Later m n = (q : OriginalParser) (d : List Event) (y : Ending) → run_within m n q ≡ (d, Some y) → Runs m q d y
 
@@ -27,24 +15,19 @@ Later m n = (q : OriginalParser) (d : List Event) (y : Ending) → run_within m 
 on : (m : Mends) (n : ℕ) (p : OriginalParser) (e : List Event) (x : Ending) (a : Event) (q : OriginalParser) → call m p ≡ OK a q
     → q.stream_end_produced ≡ false → (g : Given)
     → run_within m n q ≡ g → Later m n → (let r : Given = (a ∷ g.0, g.1) in r) ≡ (e, Some x) → Runs m p e x
-on m n p e x a q i j (later, None) k ih h = absurd (none_ends (ending_is h))
-  where
-    none_ends : None ≡ Some x → ⊥
-    none_ends w = cc
-on m n p e x a q i j (later, Some y) k ih h = subst (λ (z : Ending). Runs m p e z) (same_some y x (ending_is h))
-    (subst (λ (l : List Event). Runs m p l y) (events_are h) (goes_on i j (ih q later y k)))
+on m n p e x a q i j (later, None) k ih h = grind arith
+on m n p e x a q i j (later, Some y) k ih h = grind (arith, goes_on, ih q later y k)
 
 pub computed : (m : Mends) (n : ℕ) (p : OriginalParser) (e : List Event) (x : Ending) → run_within m n p ≡ (e, Some x)
     → Runs m p e x
-computed m zero p e x h = absurd (none_given e x h)
+computed m zero p e x h = grind arith
 computed m (suc n) p e x h = go (call m p) refl h (λ q d y k. computed m n q d y k)
   where
     given : (a : Event) (q : OriginalParser) → call m p ≡ OK a q → (u : Bool) → q.stream_end_produced ≡ u → Later m n
         → ◌≡◌ {A = Given}
         (elim u [ true ↦ (a ∷ [], Some Ends) | false ↦ let (later, y) = run_within m n q in (a ∷ later, y) ])
         (e, Some x) → Runs m p e x
-    given a q i true j ih h = subst (λ (z : Ending). Runs m p e z) (same_some Ends x (ending_is h))
-        (subst (λ (l : List Event). Runs m p l Ends) (events_are h) (ends i j))
+    given a q i true j ih h = grind (arith, ends)
     given a q i false j ih h = on m n p e x a q i j (run_within m n q) refl ih h
 
     go : (o : ParserResult) → call m p ≡ o
@@ -55,6 +38,5 @@ computed m (suc n) p e x h = go (call m p) refl h (λ q d y k. computed m n q d 
             | false ↦ let (later, y) = run_within m n q in (a ∷ later, y)
           ]
         ]) (e, Some x) → Later m n → Runs m p e x
-    go (FAIL f) i h ih = subst (λ (z : Ending). Runs m p e z) (same_some (Fails f) x (ending_is h))
-        (subst (λ (l : List Event). Runs m p l (Fails f)) (events_are h) (fails i))
+    go (FAIL f) i h ih = grind (arith, fails)
     go (OK a q) i h ih = given a q i q.stream_end_produced refl ih h

@@ -16,10 +16,10 @@ use Rattle.libyaml_events.specs.machine.Config.{Config, Handles, config_with, is
 use Rattle.libyaml_events.specs.machine.Machine.{declared_by, fault_with}
 use Rattle.libyaml_events.specs.machine.Want.{AtState, Texts, Want, no_texts}
 use Rattle.libyaml_events.proofs.exported.Pushes.{fed_ended, hand_runs, wants_runs}
-use Rattle.token_steps.specs.Records.{event_of, shape_of, step_fault}
+use Rattle.token_steps.specs.Records.{event_of, step_fault}
 use Rattle.token_steps.specs.RunLaws.{want_with}
 use Rattle.token_steps.specs.Runs.{Run, StepCalls, begins, gave, moves, stays, takes, wants}
-use Rattle.token_steps.specs.Texts.{event_with, handles_past, texts_kept_after}
+use Rattle.token_steps.specs.Texts.{event_with, texts_kept_after}
 use Rattle.token_steps.specs.declared.records.step_event_t.{step_event_t}
 use Rattle.token_steps.specs.declared.records.step_fault_t.{step_fault_t}
 use Rattle.token_steps.specs.declared.steps.steps_t.{steps_t}
@@ -58,7 +58,7 @@ leads (moves d d' ss ss' ms ms' hs h o l g r v w e) k n f more later x s
     (subst (λ (p : automaton.Purpose). StrictFrom f (record { next = p; texts = h }) (config_at d ss ms hs) (to_come o more) later x) v
     (subst (λ (c : Stacks). StrictFrom f (want_with d' h) (config_with c hs no_fault None) (to_come o more) later x) e s))
 leads (takes d ss ms hs h l g t r e) k n f more later x s
-    = subst (λ (z : List Token). StrictOver z f (g ++ later) x) (sym (append_assoc l (t ∷ []) more))
+    = rw (append_assoc l (t ∷ []) more)
     (leads r k n f (t ∷ more) later x s)
 leads (wants d d' ss ss' ms ms' hs h l g t e i r c) k n f more later x s
     = leads r k.1 (in_hand d ss ms hs h t l g r) f more later x
@@ -66,36 +66,31 @@ leads (wants d d' ss ss' ms ms' hs h l g t e i r c) k n f more later x s
 leads (gave d d' ss ss' ms ms' hs h l g t e i r c) k n f more later x s =
     let y = step_gives d d' ss ss' ms ms' hs h l g t e i r c in
     let a = event_with hs h t.content (event_of e false) in
-    subst (λ (z : List Event). StrictOver (l ++ more) f z x) (sym (append_assoc g (a ∷ []) later))
+    rw (append_assoc g (a ∷ []) later)
     (leads r k.1 (in_hand d ss ms hs h t l g r) f more (a ∷ later) x
-    (strict.gives k.0 y.0 n (subst (λ (w : Want). StrictFrom f w (config_at d' ss' ms' (handles_past hs (shape_of e))) more later x)
-    (at_state d' y.1) s)))
+    (strict.gives k.0 y.0 n (rw (at_state d' y.1) at s)))
 leads (stays d d' ss ss' ms ms' hs h l g t e i r c) k n f more later x s =
     let y = step_stays d d' ss ss' ms ms' hs h l g t e i r c in
     let a = event_with hs h t.content (event_of e true) in
-    subst (λ (z : List Event). StrictOver (l ++ more) f z x) (sym (append_assoc g (a ∷ []) later))
+    rw (append_assoc g (a ∷ []) later)
     (leads r k.1 (in_hand d ss ms hs h t l g r) f more (a ∷ later) x
-    (strict.gives k.0 y.0 n (subst (λ (w : Want). StrictFrom f w (config_at d' ss' ms' (handles_past hs (shape_of e))) (t ∷ more) later x)
-    (at_state d' y.1) s)))
+    (strict.gives k.0 y.0 n (rw (at_state d' y.1) at s)))
 
 -- to the end
 pub ended : {d : steps_t} {ss : List ℕ} {ms : List yaml_mark_t} {hs : Handles} {h : Texts} {o : Option Token}
     {l : List Token} {g : List Event} (r : Run d ss ms hs h o l g) → IsAsked r → is_over d ≡ true → (f : Fault)
     (more : List Token) → StrictOver (l ++ more) f g (Over Ends)
-ended (begins d ss ms e i) k n f more = absurd (no (sym n ∙ ap (λ (c : Stacks). is_end_state c.state) i))
-  where
-    no : true ≡ false → ⊥
-    no h = cc
+ended (begins d ss ms e i) k n f more =
+    let h : true ≡ false = sym n ∙ ap (λ (c : Stacks). is_end_state c.state) i in absurd cc
 ended (moves d d' ss ss' ms ms' hs h o l g r v w e) k n f more
     = ended r k (ap (λ (c : Stacks). is_end_state c.state) (sym e) ∙ n) f more
 ended (takes d ss ms hs h l g t r e) k n f more
-    = subst (λ (z : List Token). StrictOver z f g (Over Ends)) (sym (append_assoc l (t ∷ []) more)) (ended r k n f (t ∷ more))
-ended (wants d d' ss ss' ms ms' hs h l g t e i r c) k n f more
-    = absurd (no (sym n ∙ wants_runs (fed d ss ms hs h (Some t) l g r).0 (want_with d' (texts_kept_after h t.content))
-    (config_at d' ss' ms' (declared_by hs t.content)) (step_wants d d' ss ss' ms ms' hs h l g t e i r c)))
-  where
-    no : true ≡ false → ⊥
-    no h = cc
+    = rw (append_assoc l (t ∷ []) more) (ended r k n f (t ∷ more))
+ended (wants d d' ss ss' ms ms' hs h l g t e i r c) k n f more =
+    let w : true ≡ false
+    = sym n ∙ wants_runs (fed d ss ms hs h (Some t) l g r).0 (want_with d' (texts_kept_after h t.content))
+    (config_at d' ss' ms' (declared_by hs t.content)) (step_wants d d' ss ss' ms ms' hs h l g t e i r c) in
+    absurd cc
 ended (gave d d' ss ss' ms ms' hs h l g t e i r c) k n f more =
     let y = step_gives d d' ss ss' ms ms' hs h l g t e i r c in
     leads r k.1 (in_hand d ss ms hs h t l g r) f more (event_with hs h t.content (event_of e false) ∷ []) (Over Ends)
@@ -114,16 +109,14 @@ whole d ss ms hs h l g r k e more f = ended r k (fed_ended (fed d ss ms hs h Non
 pub so_far : (d : steps_t) (ss : List ℕ) (ms : List yaml_mark_t) (hs : Handles) (h : Texts) (l : List Token)
     (g : List Event) (r : Run d ss ms hs h None l g) → IsAsked r → has_end l ≡ false → (f : Fault)
     → StrictOver l f g (Over (Fails f))
-so_far d ss ms hs h l g r k e f = subst (λ (z : List Token). StrictOver z f g (Over (Fails f))) (append-nil l)
-    (subst (λ (z : List Event). StrictOver (l ++ []) f z (Over (Fails f))) (append-nil g)
-    (leads r k (fed_ended (fed d ss ms hs h None l g r).0 ∙ e) f [] [] (Over (Fails f)) strict.source_fails))
+so_far d ss ms hs h l g r k e f = rw (append-nil l, append-nil g) at
+    (leads r k (fed_ended (fed d ss ms hs h None l g r).0 ∙ e) f [] [] (Over (Fails f)) strict.source_fails)
 
 pub failed : (d d' : steps_t) (ss ss' : List ℕ) (ms ms' : List yaml_mark_t) (hs : Handles) (h : Texts) (l : List Token)
     (g : List Event) (t : Token) (e : step_event_t) (i : step_fault_t) (r : Run d ss ms hs h (Some t) l g) → IsAsked r
     → differs_with d t ≡ Nowhere → StepCalls 5 d ss ms hs t d' ss' ms' e i → (more : List Token) (f : Fault)
     → StrictOver (l ++ more) f g (Over (Fails (fault_with (step_fault i))))
-failed d d' ss ss' ms ms' hs h l g t e i r k q c more f
-    = subst (λ (z : List Event). StrictOver (l ++ more) f z (Over (Fails (fault_with (step_fault i))))) (append-nil g)
+failed d d' ss ss' ms ms' hs h l g t e i r k q c more f = rw (append-nil g) at
     (leads r k (in_hand d ss ms hs h t l g r) f more [] (Over (Fails (fault_with (step_fault i))))
     (strict.fails q (step_fails d d' ss ss' ms ms' hs h l g t e i r c)))
 
@@ -131,9 +124,6 @@ pub stopped_by : (k : Difference) → (k ≡ Nowhere → ⊥) → (d : steps_t) 
     (h : Texts) (l : List Token) (g : List Event) (t : Token) (r : Run d ss ms hs h (Some t) l g) → IsAsked r
     → differs_with d t ≡ k → (more : List Token) (f : Fault)
     → StrictOver (l ++ more) f g (Stopped k (innermost d ms) t.start_mark)
-stopped_by k n d ss ms hs h l g t r a q more f
-    = subst (λ (y : Difference). StrictOver (l ++ more) f g (Stopped y (innermost d ms) t.start_mark)) q
-    (subst (λ (z : List Event). StrictOver (l ++ more) f z (Stopped (differs_with d t) (innermost d ms) t.start_mark))
-    (append-nil g)
+stopped_by k n d ss ms hs h l g t r a q more f = rw (append-nil g, q) at
     (leads r a (in_hand d ss ms hs h t l g r) f more [] (Stopped (differs_with d t) (innermost d ms) t.start_mark)
-    (strict.stops (λ e. n (sym q ∙ e)))))
+    (strict.stops (λ e. n (sym q ∙ e))))

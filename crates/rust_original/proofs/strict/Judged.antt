@@ -1,22 +1,23 @@
 -- A call of the original does the same as one here where no token of the call was told apart, and what it does where one was.
-use Rattle.std.proofs.Common.{◌≡◌, ◌∷◌, ◌∙◌, List, [], None, Bool, true, false, Ok, Err, refl, sym, ap, subst, arith}
+use Rattle.std.proofs.Common.{◌≡◌, ◌∷◌, List, [], None, Bool, true, false, Ok, Err, refl, sym, subst, arith}
 use Rattle.libyaml_types.specs.Types.{token_type}
 use Rattle.libyaml_types.specs.declared.directive.yaml_tag_directive_t.{yaml_tag_directive_t}
 use Rattle.libyaml_types.specs.declared.enums.yaml_parser_state_t.{yaml_parser_state_t}
 use Rattle.libyaml_types.specs.declared.enums.yaml_parser_state_t.TheVariants as st
 use Rattle.libyaml_types.specs.Fault.{Fault}
 use Rattle.libyaml_grammar.specs.grammar.Tokens.{Content, DocumentEnd, DocumentStart, FlowEntry, FlowSequenceEnd, Mark, StreamEnd, TagDirective, Token, Value, VersionDirective}
+use Rattle.libyaml_automaton.specs.Automaton as automaton
 use Rattle.libyaml_automaton.specs.Config.{top_mark}
 use Rattle.libyaml_automaton.specs.declared.difference.Difference.{Difference}
 use Rattle.libyaml_automaton.specs.declared.difference.Difference.TheVariants.{Nowhere}
 use Rattle.libyaml_events.specs.machine.Config.{Config, Handles, config_of, is_end_state, no_handles, without_lookahead}
 use Rattle.libyaml_events.specs.machine.Machine.{Progressed, seen, step}
 use Rattle.libyaml_events.specs.machine.Want.{AtState, Given, Want, Wants}
-use Rattle.rust_original.specs.parser.Differences.{Differs, bare_document, after_entry, after_start, call_here, call_there, pair_key, value_first}
-use Rattle.rust_original.specs.parser.Parser.{OriginalParser, PUSH_mark, ParserResult, SKIP_TOKEN, after_directives, set_state, yaml_parser_process_empty_scalar}
-use Rattle.rust_original.specs.parser.Strict.{DoesThere, GivesEvent, differs_by}
+use Rattle.rust_original.specs.parser.Differences.{Differs, KeyDue, bare_document, after_entry, after_start, call_here, call_there, pair_key, value_first}
+use Rattle.rust_original.specs.parser.Parser.{OriginalParser, PUSH_mark, ParserResult, SKIP_TOKEN, after_directives}
+use Rattle.rust_original.specs.parser.Strict.{DoesThere, differs_by}
 use Rattle.rust_original.proofs.parser.Handles.{defaults_appended}
-use Rattle.rust_original.proofs.parser.Relation.{Fits, IsInside, Opens, SamePlace, before, following, after_end, entering, first, inside, over, root_end, there_with, tk, tokens_of}
+use Rattle.rust_original.proofs.parser.Relation.{Fits, IsInside, Opens, SamePlace, following, after_end, entering, inside, there_with, tk, tokens_of}
 use Rattle.rust_original.proofs.strict.Quiet as quiet
 use Rattle.rust_original.proofs.strict.Quiet.{Quiet, QuietProgress, QuietState, QuietStep, quiet_after, quiet_by}
 
@@ -45,10 +46,7 @@ after more h o q = grind arith
 
 still : (l : List Token) (w : Want) (c : Config) → Quiet w.next → judged w c l ≡ none
 still [] w c q = refl
-still (t ∷ l) w c q
-    = ap (λ (k : Difference). judged_at k c t (judged_by (step w c t) (λ v d. judged v d l)))
-    (quiet.nowhere w.next c.state c.behind_document_end (token_type t.content) q)
-    ∙ after (λ v d. judged v d l) (λ v d h. still l v d h) (step w c t) (quiet_after w c t q)
+still (t ∷ l) w c q = grind (arith, quiet.nowhere, after (λ v d. judged v d l) (λ v d h. still l v d h), quiet_after)
 
 after_token : (l : List Token) (o : Progressed) → QuietProgress o → judged_by o (λ v d. judged v d l) ≡ none
 after_token l o q = after (λ v d. judged v d l) (still l) o q
@@ -78,18 +76,12 @@ module _ (f : Fault) (x : Fault) (ss : List yaml_parser_state_t) where
   silent : (s : yaml_parser_state_t) → Silent s → (ms : List Mark) (hs : Handles) (be : Bool) (l : List Token)
       → judged AtState (conf s ms hs be) l ≡ none
   silent s q ms hs be [] = refl
-  silent s q ms hs be (t ∷ l)
-      = ap (λ (k : Difference). judged_at k (conf s ms hs be) t
-      (judged_by (step AtState (conf s ms hs be) t) (λ v d. judged v d l))) (same s q)
-      ∙ after_token l (step AtState (conf s ms hs be) t)
-      (quiet_by AtState (conf s ms hs be) t
-      (quiet.at_state s (config_of (conf s ms hs be)) (seen t t.content) (token_type t.content) (still_quiet s q)))
-    where
-      same : (s : yaml_parser_state_t) → Silent s → differs_by AtState (conf s ms hs be) t ≡ Nowhere
-      same s q = grind arith
-
-      still_quiet : (s : yaml_parser_state_t) → Silent s → QuietState s
-      still_quiet s q = grind arith
+  silent s q ms hs be (t ∷ l) = grind (
+    arith,
+    after_token l,
+    quiet_by AtState (conf s ms hs be) t,
+    quiet.at_state s (config_of (conf s ms hs be)) (seen t t.content) (token_type t.content),
+  )
 
   -- the same of a state's function alone: its steps want no token for a state's
   unmet : (s : yaml_parser_state_t) → QuietState s → (ms : List Mark) (hs : Handles) (be : Bool) (t : Token)
@@ -113,39 +105,23 @@ module _ (f : Fault) (x : Fault) (ss : List yaml_parser_state_t) where
   block_key : (ms : List Mark) (tags : List yaml_tag_directive_t) (hs : Handles) (be flag : Bool) (l : List Token)
       → Finds st.YAML_PARSE_BLOCK_MAPPING_KEY_STATE st.YAML_PARSE_BLOCK_MAPPING_KEY_STATE ms ms tags hs be flag false l l
   block_key ms tags hs be flag [] = refl
-  block_key ms tags hs be flag (t ∷ l) = go t.content t.start_mark t.end_mark
-    where
-      go : (k : Content) (m n : Mark)
-          → Finds st.YAML_PARSE_BLOCK_MAPPING_KEY_STATE st.YAML_PARSE_BLOCK_MAPPING_KEY_STATE ms ms tags hs be flag false
-          (tk k m n ∷ l) (tk k m n ∷ l)
-      go Value m n = (
-        value_first
-            (there_with f tags flag st.YAML_PARSE_BLOCK_MAPPING_KEY_STATE false (conf st.YAML_PARSE_BLOCK_MAPPING_KEY_STATE ms hs be) ms (tk Value m n ∷ l))
-            (tk Value m n) l (after_entry refl) refl refl,
-        refl,
-      )
-      go k m n = unasked st.YAML_PARSE_BLOCK_MAPPING_KEY_STATE st.YAML_PARSE_BLOCK_MAPPING_KEY_STATE ms ms tags hs be flag false
-          (tk k m n ∷ l) (tk k m n ∷ l) (unmet st.YAML_PARSE_BLOCK_MAPPING_KEY_STATE tt ms hs be (tk k m n) l) refl
+  block_key ms tags hs be flag (t ∷ l) =
+      let p = there_with f tags flag st.YAML_PARSE_BLOCK_MAPPING_KEY_STATE false
+      (conf st.YAML_PARSE_BLOCK_MAPPING_KEY_STATE ms hs be) ms (t ∷ l) in
+      let quietly = unmet st.YAML_PARSE_BLOCK_MAPPING_KEY_STATE tt ms hs be t l in
+      grind (arith, value_first p t l (after_entry refl) refl)
 
   first_key : (ms : List Mark) (tags : List yaml_tag_directive_t) (hs : Handles) (be flag : Bool) (t : Token)
       (l : List Token)
       → Finds st.YAML_PARSE_BLOCK_MAPPING_KEY_STATE st.YAML_PARSE_BLOCK_MAPPING_FIRST_KEY_STATE (t.start_mark ∷ ms) ms tags
       hs be flag false l (t ∷ l)
   first_key ms tags hs be flag t [] = refl
-  first_key ms tags hs be flag t (u ∷ l) = go u.content u.start_mark u.end_mark
-    where
-      go : (k : Content) (m n : Mark)
-          → Finds st.YAML_PARSE_BLOCK_MAPPING_KEY_STATE st.YAML_PARSE_BLOCK_MAPPING_FIRST_KEY_STATE (t.start_mark ∷ ms) ms
-          tags hs be flag false (tk k m n ∷ l) (t ∷ tk k m n ∷ l)
-      go Value m n = (
-        value_first
-            (SKIP_TOKEN (PUSH_mark t.start_mark (there_with f tags flag st.YAML_PARSE_BLOCK_MAPPING_FIRST_KEY_STATE false (conf st.YAML_PARSE_BLOCK_MAPPING_KEY_STATE (t.start_mark ∷ ms) hs be) ms
-            (t ∷ tk Value m n ∷ l))))
-            (tk Value m n) l (after_start t (tk Value m n ∷ l) refl refl) refl refl,
-        refl,
-      )
-      go k m n = unasked st.YAML_PARSE_BLOCK_MAPPING_KEY_STATE st.YAML_PARSE_BLOCK_MAPPING_FIRST_KEY_STATE (t.start_mark ∷ ms) ms tags hs be flag false
-          (tk k m n ∷ l) (t ∷ tk k m n ∷ l) (unmet st.YAML_PARSE_BLOCK_MAPPING_KEY_STATE tt (t.start_mark ∷ ms) hs be (tk k m n) l) refl
+  first_key ms tags hs be flag t (u ∷ l) =
+      let p = there_with f tags flag st.YAML_PARSE_BLOCK_MAPPING_FIRST_KEY_STATE false
+      (conf st.YAML_PARSE_BLOCK_MAPPING_KEY_STATE (t.start_mark ∷ ms) hs be) ms (t ∷ u ∷ l) in
+      let due : KeyDue p (SKIP_TOKEN (PUSH_mark t.start_mark p)) = after_start t (u ∷ l) refl refl in
+      let quietly = unmet st.YAML_PARSE_BLOCK_MAPPING_KEY_STATE tt (t.start_mark ∷ ms) hs be u l in
+      grind (arith, value_first (SKIP_TOKEN (PUSH_mark t.start_mark p)) u l due refl)
 
   -- after the KEY of a pair
   after_pair_key : (ms : List Mark) (tags : List yaml_tag_directive_t) (hs : Handles) (be flag : Bool) (l : List Token)
@@ -154,17 +130,12 @@ module _ (f : Fault) (x : Fault) (ss : List yaml_parser_state_t) where
   after_pair_key ms tags hs be flag [] = refl
   after_pair_key ms tags hs be flag (t ∷ l) = go t.content t.start_mark t.end_mark
     where
-      goes : (u : Token) → GivesEvent (yaml_parser_process_empty_scalar u.end_mark
-          (set_state st.YAML_PARSE_FLOW_SEQUENCE_ENTRY_MAPPING_VALUE_STATE (SKIP_TOKEN
-          (there_with f tags flag st.YAML_PARSE_FLOW_SEQUENCE_ENTRY_MAPPING_KEY_STATE false (conf st.YAML_PARSE_FLOW_SEQUENCE_ENTRY_MAPPING_KEY_STATE ms hs be) ms (u ∷ l)))))
-      goes u = grind arith
-
       go : (k : Content) (m n : Mark)
           → Finds st.YAML_PARSE_FLOW_SEQUENCE_ENTRY_MAPPING_KEY_STATE
           st.YAML_PARSE_FLOW_SEQUENCE_ENTRY_MAPPING_KEY_STATE ms ms tags hs be flag false (tk k m n ∷ l) (tk k m n ∷ l)
-      go Value m n = (pair_key (tk Value m n) l refl refl refl, goes (tk Value m n))
-      go FlowEntry m n = (pair_key (tk FlowEntry m n) l refl refl refl, goes (tk FlowEntry m n))
-      go FlowSequenceEnd m n = (pair_key (tk FlowSequenceEnd m n) l refl refl refl, goes (tk FlowSequenceEnd m n))
+      go Value m n = (pair_key (tk Value m n) l refl refl refl, (_, _, refl))
+      go FlowEntry m n = (pair_key (tk FlowEntry m n) l refl refl refl, (_, _, refl))
+      go FlowSequenceEnd m n = (pair_key (tk FlowSequenceEnd m n) l refl refl refl, (_, _, refl))
       go k m n = unasked st.YAML_PARSE_FLOW_SEQUENCE_ENTRY_MAPPING_KEY_STATE st.YAML_PARSE_FLOW_SEQUENCE_ENTRY_MAPPING_KEY_STATE ms ms tags hs be flag
           false (tk k m n ∷ l) (tk k m n ∷ l) (unmet st.YAML_PARSE_FLOW_SEQUENCE_ENTRY_MAPPING_KEY_STATE tt ms hs be (tk k m n) l) refl
 
@@ -172,29 +143,20 @@ module _ (f : Fault) (x : Fault) (ss : List yaml_parser_state_t) where
   sequence_entry : (ms : List Mark) (hs : Handles) (be : Bool) (l : List Token)
       → judged AtState (conf st.YAML_PARSE_FLOW_SEQUENCE_ENTRY_STATE ms hs be) l ≡ none
   sequence_entry ms hs be [] = refl
-  sequence_entry ms hs be (t ∷ l) = go t.content t.start_mark t.end_mark
-    where
-      go : (k : Content) (m n : Mark)
-          → judged AtState (conf st.YAML_PARSE_FLOW_SEQUENCE_ENTRY_STATE ms hs be) (tk k m n ∷ l) ≡ none
-      go k m n = grind (arith, silent)
+  sequence_entry ms hs be (t ∷ l) = grind (arith, silent)
 
   mapping_key : (ms : List Mark) (hs : Handles) (be : Bool) (l : List Token)
       → judged AtState (conf st.YAML_PARSE_FLOW_MAPPING_KEY_STATE ms hs be) l ≡ none
   mapping_key ms hs be [] = refl
-  mapping_key ms hs be (t ∷ l) = go t.content t.start_mark t.end_mark
-    where
-      go : (k : Content) (m n : Mark)
-          → judged AtState (conf st.YAML_PARSE_FLOW_MAPPING_KEY_STATE ms hs be) (tk k m n ∷ l) ≡ none
-      go k m n = grind (arith, silent)
+  mapping_key ms hs be (t ∷ l) = grind (arith, silent)
 
   -- the first document, and one after an explicit end
   first_document : (ms : List Mark) (hs : Handles) (l : List Token)
       → judged AtState (conf st.YAML_PARSE_IMPLICIT_DOCUMENT_START_STATE ms hs false) l ≡ none
   first_document ms hs [] = refl
-  first_document ms hs (t ∷ l) = after_token l (step AtState (conf st.YAML_PARSE_IMPLICIT_DOCUMENT_START_STATE ms hs false) t)
-      (quiet_by AtState (conf st.YAML_PARSE_IMPLICIT_DOCUMENT_START_STATE ms hs false) t
-      (quiet.first_document (config_of (conf st.YAML_PARSE_IMPLICIT_DOCUMENT_START_STATE ms hs false)) (seen t t.content)
-      (token_type t.content) refl))
+  first_document ms hs (t ∷ l) = let c = conf st.YAML_PARSE_IMPLICIT_DOCUMENT_START_STATE ms hs false in
+      after_token l (step AtState c t)
+      (quiet_by AtState c t (quiet.first_document (config_of c) (seen t t.content) (token_type t.content) refl))
 
   -- a DOCUMENT-END more, which is skipped
   abbrev between : List Mark → List Token → OriginalParser
@@ -204,18 +166,9 @@ module _ (f : Fault) (x : Fault) (ss : List yaml_parser_state_t) where
   carried : {o u : ParserResult} (ms : List Mark) (m n : Mark) (l : List Token) → Differs (between ms l) o u
       → Differs (between ms (tk DocumentEnd m n ∷ l)) o u
   carried ms m n l (bare_document r t rest s e i h j) = bare_document r t rest s e i h j
-  carried ms m n l (value_first r t rest (after_start u v s i) j e) = absurd (no s)
-    where
-      no : st.YAML_PARSE_DOCUMENT_START_STATE ≡ st.YAML_PARSE_BLOCK_MAPPING_FIRST_KEY_STATE → ⊥
-      no h = cc
-  carried ms m n l (value_first r t rest (after_entry s) j e) = absurd (no s)
-    where
-      no : st.YAML_PARSE_DOCUMENT_START_STATE ≡ st.YAML_PARSE_BLOCK_MAPPING_KEY_STATE → ⊥
-      no h = cc
-  carried ms m n l (pair_key t rest s i e) = absurd (no s)
-    where
-      no : st.YAML_PARSE_DOCUMENT_START_STATE ≡ st.YAML_PARSE_FLOW_SEQUENCE_ENTRY_MAPPING_KEY_STATE → ⊥
-      no h = cc
+  carried ms m n l (value_first r t rest (after_start u v s i) j e) = absurd cc
+  carried ms m n l (value_first r t rest (after_entry s) j e) = absurd cc
+  carried ms m n l (pair_key t rest s i e) = absurd cc
 
   further : (ms : List Mark) (m n : Mark) (l : List Token) (j : Judged) → Found j (between ms l)
       → Found j (between ms (tk DocumentEnd m n ∷ l))
@@ -227,32 +180,27 @@ module _ (f : Fault) (x : Fault) (ss : List yaml_parser_state_t) where
   bare ms [] = refl
   bare ms (t ∷ l) = go t.content t.start_mark t.end_mark (bare ms l)
     where
-      Goal : List Token → Type 0
-      Goal l = Finds st.YAML_PARSE_IMPLICIT_DOCUMENT_START_STATE st.YAML_PARSE_DOCUMENT_START_STATE ms ms [] no_handles
-          true true false l l
+      Goal : (tokens tokens_there : List Token) → Type 0
+      Goal = Finds st.YAML_PARSE_IMPLICIT_DOCUMENT_START_STATE st.YAML_PARSE_DOCUMENT_START_STATE ms ms [] no_handles true
+          true false
 
-      directive : (k : Content) (m n : Mark) → QuietProgress
-          (step AtState (conf st.YAML_PARSE_IMPLICIT_DOCUMENT_START_STATE ms no_handles true) (tk k m n))
-          → judged_by (step AtState (conf st.YAML_PARSE_IMPLICIT_DOCUMENT_START_STATE ms no_handles true) (tk k m n))
+      directive : (u : Token) → QuietStep (automaton.step automaton.AtState
+          (config_of (conf st.YAML_PARSE_IMPLICIT_DOCUMENT_START_STATE ms no_handles true)) (seen u u.content)
+          (token_type u.content))
+          → judged_by (step AtState (conf st.YAML_PARSE_IMPLICIT_DOCUMENT_START_STATE ms no_handles true) u)
           (λ v d. judged v d l) ≡ none
-      directive k m n q
-          = after_token l (step AtState (conf st.YAML_PARSE_IMPLICIT_DOCUMENT_START_STATE ms no_handles true) (tk k m n)) q
+      directive u q = grind (arith, after_token, quiet_by)
 
-      go : (k : Content) (m n : Mark) → Goal l → Goal (tk k m n ∷ l)
-      go DocumentEnd m n ih = further ms m n l (judged AtState (conf st.YAML_PARSE_IMPLICIT_DOCUMENT_START_STATE ms no_handles true) l) ih
-      go (VersionDirective v) m n ih = found_none _ _ (directive (VersionDirective v) m n
-          (quiet_by AtState (conf st.YAML_PARSE_IMPLICIT_DOCUMENT_START_STATE ms no_handles true)
-          (tk (VersionDirective v) m n) tt)) refl
-      go (TagDirective g) m n ih = found_none _ _ (directive (TagDirective g) m n
-          (quiet_by AtState (conf st.YAML_PARSE_IMPLICIT_DOCUMENT_START_STATE ms no_handles true)
-          (tk (TagDirective g) m n) tt)) refl
+      go : (k : Content) (m n : Mark) → Goal l l → Goal (tk k m n ∷ l) (tk k m n ∷ l)
+      go DocumentEnd m n ih
+          = further ms m n l (judged AtState (conf st.YAML_PARSE_IMPLICIT_DOCUMENT_START_STATE ms no_handles true) l) ih
+      go (VersionDirective v) m n ih = found_none _ _ (directive (tk (VersionDirective v) m n) tt) refl
+      go (TagDirective g) m n ih = found_none _ _ (directive (tk (TagDirective g) m n) tt) refl
       go DocumentStart m n ih = refl
       go StreamEnd m n ih = refl
       go k m n ih = (
         bare_document _ _ l refl refl refl refl refl,
-        defaults_appended (there_with f [] true st.YAML_PARSE_DOCUMENT_START_STATE false
-            (conf st.YAML_PARSE_IMPLICIT_DOCUMENT_START_STATE ms no_handles true) ms (tk k m n ∷ l)) m
-            (after_directives m None []),
+        defaults_appended (between ms (tk k m n ∷ l)) m (after_directives m None []),
       )
 
   quiet_state : (s : yaml_parser_state_t) → Silent s → (ms ms' : List Mark) (tags : List yaml_tag_directive_t)
@@ -266,74 +214,26 @@ module _ (f : Fault) (x : Fault) (ss : List yaml_parser_state_t) where
       → (elim k [ DocumentEnd ↦ true | _ ↦ false ]) ≡ false
       → Finds st.YAML_PARSE_DOCUMENT_START_STATE st.YAML_PARSE_DOCUMENT_START_STATE ms ms [] no_handles be false false
       (tk k m n ∷ l) (tk k m n ∷ l)
-  next_document ms be DocumentEnd m n l e = absurd cc
-  next_document ms be k m n l e
-      = quiet_state st.YAML_PARSE_DOCUMENT_START_STATE tt ms ms [] no_handles be false false
-      st.YAML_PARSE_DOCUMENT_START_STATE (tk k m n ∷ l) (tk k m n ∷ l) refl
+  next_document ms be k m n l e = grind (arith, quiet_state)
 
   entered : (s' s : yaml_parser_state_t) (ms : List Mark) (tags : List yaml_tag_directive_t) (hs : Handles)
       (be flag : Bool) (t : Token) (l : List Token) → Opens s' s
       → Finds s s' (t.start_mark ∷ ms) ms tags hs be flag false l (t ∷ l)
-  entered st.YAML_PARSE_BLOCK_SEQUENCE_FIRST_ENTRY_STATE st.YAML_PARSE_BLOCK_SEQUENCE_ENTRY_STATE ms tags hs be flag t l i
-      = quiet_state st.YAML_PARSE_BLOCK_SEQUENCE_ENTRY_STATE tt (t.start_mark ∷ ms) ms tags hs be flag false
-      st.YAML_PARSE_BLOCK_SEQUENCE_FIRST_ENTRY_STATE l (t ∷ l) refl
-  entered st.YAML_PARSE_BLOCK_MAPPING_FIRST_KEY_STATE st.YAML_PARSE_BLOCK_MAPPING_KEY_STATE ms tags hs be flag t l i
-      = first_key ms tags hs be flag t l
-  entered st.YAML_PARSE_FLOW_SEQUENCE_FIRST_ENTRY_STATE st.YAML_PARSE_FLOW_SEQUENCE_FIRST_ENTRY_STATE ms tags hs be flag t
-      l i
-      = quiet_state st.YAML_PARSE_FLOW_SEQUENCE_FIRST_ENTRY_STATE tt (t.start_mark ∷ ms) ms tags hs be flag false
-      st.YAML_PARSE_FLOW_SEQUENCE_FIRST_ENTRY_STATE l (t ∷ l) refl
-  entered st.YAML_PARSE_FLOW_MAPPING_FIRST_KEY_STATE st.YAML_PARSE_FLOW_MAPPING_FIRST_KEY_STATE ms tags hs be flag t l i
-      = quiet_state st.YAML_PARSE_FLOW_MAPPING_FIRST_KEY_STATE tt (t.start_mark ∷ ms) ms tags hs be flag false
-      st.YAML_PARSE_FLOW_MAPPING_FIRST_KEY_STATE l (t ∷ l) refl
-  entered _ _ ms tags hs be flag t l i = absurd i
+  entered s' s ms tags hs be flag t l i = grind (arith, quiet_state, first_key)
 
   within : (s : yaml_parser_state_t) (ms : List Mark) (tags : List yaml_tag_directive_t) (hs : Handles) (be flag : Bool)
       (l : List Token) → IsInside s → Finds s s ms ms tags hs be flag false l l
-  within st.YAML_PARSE_BLOCK_MAPPING_KEY_STATE ms tags hs be flag l i = block_key ms tags hs be flag l
-  within st.YAML_PARSE_FLOW_SEQUENCE_ENTRY_MAPPING_KEY_STATE ms tags hs be flag l i = after_pair_key ms tags hs be flag l
-  within st.YAML_PARSE_FLOW_SEQUENCE_ENTRY_STATE ms tags hs be flag l i
-      = found_none _ _ (sequence_entry ms hs be l) refl
-  within st.YAML_PARSE_FLOW_MAPPING_KEY_STATE ms tags hs be flag l i = found_none _ _ (mapping_key ms hs be l) refl
-  within st.YAML_PARSE_DOCUMENT_CONTENT_STATE ms tags hs be flag l i
-      = quiet_state st.YAML_PARSE_DOCUMENT_CONTENT_STATE tt ms ms tags hs be flag false st.YAML_PARSE_DOCUMENT_CONTENT_STATE l l refl
-  within st.YAML_PARSE_BLOCK_NODE_STATE ms tags hs be flag l i
-      = quiet_state st.YAML_PARSE_BLOCK_NODE_STATE tt ms ms tags hs be flag false st.YAML_PARSE_BLOCK_NODE_STATE l l refl
-  within st.YAML_PARSE_BLOCK_NODE_OR_INDENTLESS_SEQUENCE_STATE ms tags hs be flag l i
-      = quiet_state st.YAML_PARSE_BLOCK_NODE_OR_INDENTLESS_SEQUENCE_STATE tt ms ms tags hs be flag false st.YAML_PARSE_BLOCK_NODE_OR_INDENTLESS_SEQUENCE_STATE l l refl
-  within st.YAML_PARSE_FLOW_NODE_STATE ms tags hs be flag l i
-      = quiet_state st.YAML_PARSE_FLOW_NODE_STATE tt ms ms tags hs be flag false st.YAML_PARSE_FLOW_NODE_STATE l l refl
-  within st.YAML_PARSE_BLOCK_SEQUENCE_ENTRY_STATE ms tags hs be flag l i
-      = quiet_state st.YAML_PARSE_BLOCK_SEQUENCE_ENTRY_STATE tt ms ms tags hs be flag false st.YAML_PARSE_BLOCK_SEQUENCE_ENTRY_STATE l l refl
-  within st.YAML_PARSE_INDENTLESS_SEQUENCE_ENTRY_STATE ms tags hs be flag l i
-      = quiet_state st.YAML_PARSE_INDENTLESS_SEQUENCE_ENTRY_STATE tt ms ms tags hs be flag false st.YAML_PARSE_INDENTLESS_SEQUENCE_ENTRY_STATE l l refl
-  within st.YAML_PARSE_BLOCK_MAPPING_VALUE_STATE ms tags hs be flag l i
-      = quiet_state st.YAML_PARSE_BLOCK_MAPPING_VALUE_STATE tt ms ms tags hs be flag false st.YAML_PARSE_BLOCK_MAPPING_VALUE_STATE l l refl
-  within st.YAML_PARSE_FLOW_SEQUENCE_ENTRY_MAPPING_VALUE_STATE ms tags hs be flag l i
-      = quiet_state st.YAML_PARSE_FLOW_SEQUENCE_ENTRY_MAPPING_VALUE_STATE tt ms ms tags hs be flag false st.YAML_PARSE_FLOW_SEQUENCE_ENTRY_MAPPING_VALUE_STATE l l refl
-  within st.YAML_PARSE_FLOW_SEQUENCE_ENTRY_MAPPING_END_STATE ms tags hs be flag l i
-      = quiet_state st.YAML_PARSE_FLOW_SEQUENCE_ENTRY_MAPPING_END_STATE tt ms ms tags hs be flag false st.YAML_PARSE_FLOW_SEQUENCE_ENTRY_MAPPING_END_STATE l l refl
-  within st.YAML_PARSE_FLOW_MAPPING_VALUE_STATE ms tags hs be flag l i
-      = quiet_state st.YAML_PARSE_FLOW_MAPPING_VALUE_STATE tt ms ms tags hs be flag false st.YAML_PARSE_FLOW_MAPPING_VALUE_STATE l l refl
-  within st.YAML_PARSE_FLOW_MAPPING_EMPTY_VALUE_STATE ms tags hs be flag l i
-      = quiet_state st.YAML_PARSE_FLOW_MAPPING_EMPTY_VALUE_STATE tt ms ms tags hs be flag false st.YAML_PARSE_FLOW_MAPPING_EMPTY_VALUE_STATE l l refl
-  within _ ms tags hs be flag l i = absurd i
+  within s ms tags hs be flag l i
+      = grind (arith, block_key, after_pair_key, found_none, sequence_entry, mapping_key, quiet_state)
 
   found : {s s' : yaml_parser_state_t} {ms ms' : List Mark} {tags : List yaml_tag_directive_t} {hs : Handles} {be flag
       ended : Bool} {l l' : List Token} → Fits ss s s' ms ms' tags hs be flag ended l l' → is_end_state s ≡ false
       → Finds s s' ms ms' tags hs be flag ended l l'
-  found (before {ms} {l}) e
-      = quiet_state st.YAML_PARSE_STREAM_START_STATE tt ms ms [] no_handles false false false
-      st.YAML_PARSE_STREAM_START_STATE l l refl
-  found (first {ms} {l}) e = found_none _ _ (first_document ms no_handles l) refl
   found (after_end {ms} {l}) e = bare ms l
   found (following {ms} {be} {t} {l} i) e = next_document ms be t.content t.start_mark t.end_mark l i
-  found (root_end {ms} {tags} {hs} {be} {flag} {l}) e
-      = quiet_state st.YAML_PARSE_DOCUMENT_END_STATE tt ms ms tags hs be flag false st.YAML_PARSE_DOCUMENT_END_STATE l l
-      refl
   found (entering {s} {s'} {ms} {tags} {hs} {be} {flag} {t} {l} i b a n) e = entered s' s ms tags hs be flag t l i
   found (inside {s} {ms} {tags} {hs} {be} {flag} {l} i b a) e = within s ms tags hs be flag l i
-  found over e = absurd cc
+  found fits e = grind (arith, quiet_state, first_document)
 
 -- a call, where the parsers stand to one another
 pub call_found : (f : Fault) (q : OriginalParser) (d : Config) (l : List Token) → SamePlace f q d l

@@ -1,5 +1,5 @@
 -- A strict run over a list of tokens is a run over what a strict limiter passes of it.
-use Rattle.std.proofs.Common.{◌≡◌, ◌⊎◌, ◌∷◌, ◌++◌, ◌∙◌, List, [], Option, None, Some, Bool, true, false, Ok, Err, append-nil, refl, sym, ap, subst, inl, inr, arith}
+use Rattle.std.proofs.Common.{◌≡◌, ◌⊎◌, ◌∷◌, ◌++◌, ◌∙◌, List, [], None, Some, Bool, true, false, Ok, Err, append-nil, refl, sym, ap, inl, inr, arith}
 use Rattle.libyaml_types.specs.Fault.{Fault}
 use Rattle.libyaml_types.specs.Source.{Coming, coming}
 use Rattle.libyaml_types.specs.declared.enums.yaml_parser_state_t.{yaml_parser_state_t}
@@ -115,7 +115,7 @@ outcome w c l f e x h = grind (arith, beside)
 -- from a known step
 beside_is : (s z : Standing) (w : Want) (c : Config) (t : Token) (l : List Token) (f : Fault) (e : List Event) (x : StrictEnding)
     → z ≡ s → Beside s w c t l f e x → Beside z w c t l f e x
-beside_is s z w c t l f e x i h = subst (λ (y : Standing). Beside y w c t l f e x) (sym i) h
+beside_is s z w c t l f e x i h = grind arith
 
 over_same : (g : Fault) (y : Ending) → EndsAs g (Over y) y []
 over_same g y = grind arith
@@ -159,7 +159,7 @@ module _ (w : Want) (c : Config) (t : Token) (l : List Token) (f : Fault) where
       ending = h.ending;
       more = h.more;
       run = strict.gives differs steps n
-          (subst (λ (o : Option Token). StrictFrom (limited strict_alone z l f).fault AtState (without_lookahead d) (to_come o (limited strict_alone z l f).tokens) h.events (Over h.ending)) (sym k) h.run);
+          (rw k h.run);
       all = ap (λ (y : List Event). e ∷ y) h.all;
       ends = h.ends;
     }
@@ -173,7 +173,7 @@ module _ (w : Want) (c : Config) (t : Token) (l : List Token) (f : Fault) where
       ending = h.ending;
       more = h.more;
       run = strict.gives differs steps n
-          (subst (λ (o : Option Token). StrictFrom (limited strict_alone (at AtState d) l f).fault AtState (without_lookahead d) (to_come o (limited strict_alone (at AtState d) l f).tokens) h.events (Over h.ending)) (sym k) h.run);
+          (rw k h.run);
       all = ap (λ (y : List Event). e ∷ y) h.all;
       ends = h.ends;
     }
@@ -191,7 +191,7 @@ leads {f} (strict.source_fails {w} {c}) k = record {
 leads {f} (strict.stops {w} {c} {t} {l} n) k = beside_is _ (taken strict_alone (at w c) t) w c t l f [] _
     (taken_done w c _ t (apart (differs_by w c t) (config_of c) (without_texts t) _ n)) refl
 leads {f} (strict.wants {w} {v} {c} {d} {t} {l} {e} {x} i s rest) k =
-    let y = subst (λ (o : Progressed). LooksLike c t o (look true w.next (config_of c) (without_texts t))) s (like w c t i) in
+    let y = rw s at (like w c t i) in
     let h = outcome v d l f e x (leads rest (y.1 ∙ k)) in
     beside_is (at v d) (taken strict_alone (at w c) t) w c t l f e x (taken_done w c (at v d) t y.0) (record {
       events = h.events;
@@ -202,19 +202,19 @@ leads {f} (strict.wants {w} {v} {c} {d} {t} {l} {e} {x} i s rest) k =
       ends = h.ends;
     })
 leads {f} (strict.gives {w} {c} {d} {t} {l} {e} {later} {x} i s n rest) k =
-    elim (subst (λ (o : Progressed). LooksLike c t o (look true w.next (config_of c) (without_texts t))) s (like w c t i)) [
+    elim (rw s at (like w c t i)) [
       | inl y ↦ beside_is (taken strict_alone (at AtState d) t) (taken strict_alone (at w c) t) w c t l f (e ∷ later) x
           (taken_again w c d t y.0)
           (stayed w c t l f d e i s later x n y.1 (taken strict_alone (at AtState d) t)
-          (subst (λ (o : Option Token). Out AtState (without_lookahead d) (to_come o l) f later x) y.1 (leads rest refl)))
+          (rw y.1 at (leads rest refl)))
       | inr y ↦ beside_is (at AtState d) (taken strict_alone (at w c) t) w c t l f (e ∷ later) x
           (taken_done w c (at AtState d) t y.0)
           (gone w c t l f d e i s later x n (y.1 ∙ k)
           (outcome AtState (without_lookahead d) l f later x
-          (subst (λ (o : Option Token). Out AtState (without_lookahead d) (to_come o l) f later x) (y.1 ∙ k) (leads rest refl))))
+          (rw (y.1 ∙ k) at (leads rest refl))))
     ]
 leads {f} (strict.ends {w} {c} {d} {t} {l} {e} i s n) k =
-    elim (subst (λ (o : Progressed). LooksLike c t o (look true w.next (config_of c) (without_texts t))) s (like w c t i)) [
+    elim (rw s at (like w c t i)) [
       | inl y ↦ beside_is Passes (taken strict_alone (at w c) t) w c t l f (e ∷ []) (Over Ends)
           (taken_again w c d t y.0
           ∙ taken_done AtState d Passes t (ended d.state d.states d.marks d.behind_document_end (without_texts t) n))
@@ -225,7 +225,7 @@ leads {f} (strict.ends {w} {c} {d} {t} {l} {e} i s n) k =
     ]
 leads {f} (strict.fails {w} {c} {t} {l} {g} i s) k
     = failed w c t l f g (λ m j. strict.fails i s) (look true w.next (config_of c) (without_texts t)) refl
-    (subst (λ (o : Progressed). LooksLike c t o (look true w.next (config_of c) (without_texts t))) s (like w c t i))
+    (rw s at (like w c t i))
 
 -- a strict run from a place is a run from there over what the limiter passes
 pub limited_run : {f : Fault} {w : Want} {c : Config} {l : List Token} {e : List Event} {x : StrictEnding} → StrictFrom f w c l e x
@@ -238,8 +238,7 @@ module _ (l : List Token) (f : Fault) where
   grammar_run e x run = runs_so (passed l f).tokens (passed l f).fault e x run
 
   by_ends : (e : List Event) → LimitedRun (passed l f) AtState start e (Over Ends) → PassedRun l f e Ends
-  by_ends e h = subst (λ (d : List Event). PassedRun l f d Ends) (sym (h.all ∙ (ap (λ (m : List Event). h.events ++ m) h.ends.0 ∙ append-nil h.events)))
-      (subst (λ (y : Ending). PassedRun l f h.events y) h.ends.1 (grammar_run h.events h.ending h.run))
+  by_ends e h = rw (h.all, h.ends.0, append-nil h.events) (rw h.ends.1 at (grammar_run h.events h.ending h.run))
 
   before_token : (e : List Event) (x : StrictEnding) (h : LimitedRun (passed l f) AtState start e x) → h.ending ≡ Fails (passed l f).fault
       → FailsBefore l f e
@@ -247,15 +246,13 @@ module _ (l : List Token) (f : Fault) where
     given = h.events;
     at_the_token = h.more;
     all = h.all;
-    run = subst (λ (y : Ending). PassedRun l f h.events y) i (grammar_run h.events h.ending h.run);
+    run = rw i at (grammar_run h.events h.ending h.run);
   }
 
   by_fails : (e : List Event) (g : Fault) → LimitedRun (passed l f) AtState start e (Over (Fails g))
       → PassedRun l f e (Fails g) ⊎ (IsTagFault g × FailsBefore l f e)
   by_fails e g h = elim h.ends [
-    | inl i ↦ inl (subst (λ (d : List Event). PassedRun l f d (Fails g))
-        (sym (h.all ∙ (ap (λ (m : List Event). h.events ++ m) i.0 ∙ append-nil h.events)))
-        (subst (λ (y : Ending). PassedRun l f h.events y) i.1 (grammar_run h.events h.ending h.run)))
+    | inl i ↦ inl (rw (h.all, i.0, append-nil h.events) (rw i.1 at (grammar_run h.events h.ending h.run)))
     | inr i ↦ inr (i.0, before_token e (Over (Fails g)) h i.1)
   ]
 

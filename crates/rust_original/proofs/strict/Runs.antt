@@ -6,7 +6,7 @@ use Rattle.libyaml_grammar.specs.grammar.Events.{Event}
 use Rattle.libyaml_grammar.specs.grammar.Tokens.{Mark, Token}
 use Rattle.libyaml_automaton.specs.Config.{top_mark}
 use Rattle.libyaml_automaton.specs.declared.difference.Difference.{Difference}
-use Rattle.libyaml_automaton.specs.declared.difference.Difference.TheVariants.{Nowhere, PairKey, ValueFirst, BareDocument}
+use Rattle.libyaml_automaton.specs.declared.difference.Difference.TheVariants.{Nowhere, ValueFirst, BareDocument}
 use Rattle.libyaml_events.specs.machine.Config.{Config, is_end_state, start, without_lookahead}
 use Rattle.libyaml_events.specs.machine.Machine.{Progressed, step}
 use Rattle.libyaml_events.specs.machine.Want.{AtState, Given, Want, Wants}
@@ -20,12 +20,12 @@ use Rattle.rust_original.proofs.parser.Calls.{call_same, flagged}
 use Rattle.rust_original.proofs.parser.Relation.{HereCall, Matches, SamePlace, before, feed, given, led, standing, stopped, tokens_of}
 use Rattle.rust_original.proofs.runs.UpToDifferences.{one_run}
 use Rattle.rust_original.proofs.runs.Laws.{some_run}
-use Rattle.rust_original.proofs.strict.Judged.{Found, Judged, call_found, judged, judged_at, judged_by, met, none}
+use Rattle.rust_original.proofs.strict.Judged.{Judged, call_found, judged, judged_at, judged_by, met, none}
 
 -- the flag for the stream's end goes with the last state
 same_flag : (f : Fault) (q : OriginalParser) (d : Config) (l : List Token) → SamePlace f q d l
     → q.stream_end_produced ≡ is_end_state d.state
-same_flag f q d l s = ap (λ (p : OriginalParser). p.stream_end_produced) s.is ∙ flagged s.fits
+same_flag f q d l s = grind (arith, flagged s.fits)
 
 module _ (f : Fault) where
   -- the first call of a strict run, and what is left of it
@@ -45,13 +45,11 @@ module _ (f : Fault) where
   -- no question is met at a token, which leads to this
   unmet : (w : Want) (c : Config) (t : Token) (l : List Token) (o : Progressed) → differs_by w c t ≡ Nowhere
       → step w c t ≡ o → judged w c (t ∷ l) ≡ judged_by o (λ v d. judged v d l)
-  unmet w c t l o i s
-      = ap (λ (k : Difference). judged_at k c t (judged_by (step w c t) (λ v d. judged v d l))) i
-      ∙ ap (λ (p : Progressed). judged_by p (λ v d. judged v d l)) s
+  unmet w c t l o i s = grind arith
 
   fed : (w : Want) (c : Config) (t : Token) (l : List Token) (o : Progressed) → step w c t ≡ o
       → feed f w c (t ∷ l) ≡ led o l (λ v d. feed f v d l)
-  fed w c t l o s = ap (λ (p : Progressed). led p l (λ v d. feed f v d l)) s
+  fed w c t l o s = grind arith
 
   longer : {w v : Want} {c d : Config} {t : Token} {l : List Token} {e : List Event} {x : StrictEnding}
       → judged w c (t ∷ l) ≡ judged v d l → feed f w c (t ∷ l) ≡ feed f v d l → Call v d l e x → Call w c (t ∷ l) e x
@@ -89,10 +87,10 @@ module _ (f : Fault) where
       → judged AtState (without_lookahead d) (tokens_of d.lookahead l) ≡ none → (e : Event) (x : Config) (r : List Token)
       → feed f AtState (without_lookahead d) (tokens_of d.lookahead l) ≡ given e x r → Same q e x r
   same_call q d l s n j e x r i
-      = go (call_here q) refl (subst (λ (h : HereCall). Matches f (call_here q) h) i (call_same f q d l s n))
+      = go (call_here q) refl (rw i at (call_same f q d l s n))
     where
       alike : call_there q ≡ call_here q
-      alike = subst (λ (y : Judged). Found y q) j (call_found f q d l s n)
+      alike = rw j at (call_found f q d l s n)
 
       go : (o : ParserResult) → call_here q ≡ o → Matches f o (given e x r) → Same q e x r
       go o k w = grind (arith, alike)
@@ -102,10 +100,10 @@ module _ (f : Fault) where
       → feed f AtState (without_lookahead d) (tokens_of d.lookahead l) ≡ stopped g
       → (call_there q ≡ FAIL g) × (call_here q ≡ FAIL g)
   failed_call q d l s n j g i
-      = go (call_here q) refl (subst (λ (h : HereCall). Matches f (call_here q) h) i (call_same f q d l s n))
+      = go (call_here q) refl (rw i at (call_same f q d l s n))
     where
       alike : call_there q ≡ call_here q
-      alike = subst (λ (y : Judged). Found y q) j (call_found f q d l s n)
+      alike = rw j at (call_found f q d l s n)
 
       go : (o : ParserResult) → call_here q ≡ o → Matches f o (stopped g) → (call_there q ≡ FAIL g) × (call_here q ≡ FAIL g)
       go o k w = grind arith
@@ -125,7 +123,7 @@ module _ (f : Fault) where
   follows : (e : List Event) (x : StrictEnding) (q : OriginalParser) (d : Config) (l : List Token) → SamePlace f q d l
       → is_end_state d.state ≡ false → Call AtState (without_lookahead d) (tokens_of d.lookahead l) e x → Result q e x
   follows [] x q d l s n (stops {k} {m} {n = o} j) =
-      let h = subst (λ (y : Judged). Found y q) j (call_found f q d l s n) in
+      let h = rw j at (call_found f q d l s n) in
       record { before = q; reached = here; differs = h.0; there = h.1 }
   follows [] x q d l s n (has_fault {g} j i) =
       let h = failed_call q d l s n j g i in (fails h.0, fails h.1)
@@ -169,9 +167,7 @@ module _ (f : Fault) where
 
       go : (k : Difference) → differs_by w c t ≡ k → Later → Any w c (t ∷ l)
       go Nowhere i ih = by_step (step w c t) i refl ih
-      go PairKey i ih = apart PairKey i (λ h. cc)
-      go ValueFirst i ih = apart ValueFirst i (λ h. cc)
-      go BareDocument i ih = apart BareDocument i (λ h. cc)
+      go k i ih = apart k i (λ h. cc)
 
   matched : (q : OriginalParser) (d : Config) (l : List Token) → SamePlace f q d l → is_end_state d.state ≡ false
       → (h : HereCall) → feed f AtState (without_lookahead d) (tokens_of d.lookahead l) ≡ h → (o : ParserResult) → call_here q ≡ o
@@ -180,7 +176,7 @@ module _ (f : Fault) where
 
   not_ended : (p : OriginalParser) (e : Event) (c : Config) (r : List Token) (a : Event)
       → Matches f (OK a p) (given e c r) → is_end_state c.state ≡ false → p.stream_end_produced ≡ true → ⊥
-  not_ended p e c r a w k j = let u : true ≡ false = sym j ∙ (same_flag f p c r w.1 ∙ k) in cc
+  not_ended p e c r a w k j = grind (arith, same_flag)
 
   stands_on : (p : OriginalParser) (e : Event) (c : Config) (r : List Token) (a : Event)
       → Matches f (OK a p) (given e c r) → SamePlace f p c r
@@ -232,14 +228,14 @@ module _ (f : Fault) where
   invert (strict.wants {w} {v} {c} {d} {t} {l} {e} {x} i s rest) = asked w c t l e x (Ok (Wants v, d)) i s rest
   invert (strict.gives {w} {c} {d} {t} {l} {e} {later} {x} i s n rest)
       = asked w c t l (e ∷ later) x (Ok (Given e, d)) i s
-      (subst (λ (b : Bool). Behind e d l b (e ∷ later) x) (sym n) (later, refl, rest))
+      (rw n (later, refl, rest))
   invert (strict.ends {w} {c} {d} {t} {l} {e} i s n) = asked w c t l (e ∷ []) (Over Ends) (Ok (Given e, d)) i s
-      (subst (λ (b : Bool). Behind e d l b (e ∷ []) (Over Ends)) (sym n) (refl, refl))
+      (rw n (refl, refl))
   invert (strict.fails {w} {c} {t} {l} {g} i s) = asked w c t l [] (Over (Fails g)) (Err g) i s (refl, refl)
 
   none_left : {w : Want} {c : Config} (d : List Event) (y : StrictEnding) → StrictFrom f w c [] d y
       → ([] ≡ d) × (Over (Fails f) ≡ y)
-  none_left d y strict.source_fails = (refl, refl)
+  none_left d y h = grind arith
 
   one : {w : Want} {c : Config} {l : List Token} {e : List Event} {x : StrictEnding} → StrictFrom f w c l e x
       → (d : List Event) (y : StrictEnding) → StrictFrom f w c l d y → (e ≡ d) × (x ≡ y)
@@ -249,10 +245,10 @@ module _ (f : Fault) where
   one (strict.wants {w} {v} {c} {d = a} {t} {l} i s rest) d y r
       = one rest d y (led_to w c t l d y (Ok (Wants v, a)) i s (invert r))
   one (strict.gives {w} {c} {d = a} {t} {l} {e} {later} i s n rest) d y r =
-      let h = subst (λ (b : Bool). Behind e a l b d y) n (led_to w c t l d y (Ok (Given e, a)) i s (invert r)) in
+      let h = rw n at (led_to w c t l d y (Ok (Given e, a)) i s (invert r)) in
       let same = one rest h.0 y h.2 in (ap (λ (z : List Event). e ∷ z) same.0 ∙ sym h.1, same.1)
   one (strict.ends {w} {c} {d = a} {t} {l} {e} i s n) d y r =
-      let h = subst (λ (b : Bool). Behind e a l b d y) n (led_to w c t l d y (Ok (Given e, a)) i s (invert r)) in
+      let h = rw n at (led_to w c t l d y (Ok (Given e, a)) i s (invert r)) in
       (sym h.0, sym h.1)
   one (strict.fails {w} {c} {t} {l} {g} i s) d y r =
       let h = led_to w c t l d y (Err g) i s (invert r) in (sym h.0, sym h.1)
@@ -312,4 +308,4 @@ some l f =
 
 pub one_strict : (l : List Token) (f : Fault) (e d : List Event) (x y : StrictEnding) → StrictRun l f e x
     → StrictRun l f d y → (e ≡ d) × (x ≡ y)
-one_strict l f e d x y r s = one f r d y s
+one_strict l f e d x y r s = grind (arith, one)
