@@ -6,7 +6,7 @@ use Rattle.libyaml_types.specs.declared.directive.yaml_version_directive_t.{yaml
 use Rattle.libyaml_types.specs.declared.enums.yaml_parser_state_t.{yaml_parser_state_t}
 use Rattle.libyaml_types.specs.declared.enums.yaml_parser_state_t.TheVariants as st
 use Rattle.libyaml_types.specs.Fault.{Fault}
-use Rattle.libyaml_grammar.specs.grammar.Tokens.{Content, DocumentEnd, DocumentStart, HandleDeclared, Mark, StreamEnd, StreamStart, TagDirective, Token, VersionAsked, VersionDirective}
+use Rattle.libyaml_grammar.specs.grammar.Tokens.{Content, DocumentEnd, DocumentStart, HandleDeclared, Mark, StreamEnd, TagDirective, Token, VersionAsked, VersionDirective}
 use Rattle.libyaml_automaton.specs.Automaton as automaton
 use Rattle.libyaml_events.specs.machine.Config.{Config, Handles, config_of, no_handles}
 use Rattle.libyaml_events.specs.machine.Machine.{put, seen}
@@ -108,18 +108,35 @@ module _ (f : Fault) (x : Fault) (ss : List yaml_parser_state_t) (ms : List Mark
     explicit k m n l = directives (tk k m n ∷ l) m None [] [] no_handles none_declared
 
   -- where a document may be implicit: the first one
+  first_token : (k : Content) (m n : Mark) (l : List Token)
+      → Matches f
+      (orig.yaml_parser_parse_document_start as_here
+      (par st.YAML_PARSE_IMPLICIT_DOCUMENT_START_STATE false [] (tk k m n ∷ l)) true)
+      (feed f AtState (here st.YAML_PARSE_IMPLICIT_DOCUMENT_START_STATE false no_handles) (tk k m n ∷ l))
+  first_token StreamEnd m n l = (refl, standing refl over tt)
+  first_token (VersionDirective v) m n l
+      = explicit st.YAML_PARSE_IMPLICIT_DOCUMENT_START_STATE st.YAML_PARSE_IMPLICIT_DOCUMENT_START_STATE false false
+      (VersionDirective v) m n l
+  first_token (TagDirective g) m n l
+      = explicit st.YAML_PARSE_IMPLICIT_DOCUMENT_START_STATE st.YAML_PARSE_IMPLICIT_DOCUMENT_START_STATE false false
+      (TagDirective g) m n l
+  first_token DocumentStart m n l
+      = explicit st.YAML_PARSE_IMPLICIT_DOCUMENT_START_STATE st.YAML_PARSE_IMPLICIT_DOCUMENT_START_STATE false false
+      DocumentStart m n l
+  first_token DocumentEnd m n l
+      = implicit st.YAML_PARSE_IMPLICIT_DOCUMENT_START_STATE st.YAML_PARSE_IMPLICIT_DOCUMENT_START_STATE false false
+      DocumentEnd m n l
+  first_token k m n l
+      = implicit st.YAML_PARSE_IMPLICIT_DOCUMENT_START_STATE st.YAML_PARSE_IMPLICIT_DOCUMENT_START_STATE false false k m
+      n l
+
   pub first_document : (l : List Token)
       → Matches f
       (orig.yaml_parser_parse_document_start as_here (par st.YAML_PARSE_IMPLICIT_DOCUMENT_START_STATE false [] l)
       true)
       (feed f AtState (here st.YAML_PARSE_IMPLICIT_DOCUMENT_START_STATE false no_handles) l)
   first_document [] = refl
-  first_document (t ∷ l) =
-      let begins = explicit st.YAML_PARSE_IMPLICIT_DOCUMENT_START_STATE st.YAML_PARSE_IMPLICIT_DOCUMENT_START_STATE false false
-      t.content t.start_mark t.end_mark l in
-      let bare = implicit st.YAML_PARSE_IMPLICIT_DOCUMENT_START_STATE st.YAML_PARSE_IMPLICIT_DOCUMENT_START_STATE false false
-      t.content t.start_mark t.end_mark l in
-      grind (arith, standing, over)
+  first_document (t ∷ l) = first_token t.content t.start_mark t.end_mark l
 
   -- one after an explicit end
   pub bare_document : (l : List Token)
@@ -127,12 +144,28 @@ module _ (f : Fault) (x : Fault) (ss : List yaml_parser_state_t) (ms : List Mark
       (orig.yaml_parser_parse_document_start as_here (par st.YAML_PARSE_DOCUMENT_START_STATE true [] l) false)
       (feed f AtState (here st.YAML_PARSE_IMPLICIT_DOCUMENT_START_STATE true no_handles) l)
   bare_document [] = refl
-  bare_document (t ∷ l) =
-      let begins = explicit st.YAML_PARSE_IMPLICIT_DOCUMENT_START_STATE st.YAML_PARSE_DOCUMENT_START_STATE true true
-      t.content t.start_mark t.end_mark l in
-      let bare = implicit st.YAML_PARSE_IMPLICIT_DOCUMENT_START_STATE st.YAML_PARSE_DOCUMENT_START_STATE true true
-      t.content t.start_mark t.end_mark l in
-      grind (arith, bare_document l, standing, over)
+  bare_document (t ∷ l) = go t.content t.start_mark t.end_mark (bare_document l)
+    where
+      go : (k : Content) (m n : Mark)
+          → Matches f
+          (orig.yaml_parser_parse_document_start as_here (par st.YAML_PARSE_DOCUMENT_START_STATE true [] l) false)
+          (feed f AtState (here st.YAML_PARSE_IMPLICIT_DOCUMENT_START_STATE true no_handles) l) → Matches f
+          (orig.yaml_parser_parse_document_start as_here
+          (par st.YAML_PARSE_DOCUMENT_START_STATE true [] (tk k m n ∷ l)) false)
+          (feed f AtState (here st.YAML_PARSE_IMPLICIT_DOCUMENT_START_STATE true no_handles) (tk k m n ∷ l))
+      go StreamEnd m n ih = (refl, standing refl over tt)
+      go (VersionDirective v) m n ih
+          = explicit st.YAML_PARSE_IMPLICIT_DOCUMENT_START_STATE st.YAML_PARSE_DOCUMENT_START_STATE true true
+          (VersionDirective v) m n l
+      go (TagDirective g) m n ih
+          = explicit st.YAML_PARSE_IMPLICIT_DOCUMENT_START_STATE st.YAML_PARSE_DOCUMENT_START_STATE true true
+          (TagDirective g) m n l
+      go DocumentStart m n ih
+          = explicit st.YAML_PARSE_IMPLICIT_DOCUMENT_START_STATE st.YAML_PARSE_DOCUMENT_START_STATE true true
+          DocumentStart m n l
+      go DocumentEnd m n ih = ih
+      go k m n ih
+          = implicit st.YAML_PARSE_IMPLICIT_DOCUMENT_START_STATE st.YAML_PARSE_DOCUMENT_START_STATE true true k m n l
 
   -- where it may not be implicit
   pub next_document : (be : Bool) (k : Content) (m n : Mark) (l : List Token) → is_document_end k ≡ false
