@@ -1,8 +1,7 @@
 -- An error of a call is the parser's.
-use Rattle.std.proofs.Common.{◌≡◌, ◌∙◌, ◌==◌, ℕ, sym, ap, Err}
+use Rattle.std.proofs.Common.{◌≡◌, ◌∙◌, ap, Err, arith}
 use Rattle.libyaml_automaton.specs.Config.{Stacks, stacks_of}
 use Rattle.token_steps.specs.declared.did.Did.{Did}
-use Rattle.token_steps.specs.declared.did.Did.TheVariants as did
 use Rattle.token_steps.specs.declared.steps.steps_t.{steps_t}
 use Rattle.token_steps.specs.declared.records.step_event_t.{step_event_t}
 use Rattle.token_steps.specs.declared.records.step_fault_t.{step_fault_t}
@@ -11,19 +10,12 @@ use Rattle.token_steps.specs.Numbers.{number}
 use Rattle.token_steps.specs.Records.{step_fault}
 use Rattle.token_steps.specs.RunLaws.{ForFailed, FailsInHand, want_with}
 use Rattle.token_steps.specs.Tells.{Tells, want_in}
-use Rattle.token_steps.proofs.Follows.{no}
 use Rattle.token_steps.proofs.Running.{stood}
 use Rattle.token_steps.proofs.Tied.{steps_told, told_with}
 
 pub told : (x : Did) (p : StepResult) (d : steps_t) (e : step_event_t) (f : step_fault_t) (c : Stacks) → 5 ≡ number x
     → Tells x p d e f c → p ≡ Err (step_fault f)
-told did.Failed p d e f c q h = h
-told did.Wants p d e f c q h = no (sym (ap (λ (x : ℕ). x == 5) q))
-told did.Gave p d e f c q h = no (sym (ap (λ (x : ℕ). x == 5) q))
-told did.Stays p d e f c q h = no (sym (ap (λ (x : ℕ). x == 5) q))
-told did.FullStates p d e f c q h = no (sym (ap (λ (x : ℕ). x == 5) q))
-told did.FullMarks p d e f c q h = no (sym (ap (λ (x : ℕ). x == 5) q))
-told did.Bad p d e f c q h = no (sym (ap (λ (x : ℕ). x == 5) q))
+told x p d e f c q h = grind arith
 
 pub fails : ForFailed FailsInHand
 fails d d' ss ss' ms ms' hs kept l g t e f r c =

@@ -1,6 +1,5 @@
 -- A look-up over records is one in the map that they stand for.
-use Rattle.std.specs.Prelude.{bytes_eq}
-use Rattle.std.proofs.Common.{◌≡◌, ◌≤◌, ◌+◌, ◌++◌, ℕ, List, [], ◌∷◌, Some, None, refl, sym, ap, ◌∙◌, Bool, cond, nat_cmp, length, drop, take, arith}
+use Rattle.std.proofs.Common.{◌≡◌, ◌≤◌, ◌+◌, ◌++◌, ℕ, List, [], ◌∷◌, None, refl, sym, ap, ◌∙◌, nat_cmp, length, drop, take, arith}
 use Rattle.std.proofs.lemmas.List.{length-drop, drop-append-le, take-append-le}
 use Rattle.std.specs.Cmp.Lexicographic.{slice_cmp, nat_list_cmp_total}
 use Rattle.std.specs.FinMap.{find, get, insert, from_entries, from_entries_push, get-from_entries, slice_cmp-IsAntisymmetric, nat_cmp-IsAntisymmetric}
@@ -12,10 +11,7 @@ use Rattle.libyaml_grammar.proofs.exported.TextMaps.{same_keys}
 find_handle : (texts : List ℕ) (es : List handle_t) (q : List ℕ)
     → find (slice_cmp nat_cmp) q (entries_at texts es) ≡ prefix_in texts es q
 find_handle texts [] q = refl
-find_handle texts (e ∷ es) q = ap (λ (u : Bool). cond u (Some (bytes_at texts e.prefix))
-    (find (slice_cmp nat_cmp) q (entries_at texts es))) (same_keys q (bytes_at texts e.handle))
-    ∙ ap (cond (bytes_eq (bytes_at texts e.handle) q) (Some (bytes_at texts e.prefix)))
-    (find_handle texts es q)
+find_handle texts (e ∷ es) q = grind (arith, same_keys, find_handle texts es q)
 
 pub get_handle : (texts : List ℕ) (es : List handle_t) (q : List ℕ)
     → get (handles_at texts es) q ≡ prefix_in texts es q
@@ -25,8 +21,7 @@ entries_append : (texts : List ℕ) (es : List handle_t) (e : handle_t)
     → entries_at texts (es ++ e ∷ []) ≡ entries_at texts es ++
     (bytes_at texts e.handle, bytes_at texts e.prefix) ∷ []
 entries_append texts [] e = refl
-entries_append texts (x ∷ es) e = ap (λ (l : List (List ℕ × List ℕ)).
-    (bytes_at texts x.handle, bytes_at texts x.prefix) ∷ l) (entries_append texts es e)
+entries_append texts (x ∷ es) e = cc (entries_append texts es e)
 
 pub adds : (texts : List ℕ) (es : List handle_t) (e : handle_t)
     → get (handles_at texts es) (bytes_at texts e.handle) ≡ None

@@ -1,5 +1,5 @@
 -- A run of calls is what a parser was handed and gave.
-use Rattle.std.proofs.Common.{◌≡◌, ◌∙◌, ◌∷◌, ◌++◌, ◌==◌, List, [], ℕ, true, false, Option, None, Some, Ok, refl, sym, ap, subst}
+use Rattle.std.proofs.Common.{◌≡◌, ◌∙◌, ◌∷◌, ◌++◌, List, [], ℕ, true, false, Option, None, Some, Ok, refl, ap, subst, arith}
 use Rattle.libyaml_types.specs.Fault.{no_fault}
 use Rattle.libyaml_types.specs.declared.mark.yaml_mark_t.{yaml_mark_t}
 use Rattle.libyaml_grammar.specs.grammar.Tokens.{Token}
@@ -26,7 +26,7 @@ use Rattle.token_steps.specs.RunLaws.{RunIsFed}
 use Rattle.token_steps.specs.Runs.{Run, begins, moves, takes, wants, gave, stays}
 use Rattle.token_steps.specs.Tells.{Tells, want_in, tag_in}
 use Rattle.token_steps.specs.Texts.{event_with, handles_past, texts_kept_after, tag_read_of, token_of}
-use Rattle.token_steps.proofs.Follows.{no, keeping}
+use Rattle.token_steps.proofs.Follows.{keeping}
 use Rattle.token_steps.proofs.Kept.{Holds}
 use Rattle.token_steps.proofs.Tied.{After, kept_after, steps_told, told_with}
 
@@ -42,12 +42,11 @@ StoodAt d c hs h o l es = Stood (purpose_of d.read) (tag_in d) c hs h o l es
 
 at_config : (v : automaton.Purpose) (g : TagRead) (c c' : Stacks) (hs : Handles) (h : Texts) (o : Option Token) (l : List Token)
     (es : List Event) → c' ≡ c → Stood v g c hs h o l es → Stood v g c' hs h o l es
-at_config v g c c' hs h o l es e s = subst (λ (x : Stacks). Stood v g x hs h o l es) (sym e) s
+at_config v g c c' hs h o l es e s = rw e s
 
 at_want : (v v' : automaton.Purpose) (g g' : TagRead) (c : Stacks) (hs : Handles) (h : Texts) (o : Option Token) (l : List Token)
     (es : List Event) → v' ≡ v → g' ≡ g → Stood v g c hs h o l es → Stood v' g' c hs h o l es
-at_want v v' g g' c hs h o l es e f s = subst (λ (x : automaton.Purpose). Stood x g' c hs h o l es) (sym e)
-    (subst (λ (x : TagRead). Stood v x c hs h o l es) (sym f) s)
+at_want v v' g g' c hs h o l es e f s = rw (e, f) s
 
 -- between two events nothing is kept
 between : (d : steps_t) (c : Stacks) (hs : Handles) (o : Option Token) (l : List Token) (es : List Event)
@@ -67,12 +66,7 @@ after_wants did.Wants d d' c c' hs h l es t e f s q y =
       holds = kept.0;
       tag = kept.1;
     }
-after_wants did.Gave d d' c c' hs h l es t e f s q y = no (sym (ap (λ (x : ℕ). x == 0) q))
-after_wants did.Stays d d' c c' hs h l es t e f s q y = no (sym (ap (λ (x : ℕ). x == 0) q))
-after_wants did.FullStates d d' c c' hs h l es t e f s q y = no (sym (ap (λ (x : ℕ). x == 0) q))
-after_wants did.FullMarks d d' c c' hs h l es t e f s q y = no (sym (ap (λ (x : ℕ). x == 0) q))
-after_wants did.Failed d d' c c' hs h l es t e f s q y = no (sym (ap (λ (x : ℕ). x == 0) q))
-after_wants did.Bad d d' c c' hs h l es t e f s q y = no (sym (ap (λ (x : ℕ). x == 0) q))
+after_wants _ d d' c c' hs h l es t e f s q y = absurd (omega arith)
 
 given : (d d' : steps_t) (c c' : Stacks) (hs : Handles) (h : Texts) (l : List Token) (es : List Event) (t : Token)
     (e : facts.StepEvent) → StoodAt d c hs h (Some t) l es → step_by_fact (want_in d) c (token_of hs t) ≡ Ok (Given e, c')
@@ -90,12 +84,7 @@ after_event : (x : Did) (d d' : steps_t) (c c' : Stacks) (hs : Handles) (h : Tex
     → Tells x (step_by_fact (want_in d) c (token_of hs t)) d' e f c'
     → StoodAt d' c' (handles_past hs (shape_of e)) no_texts None l (es ++ event_with hs h t.content (event_of e false) ∷ [])
 after_event did.Gave d d' c c' hs h l es t e f s q y = given d d' c c' hs h l es t (event_of e false) s y.0 y.1
-after_event did.Wants d d' c c' hs h l es t e f s q y = no (sym (ap (λ (x : ℕ). x == 1) q))
-after_event did.Stays d d' c c' hs h l es t e f s q y = no (sym (ap (λ (x : ℕ). x == 1) q))
-after_event did.FullStates d d' c c' hs h l es t e f s q y = no (sym (ap (λ (x : ℕ). x == 1) q))
-after_event did.FullMarks d d' c c' hs h l es t e f s q y = no (sym (ap (λ (x : ℕ). x == 1) q))
-after_event did.Failed d d' c c' hs h l es t e f s q y = no (sym (ap (λ (x : ℕ). x == 1) q))
-after_event did.Bad d d' c c' hs h l es t e f s q y = no (sym (ap (λ (x : ℕ). x == 1) q))
+after_event _ d d' c c' hs h l es t e f s q y = absurd (omega arith)
 
 before_token : (x : Did) (d d' : steps_t) (c c' : Stacks) (hs : Handles) (h : Texts) (l : List Token) (es : List Event)
     (t : Token) (e : step_event_t) (f : step_fault_t) → StoodAt d c hs h (Some t) l es → 2 ≡ number x
@@ -103,12 +92,7 @@ before_token : (x : Did) (d d' : steps_t) (c c' : Stacks) (hs : Handles) (h : Te
     → StoodAt d' c' (handles_past hs (shape_of e)) no_texts (Some t) l
     (es ++ event_with hs h t.content (event_of e true) ∷ [])
 before_token did.Stays d d' c c' hs h l es t e f s q y = given d d' c c' hs h l es t (event_of e true) s y.0 y.1
-before_token did.Wants d d' c c' hs h l es t e f s q y = no (sym (ap (λ (x : ℕ). x == 2) q))
-before_token did.Gave d d' c c' hs h l es t e f s q y = no (sym (ap (λ (x : ℕ). x == 2) q))
-before_token did.FullStates d d' c c' hs h l es t e f s q y = no (sym (ap (λ (x : ℕ). x == 2) q))
-before_token did.FullMarks d d' c c' hs h l es t e f s q y = no (sym (ap (λ (x : ℕ). x == 2) q))
-before_token did.Failed d d' c c' hs h l es t e f s q y = no (sym (ap (λ (x : ℕ). x == 2) q))
-before_token did.Bad d d' c c' hs h l es t e f s q y = no (sym (ap (λ (x : ℕ). x == 2) q))
+before_token _ d d' c c' hs h l es t e f s q y = absurd (omega arith)
 
 pub stood : (d : steps_t) (ss : List ℕ) (ms : List yaml_mark_t) (hs : Handles) (h : Texts) (o : Option Token)
     (l : List Token) (es : List Event) → Run d ss ms hs h o l es → StoodAt d (stacks_of d.machine ss ms) hs h o l es

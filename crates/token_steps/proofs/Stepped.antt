@@ -1,5 +1,5 @@
 -- What a call of a run is of the machine's steps.
-use Rattle.std.proofs.Common.{◌≡◌, ◌∙◌, ◌==◌, List, ℕ, Option, None, Some, Ok, Err, true, false, sym, ap}
+use Rattle.std.proofs.Common.{◌≡◌, ◌∙◌, List, ℕ, None, Some, Ok, Err, true, false, ap, arith}
 use Rattle.libyaml_types.specs.Fault.{no_fault}
 use Rattle.libyaml_types.specs.declared.mark.yaml_mark_t.{yaml_mark_t}
 use Rattle.libyaml_grammar.specs.grammar.Events.{Event}
@@ -8,56 +8,36 @@ use Rattle.libyaml_automaton.specs.Automaton as automaton
 use Rattle.libyaml_automaton.specs.Config.{Stacks, stacks_of}
 use Rattle.libyaml_automaton.specs.Purposes.{purpose_of}
 use Rattle.libyaml_events.specs.machine.Config.{Handles, config_with}
-use Rattle.libyaml_events.specs.machine.Machine.{declared_by, fault_with, lookahead_after, step}
+use Rattle.libyaml_events.specs.machine.Machine.{declared_by, fault_with, step}
 use Rattle.libyaml_events.specs.machine.Want as parser
 use Rattle.libyaml_events.specs.machine.Want.{Texts}
 use Rattle.token_steps.specs.declared.did.Did.{Did}
-use Rattle.token_steps.specs.declared.did.Did.TheVariants as did
 use Rattle.token_steps.specs.declared.steps.steps_t.{steps_t}
 use Rattle.token_steps.specs.declared.records.step_event_t.{step_event_t}
 use Rattle.token_steps.specs.declared.records.step_fault_t.{step_fault_t}
-use Rattle.token_steps.specs.Facts.{Given, StepResult, Wants, step_by_fact}
+use Rattle.token_steps.specs.Facts.{Given, StepResult, Wants}
 use Rattle.token_steps.specs.Numbers.{number}
 use Rattle.token_steps.specs.Records.{event_of, shape_of, step_fault}
 use Rattle.token_steps.specs.RunLaws.{want_with}
 use Rattle.token_steps.specs.Runs.{Run, StepCalls}
 use Rattle.token_steps.specs.Tells.{Tells, want_in}
-use Rattle.token_steps.specs.Texts.{event_with, handles_past, texts_kept_after, token_of}
+use Rattle.token_steps.specs.Texts.{event_with, handles_past, texts_kept_after}
 use Rattle.token_steps.proofs.Failing.{told}
-use Rattle.token_steps.proofs.Follows.{no}
 use Rattle.token_steps.proofs.Running.{stood}
 use Rattle.token_steps.proofs.Tied.{steps_told, told_with}
 
 -- what the number says
 wanted : (x : Did) (p : StepResult) (d : steps_t) (e : step_event_t) (f : step_fault_t) (c : Stacks) → 0 ≡ number x
     → Tells x p d e f c → p ≡ Ok (Wants (want_in d), c)
-wanted did.Wants p d e f c q h = h
-wanted did.Gave p d e f c q h = no (sym (ap (λ (x : ℕ). x == 0) q))
-wanted did.Stays p d e f c q h = no (sym (ap (λ (x : ℕ). x == 0) q))
-wanted did.FullStates p d e f c q h = no (sym (ap (λ (x : ℕ). x == 0) q))
-wanted did.FullMarks p d e f c q h = no (sym (ap (λ (x : ℕ). x == 0) q))
-wanted did.Failed p d e f c q h = no (sym (ap (λ (x : ℕ). x == 0) q))
-wanted did.Bad p d e f c q h = no (sym (ap (λ (x : ℕ). x == 0) q))
+wanted x p d e f c q h = grind arith
 
 gave : (x : Did) (p : StepResult) (d : steps_t) (e : step_event_t) (f : step_fault_t) (c : Stacks) → 1 ≡ number x
     → Tells x p d e f c → (p ≡ Ok (Given (event_of e false), c)) × (purpose_of d.read ≡ automaton.AtState)
-gave did.Gave p d e f c q h = h
-gave did.Wants p d e f c q h = no (sym (ap (λ (x : ℕ). x == 1) q))
-gave did.Stays p d e f c q h = no (sym (ap (λ (x : ℕ). x == 1) q))
-gave did.FullStates p d e f c q h = no (sym (ap (λ (x : ℕ). x == 1) q))
-gave did.FullMarks p d e f c q h = no (sym (ap (λ (x : ℕ). x == 1) q))
-gave did.Failed p d e f c q h = no (sym (ap (λ (x : ℕ). x == 1) q))
-gave did.Bad p d e f c q h = no (sym (ap (λ (x : ℕ). x == 1) q))
+gave x p d e f c q h = grind arith
 
 stayed : (x : Did) (p : StepResult) (d : steps_t) (e : step_event_t) (f : step_fault_t) (c : Stacks) → 2 ≡ number x
     → Tells x p d e f c → (p ≡ Ok (Given (event_of e true), c)) × (purpose_of d.read ≡ automaton.AtState)
-stayed did.Stays p d e f c q h = h
-stayed did.Wants p d e f c q h = no (sym (ap (λ (x : ℕ). x == 2) q))
-stayed did.Gave p d e f c q h = no (sym (ap (λ (x : ℕ). x == 2) q))
-stayed did.FullStates p d e f c q h = no (sym (ap (λ (x : ℕ). x == 2) q))
-stayed did.FullMarks p d e f c q h = no (sym (ap (λ (x : ℕ). x == 2) q))
-stayed did.Failed p d e f c q h = no (sym (ap (λ (x : ℕ). x == 2) q))
-stayed did.Bad p d e f c q h = no (sym (ap (λ (x : ℕ). x == 2) q))
+stayed x p d e f c q h = grind arith
 
 -- the machine's step at the token in hand
 pub step_wants : (d d' : steps_t) (ss ss' : List ℕ) (ms ms' : List yaml_mark_t) (hs : Handles) (kept : Texts)

@@ -1,12 +1,9 @@
 -- With texts, what a call is told is what the parser does.
-use Rattle.std.specs.Prelude.{bytes_eq, codes}
-use Rattle.std.proofs.Common.{◌≡◌, ◌∙◌, ◌∷◌, ℕ, List, [], Option, None, Some, Bool, true, false, Ok, Err, refl, sym, ap, cond, is_some, not, if◌then◌else◌}
-use Rattle.std.specs.FinMap.{get}
+use Rattle.std.proofs.Common.{◌≡◌, ◌∙◌, ℕ, List, Option, None, Some, Bool, false, Ok, Err, refl, sym, ap, is_some, arith}
 use Rattle.libyaml_types.specs.Types.{token_type}
 use Rattle.libyaml_types.specs.Fault.{no_fault}
 use Rattle.libyaml_types.specs.declared.mark.yaml_mark_t.{yaml_mark_t}
 use Rattle.libyaml_types.specs.declared.enums.yaml_scalar_style_t.{yaml_scalar_style_t}
-use Rattle.libyaml_types.specs.declared.enums.yaml_token_type_t.{yaml_token_type_t}
 use Rattle.libyaml_types.specs.declared.enums.yaml_token_type_t.TheVariants as kinds
 use Rattle.libyaml_types.specs.declared.token.unnamed_yaml_token_t_data.{unnamed_yaml_token_t_data}
 use Rattle.libyaml_types.specs.declared.token.unnamed_yaml_token_t_data.TheVariants as tok
@@ -15,7 +12,6 @@ use Rattle.libyaml_types.specs.declared.token.unnamed_yaml_token_t_data_tag_dire
 use Rattle.libyaml_types.specs.declared.token.unnamed_yaml_token_t_data_version_directive.{unnamed_yaml_token_t_data_version_directive}
 use Rattle.libyaml_grammar.specs.grammar.Events as grammar
 use Rattle.libyaml_grammar.specs.grammar.Events.{event, is_plain}
-use Rattle.libyaml_grammar.specs.grammar.Order.{is_accepted}
 use Rattle.libyaml_grammar.specs.grammar.Tokens.{Token}
 use Rattle.libyaml_automaton.specs.declared.node_place.NodePlace.{NodePlace}
 use Rattle.libyaml_automaton.specs.Automaton as automaton
@@ -31,13 +27,12 @@ use Rattle.token_steps.specs.Facts as facts
 use Rattle.token_steps.specs.Records.{is_undefined}
 use Rattle.token_steps.specs.Texts.{bit, content_of_shape, event_with, fact_of, handles_past, texts_kept_after, tag_fact, resolved_tag, tag_read_of, token_of, token_with}
 use Rattle.libyaml_events.specs.machine.Outcomes.{only_if}
-use Rattle.token_steps.proofs.Follows.{no, Keeping, properties, keeping, Content, Follows, GivesWith, follows, node_content}
+use Rattle.token_steps.proofs.Follows.{Keeping, properties, keeping, Content, Follows, GivesWith, follows, node_content}
 use Rattle.token_steps.proofs.Kept.{Holds, declares, keeps, tag_by, tag_for_by, tags}
 use Rattle.token_steps.proofs.Told.{defined}
 
 flag_bit : (b : Bool) → flag (bit b) ≡ b
-flag_bit true = refl
-flag_bit false = refl
+flag_bit b = grind arith
 
 -- flags
 
@@ -46,75 +41,30 @@ abbrev read_of : Option (List ℕ) → TagRead
 read_of None = NoTag
 read_of (Some tag) = tag_read (tag_fact (Some tag))
 
-defined_if : (b : Bool) → is_undefined (tag_read (if b then 2 else 3)) ≡ false
-defined_if true = refl
-defined_if false = refl
-
 read_defined : (tag : List ℕ) → is_undefined (read_of (Some tag)) ≡ false
-read_defined [] = refl
-read_defined (x ∷ xs) = defined_if (bytes_eq (x ∷ xs) (codes "!"))
-
-missing_if : (b : Bool) → facts.is_no_tag (tag_read (if b then 2 else 3)) ≡ false
-missing_if true = refl
-missing_if false = refl
+read_defined tag = grind arith
 
 missing : (g : Option (List ℕ)) → facts.is_no_tag (read_of g) ≡ grammar.is_missing g
-missing None = refl
-missing (Some []) = refl
-missing (Some (x ∷ xs)) = missing_if (bytes_eq (x ∷ xs) (codes "!"))
-
-plain_if : (b q : Bool) → facts.plain_flag_for (tag_read (if b then 2 else 3)) q ≡ b
-plain_if true q = refl
-plain_if false q = refl
+missing g = grind arith
 
 plain : (g : Option (List ℕ)) (s : yaml_scalar_style_t)
     → facts.plain_flag_for (read_of g) (flag (bit (is_plain s))) ≡ grammar.plain_flag g s
-plain None s = flag_bit (is_plain s)
-plain (Some []) s = refl
-plain (Some (x ∷ xs)) s = plain_if (bytes_eq (x ∷ xs) (codes "!")) (flag (bit (is_plain s)))
-
-negated : (b : Bool) → not b ≡ cond b false true
-negated true = refl
-negated false = refl
-
-quoted_if : (b q : Bool) → facts.quoted_flag_for (tag_read (if b then 2 else 3)) q ≡ false
-quoted_if true q = refl
-quoted_if false q = refl
+plain g s = grind (arith, flag_bit)
 
 quoted : (g : Option (List ℕ)) (s : yaml_scalar_style_t)
     → facts.quoted_flag_for (read_of g) (flag (bit (is_plain s))) ≡ grammar.quoted_flag g s
-quoted None s = ap not (flag_bit (is_plain s)) ∙ negated (is_plain s)
-quoted (Some []) s = refl
-quoted (Some (x ∷ xs)) s = quoted_if (bytes_eq (x ∷ xs) (codes "!")) (flag (bit (is_plain s)))
+quoted g s = grind (arith, flag_bit)
 
 -- events
-
-abbrev is_scalar : yaml_token_type_t → Bool
-is_scalar kinds.YAML_SCALAR_TOKEN = true
-is_scalar _ = false
-
-scalar : (hs : Handles) (h : Texts) (k : unnamed_yaml_token_t_data) (x z y : Bool) (g : Option (List ℕ)) → y ≡ false
-    → token_type k ≡ kinds.YAML_SCALAR_TOKEN
-    → content_of_shape hs h k y (shape_with (read_of g) (fact_of hs k) (automaton.Scalar x z))
-    ≡ parser_machine.scalar_with (only_if x h.anchor) (only_if z (resolved_tag hs h.tag)) (parser_machine.text_in k)
-    (grammar.plain_flag g (parser_machine.style_in k)) (grammar.quoted_flag g (parser_machine.style_in k)) (parser_machine.style_in k)
-scalar hs h (tok.Scalar s) x z y g e q = rw (e, plain g s.style, quoted g s.style) refl
-scalar hs h _ x z y g e q = no (ap is_scalar q)
 
 content_same : (hs : Handles) (h : Texts) (k : unnamed_yaml_token_t_data) (b z y : Bool) (w g : Option (List ℕ))
     (s : automaton.Shape) → GivesWith b z (token_type k) y s → only_if b h.anchor ≡ w → only_if z (resolved_tag hs h.tag) ≡ g
     → content_of_shape hs h k y (shape_with (read_of g) (fact_of hs k) s) ≡ parser_machine.content_with h w g k s
-content_same hs h k b z y w g (automaton.Scalar u v) f p q
-    = scalar hs h k u v y g f.1.1.0 f.1.1.1 ∙ rw (f.0, f.1.0, p, q) refl
-content_same hs h k b z y w g (automaton.EmptyScalar u v) f p q = rw (f.0, f.1.0, f.1.1, p, q, missing g) refl
-content_same hs h k b z y w g (automaton.SequenceStart u v x) f p q = rw (f.0, f.1, p, q, missing g) refl
-content_same hs h k b z y w g (automaton.MappingStart u v x) f p q = rw (f.0, f.1, p, q, missing g) refl
-content_same hs h k b z y w g _ f p q = refl
+content_same hs h k b z y w g s f p q = grind (arith, plain, quoted, missing)
 
 handles_same : (hs : Handles) (g : TagRead) (fact : ℕ) (s : automaton.Shape)
     → handles_past hs (shape_with g fact s) ≡ parser_machine.handles_after hs s
-handles_same hs g fact (automaton.DocumentEnd implicit) = refl
-handles_same hs g fact _ = refl
+handles_same hs g fact s = grind arith
 
 -- steps
 
@@ -142,9 +92,7 @@ content_put : (hs : Handles) (h : Texts) (t : Token) (k : unnamed_yaml_token_t_d
     (w g : Option (List ℕ)) (c : Stacks) (s : automaton.Step) → Content b z (token_type k) s → only_if b h.anchor ≡ w
     → only_if z (resolved_tag hs h.tag) ≡ g
     → parser_machine.put h w g (config_with c hs no_fault None) t k s ≡ told_with h hs t k (put_by_fact (read_of g) tag (token_with hs t k) s)
-content_put hs h t k tag b z w g c (automaton.Gives e d) f p q = gives_same hs h t k tag b z w g c d e f p q
-content_put hs h t k tag b z w g c (automaton.Fails x) f p q = refl
-content_put hs h t k tag b z w g c _ f p q = absurd f
+content_put hs h t k tag b z w g c s f p q = grind (arith, gives_same)
 
 resolved : (hs : Handles) (h : Texts) (t : Token) (k : unnamed_yaml_token_t_data) (tag : ℕ) (p : NodePlace)
     (r : automaton.PropertiesRead) (c x : Stacks) (o : Option (List ℕ)) → only_if r.anchor h.anchor ≡ h.anchor
@@ -166,15 +114,11 @@ content_told hs h t k tag p r c x None u v = content_put hs h t k tag r.anchor r
 content_told hs h t k tag p r c x (Some g) u v = resolved hs h t k tag p r c x (resolve hs g.handle g.suffix) u v
 
 kept_if : {A : Type 0} → (b : Bool) (o : Option A) → is_some o ≡ b → only_if b o ≡ o
-kept_if true o e = refl
-kept_if false None e = refl
-kept_if false (Some x) e = no (sym e)
+kept_if b o e = grind arith
 
 tag_kept_if : (hs : Handles) (b : Bool) (o : Option unnamed_yaml_token_t_data_tag) → is_some o ≡ b
     → only_if b (resolved_tag hs o) ≡ resolved_tag hs o
-tag_kept_if hs true o e = refl
-tag_kept_if hs false None e = refl
-tag_kept_if hs false (Some x) e = no (sym e)
+tag_kept_if hs b o e = grind arith
 
 asked : (x : Keeping) (hs : Handles) (h : Texts) (t : Token) (k : unnamed_yaml_token_t_data) (tag : ℕ) (p : NodePlace)
     (r : automaton.PropertiesRead) (c d : Stacks) → x ≡ properties r.anchor r.tag → Holds x h → tag_by x tag ≡ tag_read_of hs h.tag
@@ -189,50 +133,31 @@ first_version : (hs : Handles) (h : Texts) (t : Token) (v : unnamed_yaml_token_t
     (automaton.first_version b m d (parser_machine.seen t (tok.VersionDirective v)))
     ≡ told_with h hs t (tok.VersionDirective v) (put_by_fact NoTag tag (token_with hs t (tok.VersionDirective v))
     (automaton.first_version b m d (parser_machine.seen t (tok.VersionDirective v))))
-first_version hs h t v tag true m c d = refl
-first_version hs h t v tag false m c d = refl
+first_version hs h t v tag b m c d = grind arith
 
 tag_directive : (hs : Handles) (h : Texts) (t : Token) (g : unnamed_yaml_token_t_data_tag_directive) (tag : ℕ) (b q : Bool) (m : yaml_mark_t) (c d : Stacks)
     → parser_machine.put h None None (config_with c hs no_fault None) t (tok.TagDirective g)
     (automaton.tag_directive b m q d (parser_machine.seen t (tok.TagDirective g)))
     ≡ told_with h hs t (tok.TagDirective g) (put_by_fact NoTag tag (token_with hs t (tok.TagDirective g))
     (automaton.tag_directive b m q d (parser_machine.seen t (tok.TagDirective g))))
-tag_directive hs h t g tag true q m c d = refl
-tag_directive hs h t g tag false q m c d = refl
-
-abbrev is_version : yaml_token_type_t → Bool
-is_version kinds.YAML_VERSION_DIRECTIVE_TOKEN = true
-is_version _ = false
-
-abbrev is_tag_directive : yaml_token_type_t → Bool
-is_tag_directive kinds.YAML_TAG_DIRECTIVE_TOKEN = true
-is_tag_directive _ = false
+tag_directive hs h t g tag b q m c d = grind arith
 
 version_told : (hs : Handles) (h : Texts) (t : Token) (k : unnamed_yaml_token_t_data) (tag : ℕ) (m : yaml_mark_t)
     (c d : Stacks) → token_type k ≡ kinds.YAML_VERSION_DIRECTIVE_TOKEN
     → parser_machine.with_texts h (config_with c hs no_fault None) t k (automaton.AsksVersion m d)
     ≡ told_with h hs t k (with_facts tag (token_with hs t k) (automaton.AsksVersion m d))
-version_told hs h t (tok.VersionDirective v) tag m c d e = rw (flag_bit (is_accepted v.major v.minor))
-    (first_version hs h t v tag (is_accepted v.major v.minor) m c d)
-version_told hs h t _ tag m c d e = no (ap is_version e)
+version_told hs h t k tag m c d e = grind (arith, flag_bit)
 
 handle_told : (hs : Handles) (h : Texts) (t : Token) (k : unnamed_yaml_token_t_data) (tag : ℕ) (m : yaml_mark_t) (q : Bool)
     (c d : Stacks) → token_type k ≡ kinds.YAML_TAG_DIRECTIVE_TOKEN
     → parser_machine.with_texts h (config_with c hs no_fault None) t k (automaton.AsksHandle m q d)
     ≡ told_with h hs t k (with_facts tag (token_with hs t k) (automaton.AsksHandle m q d))
-handle_told hs h t (tok.TagDirective g) tag m q c d e = rw (flag_bit (is_some (get hs g.handle)))
-    (tag_directive hs h t g tag (is_some (get hs g.handle)) q m c d)
-handle_told hs h t _ tag m q c d e = no (ap is_tag_directive e)
+handle_told hs h t k tag m q c d e = grind (arith, flag_bit)
 
 same : (x : Keeping) (hs : Handles) (h : Texts) (t : Token) (k : unnamed_yaml_token_t_data) (tag : ℕ) (c : Stacks)
     (s : automaton.Step) → Holds x h → tag_by x tag ≡ tag_read_of hs h.tag → Follows x (token_type k) s
     → parser_machine.with_texts h (config_with c hs no_fault None) t k s ≡ told_with h hs t k (with_facts tag (token_with hs t k) s)
-same x hs h t k tag c (automaton.Gives e d) f q y = gives_same hs h t k tag false false None None c d e y refl refl
-same x hs h t k tag c (automaton.Wants u d) f q y = rw ((keeps x u h k f y).0, declares x u hs k y) refl
-same x hs h t k tag c (automaton.Fails z) f q y = refl
-same x hs h t k tag c (automaton.AsksVersion m d) f q y = version_told hs h t k tag m c d y.0
-same x hs h t k tag c (automaton.AsksHandle m z d) f q y = handle_told hs h t k tag m z c d y.0
-same x hs h t k tag c (automaton.AsksContent p r d) f q y = asked x hs h t k tag p r c d y f q
+same x hs h t k tag c s f q y = grind (arith, gives_same, keeps, declares, version_told, handle_told, asked)
 
 -- a step of the parser is what is told of it
 pub steps_told : (v : StepWant) (hs : Handles) (h : Texts) (t : Token) (c : Stacks) → Holds (keeping v.next) h
@@ -252,41 +177,23 @@ After hs h k (Err f) = Unit {0}
 
 after_content : (hs : Handles) (h : Texts) (t : Token) (k : unnamed_yaml_token_t_data) (g : TagRead) (tag : ℕ) (b z : Bool)
     (s : automaton.Step) → Content b z (token_type k) s → After hs h k (put_by_fact g tag (token_with hs t k) s)
-after_content hs h t k g tag b z (automaton.Gives e d) f = tt
-after_content hs h t k g tag b z (automaton.Fails x) f = tt
-after_content hs h t k g tag b z _ f = absurd f
+after_content hs h t k g tag b z s f = grind arith
 
 after_asked : (hs : Handles) (h : Texts) (t : Token) (k : unnamed_yaml_token_t_data) (g : TagRead) (tag : ℕ)
     (p : NodePlace) (r : automaton.PropertiesRead) (d : Stacks) → After hs h k (content_by_fact g tag p r d (token_with hs t k))
-after_asked hs h t k facts.Undefined tag p r d = tt
-after_asked hs h t k facts.NoTag tag p r d = after_content hs h t k facts.NoTag tag r.anchor r.tag _
-    (node_content p r d (parser_machine.seen t k) (token_type k))
-after_asked hs h t k facts.EmptyTag tag p r d = after_content hs h t k facts.EmptyTag tag r.anchor r.tag _
-    (node_content p r d (parser_machine.seen t k) (token_type k))
-after_asked hs h t k facts.Bang tag p r d = after_content hs h t k facts.Bang tag r.anchor r.tag _
-    (node_content p r d (parser_machine.seen t k) (token_type k))
-after_asked hs h t k facts.OtherTag tag p r d = after_content hs h t k facts.OtherTag tag r.anchor r.tag _
-    (node_content p r d (parser_machine.seen t k) (token_type k))
+after_asked hs h t k g tag p r d = grind (arith, after_content, node_content p r d (parser_machine.seen t k) (token_type k))
 
 after_version : (x : Keeping) (hs : Handles) (h : Texts) (t : Token) (k : unnamed_yaml_token_t_data) (tag : ℕ) (b : Bool)
     (m : yaml_mark_t) (d : Stacks) → Holds x h → tag_by x tag ≡ tag_read_of hs h.tag
     → Follows x (token_type k) (automaton.AsksVersion m d)
     → After hs h k (put_by_fact NoTag tag (token_with hs t k) (automaton.first_version b m d (parser_machine.seen t k)))
-after_version x hs h t k tag true m d f q y = (
-  (keeps x (automaton.AfterDirective m true) h k f y.1).1,
-  tags x (automaton.AfterDirective m true) hs h k tag f q y.1,
-)
-after_version x hs h t k tag false m d f q y = tt
+after_version x hs h t k tag b m d f q y = grind (arith, keeps, tags)
 
 after_handle : (x : Keeping) (hs : Handles) (h : Texts) (t : Token) (k : unnamed_yaml_token_t_data) (tag : ℕ) (b z : Bool)
     (m : yaml_mark_t) (d : Stacks) → Holds x h → tag_by x tag ≡ tag_read_of hs h.tag
     → Follows x (token_type k) (automaton.AsksHandle m z d)
     → After hs h k (put_by_fact NoTag tag (token_with hs t k) (automaton.tag_directive b m z d (parser_machine.seen t k)))
-after_handle x hs h t k tag true z m d f q y = tt
-after_handle x hs h t k tag false z m d f q y = (
-  (keeps x (automaton.AfterDirective m z) h k f y.1).1,
-  tags x (automaton.AfterDirective m z) hs h k tag f q y.1,
-)
+after_handle x hs h t k tag b z m d f q y = grind (arith, keeps, tags)
 
 after_step : (x : Keeping) (hs : Handles) (h : Texts) (t : Token) (k : unnamed_yaml_token_t_data) (tag : ℕ) (s : automaton.Step)
     → Holds x h → tag_by x tag ≡ tag_read_of hs h.tag → Follows x (token_type k) s
