@@ -1,5 +1,5 @@
 -- Limits over whole lists.
-use Rattle.std.proofs.Common.{◌≡◌, ◌≤◌, ◌<◌, ◌+◌, ◌∙◌, ◌∷◌, ℕ, List, [], Bool, false, None, Some, length, refl, sym, ap, subst, arith}
+use Rattle.std.proofs.Common.{◌≡◌, ◌≤◌, ◌<◌, ◌+◌, ◌∙◌, ◌∷◌, ℕ, List, [], false, None, Some, length, refl, sym, ap, subst, arith}
 use Rattle.std.proofs.lemmas.Bool.{le-ltb}
 use Rattle.libyaml_types.specs.Fault.{Fault}
 use Rattle.libyaml_types.specs.Source.{Coming, coming}
@@ -9,7 +9,7 @@ use Rattle.libyaml_automaton.specs.Automaton.{Purpose}
 use Rattle.libyaml_automaton.specs.Config.{Stacks}
 use Rattle.token_limits.specs.Depth.{NestsWithin, with_depth, levels, without_depth}
 use Rattle.token_limits.specs.Limited.{limited, if_passed}
-use Rattle.token_limits.specs.Limits.{At, Passes, Standing, most_looks, starts, starts_by, taken, within, without_texts}
+use Rattle.token_limits.specs.Limits.{At, Passes, Standing, most_looks, starts, taken, within, without_texts}
 use Rattle.token_limits.specs.declared.limits.yaml_limits_t.{yaml_limits_t}
 use Rattle.token_limits.proofs.Looking.{OneDeeper, one_deeper}
 
@@ -18,24 +18,21 @@ all_pass m [] f = refl
 all_pass m (t ∷ l) f = ap (λ (c : Coming). if_passed t Passes c) (all_pass m l f)
 
 starts_none : (m : yaml_limits_t) → m.strict ≡ false → m.max_depth ≡ None → starts m ≡ Passes
-starts_none m e i = ap (λ (b : Bool). starts_by b m.max_depth) e ∙ ap (starts_by false) i
+starts_none m e i = grind arith
 
 pub no_limits : (m : yaml_limits_t) (l : List yaml_token_t) (f : Fault) → m.strict ≡ false → m.max_depth ≡ None
     → limited m (starts m) l f ≡ coming l f
-no_limits m l f e i = ap (λ (s : Standing). limited m s l f) (starts_none m e i) ∙ all_pass m l f
+no_limits m l f e i = grind (arith, starts_none, all_pass)
 
 within_none : (n : yaml_mark_t) (s : Standing) → within None n s ≡ s
-within_none n (At w c) = refl
-within_none n _ = refl
+within_none n s = grind arith
 
 pub by_token : (m : yaml_limits_t) (max : ℕ) (s : Standing) (t : yaml_token_t)
     → taken (with_depth max m) s t ≡ within (Some max) t.start_mark (taken (without_depth m) s t)
-by_token m max (At w c) t = ap (within (Some max) t.start_mark) (sym (within_none t.start_mark _))
-by_token m max _ t = refl
+by_token m max s t = grind (arith, within_none)
 
 not_beyond : (max : ℕ) (n : yaml_mark_t) (s : Standing) → levels s ≤ max → within (Some max) n s ≡ s
-not_beyond max n (At w c) h = rw (le-ltb max (length c.marks) h) refl
-not_beyond max n _ h = refl
+not_beyond max n s h = grind (arith, le-ltb)
 
 pub of_list : (m : yaml_limits_t) (max : ℕ) (s : Standing) (l : List yaml_token_t) (f : Fault) → NestsWithin max m s l
     → limited (with_depth max m) s l f ≡ limited (without_depth m) s l f

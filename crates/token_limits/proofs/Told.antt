@@ -1,11 +1,10 @@
 -- What a call of the steps tells is what the automaton does where its questions let it go on.
-use Rattle.std.proofs.Common.{◌≡◌, ◌∙◌, ℕ, Bool, true, false, Ok, Err, refl, sym, ap, subst}
+use Rattle.std.proofs.Common.{◌≡◌, ◌∙◌, ℕ, Bool, true, false, Ok, Err, sym, ap, subst, arith}
 use Rattle.libyaml_types.specs.declared.enums.yaml_token_type_t.{yaml_token_type_t}
 use Rattle.libyaml_types.specs.declared.mark.yaml_mark_t.{yaml_mark_t}
 use Rattle.libyaml_automaton.specs.Automaton as automaton
 use Rattle.libyaml_automaton.specs.Automaton.{KindAndMarks, PropertiesRead, Purpose, Step}
 use Rattle.libyaml_automaton.specs.Config.{Stacks}
-use Rattle.libyaml_automaton.specs.Numbers.{flag}
 use Rattle.libyaml_automaton.specs.Purposes.{kind_and_marks, purpose_of}
 use Rattle.libyaml_automaton.specs.declared.node_place.NodePlace.{NodePlace}
 use Rattle.token_steps.specs.Facts.{Given, NoTag, StepResult, StepToken, TagRead, Wants, content_by_fact, put_by_fact, step_by_fact, tag_if, with_facts, without_fact}
@@ -25,9 +24,7 @@ Says (Ok (Wants v, d)) l = l ≡ Done (At v.next d)
 Says (Err f) l = l ≡ Done Passes
 
 put_says : (g : TagRead) (tag : ℕ) (t : StepToken) (s : Step) → Says (put_by_fact g tag t s) (stepped s)
-put_says g tag t (automaton.Gives e c) = refl
-put_says g tag t (automaton.Wants w c) = refl
-put_says g tag t _ = refl
+put_says g tag t s = grind arith
 
 -- the token with its fact
 abbrev token : yaml_token_type_t → step_span_t → StepToken
@@ -38,29 +35,19 @@ seen k at = kind_and_marks k at.start_mark at.end_mark
 
 version_says : (b : Bool) (t : StepToken) (start : yaml_mark_t) (c : Stacks) → b ≡ true
     → Says (put_by_fact NoTag 3 t (automaton.first_version b start c (without_fact t))) (Done (At (automaton.AfterDirective start true) c))
-version_says true t start c e = refl
-version_says false t start c e = absurd cc
+version_says b t start c e = grind arith
 
 handle_says : (b : Bool) (t : StepToken) (start : yaml_mark_t) (v : Bool) (c : Stacks) → b ≡ false
     → Says (put_by_fact NoTag 3 t (automaton.tag_directive b start v c (without_fact t))) (Done (At (automaton.AfterDirective start v) c))
-handle_says true t start v c e = absurd cc
-handle_says false t start v c e = refl
+handle_says b t start v c e = grind arith
 
 content_says : (b : Bool) (p : NodePlace) (r : PropertiesRead) (c : Stacks) (t : StepToken)
     → Says (content_by_fact (tag_if b 3) 3 p r c t) (stepped (automaton.node_content p r c (without_fact t) t.kind))
-content_says true p r c t = put_says (tag_if true 3) 3 t (automaton.node_content p r c (without_fact t) t.kind)
-content_says false p r c t = put_says NoTag 3 t (automaton.node_content p r c (without_fact t) t.kind)
+content_says b p r c t = grind (arith, put_says)
 
 facts_say : (k : yaml_token_type_t) (at : step_span_t) (ms : _) (n : ℕ) (s : Step) → Fact k ms n s
     → Says (with_facts 3 (token k at) s) (stepped (let_on (seen k at) s))
-facts_say k at ms n (automaton.AsksVersion start c) h
-    = version_says (flag (fact_that_goes_on k)) (token k at) start c (ap (λ (x : yaml_token_type_t). flag (fact_that_goes_on x)) h.1)
-facts_say k at ms n (automaton.AsksHandle start v c) h
-    = handle_says (flag (fact_that_goes_on k)) (token k at) start v c (ap (λ (x : yaml_token_type_t). flag (fact_that_goes_on x)) h.1)
-facts_say k at ms n (automaton.AsksContent p r c) h = content_says r.tag p r c (token k at)
-facts_say k at ms n (automaton.Gives e c) h = put_says NoTag 3 (token k at) (automaton.Gives e c)
-facts_say k at ms n (automaton.Wants w c) h = put_says NoTag 3 (token k at) (automaton.Wants w c)
-facts_say k at ms n (automaton.Fails f) h = put_says NoTag 3 (token k at) (automaton.Fails f)
+facts_say k at ms n s h = grind (arith, version_says, handle_says, content_says, put_says)
 
 -- what a step leads to
 module _ (w : Purpose) (c : Stacks) (k : yaml_token_type_t) (at : step_span_t) where
