@@ -1,8 +1,7 @@
 -- The stack holds at most the open collections.
-use Rattle.std.proofs.Common.{◌≡◌, ◌≤◌, ◌<◌, ◌++◌, ◌∷◌, List, [], ℕ, zero, suc, ℤ, pos, length, nat_le, refl, sym, ap, subst, ◌∙◌, Option, None, Some, Bool, true, false, true≢false, arith}
+use Rattle.std.proofs.Common.{◌≡◌, ◌≤◌, ◌<◌, ◌++◌, ◌∷◌, List, [], ℕ, suc, ℤ, length, nat_le, refl, sym, ap, subst, ◌∙◌, Option, None, Some, Bool, true, false, true≢false, arith}
 use Rattle.libyaml_types.specs.Types.{event_type}
 use Rattle.libyaml_types.specs.declared.enums.yaml_event_type_t.{yaml_event_type_t}
-use Rattle.libyaml_types.specs.declared.enums.yaml_event_type_t.TheVariants as event_kinds
 use Rattle.libyaml_grammar.specs.grammar.Events.{Event}
 use Rattle.libyaml_documents.specs.Documents.{Document}
 use Rattle.libyaml_composer.specs.declared.composer.composer_t.{composer_t}
@@ -10,9 +9,9 @@ use Rattle.libyaml_composer.specs.declared.deed.Deed.{Deed}
 use Rattle.libyaml_composer.specs.declared.deed.Deed.TheVariants as deed
 use Rattle.libyaml_composer.specs.declared.records.open_t.{open_t}
 use Rattle.libyaml_composer.specs.declared.records.place_t.{place_t}
-use Rattle.libyaml_composer.specs.Composing.{Composer, Told, adding, at_anchored_node, at_start, between_step, composer_of, collection_ended, holding_top, handing, if_placed, is_start, is_list_full, new_id, with_open_node, stack_of, composer_step, step_in, unless, within_step}
+use Rattle.libyaml_composer.specs.Composing.{Composer, Told, at_anchored_node, at_start, between_step, composer_of, collection_ended, holding_top, handing, if_placed, is_start, stack_of, composer_step, step_in, unless, within_step}
 use Rattle.libyaml_composer.specs.DocumentSoFar.{DocumentSoFar, event_fact}
-use Rattle.libyaml_composer.specs.Numbers.{is_set, is_id}
+use Rattle.libyaml_composer.specs.Numbers.{is_set}
 use Rattle.libyaml_composer.proofs.exported.Reasons.{full_starts}
 use Rattle.libyaml_composer.proofs.exported.Stacks.{depth_is}
 use Rattle.document_steps.specs.Open.{less_one, open_after, open_from, still_open, or_none}
@@ -28,70 +27,41 @@ Fits None c = c.is_within ≡ false
 Fits (Some n) c = OpenWithAtMost n c
 
 handed_length : (i : ℤ) (s : List open_t) → length (holding_top i s) ≡ length s
-handed_length i [] = refl
-handed_length i (o ∷ s) = refl
+handed_length i s = grind arith
 
 -- what a test refuses changes nothing
 unless_few : (b : Bool) (d : Deed) (p : place_t) (c : Composer) (t : Told) (n : ℕ) → OpenWithAtMost n c → OpenWithAtMost n t.composer
     → OpenWithAtMost n (unless b d p c t).composer
-unless_few true d p c t n h g = h
-unless_few false d p c t n h g = g
+unless_few b d p c t n h g = grind arith
 
 placed_few : (f : ℤ) (p : place_t) (c : Composer) (t : Told) (n : ℕ) → OpenWithAtMost n c → OpenWithAtMost n t.composer
     → OpenWithAtMost n (if_placed f p c t).composer
-placed_few f p c t n h g = unless_few _ deed.FullList p c _ n h
-    (unless_few (is_id f) deed.RepeatedAnchor p c _ n h (unless_few (is_list_full c.most c.stack) deed.FullList p c t n h g))
+placed_few f p c t n h g = grind (arith, unless_few)
 
 handing_few : (i j : ℤ) (c : Composer) (n : ℕ) → OpenWithAtMost n c → OpenWithAtMost n (handing i j c).composer
-handing_few i j c n h = let e = handed_length j c.stack in let l = h.1 in (h.0, omega arith)
+handing_few i j c n h = grind (arith, handed_length)
 
 alias_few : (b : Bool) (i : ℤ) (p : place_t) (c : Composer) (n : ℕ) → OpenWithAtMost n c → OpenWithAtMost n (at_anchored_node b i p c).composer
-alias_few false i p c n h = h
-alias_few true i p c n h
-    = unless_few (is_list_full c.most c.stack) deed.FullList p c _ n h (handing_few (pos 0) i c n h)
+alias_few b i p c n h = grind arith
 
 start_few : (m : ℕ) (f : ℤ) (p : place_t) (c : Composer) (n : ℕ) → OpenWithAtMost n c → OpenWithAtMost (suc n) (at_start m f p c).composer
-start_few m f p c n h =
-    let l = h.1 in
-    let same : OpenWithAtMost (suc n) c = (h.0, omega arith) in
-    let e = handed_length (new_id c) c.stack in
-    placed_few f p c _ (suc n) same
-    (unless_few (nat_le c.room (length c.stack)) deed.FullStack p c (with_open_node m (new_id c) (adding c)) (suc n) same
-    (h.0, omega arith))
-
-fewer : (s n : ℕ) → suc s ≤ n → s ≤ less_one n
-fewer s zero h = omega arith
-fewer s (suc n) h = omega arith
+start_few m f p c n h = grind arith
 
 ended_few : (s : List open_t) (p : place_t) (c : Composer) (n : ℕ) → c.stack ≡ s → OpenWithAtMost n c
     → OpenWithAtMost (less_one n) (collection_ended s p c).composer
-ended_few [] p c n e h = let i : length c.stack ≡ zero = ap length e in (h.0, omega arith)
-ended_few (o ∷ s) p c n e h =
-    let i : length c.stack ≡ suc (length s) = ap length e in let l = h.1 in (h.0, fewer (length s) n (omega arith))
+ended_few s p c n e h = grind arith
 
 within_fits : (k : yaml_event_type_t) (f : ℤ) (p : place_t) (c : Composer) (n : ℕ) → OpenWithAtMost n c
     → Fits (open_after (Some n) k) (within_step k f p c).composer
-within_fits event_kinds.YAML_DOCUMENT_END_EVENT f p c n h = refl
-within_fits event_kinds.YAML_ALIAS_EVENT f p c n h = alias_few (is_id f) f p c n h
-within_fits event_kinds.YAML_SCALAR_EVENT f p c n h
-    = placed_few f p c (adding c) n h (handing_few (new_id c) (new_id c) (record c { nodes = suc c.nodes }) n h)
-within_fits event_kinds.YAML_SEQUENCE_START_EVENT f p c n h = start_few 0 f p c n h
-within_fits event_kinds.YAML_MAPPING_START_EVENT f p c n h = start_few 1 f p c n h
-within_fits event_kinds.YAML_SEQUENCE_END_EVENT f p c n h = ended_few c.stack p c n refl h
-within_fits event_kinds.YAML_MAPPING_END_EVENT f p c n h = ended_few c.stack p c n refl h
-within_fits _ f p c n h = h
+within_fits k f p c n h = grind (arith, alias_few, placed_few, handing_few, start_few, ended_few)
 
 between_fits : (k : yaml_event_type_t) (p : place_t) (c : Composer) → c.is_within ≡ false
     → Fits (open_after None k) (between_step k p c).composer
-between_fits event_kinds.YAML_DOCUMENT_START_EVENT p c h = (refl, omega arith)
-between_fits _ p c h = h
+between_fits k p c h = grind arith
 
 step_fits : (o : Option ℕ) (k : yaml_event_type_t) (f : ℤ) (p : place_t) (c : Composer) → Fits o c
     → Fits (open_after o k) (composer_step k f p c).composer
-step_fits None k f p c h = subst (λ (b : Bool). Fits (open_after None k) (step_in b k f p c).composer) (sym h)
-    (between_fits k p c h)
-step_fits (Some n) k f p c h
-    = subst (λ (b : Bool). Fits (open_after (Some n) k) (step_in b k f p c).composer) (sym h.0) (within_fits k f p c n h)
+step_fits o k f p c h = grind (arith, between_fits, within_fits)
 
 open_more : (o : Option ℕ) (es : List Event) (e : Event)
     → open_from o (es ++ e ∷ []) ≡ open_after (open_from o es) (event_type e.content)
@@ -99,8 +69,7 @@ open_more o [] e = refl
 open_more o (x ∷ es) e = open_more (open_after o (event_type x.content)) es e
 
 roomy : (o : Option ℕ) (c : Composer) (room : ℕ) → Fits o c → Fits o (record c { room = room })
-roomy None c room h = h
-roomy (Some n) c room h = h
+roomy o c room h = grind arith
 
 fits : {most : ℕ} (d : composer_t) (ss : List open_t) (h : DocumentSoFar) (es : List Event) (ds : List Document)
     → ComposerRun most d ss h es ds → Fits (open_from None es) (composer_of d ss)
@@ -123,14 +92,10 @@ stack_fits most d ss h es ds run inside within = go (open_from None es) (fits d 
 -- a stack is full within a document alone
 full_inside : (b : Bool) (k : yaml_event_type_t) (f : ℤ) (p : place_t) (c : Composer)
     → (step_in b k f p c).deed ≡ deed.FullStack → b ≡ true
-full_inside true k f p c h = refl
-full_inside false event_kinds.YAML_DOCUMENT_START_EVENT f p c h = absurd cc
-full_inside false _ f p c h = absurd cc
+full_inside b k f p c h = grind arith
 
 start_opens : (n : ℕ) (k : yaml_event_type_t) → is_start k ≡ true → open_after (Some n) k ≡ Some (suc n)
-start_opens n event_kinds.YAML_SEQUENCE_START_EVENT h = refl
-start_opens n event_kinds.YAML_MAPPING_START_EVENT h = refl
-start_opens n _ h = absurd cc
+start_opens n k h = grind arith
 
 pub full_where_open : FullWhereOpen
 full_where_open most d d' ss ss' h es ds e p p' run calls =

@@ -1,8 +1,7 @@
 -- A place has 0 where its deed has no use for a field.
-use Rattle.std.proofs.Common.{◌≡◌, ◌∷◌, List, [], ℕ, zero, suc, ℤ, pos, negsuc, refl, sym, subst, ◌∙◌, Bool, true, false, true≢false}
+use Rattle.std.proofs.Common.{◌≡◌, ◌∷◌, List, [], ℕ, suc, ℤ, pos, refl, sym, subst, Bool, false, arith}
 use Rattle.libyaml_types.specs.Types.{event_type}
 use Rattle.libyaml_types.specs.declared.enums.yaml_event_type_t.{yaml_event_type_t}
-use Rattle.libyaml_types.specs.declared.enums.yaml_event_type_t.TheVariants as event_kinds
 use Rattle.libyaml_grammar.specs.grammar.Events.{Event}
 use Rattle.libyaml_documents.specs.Documents.{Document}
 use Rattle.libyaml_composer.specs.declared.composer.composer_t.{composer_t}
@@ -10,7 +9,7 @@ use Rattle.libyaml_composer.specs.declared.deed.Deed.{Deed}
 use Rattle.libyaml_composer.specs.declared.deed.Deed.TheVariants as deed
 use Rattle.libyaml_composer.specs.declared.records.open_t.{open_t}
 use Rattle.libyaml_composer.specs.declared.records.place_t.{place_t}
-use Rattle.libyaml_composer.specs.Composing.{Composer, Told, adding, at_anchored_node, at_start, between_step, composer_of, deed_for, deed_in, collection_ended, holding_top, handing, holding_in, if_placed, is_list_full, new_id, with_open_node, place_in, step_in, unless, within_step}
+use Rattle.libyaml_composer.specs.Composing.{Composer, Told, adding, at_anchored_node, at_start, between_step, composer_of, deed_for, deed_in, collection_ended, holding_top, handing, holding_in, if_placed, is_list_full, new_id, place_in, step_in, unless, within_step}
 use Rattle.libyaml_composer.specs.DocumentSoFar.{DocumentSoFar, event_fact}
 use Rattle.libyaml_composer.specs.Numbers.{is_set, is_id}
 use Rattle.document_steps.specs.Places.{UnusedAreZero}
@@ -30,14 +29,10 @@ abbrev IsSound : Told → Type 0
 IsSound t = UnusedAreZero t.deed t.place × HaveNoKeys t.composer.stack
 
 not_id : (i : ℤ) → is_id i ≡ false → i ≡ pos 0
-not_id (pos zero) h = refl
-not_id (pos (suc n)) h = absurd (true≢false h)
-not_id (negsuc n) h = absurd (true≢false h)
+not_id i h = grind arith
 
 holds : (i : ℤ) (o : open_t) (b w : Bool) → is_set o.is_mapping ≡ b → HasNoKey o → HasNoKey (holding_in i o b w)
-holds i o false w e h = h
-holds i o true false e h = λ f. absurd (true≢false (sym e ∙ f))
-holds i o true true e h = λ f. refl
+holds i o b w e h = grind arith
 
 handed_keys : (i : ℤ) (s : List open_t) → HaveNoKeys s → HaveNoKeys (holding_top i s)
 handed_keys i [] h = h
@@ -45,60 +40,44 @@ handed_keys i (o ∷ s) h = (holds i o (is_set o.is_mapping) (is_id o.key) refl 
 
 placed : (n i : ℤ) (o : open_t) (s : List open_t) (b w : Bool) → is_set o.is_mapping ≡ b → is_id o.key ≡ w → HasNoKey o
     → UnusedAreZero (deed_in b w) (place_in n i (o ∷ s))
-placed n i o s false w e f h = h e
-placed n i o s true false e f h = not_id o.key f
-placed n i o s true true e f h = tt
+placed n i o s b w e f h = grind (arith, not_id)
 
 place_fits : (n i : ℤ) (s : List open_t) → HaveNoKeys s → UnusedAreZero (deed_for s) (place_in n i s)
-place_fits n i [] h = (refl, refl)
-place_fits n i (o ∷ s) h = placed n i o s (is_set o.is_mapping) (is_id o.key) refl refl h.0
+place_fits n i s h = grind (arith, placed)
 
 handing_sound : (n i : ℤ) (c : Composer) → HaveNoKeys c.stack → IsSound (handing n i c)
 handing_sound n i c h = (place_fits n i c.stack h, handed_keys i c.stack h)
 
 unless_sound : (b : Bool) (d : Deed) (p : place_t) (c : Composer) (t : Told) → UnusedAreZero d p → HaveNoKeys c.stack → IsSound t
     → IsSound (unless b d p c t)
-unless_sound true d p c t z h g = (z, h)
-unless_sound false d p c t z h g = g
+unless_sound b d p c t z h g = grind arith
 
 if_sound : (f : ℤ) (p : place_t) (c : Composer) (t : Told) → HaveNoKeys c.stack → IsSound t → IsSound (if_placed f p c t)
 if_sound f p c t h g = unless_sound _ deed.FullList p c _ tt h
     (unless_sound (is_id f) deed.RepeatedAnchor p c _ tt h (unless_sound (is_list_full c.most c.stack) deed.FullList p c t tt h g))
 
 alias_sound : (b : Bool) (i : ℤ) (p : place_t) (c : Composer) → HaveNoKeys c.stack → IsSound (at_anchored_node b i p c)
-alias_sound false i p c h = (tt, h)
-alias_sound true i p c h = unless_sound (is_list_full c.most c.stack) deed.FullList p c _ tt h (handing_sound (pos 0) i c h)
+alias_sound b i p c h = grind (arith, handing_sound)
 
 adding_sound : (c : Composer) → HaveNoKeys c.stack → IsSound (adding c)
 adding_sound c h = handing_sound (new_id c) (new_id c) (record c { nodes = suc c.nodes }) h
 
 start_sound : (m : ℕ) (f : ℤ) (p : place_t) (c : Composer) → HaveNoKeys c.stack → IsSound (at_start m f p c)
-start_sound m f p c h = if_sound f p c _ h (unless_sound _ deed.FullStack p c (with_open_node m (new_id c) (adding c)) tt h
-    (let s = adding_sound c h in (s.0, ((λ e. refl), s.1))))
+start_sound m f p c h = grind (arith, if_sound, unless_sound, adding_sound)
 
 ended_sound : (s : List open_t) (p : place_t) (c : Composer) → HaveNoKeys c.stack → HaveNoKeys s → IsSound (collection_ended s p c)
-ended_sound [] p c h g = (tt, h)
-ended_sound (o ∷ s) p c h g = ((refl, (refl, refl)), g.1)
+ended_sound s p c h g = grind arith
 
 within_sound : (k : yaml_event_type_t) (f : ℤ) (p : place_t) (c : Composer) → HaveNoKeys c.stack
     → IsSound (within_step k f p c)
-within_sound event_kinds.YAML_DOCUMENT_END_EVENT f p c h = (tt, h)
-within_sound event_kinds.YAML_ALIAS_EVENT f p c h = alias_sound (is_id f) f p c h
-within_sound event_kinds.YAML_SCALAR_EVENT f p c h = if_sound f p c (adding c) h (adding_sound c h)
-within_sound event_kinds.YAML_SEQUENCE_START_EVENT f p c h = start_sound 0 f p c h
-within_sound event_kinds.YAML_MAPPING_START_EVENT f p c h = start_sound 1 f p c h
-within_sound event_kinds.YAML_SEQUENCE_END_EVENT f p c h = ended_sound c.stack p c h h
-within_sound event_kinds.YAML_MAPPING_END_EVENT f p c h = ended_sound c.stack p c h h
-within_sound _ f p c h = (tt, h)
+within_sound k f p c h = grind (arith, alias_sound, if_sound, adding_sound, start_sound, ended_sound)
 
 between_sound : (k : yaml_event_type_t) (p : place_t) (c : Composer) → HaveNoKeys c.stack → IsSound (between_step k p c)
-between_sound event_kinds.YAML_DOCUMENT_START_EVENT p c h = (tt, tt)
-between_sound _ p c h = (tt, h)
+between_sound k p c h = grind arith
 
 step_sound : (b : Bool) (k : yaml_event_type_t) (f : ℤ) (p : place_t) (c : Composer) → HaveNoKeys c.stack
     → IsSound (step_in b k f p c)
-step_sound true k f p c h = within_sound k f p c h
-step_sound false k f p c h = between_sound k p c h
+step_sound b k f p c h = grind (arith, within_sound, between_sound)
 
 keys : {most : ℕ} (d : composer_t) (ss : List open_t) (h : DocumentSoFar) (es : List Event) (ds : List Document)
     → ComposerRun most d ss h es ds → HaveNoKeys (composer_of d ss).stack

@@ -1,5 +1,5 @@
 -- A run of calls leads where the loader's machine does.
-use Rattle.std.proofs.Common.{◌≡◌, ◌++◌, ◌∷◌, List, [], ℕ, refl, sym, ap, subst, ◌∙◌, Option, Some, None, Bool, true, false, Err, true≢false, append-nil, length}
+use Rattle.std.proofs.Common.{◌≡◌, ◌++◌, ◌∷◌, List, [], ℕ, refl, sym, ap, subst, ◌∙◌, Option, Some, None, Bool, true, false, Err, true≢false, append-nil, length, arith}
 use Rattle.libyaml_types.specs.Types.{event_type}
 use Rattle.libyaml_types.specs.declared.event.unnamed_yaml_event_t_data.TheVariants as ev
 use Rattle.libyaml_types.specs.declared.event.unnamed_yaml_event_t_data.{unnamed_yaml_event_t_data}
@@ -38,22 +38,13 @@ pub record Steps (c : Composer) (h : DocumentSoFar) (e : Event) (t : Told) : Typ
 
 -- the deeds of parts
 part_gives : (d : Deed) → IsPart d → (e : Event) (h : DocumentSoFar) → [] ≡ given d e h
-part_gives deed.Passes k e h = refl
-part_gives deed.Root k e h = refl
-part_gives deed.Item k e h = refl
-part_gives deed.Key k e h = refl
-part_gives deed.Value k e h = refl
-part_gives deed.Closes k e h = refl
-part_gives _ k e h = absurd k
+part_gives d k e h = grind arith
 
 not_both : (d : Deed) → IsTaken d → IsRefused d → ⊥
-not_both deed.UndefinedAlias t r = t
-not_both deed.RepeatedAnchor t r = t
-not_both deed.FullList t r = t
-not_both _ t r = r
+not_both d t r = grind arith
 
 not_full : (d : Deed) → IsTaken d → d ≡ deed.FullStack → ⊥
-not_full d t e = subst IsTaken e t
+not_full d t e = grind arith
 
 -- between documents
 module _ (c : Composer) (h : DocumentSoFar) (e : Event) (p : place_t) (out : c.is_within ≡ false) where
@@ -134,8 +125,7 @@ module _ (c : Composer) (h : DocumentSoFar) (e : Event) (p : place_t) (inside : 
     where
       ends : (k : unnamed_yaml_event_t_data) (x : Closing) → closing_in k e.end_mark ≡ Some x
           → told deed.Ends p (record c { is_within = false }) ≡ within_step (event_type k) (event_fact h e) p c
-      ends (ev.DocumentEnd d) x is = refl
-      ends _ x is = absurd cc
+      ends k x is = grind arith
 
       by : (x : Option Closing) → closing_of e ≡ x → Steps c h e step
       by None is = parts is taken
@@ -147,8 +137,7 @@ module _ (c : Composer) (h : DocumentSoFar) (e : Event) (p : place_t) (inside : 
     where
       not_end : (k : unnamed_yaml_event_t_data) (y : Closing) → closing_in k e.end_mark ≡ Some y
           → IsRefused (within_step (event_type k) (event_fact h e) p c).deed → ⊥
-      not_end (ev.DocumentEnd d) y is r = r
-      not_end _ y is r = absurd cc
+      not_end k y is r = grind arith
 
       by : (y : Option Closing) → closing_of e ≡ y → loads_from c.most (loader_state c h) (e ∷ rest) x
           ≡ Err (deed_fault step.deed h e) ∷ []
@@ -186,8 +175,7 @@ module _ (most : ℕ) (c : Composer) (h : DocumentSoFar) (es : List Event) (ds :
       (rw stood.bound at (rw (← is) at (by c.is_within refl (rw is at r))))
     where
       none : (k : unnamed_yaml_event_t_data) → IsRefused (between_step (event_type k) p c).deed → ⊥
-      none (ev.DocumentStart d) r = r
-      none _ r = r
+      none k r = grind arith
 
       by : (b : Bool) → c.is_within ≡ b → IsRefused (step_in b (event_type e.content) (event_fact h e) p c).deed
           → loads_from c.most (loader_state c h) (e ∷ rest) x

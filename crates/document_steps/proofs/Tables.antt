@@ -1,5 +1,5 @@
 -- A table of anchors has those that are held, and goes on so.
-use Rattle.std.proofs.Common.{◌≡◌, ◌++◌, ◌∷◌, ◌+◌, ◌≤◌, List, [], ℕ, ℤ, pos, length, arith, refl, sym, ap, ◌∙◌, Option, Some, None, Bool, true, false, cond, drop, take}
+use Rattle.std.proofs.Common.{◌≡◌, ◌++◌, ◌∷◌, ◌+◌, ◌≤◌, List, [], ℕ, ℤ, pos, length, arith, refl, sym, ap, ◌∙◌, Option, Some, None, cond, drop, take}
 use Rattle.std.proofs.lemmas.List.{length-drop, drop-append-le, take-append-le}
 use Rattle.std.proofs.lemmas.Slice.Eq.{bytes_eq-Decides}
 use Rattle.std.specs.Prelude.{bytes_eq}
@@ -20,20 +20,11 @@ node_or_none (Some i) = i
 
 by_entry : (texts : List ℕ) (table : List anchor_t) (a : List ℕ) → node_in texts table a ≡ node_or_none (entry_in texts table a)
 by_entry texts [] a = refl
-by_entry texts (e ∷ es) a = go (bytes_eq (bytes_of texts e) a) (by_entry texts es a)
-  where
-    go : (b : Bool) → node_in texts es a ≡ node_or_none (entry_in texts es a)
-        → cond b e.node (node_in texts es a) ≡ node_or_none (cond b (Some e.node) (entry_in texts es a))
-    go true h = refl
-    go false h = h
+by_entry texts (e ∷ es) a = grind (arith, by_entry texts es a)
 
 pub found : (texts : List ℕ) (table : List anchor_t) (xs : Anchors) (a : List ℕ) → Tabled texts table xs
     → node_in texts table a ≡ pos (id_or (get xs a))
-found texts table xs a t = by_entry texts table a ∙ (ap node_or_none (t a) ∙ go (get xs a))
-  where
-    go : (x : Option AnchoredNode) → node_or_none (anchored_node_id x) ≡ pos (id_or x)
-    go None = refl
-    go (Some c) = refl
+found texts table xs a t = grind (arith, by_entry, t a)
 
 stays : (texts more : List ℕ) (e : anchor_t) → e.place + e.length ≤ length texts
     → bytes_of (texts ++ more) e ≡ bytes_of texts e
@@ -52,31 +43,9 @@ more_in : (texts more : List ℕ) (table : List anchor_t) (e : anchor_t) (q : Li
     → entry_in (texts ++ more) (table ++ e ∷ []) q
     ≡ or_else (entry_in texts table q) (cond (bytes_eq (bytes_of (texts ++ more) e) q) (Some e.node) None)
 more_in texts more [] e q w = refl
-more_in texts more (y ∷ ys) e q w =
-    rw (stays texts more y w.0) (go (bytes_eq (bytes_of texts y) q) (more_in texts more ys e q w.1))
-  where
-    go : (b : Bool) → entry_in (texts ++ more) (ys ++ e ∷ []) q
-        ≡ or_else (entry_in texts ys q) (cond (bytes_eq (bytes_of (texts ++ more) e) q) (Some e.node) None)
-        → cond b (Some y.node) (entry_in (texts ++ more) (ys ++ e ∷ []) q)
-        ≡ or_else (cond b (Some y.node) (entry_in texts ys q))
-        (cond (bytes_eq (bytes_of (texts ++ more) e) q) (Some e.node) None)
-    go true h = refl
-    go false h = h
+more_in texts more (y ∷ ys) e q w = grind (arith, stays texts more y w.0, more_in texts more ys e q w.1)
 
 pub adds : (texts more : List ℕ) (table : List anchor_t) (e : anchor_t) (xs : Anchors) (a : List ℕ) (c : AnchoredNode)
     → Tabled texts table xs → AreAnchorsWithin texts table → get xs a ≡ None → bytes_of (texts ++ more) e ≡ a → e.node ≡ pos c.id
     → Tabled (texts ++ more) (table ++ e ∷ []) (insert xs a c)
-adds texts more table e xs a c t w new is node q =
-    more_in texts more table e q w
-    ∙ (ap (λ (x : Option ℤ). or_else x (cond (bytes_eq (bytes_of (texts ++ more) e) q) (Some e.node) None)) (t q)
-    ∙ (rw (is, node) (go (bytes_eq a q) refl) ∙ ap anchored_node_id (sym (inserted xs a c q))))
-  where
-    go : (b : Bool) → bytes_eq a q ≡ b
-        → or_else (anchored_node_id (get xs q)) (cond b (Some (pos c.id)) None) ≡ anchored_node_id (cond b (Some c) (get xs q))
-    go true h = ap (λ (x : Option AnchoredNode). or_else (anchored_node_id x) (Some (pos c.id)))
-        (ap (get xs) (sym ((bytes_eq-Decides a q).0 h)) ∙ new)
-    go false h = by (get xs q)
-      where
-        by : (x : Option AnchoredNode) → or_else (anchored_node_id x) None ≡ anchored_node_id x
-        by None = refl
-        by (Some k) = refl
+adds texts more table e xs a c t w new is node q = grind (arith, more_in, t q, inserted, (bytes_eq-Decides a q).0)
