@@ -58,12 +58,6 @@ length_made : (f : List ℕ → List ℕ) (xs : List (List ℕ)) → length (map
 length_made f [] = refl
 length_made f (x ∷ xs) = let r = length_made f xs in omega (arith, r)
 
-zero_or_suc : (n : ℕ) → 0 ≡ suc n → ⊥
-zero_or_suc n e = omega (arith, e)
-
-head_is : (a b : ℕ) (v w : List ℕ) → (a ∷ v) ≡ (b ∷ w) → a ≡ b
-head_is a b v w e = cc
-
 -- a way through the first id, and one through a later
 abbrev below : List ℕ → List ℕ
 below numbers = 0 ∷ numbers
@@ -78,25 +72,16 @@ module _ (nodes : List yaml_node_t) where
   way_below id ids (n ∷ ns) h = (id, refl, h)
 
   way_later : (id : ℤ) (ids : List ℤ) (w : List ℕ) → IsWay nodes ids w → IsWay nodes (id ∷ ids) (later w)
-  way_later id ids [] h = absurd h
-  way_later id ids (n ∷ []) h = h
-  way_later id ids (n ∷ m ∷ ns) h = h
+  way_later id ids w h = grind arith
 
   not_alone : (ids : List ℤ) (w : List ℕ) → IsWay nodes ids w → (0 ∷ []) ≢ below w
-  not_alone ids [] h e = h
-  not_alone ids (n ∷ ns) h e = cc
+  not_alone ids w h e = grind arith
 
   not_later : (ids : List ℤ) (w : List ℕ) → IsWay nodes ids w → (v : List ℕ) → (0 ∷ v) ≢ later w
-  not_later ids [] h v e = h
-  not_later ids (n ∷ ns) h v e = zero_or_suc n (head_is 0 (suc n) v ns e)
+  not_later ids w h v e = grind arith
 
   later_apart : (ids : List ℤ) (v w : List ℕ) → IsWay nodes ids v → IsWay nodes ids w → v ≢ w → later v ≢ later w
-  later_apart ids [] w h k ne e = h
-  later_apart ids (n ∷ ns) [] h k ne e = k
-  later_apart ids (n ∷ ns) (m ∷ ms) h k ne e =
-      let heads : n ≡ m = omega (arith, head_is (suc n) (suc m) ns ms e) in
-      let tails : ns ≡ ms = cc in
-      ne (cc)
+  later_apart ids v w h k ne e = grind arith
 
   all_found : (id : ℤ) (ids : List ℤ) (bs ss : List (List ℕ)) → ((w : List ℕ) → IsWay nodes (ids_at nodes id) w → Contains bs w)
       → ((w : List ℕ) → IsWay nodes ids w → Contains ss w) → (w : List ℕ) → IsWay nodes (id ∷ ids) w

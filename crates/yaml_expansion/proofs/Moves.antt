@@ -60,9 +60,7 @@ nothing_in (x ∷ xs) e = absurd (omega (arith, e))
 
 -- the mark of the node that a walk is at
 at_most_one : (mark : Mark) → times_open mark ≤ 1
-at_most_one New = omega arith
-at_most_one (Open next size) = omega arith
-at_most_one (Done size) = omega arith
+at_most_one mark = grind arith
 
 pub open_here : (nodes : List yaml_node_t) (max : ℕ) (marks : List Mark) (above : List ℕ) (place : ℕ) → Walks nodes max marks above place
     → times_open (get_or marks place New) ≡ 1
@@ -121,10 +119,7 @@ module _ (nodes : List yaml_node_t) (max : ℕ) where
 
   pub moved : (marks now : List Mark) (above down : List ℕ) (place to : ℕ) → now ≡ marks → down ≡ above → to ≡ place
       → Walks nodes max marks above place → Walks nodes max now down to
-  moved marks now above down place to m a p w =
-      subst (λ (x : ℕ). Walks nodes max now down x) (sym p)
-      (subst (λ (x : List ℕ). Walks nodes max now x place) (sym a)
-      (subst (λ (x : List Mark). Walks nodes max x above place) (sym m) w))
+  moved marks now above down place to m a p w = rw (m, a, p) w
 
   pub advances : (marks : List Mark) (above : List ℕ) (place c next : ℕ) (size below sum : Size) → Walks nodes max marks above place
       → get_or marks place New ≡ Open next size → slice_get (ids_at nodes (pos (suc place))) next ≡ Some (pos (suc c))

@@ -23,8 +23,7 @@ LongWay nodes steps from = (places : List ℕ) × (length places ≡ steps) × W
     × AllByRecursion (λ place. place < length nodes) places
 
 equal_or_not : (a b : ℕ) (t : Bool) → nat_eq a b ≡ t → (a ≡ b) ⊎ (nat_eq a b ≡ false)
-equal_or_not a b true e = inl (eqb-true a b e)
-equal_or_not a b false e = inr e
+equal_or_not a b t e = grind (arith, eqb-true a b)
 
 module _ (nodes : List yaml_node_t) where
   trees_or_way : (steps : ℕ)
@@ -85,8 +84,7 @@ module _ (nodes : List yaml_node_t) where
   ]
 
 rest_of : (a b : Bool) → a ≡ false → (a || b) ≡ true → b ≡ true
-rest_of true b f e = cc
-rest_of false b f e = e
+rest_of a b f e = grind arith
 
 below_any : (n : ℕ) (xs : List ℕ) → AllByRecursion (λ place. place < n) xs → (q : ℕ) → list_any (nat_eq q) xs ≡ true → q < n
 below_any n [] h q e = cc

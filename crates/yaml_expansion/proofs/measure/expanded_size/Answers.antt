@@ -35,10 +35,7 @@ module _ (nodes : List yaml_node_t) (max : ℕ) where
 
   endless : (r : Result ℕ yaml_expansion_error_t) → Said nodes max r → IsCyclic nodes
       → ((id : ℤ) × IsErrOf r (Cyclic id)) ⊎ IsErrOf r Memory
-  endless (Ok n) said c = absurd (not_both nodes n said.size.0 c)
-  endless (Err (Cyclic id)) said c = inl (id, refl)
-  endless (Err TooLarge) said c = let large = said.too_large refl in absurd (not_both nodes large.0 large.1 c)
-  endless (Err Memory) said c = inr refl
+  endless r said c = grind (arith, not_both)
 
 pub returns-clause-where_small : goal.returns-clause-where_small
 returns-clause-where_small c =
