@@ -4,8 +4,6 @@ use Rattle.std.proofs.lemmas.Int.{ints}
 use Rattle.libyaml_types.specs.declared.enums.yaml_node_type_t.{yaml_node_type_t}
 use Rattle.libyaml_types.specs.declared.enums.yaml_node_type_t.TheVariants.{YAML_SEQUENCE_NODE, YAML_MAPPING_NODE}
 use Rattle.libyaml_documents.specs.Nodes.{IsIdUpTo, changed_at, type_of, with_item, with_pair}
-use Rattle.libyaml_documents.specs.declared.node.unnamed_yaml_node_t_data.{unnamed_yaml_node_t_data}
-use Rattle.libyaml_documents.specs.declared.node.unnamed_yaml_node_t_data.TheVariants.{Scalar, Sequence, Mapping}
 use Rattle.libyaml_documents.specs.declared.node.yaml_node_t.{yaml_node_t}
 use Rattle.libyaml_graphs.specs.machine.Loader.{OpenNode, hand, key_after, node_full, parent_full, with_child}
 use Rattle.libyaml_graphs.specs.machine.Loader as loader
@@ -16,7 +14,7 @@ use Rattle.libyaml_composer.specs.declared.records.place_t.{place_t}
 use Rattle.libyaml_composer.specs.Composing.{deed_for, deed_in, full_in, holding_top, holding_in, is_list_full, place_in}
 use Rattle.libyaml_composer.specs.Numbers.{is_set, is_id}
 use Rattle.libyaml_composer.specs.DocumentSoFar.{key_of, open_of, placed}
-use Rattle.libyaml_composer.specs.Represents.{FitsParent, IsAlike, IsKeyIn, IsOpenNode, IsOpenBy, Opens, TakesOneMore}
+use Rattle.libyaml_composer.specs.Represents.{FitsParent, IsKeyIn, IsOpenNode, IsOpenBy, Opens, TakesOneMore}
 use Rattle.libyaml_composer.proofs.exported.Opens.{changed_same, get_other, get_there, length_changed, opens_other, unchanged}
 
 -- The nodes and the stack after a child, whether its parent's list was full, and what stays: each collection that is open
@@ -43,57 +41,18 @@ record Taking (most : ℕ) (key new : Option ℤ) (i : ℤ) (full : Bool) (f : y
 
 item_taken : (most : ℕ) (key : Option ℤ) (i : ℤ) (x : Option yaml_node_t) (w : Bool) (n : ℕ) → IsOpenBy x false w n
     → Taking most key key i (nat_lt most (suc n)) (with_item i) YAML_SEQUENCE_NODE false w (suc n) x
-item_taken most key i None w n h = absurd h
-item_taken most key i (Some x) w n h = go x.content h
-  where
-    go : (c : unnamed_yaml_node_t_data) → IsAlike c false w n
-        → Taking most key key i (nat_lt most (suc n)) (with_item i) YAML_SEQUENCE_NODE false w (suc n) (Some (record x { content = c }))
-    go (Scalar s) h = absurd h
-    go (Sequence s) h = record {
-      node = refl;
-      key_is = refl;
-      full_is = ap (λ (m : ℕ). nat_lt most (suc m)) (sym h);
-      kind = refl;
-      opened = omega (arith, h, length-append s.items (i ∷ []));
-    }
-    go (Mapping s) h = absurd h
+item_taken most key i x w n h = grind (arith, length-append)
 
 key_taken : (most : ℕ) (i : ℤ) (x : Option yaml_node_t) (n : ℕ) → IsOpenBy x true false n
     → Taking most None (Some i) i (nat_lt most (suc n)) (λ y. y) YAML_MAPPING_NODE true true (suc n) x
-key_taken most i None n h = absurd h
-key_taken most i (Some x) n h = go x.content h
-  where
-    go : (c : unnamed_yaml_node_t_data) → IsAlike c true false n
-        → Taking most None (Some i) i (nat_lt most (suc n)) (λ y. y) YAML_MAPPING_NODE true true (suc n) (Some (record x { content = c }))
-    go (Scalar s) h = absurd h
-    go (Sequence s) h = absurd h
-    go (Mapping s) h = record {
-      node = refl;
-      key_is = refl;
-      full_is = ap (λ (m : ℕ). nat_lt most (suc m)) (sym h);
-      kind = refl;
-      opened = ap suc h;
-    }
+key_taken most i x n h = grind arith
 
 value_taken : (most : ℕ) (k i : ℤ) (x : Option yaml_node_t) (n : ℕ) → IsOpenBy x true true n
     → Taking most (Some k) None i false (with_pair k i) YAML_MAPPING_NODE true false n x
-value_taken most k i None n h = absurd h
-value_taken most k i (Some x) n h = go x.content h
-  where
-    go : (c : unnamed_yaml_node_t_data) → IsAlike c true true n
-        → Taking most (Some k) None i false (with_pair k i) YAML_MAPPING_NODE true false n (Some (record x { content = c }))
-    go (Scalar s) h = absurd h
-    go (Sequence s) h = absurd h
-    go (Mapping s) h = record {
-      node = refl;
-      key_is = refl;
-      full_is = refl;
-      kind = refl;
-      opened = omega (arith, h, length-append s.pairs (record { key = k; value = i } ∷ []));
-    }
+value_taken most k i x n h = grind (arith, length-append)
 
 key_by : (key : ℤ) (w : Bool) → is_id key ≡ w → key_of key ≡ (if w then Some key else None)
-key_by key w e = ap (λ (b : Bool). if b then Some key else None) e
+key_by key w e = grind arith
 
 -- the flags of an entry
 at_flags : (x : Option yaml_node_t) (b c w v : Bool) (n : ℕ) → b ≡ c → w ≡ v → IsOpenBy x c v n → IsOpenBy x b w n

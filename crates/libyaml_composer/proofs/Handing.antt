@@ -1,27 +1,19 @@
 -- What is handed to a parent is done, and its list has room for it.
-use Rattle.std.proofs.Common.{◌≡◌, ◌∙◌, ◌∷◌, List, [], Bool, true, false, refl, sym, ap}
-use Rattle.std.proofs.lemmas.Bool.{true≢false}
+use Rattle.std.proofs.Common.{◌≡◌, List, Bool, true, false, arith}
 use Rattle.libyaml_composer.specs.declared.deed.Deed.{Deed}
 use Rattle.libyaml_composer.specs.declared.deed.Deed.TheVariants as deed
 use Rattle.libyaml_composer.specs.declared.records.open_t.{open_t}
 use Rattle.libyaml_composer.specs.declared.records.place_t.{place_t}
 use Rattle.libyaml_composer.specs.Composing.{Composer, Told, deed_for, deed_in, does_nothing, is_list_full, unless}
-use Rattle.libyaml_composer.specs.Numbers.{is_set, is_id}
-
-done_in : (is_mapping waits : Bool) → does_nothing (deed_in is_mapping waits) ≡ false
-done_in false waits = refl
-done_in true false = refl
-done_in true true = refl
 
 done_for : (s : List open_t) → does_nothing (deed_for s) ≡ false
-done_for [] = refl
-done_for (o ∷ s) = done_in (is_set o.is_mapping) (is_id o.key)
+done_for s = grind arith
 
 pub is_done : (d : Deed) (s : List open_t) → d ≡ deed_for s → does_nothing d ≡ true → ⊥
-is_done d s e u = absurd (true≢false (sym (ap does_nothing (sym e) ∙ u) ∙ done_for s))
+is_done d s e u = grind (arith, done_for)
 
 pub is_good : (d : Deed) (s : List open_t) → d ≡ deed_for s → d ≡ deed.Bad → ⊥
-is_good d s e b = is_done d s e (ap does_nothing b)
+is_good d s e b = grind (arith, done_for)
 
 -- so it is told as if no list were looked at
 pub placed : (k : Composer) (q : place_t) (s t : Told) → is_list_full k.most k.stack ≡ false → s ≡ t
