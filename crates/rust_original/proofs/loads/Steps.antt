@@ -92,9 +92,6 @@ abbrev or_else : Option AnchoredNode → Option AnchoredNode → Option Anchored
 or_else None o = o
 or_else (Some c) o = Some c
 
-or_none : (o : Option AnchoredNode) → or_else o None ≡ o
-or_none o = grind arith
-
 alias_more : (xs : List yaml_alias_data_t) (d : yaml_alias_data_t) (a : List ℕ)
     → alias_of (xs ++ d ∷ []) a ≡ or_else (alias_of xs a) (cond (bytes_eq d.anchor a) (Some d.anchored_node) None)
 alias_more [] d a = refl

@@ -25,9 +25,6 @@ abbrev or_else : Option (List ℕ) → Option (List ℕ) → Option (List ℕ)
 or_else None o = o
 or_else (Some x) o = Some x
 
-or_none : (o : Option (List ℕ)) → or_else o None ≡ o
-or_none o = grind arith
-
 -- a directive after the others
 one_more : (tags : List yaml_tag_directive_t) (d : yaml_tag_directive_t) (h : List ℕ)
     → directive_named (tags ++ d ∷ []) h ≡ or_else (directive_named tags h) (cond (bytes_eq d.handle h) (Some d.prefix) None)

@@ -12,6 +12,7 @@ use Rattle.libyaml_automaton.specs.declared.node_place.NodePlace.{NodePlace}
 use Rattle.libyaml_automaton.specs.declared.node_place.NodePlace.TheVariants.{Block, BlockOrIndentlessSequence, Flow}
 use Rattle.libyaml_automaton.specs.Automaton as automaton
 use Rattle.libyaml_automaton.specs.Automaton.{is_block_place, may_be_indentless}
+use Rattle.libyaml_automaton.specs.Config.{below, top}
 use Rattle.libyaml_events.specs.machine.Config.{Config, Handles, config_of}
 use Rattle.libyaml_events.specs.machine.Machine.{seen, with_texts}
 use Rattle.libyaml_events.specs.machine.Want.{AtState, Want, no_texts}
@@ -19,7 +20,7 @@ use Rattle.rust_original.specs.parser.Parser as orig
 use Rattle.rust_original.specs.parser.Parser.{OriginalParser, ParserResult, is_one_of}
 use Rattle.rust_original.specs.parser.Runs.{as_here}
 use Rattle.rust_original.proofs.parser.Nodes.{parsed}
-use Rattle.rust_original.proofs.parser.Relation.{Agree, Below, Matches, standing, following as after_document, after_end, fed, feed, inside, popped_fits, popped_fresh, there, tk}
+use Rattle.rust_original.proofs.parser.Relation.{Agree, Below, Matches, SamePlace, standing, following as after_document, after_end, fed, feed, inside, popped_fits, popped_fresh, there, tk}
 
 -- a token is wanted for this, and no text is held
 abbrev following : automaton.Purpose → Want
@@ -73,6 +74,11 @@ module _ (f : Fault) (tags : List yaml_tag_directive_t) (hs : Handles) (be flag 
           (token_type u.content))) l)
       node s p rest b u l = parsed f tags hs agree be flag x s s' ms p rest b u.content u.start_mark u.end_mark l
 
+      -- the parser goes back to a state from the stack
+      popped : (marks : List Mark) (l : List Token) → let c : Config = record (here (top ss) marks) { states = below ss } in
+          SamePlace f (there f tags flag (top ss) false c l) c l
+      popped marks l = standing refl (popped_fits ss inner agree) (popped_fresh ss _ inner)
+
       -- block sequences
       after_item : (t u : Token) (l : List Token) → t.content ≡ BlockEntry
           → Alike (λ p. orig.yaml_parser_parse_block_sequence_entry p false) (following (automaton.AfterBlockEntry t.end_mark)) st.YAML_PARSE_BLOCK_SEQUENCE_ENTRY_STATE
@@ -84,7 +90,7 @@ module _ (f : Fault) (tags : List yaml_tag_directive_t) (hs : Handles) (be flag 
 
       pub block_sequence_entry : OfTokens (λ p. orig.yaml_parser_parse_block_sequence_entry p false)
           st.YAML_PARSE_BLOCK_SEQUENCE_ENTRY_STATE
-      block_sequence_entry l = grind (arith, after_item, standing, popped_fits, popped_fresh)
+      block_sequence_entry l = grind (arith, after_item, popped)
 
       -- indentless sequences
       after_indentless_item : (t u : Token) (l : List Token) → t.content ≡ BlockEntry
@@ -110,7 +116,7 @@ module _ (f : Fault) (tags : List yaml_tag_directive_t) (hs : Handles) (be flag 
 
       pub block_mapping_key : OfTokens (λ p. orig.yaml_parser_parse_block_mapping_key as_here p false)
           st.YAML_PARSE_BLOCK_MAPPING_KEY_STATE
-      block_mapping_key l = grind (arith, after_key, inside, standing, popped_fits, popped_fresh)
+      block_mapping_key l = grind (arith, after_key, inside, standing, popped)
 
       after_value : (t u : Token) (l : List Token) → t.content ≡ Value
           → Alike orig.yaml_parser_parse_block_mapping_value (following (automaton.AfterValue t.end_mark)) st.YAML_PARSE_BLOCK_MAPPING_VALUE_STATE
@@ -132,11 +138,11 @@ module _ (f : Fault) (tags : List yaml_tag_directive_t) (hs : Handles) (be flag 
       sequence_entry t u l e =
           let at_node = node st.YAML_PARSE_FLOW_SEQUENCE_FIRST_ENTRY_STATE Flow
           (st.YAML_PARSE_FLOW_SEQUENCE_ENTRY_STATE ∷ ss) inner u l in
-          grind (arith, inside, standing, popped_fits, popped_fresh)
+          grind (arith, inside, standing, popped)
 
       pub flow_sequence_entry : OfTokens (λ p. orig.yaml_parser_parse_flow_sequence_entry p false)
           st.YAML_PARSE_FLOW_SEQUENCE_ENTRY_STATE
-      flow_sequence_entry l = grind (arith, sequence_entry, standing, popped_fits, popped_fresh)
+      flow_sequence_entry l = grind (arith, sequence_entry, popped)
 
       pub pair_key : OfTokens (orig.yaml_parser_parse_flow_sequence_entry_mapping_key as_here)
           st.YAML_PARSE_FLOW_SEQUENCE_ENTRY_MAPPING_KEY_STATE
@@ -177,11 +183,11 @@ module _ (f : Fault) (tags : List yaml_tag_directive_t) (hs : Handles) (be flag 
       mapping_entry t u l e =
           let at_node = node st.YAML_PARSE_FLOW_MAPPING_FIRST_KEY_STATE Flow
           (st.YAML_PARSE_FLOW_MAPPING_EMPTY_VALUE_STATE ∷ ss) inner u l in
-          grind (arith, flow_key, standing, popped_fits, popped_fresh)
+          grind (arith, flow_key, popped)
 
       pub flow_mapping_key : OfTokens (λ p. orig.yaml_parser_parse_flow_mapping_key p false)
           st.YAML_PARSE_FLOW_MAPPING_KEY_STATE
-      flow_mapping_key l = grind (arith, mapping_entry, standing, popped_fits, popped_fresh)
+      flow_mapping_key l = grind (arith, mapping_entry, popped)
 
       after_flow_value : (t u : Token) (l : List Token) → t.content ≡ Value
           → Alike (λ p. orig.yaml_parser_parse_flow_mapping_value p false) (following automaton.AfterFlowMappingValue) st.YAML_PARSE_FLOW_MAPPING_VALUE_STATE
@@ -205,7 +211,7 @@ module _ (f : Fault) (tags : List yaml_tag_directive_t) (hs : Handles) (be flag 
       first_sequence_entry (t ∷ l) =
           let at_node = node st.YAML_PARSE_FLOW_SEQUENCE_FIRST_ENTRY_STATE Flow
           (st.YAML_PARSE_FLOW_SEQUENCE_ENTRY_STATE ∷ ss) inner t l in
-          grind (arith, inside, standing, popped_fits, popped_fresh)
+          grind (arith, inside, standing, popped)
 
       first_flow_key : (t u : Token) (l : List Token) → t.content ≡ Key
           → Alike (orig.mapping_key_after_start true) (following automaton.AfterFlowMappingKey) st.YAML_PARSE_FLOW_MAPPING_FIRST_KEY_STATE
@@ -221,7 +227,7 @@ module _ (f : Fault) (tags : List yaml_tag_directive_t) (hs : Handles) (be flag 
       first_mapping_key (t ∷ l) =
           let at_node = node st.YAML_PARSE_FLOW_MAPPING_FIRST_KEY_STATE Flow
           (st.YAML_PARSE_FLOW_MAPPING_EMPTY_VALUE_STATE ∷ ss) inner t l in
-          grind (arith, first_flow_key, standing, popped_fits, popped_fresh)
+          grind (arith, first_flow_key, popped)
 
       -- a document's content, and nodes
       pub document_content : OfTokens orig.yaml_parser_parse_document_content
