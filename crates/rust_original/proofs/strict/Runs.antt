@@ -25,7 +25,7 @@ use Rattle.rust_original.proofs.strict.Judged.{Judged, call_found, judged, judge
 -- the flag for the stream's end goes with the last state
 same_flag : (f : Fault) (q : OriginalParser) (d : Config) (l : List Token) → SamePlace f q d l
     → q.stream_end_produced ≡ is_end_state d.state
-same_flag f q d l s = grind (arith, flagged s.fits)
+same_flag f q d l s = ap (λ (p : OriginalParser). p.stream_end_produced) s.is ∙ flagged s.fits
 
 module _ (f : Fault) where
   -- the first call of a strict run, and what is left of it
@@ -49,7 +49,7 @@ module _ (f : Fault) where
 
   fed : (w : Want) (c : Config) (t : Token) (l : List Token) (o : Progressed) → step w c t ≡ o
       → feed f w c (t ∷ l) ≡ led o l (λ v d. feed f v d l)
-  fed w c t l o s = grind arith
+  fed w c t l o s = ap (λ (p : Progressed). led p l (λ v d. feed f v d l)) s
 
   longer : {w v : Want} {c d : Config} {t : Token} {l : List Token} {e : List Event} {x : StrictEnding}
       → judged w c (t ∷ l) ≡ judged v d l → feed f w c (t ∷ l) ≡ feed f v d l → Call v d l e x → Call w c (t ∷ l) e x
@@ -176,7 +176,7 @@ module _ (f : Fault) where
 
   not_ended : (p : OriginalParser) (e : Event) (c : Config) (r : List Token) (a : Event)
       → Matches f (OK a p) (given e c r) → is_end_state c.state ≡ false → p.stream_end_produced ≡ true → ⊥
-  not_ended p e c r a w k j = grind (arith, same_flag)
+  not_ended p e c r a w k j = let u : true ≡ false = sym j ∙ (same_flag f p c r w.1 ∙ k) in cc
 
   stands_on : (p : OriginalParser) (e : Event) (c : Config) (r : List Token) (a : Event)
       → Matches f (OK a p) (given e c r) → SamePlace f p c r
