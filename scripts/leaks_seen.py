@@ -41,7 +41,7 @@ LEAKS = {
         )
     },
     "content_forgotten_put_node": ("libyaml_events/src/states/after_properties.rt", "put_node", "make_light(&mut self.spare, &mut out.content);", "let _ = self.spare.len();"),
-    "handles_forgotten": (HANDLES, "clear", "self.first.clear();", "std::mem::forget(std::mem::replace(&mut self.first, Vec::new(*self.first.allocator())));"),
+    "handles_forgotten": (HANDLES, "clear", "self.first.clear();", "let alloc = *self.first.allocator(); std::mem::forget(std::mem::replace(&mut self.first, Vec::new(alloc)));"),
     "later_handles_forgotten": (HANDLES, "clear", "self.others = BTreeMap::new(*self.first.allocator());", "std::mem::forget(std::mem::replace(&mut self.others, BTreeMap::new(*self.first.allocator())));"),
     "half_a_document_forgotten": ("libyaml_loader/src/composer.rt", "keep", "self.ctx = loader_ctx::new(self.ctx.alloc, self.max_entries);", "let fresh = loader_ctx::new(self.ctx.alloc, self.max_entries); mem::forget(mem::replace(&mut self.ctx, fresh));"),
 }
