@@ -29,7 +29,7 @@ grows() {
 }
 
 status=0
-for work in 'parsed 100000' 'loaded 10000' 'left 10000' 'deleted 10000' 'anchored 10000' 'handles 10000' 'open 10000' \
+for work in 'parsed 100000' 'loaded 10000' 'left 10000' 'deleted 10000' 'anchored 10000' 'handles 10000' 'open 10000' 'refused 10000' \
     'built 10000' 'placed 600' 'broken 600' 'deserted 600' 'given 600' 'written 600' 'pushed 600' 'composed 600' 'long 3'; do
     grows $work 512
 done

@@ -10,11 +10,11 @@ use std::alloc::{AllocError, Global};
 use std::rt::Files;
 use token_lines::{MAX_TOKENS, yaml_line_source_t};
 use unsafe_libyaml::{
-    YAML_ANY_MAPPING_STYLE, YAML_ANY_SCALAR_STYLE, YAML_ANY_SEQUENCE_STYLE, YAML_PARSER_ERROR,
-    ZERO_MARK, unnamed_yaml_token_t_data, unnamed_yaml_token_t_data_anchor,
+    YAML_ANY_MAPPING_STYLE, YAML_ANY_SCALAR_STYLE, YAML_ANY_SEQUENCE_STYLE, YAML_COMPOSER_ERROR,
+    YAML_PARSER_ERROR, ZERO_MARK, unnamed_yaml_token_t_data, unnamed_yaml_token_t_data_anchor,
     yaml_document_add_mapping, yaml_document_add_scalar, yaml_document_add_sequence,
-    yaml_document_delete, yaml_document_initialize, yaml_document_t, yaml_event_delete,
-    yaml_parser_delete, yaml_parser_initialize, yaml_parser_t, yaml_refusal_t,
+    yaml_document_delete, yaml_document_initialize, yaml_document_t, yaml_error_type_t,
+    yaml_event_delete, yaml_parser_delete, yaml_parser_initialize, yaml_parser_t, yaml_refusal_t,
     yaml_scalar_event_initialize, yaml_token_delete, yaml_token_t,
 };
 use vectors_common::{gives_event, next_nodes, read_text};
@@ -157,18 +157,27 @@ const LEFT_OPEN: &str = "STREAM-START 0:0:0 0:0:0 utf8\n\
     SCALAR 0:0:0 0:0:0 =text plain\n\
     BLOCK-END 0:0:0 0:0:0\n";
 
-/// Whether a load of these lines ends by a fault.
-fn is_left_open(alloc: Global) -> bool {
-    let source = yaml_line_source_t::new(alloc, LEFT_OPEN.as_bytes(), MAX_TOKENS);
+/// The lines of a document with open collections before an alias of no node, at which the composer fails.
+const REFUSED: &str = "STREAM-START 0:0:0 0:0:0 utf8\n\
+    DOCUMENT-START 0:0:0 0:0:0\n\
+    FLOW-SEQUENCE-START 0:0:0 0:0:0\n\
+    ANCHOR 0:0:0 0:0:0 =a\n\
+    FLOW-MAPPING-START 0:0:0 0:0:0\n\
+    KEY 0:0:0 0:0:0\n\
+    ALIAS 0:0:0 0:0:0 =b\n";
+
+/// Whether a load of these lines ends by a fault of this kind.
+fn ends_by(alloc: Global, lines: &str, error: yaml_error_type_t) -> bool {
+    let source = yaml_line_source_t::new(alloc, lines.as_bytes(), MAX_TOKENS);
     let mut parser = yaml_parser_initialize(alloc, source);
-    next_nodes(&mut parser) == Some(Err(YAML_PARSER_ERROR))
+    next_nodes(&mut parser) == Some(Err(error))
 }
 
-/// Loads so far as a fault in open collections n times, and counts the faults.
-fn load_open(alloc: Global, n: u32) -> u64 {
+/// Loads these lines so far as a fault in open collections n times, and counts the faults.
+fn load_open(alloc: Global, lines: &str, error: yaml_error_type_t, n: u32) -> u64 {
     let mut faults = 0u64;
     for _ in 0..n {
-        faults = faults.saturating_add(u64::from(is_left_open(alloc)));
+        faults = faults.saturating_add(u64::from(ends_by(alloc, lines, error)));
     }
     faults
 }
@@ -235,7 +244,8 @@ pub fn show(rt: &(impl Files + Print + AllocGlobal), work: &str, n: u32) -> Resu
         "deleted" => delete_tokens_and_events(rt.alloc(), n)?,
         "anchored" => load_anchored(rt.alloc(), n),
         "handles" => parse_handles(rt.alloc(), n),
-        "open" => load_open(rt.alloc(), n),
+        "open" => load_open(rt.alloc(), LEFT_OPEN, YAML_PARSER_ERROR, n),
+        "refused" => load_open(rt.alloc(), REFUSED, YAML_COMPOSER_ERROR, n),
         "built" => delete_documents(rt.alloc(), n),
         "placed" => follow(rt, Way::Placed, n)?,
         "broken" => follow(rt, Way::Broken, n)?,
