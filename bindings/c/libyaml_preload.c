@@ -90,7 +90,9 @@ static struct {
     size_t depth, nodes, expanded;
 } bounds;
 #define UNCOUNTED ((size_t)PTRDIFF_MAX)
+static int is_strict;  /* POKHVIZI_STRICT is set, to something else than 0 */
 static const char *check_file;
+static int is_read;  /* the environment */
 
 /* The number that a variable of the environment has, or `most` if it has none. Another text ends the process: it would run
  * without the bound that is asked for. */
@@ -110,13 +112,20 @@ static size_t bound_of(const char *name, size_t most)
     return bound < most ? bound : most;
 }
 
-/* As the program begins: no later call looks at what it may be changing. */
-__attribute__((constructor)) static void read_environment(void)
+/* As the program begins, or at the first call, if the constructor of another library parses before. No later call looks at what the
+ * program may be changing. */
+__attribute__((constructor)) SELDOM void read_environment(void)
 {
+    const char *strict = getenv("POKHVIZI_STRICT");
+
+    if (is_read)
+        return;
     check_file = getenv("POKHVIZI_CHECK");
+    is_strict = strict != NULL && *strict != '\0' && strcmp(strict, "0") != 0;
     bounds.depth = bound_of("POKHVIZI_MAX_DEPTH", PTRDIFF_MAX / sizeof(yaml_mark_t));
     bounds.nodes = bound_of("POKHVIZI_MAX_NODES", INT32_MAX);
     bounds.expanded = bound_of("POKHVIZI_MAX_EXPANDED", UNCOUNTED);
+    is_read = 1;
 }
 
 static size_t least(size_t one, size_t other)
@@ -548,26 +557,18 @@ static int give_too_deep(yaml_parser_t *parser)
     return give_fault(parser, &fault);
 }
 
-/* POKHVIZI_STRICT is set, to something else than 0. */
-static int is_strict(void)
-{
-    const char *value = getenv("POKHVIZI_STRICT");
-
-    return value != NULL && *value != '\0' && strcmp(value, "0") != 0;
-}
-
 /* Begins a stream; 0 where memory is refused. */
 static int begin(yaml_parser_t *parser)
 {
-    int strict = is_strict();
-
+    if (!is_read)
+        read_environment();
     if (!grow_states(parser, 64))
         return 0;
     pokhvizi_steps_new(&kept_of(parser)->steps);
     kept_of(parser)->marks_room = least((size_t)(parser->marks.end - parser->marks.start), bounds.depth);
     kept_of(parser)->key = 0;
-    kept_of(parser)->looked_at = strict ? UINT32_MAX : WITH_TEXT;
-    kept_of(parser)->by_style = strict ? YAML_NO_TOKEN : YAML_SCALAR_TOKEN;
+    kept_of(parser)->looked_at = is_strict ? UINT32_MAX : WITH_TEXT;
+    kept_of(parser)->by_style = is_strict ? YAML_NO_TOKEN : YAML_SCALAR_TOKEN;
     free(parser->tag_directives.start);
     memset(&parser->tag_directives, 0, sizeof parser->tag_directives);
     parser->state = YAML_PARSE_DOCUMENT_CONTENT_STATE;
@@ -1118,6 +1119,8 @@ __attribute__((visibility("default"))) int yaml_parser_load(yaml_parser_t *parse
     assert(parser);
     assert(document);
     memset(document, 0, sizeof *document);
+    if (!is_read)
+        read_environment();
     begin_loading(&loading);
     if (!ROOM(document->nodes) || (parser->state == YAML_PARSE_STREAM_START_STATE && !begin(parser)))
         loaded = out_of_memory(parser);

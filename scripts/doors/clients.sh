@@ -195,8 +195,9 @@ within() {
 
 preload() {
     memory='' ratios=''
-    cc -O1 -g -Wall -Wextra -Werror -Ibindings/c/include -o "$work/preload_calls" scripts/doors/clients/preload_calls.c \
-        "$dir/libpokhvizi.a" -lyaml -lpthread || return 1
+    cc -O1 -g -Wall -Wextra -Werror -fPIC -shared -o "$work/libconstructor.so" scripts/doors/clients/constructor.c -lyaml &&
+        cc -O1 -g -Wall -Wextra -Werror -Ibindings/c/include -o "$work/preload_calls" scripts/doors/clients/preload_calls.c \
+            "$dir/libpokhvizi.a" -L"$work" -Wl,-rpath,"$work" -lconstructor -lyaml -lpthread || return 1
     if "$work/preload_calls" > "$work/calls" 2>&1; then
         echo "without the preload, the calls should differ"
         return 1
@@ -216,7 +217,8 @@ preload() {
             { echo "a bound that is no number: $(cat "$work/calls")"; return 1; }
     done
     within 20 30 40 || return 1
-    said=$(LD_PRELOAD=$preloaded "$work/preload_calls") && echo "$said$memory"
+    said=$(LD_PRELOAD=$preloaded "$work/preload_calls") || { echo "$said"; return 1; }
+    echo "$said$memory"
 }
 
 # ---- Strict parsing ----

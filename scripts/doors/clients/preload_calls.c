@@ -1,8 +1,9 @@
 /* Calls of libyaml with bindings/c/libyaml_preload.c preloaded: each allocation refused in turn, parsers that are
  * deleted at each event, moved, used after an error or after the end, and by several threads; documents; more states, marks,
  * tag directives, texts and anchors than there was room for at first; drawn tag directives, beside pokhvizi_directive_fact and
- * pokhvizi_tag; the time that anchors and directives take. Says what was wrong, and exits with 1 if anything was. With the word
- * `bounds` it checks no more than those that the environment sets: a depth of 20, 30 nodes, and 40 with aliases written out. */
+ * pokhvizi_tag; the time that anchors and directives take; a load by a constructor (constructor.c), and an environment that changes.
+ * Says what was wrong, and exits with 1 if anything was. With the word `bounds` it checks no more than those that the environment
+ * sets: a depth of 20, 30 nodes, and 40 with aliases written out. */
 #include <pokhvizi/steps.h>
 #include <pthread.h>
 #include <stdio.h>
@@ -10,6 +11,8 @@
 #include <string.h>
 #include <time.h>
 #include <yaml.h>
+
+extern long nodes_of_constructor;
 
 static const char *const TEXT =
     "%TAG !e! tag:e,2000:\n--- !e!x\n- &a [b, {c: d}, 'e f']\n- ? *a\n  : |\n   g\n- \"\\0\\u00e9 %\"\n...\nbare\n";
@@ -136,7 +139,7 @@ static long parse_text(const char *text, long most, unsigned long *sum, yaml_err
     return count;
 }
 
-/* Loads all documents; how many nodes there were, or -1 by a fault. */
+/* Loads all documents; how many nodes there were up to the end or an error. */
 static long load_text(const char *text, yaml_error_type_t *error)
 {
     yaml_parser_t parser;
@@ -399,6 +402,18 @@ static void check_loads_within(void)
     }
 }
 
+/* What the environment says once the program runs is not looked at. */
+static void check_environment(void)
+{
+    yaml_error_type_t error;
+
+    setenv("POKHVIZI_STRICT", "1", 1);
+    setenv("POKHVIZI_MAX_DEPTH", "0", 1);
+    expect(load_text(": x", &error) == 3 && error == YAML_NO_ERROR, "a later environment", error);
+    unsetenv("POKHVIZI_STRICT");
+    unsetenv("POKHVIZI_MAX_DEPTH");
+}
+
 static void check_faults(void)
 {
     yaml_parser_t parser;
@@ -573,6 +588,7 @@ static void check_bounds(void)
     static char brackets[100001];
 
     memset(brackets, '[', sizeof brackets - 1);
+    expect(nodes_of_constructor == 0, "a constructor's load within 30 nodes", nodes_of_constructor);
     check_bound(deep, 0, 44, YAML_NO_ERROR, NULL, 0);
     check_bound(deep, 1, 20, YAML_NO_ERROR, NULL, 0);
     clock_t begun = clock();
@@ -601,9 +617,11 @@ int main(int count, char **words)
         check_bounds();
         return wrong;
     }
+    expect(nodes_of_constructor == 32, "a constructor's load", nodes_of_constructor);
     check_whole();
     if (wrong)
         return 1;
+    check_environment();
     make_deep();
     long refused = check_refusals(TEXT, EVENTS) + check_refusals(deep, 4 + 2 * LEVELS) + check_refusals("k: &a ! x\n", 8);
     char *anchors = make_anchors(40);
