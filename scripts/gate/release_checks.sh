@@ -140,6 +140,7 @@ else
 fi
 cat > use.c << 'C'
 #include <stdio.h>
+#include <unistd.h>
 #include <yaml.h>
 
 int main(int count, char **words)
@@ -148,7 +149,7 @@ int main(int count, char **words)
     yaml_event_t event;
 
     (void)words;
-    if (count > 1 || !yaml_parser_initialize(&parser))
+    if (count > 1 || chdir("/") != 0 || !yaml_parser_initialize(&parser))
         return 7;
     yaml_parser_set_input_string(&parser, (const unsigned char *)"a", 1);
     return yaml_parser_parse(&parser, &event) ? 0 : 1;
@@ -158,6 +159,14 @@ starter=$installed/bin/proved-libyaml
 preload=$installed/lib/pokhvizi/libyaml_preload.so
 gcc -O2 use.c -o use -lyaml || complain "use.c"
 want 'a program that is checked' "proved-libyaml: ./use used the proved parser, Pokhvizi $version" "$starter" --check ./use
+mkdir named temporary
+cp use named/stop
+printf '#!/bin/sh\necho warning >&2\nexec /bin/sh "$@"\n' > named/sh && chmod +x named/sh
+want 'a program with the name of a shell function' "proved-libyaml: stop used the proved parser, Pokhvizi $version" \
+    env "PATH=$PWD/named:$PATH" TMPDIR=temporary "$starter" --check stop
+want 'a shell that warns of its locale' 'status 0' sh -c "PATH='$PWD/named:$PATH' '$starter' ./use; echo status \$?"
+want 'a file that a signal leaves' '' \
+    sh -c "TMPDIR=temporary '$starter' --check sleep 1 2> /dev/null & sleep 0.3; kill \$!; wait; ls temporary"
 want 'its status' 'status 7' sh -c "'$starter' ./use other; echo status \$?"
 want 'a program that parses nothing' "proved-libyaml: ./use didn't use the proved parser, status 1" \
     sh -c "said=\$('$starter' --check ./use other 2>&1); echo \"\$said, status \$?\""
