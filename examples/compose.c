@@ -156,5 +156,9 @@ int main(void)
         yaml_event_delete(&event);
     }
     yaml_parser_delete(&parser);
+    if (fflush(stdout) != 0 || ferror(stdout)) {
+        perror("compose");
+        return 1;
+    }
     return 0;
 }

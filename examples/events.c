@@ -15,7 +15,7 @@ static const char *const NAMES[] = {
 static pokhvizi_handle_t *handles;
 static uint8_t *texts;
 static size_t count, length;
-static char *anchor, *tag;
+static char *anchor, *tag, *next_tag; /* next_tag is the tag in full whose fact was asked for last */
 
 static void *resized(void *block, size_t size)
 {
@@ -40,11 +40,11 @@ static uint8_t tag_fact(const yaml_char_t *handle, const yaml_char_t *suffix)
     size_t room = length + suffix_length + 32; /* the longest prefix that needs no directive has 18 bytes */
     uint8_t fact;
 
-    tag = resized(tag, room);
+    next_tag = resized(next_tag, room);
     fact = pokhvizi_tag(
-        handles, count, texts, length, handle, handle_length, suffix, suffix_length, (uint8_t *)tag, room, &size);
+        handles, count, texts, length, handle, handle_length, suffix, suffix_length, (uint8_t *)next_tag, room, &size);
     if (fact < 4)
-        tag[size] = 0;
+        next_tag[size] = 0;
     return fact;
 }
 
@@ -74,6 +74,10 @@ static void keep(yaml_token_t *token)
         free(anchor);
         anchor = (char *)token->data.anchor.value;
         token->data.anchor.value = NULL;
+    } else if (token->type == YAML_TAG_TOKEN) {
+        free(tag);
+        tag = next_tag;
+        next_tag = NULL;
     } else if (token->type == YAML_TAG_DIRECTIVE_TOKEN) {
         handles = resized(handles, (count + 1) * sizeof *handles);
         handles[count].handle = kept(token->data.tag_directive.handle);
@@ -181,5 +185,9 @@ int main(void)
     }
     yaml_token_delete(&token);
     yaml_parser_delete(&scanner);
+    if (fflush(stdout) != 0 || ferror(stdout)) {
+        perror("events");
+        return 1;
+    }
     return 0;
 }

@@ -264,6 +264,7 @@ struct run {
     struct text states, marks, stack;
     struct text handles, handle_texts;  /* of the document */
     struct text anchor, tag;            /* since the last event; the tag in full */
+    struct text next_tag;               /* the tag in full whose fact was asked for last */
     char version[32];                   /* of the next document; "-" where it has none */
     struct text nodes, anchors, texts;  /* of the document */
     struct text start;                  /* the rest of its line */
@@ -299,13 +300,13 @@ static uint8_t tag_fact(struct run *run, const yaml_char_t *handle, const yaml_c
 {
     size_t suffix_length = strlen((const char *)suffix), size = 0;
 
-    run->tag.length = 0;
-    if (!reserve(&run->tag, run->handle_texts.length + suffix_length + 32)) /* no default prefix has more */
+    run->next_tag.length = 0;
+    if (!reserve(&run->next_tag, run->handle_texts.length + suffix_length + 32)) /* no default prefix has more */
         return 0;
     uint8_t fact = pokhvizi_tag(ENTRIES(pokhvizi_handle_t, run->handles), COUNT(pokhvizi_handle_t, run->handles),
                                 run->handle_texts.bytes, run->handle_texts.length, handle, strlen((const char *)handle), suffix,
-                                suffix_length, run->tag.bytes, run->tag.room, &size);
-    run->tag.length = fact < 4 ? size : 0;
+                                suffix_length, run->next_tag.bytes, run->next_tag.room, &size);
+    run->next_tag.length = fact < 4 ? size : 0;
     return fact;
 }
 
@@ -341,11 +342,16 @@ static pokhvizi_text_t kept(struct text *texts, const yaml_char_t *text)
 static void keep(struct run *run, const yaml_token_t *token)
 {
     pokhvizi_handle_t handle;
+    struct text tag = run->tag;
 
     switch (token->type) {
     case YAML_ANCHOR_TOKEN:
         run->anchor.length = 0;
         put_words(&run->anchor, (const char *)token->data.anchor.value);
+        break;
+    case YAML_TAG_TOKEN:
+        run->tag = run->next_tag;
+        run->next_tag = tag;
         break;
     case YAML_VERSION_DIRECTIVE_TOKEN:
         snprintf(run->version, sizeof run->version, "%d.%d", token->data.version_directive.major,
@@ -619,7 +625,7 @@ static int take_token(struct run *run, const yaml_token_t *token)
 
     for (;;) {
         uint8_t fact = fact_of(run, token);
-        if (run->states.failed || run->marks.failed || run->tag.failed || status != ENDED)
+        if (run->states.failed || run->marks.failed || run->next_tag.failed || status != ENDED)
             return status != ENDED ? status : FAILED;
         switch (pokhvizi_step(&run->steps, run->states.bytes, run->states.room, ENTRIES(pokhvizi_mark_t, run->marks),
                               ROOM(pokhvizi_mark_t, run->marks), (uint8_t)token->type, fact, &at, &event,
@@ -651,7 +657,7 @@ static int take_token(struct run *run, const yaml_token_t *token)
 static int begin(struct run *run, int wants_nodes)
 {
     struct text *all[] = {&run->out, &run->states, &run->marks, &run->stack, &run->handles, &run->handle_texts, &run->anchor,
-                          &run->tag, &run->nodes, &run->anchors, &run->texts, &run->start};
+                          &run->tag, &run->next_tag, &run->nodes, &run->anchors, &run->texts, &run->start};
     int is_there = 1;
 
     run->wants_nodes = wants_nodes;
@@ -666,7 +672,7 @@ static int begin(struct run *run, int wants_nodes)
 static void end(struct run *run)
 {
     struct text *all[] = {&run->out, &run->states, &run->marks, &run->stack, &run->handles, &run->handle_texts, &run->anchor,
-                          &run->tag, &run->nodes, &run->anchors, &run->texts, &run->start};
+                          &run->tag, &run->next_tag, &run->nodes, &run->anchors, &run->texts, &run->start};
 
     forget(run);
     for (size_t i = 0; i < sizeof all / sizeof *all; i++)
@@ -693,7 +699,8 @@ static int scan(const struct text *yaml, struct run *run, int wants_tokens, stru
         if (run->out.failed)
             status = FAILED;
     }
-    if (parser.error == YAML_MEMORY_ERROR)
+    /* Of some allocations that are refused libyaml doesn't say so. */
+    if (parser.error == YAML_MEMORY_ERROR || (status == ENDED && more && parser.error == YAML_NO_ERROR))
         status = FAILED;
     if (status == ENDED && parser.error != YAML_NO_ERROR) {
         put_scanner_fault(fault, &parser, yaml);

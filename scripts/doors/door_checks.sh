@@ -117,6 +117,8 @@ check_sample() {
     tells "$1" "$1: byte 3: control characters are not allowed" 'a\nb\001\n'
     tells "$1" "$1: line 2, column 6: mapping values are not allowed in this context" 'a\n--- b: c: d\n'
     tells "$1" "$1: line 2, column 3: did not find expected ',' or ']' $1: line 1, column 3: while parsing a flow sequence" '- [a\n  }'
+    said=$("$work/$1" < examples/compose.yaml 2>&1 > /dev/full; echo "status $?")
+    [ "$(echo "$said" | tr '\n' ' ')" = "$1: No space left on device status 1 " ] || complain "examples/$1.c, its output full: $said"
 }
 
 # ---- Steps ----
@@ -137,6 +139,7 @@ check_steps() {
     check "examples/events.c" sh -c "'$work/events' < examples/compose.yaml | tee '$work/lines' | wc -l &&
         cut -d ' ' -f 1 '$work/lines' | uniq | tail -n 1 | grep -x -e -STR"
     check_sample events
+    check "two tags of a node" sh -c "'$work/events' < scripts/parts/broken/parser_two_tags.yaml 2> /dev/null | grep -x '=VAL 0:3 0:5 <!b> '"
     check_three "beside libyaml's events" "$@"
     mkdir "$work/strict"
     python3 scripts/doors/clients/strict.py write "$work/strict" 400 1 > /dev/null
@@ -276,8 +279,10 @@ check_yaml() {
     for mode in events nodes; do
         check_refused $mode examples/compose.yaml
         check_refused $mode scripts/parts/broken/scanner_quote_never_closed.yaml
+        check_refused $mode scripts/parts/whole/verbatim_tags.yaml
     done
     check_refused tokens examples/compose.yaml
+    check_refused tokens scripts/parts/whole/verbatim_tags.yaml
 }
 
 check_$door examples/*.yaml scripts/parts/broken/*.yaml scripts/parts/whole/*.yaml

@@ -36,6 +36,7 @@ struct stream {
 struct event {
     pokhvizi_event_t shape;
     struct bytes anchor, tag;
+    struct bytes next_tag;  /* the tag in full whose fact was asked for last */
     int has_version, major, minor;
     const yaml_token_t *token;  /* the token that ends with it, if any: of an alias, a scalar, a stream's start */
 };
@@ -130,6 +131,10 @@ static void hold(struct stream *stream, struct event *event)
 
     if (token->type == YAML_ANCHOR_TOKEN) {
         put(&event->anchor, token->data.anchor.value, strlen((const char *)token->data.anchor.value));
+    } else if (token->type == YAML_TAG_TOKEN) {
+        struct bytes tag = event->tag;
+        event->tag = event->next_tag;
+        event->next_tag = tag;
     } else if (token->type == YAML_TAG_DIRECTIVE_TOKEN) {
         declare(stream, token);
     } else if (token->type == YAML_VERSION_DIRECTIVE_TOKEN) {
@@ -161,7 +166,7 @@ static uint32_t next(struct stream *stream, uint32_t did, struct event *event, p
         if (stream->is_strict && pokhvizi_refuses(&stream->steps, stream->marks, stream->marks_room, stream->token.type, at, fault))
             return POKHVIZI_FAULT;
         did = pokhvizi_step(&stream->steps, stream->states, stream->states_room, stream->marks, stream->marks_room,
-                            stream->token.type, fact_of(stream, &event->tag), at, &event->shape, fault);
+                            stream->token.type, fact_of(stream, &event->next_tag), at, &event->shape, fault);
         event->token = did == POKHVIZI_GAVE ? &stream->token : NULL;
         if (did == POKHVIZI_WANTS)
             hold(stream, event);
@@ -184,6 +189,7 @@ static void free_event(struct event *event)
 {
     free(event->anchor.at);
     free(event->tag.at);
+    free(event->next_tag.at);
 }
 
 /* ---- Beside libyaml's events ---- */
@@ -563,7 +569,7 @@ static void try_text(const struct bytes *yaml, const char *name)
     for (;;) {
         if ((did == POKHVIZI_WANTS || did == POKHVIZI_GAVE) && !take(&stream))
             break;
-        uint8_t fact = fact_of(&stream, &event.tag);
+        uint8_t fact = fact_of(&stream, &event.next_tag);
         check_kinds(&stream, name);
         check_rooms(&stream, fact, name);
         for (int i = 0; i < 20; i++)

@@ -41,8 +41,8 @@ def main():
     if len(sys.argv) < 2:
         sys.exit(__doc__)
     texts = [path for folder in FOLDERS for path in sorted((TOP / folder).glob("*.yaml"))]
-    for path in (TOP / "scripts" / "whole").glob("*.yaml"):
-        if path.read_bytes().endswith(b"\n"):
+    for path in texts:
+        if path.parent.name == "whole" and path.read_bytes().endswith(b"\n"):
             sys.exit(f"{path.name} ends with a line feed")
     with ThreadPoolExecutor(4) as pool:
         found = pool.map(lambda pair: difference(*pair, sys.argv[1], sys.argv[2:]), product(MODES, texts))
