@@ -101,6 +101,9 @@ pub struct Composer {
     stack: Vec<Open>,
     anchors: HashMap<Text, i32>,
     expansion: Option<Expansion>,
+    /// The bounds as the parser began.
+    max_nodes: u32,
+    max_expanded: Option<u64>,
 }
 
 impl Composer {
@@ -112,14 +115,16 @@ impl Composer {
             stack: Vec::new(),
             anchors: HashMap::new(),
             expansion: None,
+            max_nodes: bounds::max_nodes(),
+            max_expanded: bounds::max_expanded(),
         }
     }
 
     /// Begins a document.
     pub fn begin(&mut self) {
         // SAFETY: the record is the caller's.
-        unsafe { pokhvizi_composer_new(&mut self.record, bounds::max_nodes()) };
-        self.expansion = Expansion::within_bound();
+        unsafe { pokhvizi_composer_new(&mut self.record, self.max_nodes) };
+        self.expansion = self.max_expanded.map(Expansion::new);
     }
 
     /// Forgets the anchors of a document. Its map isn't kept, since another document would take time for all of it.

@@ -1,6 +1,5 @@
 //! The count of `pokhvizi/compose.h`: how large a document is with its aliases written out.
 
-use crate::bounds;
 use crate::composer::{Place, Refusal};
 use crate::fault::Fault;
 
@@ -28,15 +27,15 @@ pub struct Expansion {
 impl Expansion {
     const ROOM: usize = 32;
 
-    /// Begins where there is a bound.
-    pub fn within_bound() -> Option<Expansion> {
+    /// Begins a document of at most so many nodes.
+    pub fn new(max: u64) -> Expansion {
         let mut record = Record([0; 2]);
         // SAFETY: the record is the caller's.
-        unsafe { pokhvizi_size_new(&mut record, bounds::max_expanded()?) };
-        Some(Expansion {
+        unsafe { pokhvizi_size_new(&mut record, max) };
+        Expansion {
             record,
             sizes: Vec::new(),
-        })
+        }
     }
 
     /// Counts a deed of the composer's; returns it, or the number of what stops.

@@ -69,7 +69,45 @@ fn bounds_hold() {
         assert_eq!(unsafe { told(text, false) }.1, "");
     }
     bounds::set_max_nodes(u32::MAX);
+    unsafe { bounds_of_the_beginning_hold() };
     expansion_is_bounded();
+}
+
+/// A parser keeps the bounds with which it began.
+unsafe fn bounds_of_the_beginning_hold() {
+    let bounds: [(fn(u32), &str); 3] = [
+        (|most| bounds::set_max_depth(most as usize), "found too many levels"),
+        (bounds::set_max_nodes, "found too many nodes"),
+        (
+            |most| bounds::set_max_expanded(most.into()),
+            "found too many nodes, with aliases written out",
+        ),
+    ];
+    for (set, fault) in bounds {
+        set(1);
+        assert_eq!(second("x\n--- [[y]]", || set(u32::MAX)), fault);
+        assert_eq!(second("x\n--- [[y]]", || set(1)), "");
+        set(u32::MAX);
+    }
+}
+
+/// The problem of a text's second document, between which and the first something changes; empty if there is none.
+unsafe fn second(text: &str, change: impl Fn()) -> String {
+    let (mut parser, mut document) = (Box::new(MaybeUninit::uninit()), MaybeUninit::uninit());
+    let parser: *mut yaml_parser_t = parser.as_mut_ptr();
+    assert!(yaml_parser_initialize(parser).ok);
+    yaml_parser_set_input_string(parser, text.as_ptr(), text.len() as u64);
+    assert!(yaml_parser_load(parser, document.as_mut_ptr()).ok);
+    yaml_document_delete(document.as_mut_ptr());
+    change();
+    let problem = if yaml_parser_load(parser, document.as_mut_ptr()).ok {
+        yaml_document_delete(document.as_mut_ptr());
+        String::new()
+    } else {
+        CStr::from_ptr((*parser).problem.cast()).to_string_lossy().into_owned()
+    };
+    yaml_parser_delete(parser);
+    problem
 }
 
 /// With aliases written out: how many nodes a text may have, and where it is too large for one less or has no end.
