@@ -223,6 +223,7 @@ static int fill(PyObject *module)
 }
 
 static int is_filled;
+static PyObject *the_module, *its_modules; /* borrowed: the module, and its interpreter's dict of modules */
 
 /* The interpreter ends that has the module; another may begin. */
 static void let_go(void *module)
@@ -244,8 +245,8 @@ PyMODINIT_FUNC PyInit__yaml(void)
     PyObject *module;
 
     if (is_filled) {
-        if ((module = PyState_FindModule(&definition)) != NULL) /* borrowed */
-            return shared(module);
+        if (PyImport_GetModuleDict() == its_modules) /* no PyState_FindModule: 3.12's reads past its list */
+            return shared(the_module);
         PyErr_SetString(PyExc_ImportError, "another interpreter of this process has pokhvizi._yaml");
         return NULL;
     }
@@ -253,5 +254,7 @@ PyMODINIT_FUNC PyInit__yaml(void)
     if (module != NULL && fill(module) < 0)
         Py_CLEAR(module);
     is_filled = module != NULL;
+    the_module = module;
+    its_modules = PyImport_GetModuleDict();
     return module;
 }
