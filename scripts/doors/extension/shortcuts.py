@@ -289,6 +289,7 @@ def rules():
         alike(name, lambda mine: (act(mine, None), read(mine))[1])
         alike(name + ", between documents", lambda mine: between_documents(mine, act))
     alike("rules that refer to their loader", referring)
+    alike("rules that go while others are looked up", gone)
     own = resolver.BaseResolver
     alike("PyYAML's resolve", lambda mine: with_resolve(mine, own, "resolve", other_resolve))
     alike("its code", lambda mine: with_resolve(mine, own.resolve, "__code__", other_resolve.__code__))
@@ -306,6 +307,25 @@ def referring(mine):
     del one, tag, rules
     gc.collect()
     return it()
+
+
+def gone(mine):
+    """The nodes of two documents, in the second of which the lookup of the rules for any takes those for a character away."""
+    class Key:
+        def __hash__(self):
+            return hash(None)
+
+        def __eq__(self, other):
+            if len(made) == 1:
+                rules.pop("w", None)
+            return False
+
+    # So many that their memory goes back to the system.
+    rules, made = {"w": [("!never", re.compile("never"))] * 200000, Key(): []}, []
+    mine.yaml_implicit_resolvers = rules
+    for node in yaml.compose_all("--- word\n--- word\n", mine):
+        made.append(told(node))
+    return made
 
 
 def between_documents(mine, act):

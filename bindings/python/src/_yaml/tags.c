@@ -126,10 +126,11 @@ PyObject *collection_tag(struct document *document, PyObject *class)
 /* What rules say of a value: of those for its first character, and of those for any. */
 enum said { FAILED = -1, NOTHING, FOUND, FOUND_FOR_ANY, OTHER };
 
-/* Puts the list of rules that the loader has for a character, borrowed, or NULL. */
+/* Puts the list of rules that the loader has for a character, or NULL. */
 static int find_list(const struct document *document, PyObject *character, PyObject **list)
 {
     *list = PyDict_GetItemWithError(document->hooks.rules, character);
+    Py_XINCREF(*list); /* a key's `__eq__` or a finalizer may take it out of the dict */
     return *list == NULL && PyErr_Occurred() ? -1 : 0;
 }
 
@@ -181,9 +182,12 @@ static enum said ask(const struct document *document, PyObject *character, PyObj
         return FAILED;
     if (list == NULL)
         return NOTHING;
-    if (!PyList_CheckExact(list))
+    if (!PyList_CheckExact(list)) {
+        Py_DECREF(list);
         return OTHER;
+    }
     *rules = PyList_AsTuple(list); /* while they are asked, the list may change */
+    Py_DECREF(list);
     if (*rules == NULL)
         return FAILED;
     return are_plain(*rules) ? ask_rules(*rules, value, tag) : OTHER;
@@ -263,13 +267,17 @@ static int is_same_list(PyObject *list, PyObject *rules)
 /* Whether the loader still has the rules by which a scalar's tag was found. */
 static int has_rules(const struct document *document, const struct resolved *at)
 {
-    PyObject *first = PyUnicode_Substring(at->value, 0, 1), *list, *for_any = NULL;
+    PyObject *first = PyUnicode_Substring(at->value, 0, 1), *list = NULL, *for_any = NULL;
     int done = first == NULL ? -1 : find_list(document, first, &list);
 
     Py_XDECREF(first);
     if (done == 0 && at->tag == NULL)
         done = find_list(document, Py_None, &for_any);
-    return done < 0 ? -1 : for_any == NULL && is_same_list(list, at->rules);
+    if (done == 0)
+        done = for_any == NULL && is_same_list(list, at->rules);
+    Py_XDECREF(list);
+    Py_XDECREF(for_any);
+    return done;
 }
 
 static void keep(struct resolved *at, const parser_object *parser, PyObject *value, PyObject *tag,
