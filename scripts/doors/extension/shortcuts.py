@@ -240,6 +240,34 @@ def noting_resolve(kind, value, implicit):
     return "!own"
 
 
+class Wraps:
+    """What notes calls of a method, and has its attributes."""
+
+    def __init__(self, method):
+        self.method = method
+
+    def __call__(self, *arguments):
+        noted.append((self.__name__, len(arguments)))
+        return self.method(*arguments)
+
+    def __getattr__(self, name):
+        return getattr(self.method, name)
+
+
+def wrap(one, name):
+    setattr(one, name, Wraps(getattr(one, name)))
+
+
+class Other(resolver.BaseResolver):
+    yaml_implicit_resolvers = {"w": [("!other", re.compile("word"))]}
+
+
+def of_class(mine, one):
+    """A loader's rules, which its `resolve` of a class method doesn't see."""
+    given(one, {"w": [("!one", WORD)]})
+    mine.resolve = classmethod(resolver.BaseResolver.resolve)
+
+
 WORD = re.compile("word|1")
 # What may be done to a loader's class, and to one loader of it.
 ACTS = {
@@ -281,6 +309,10 @@ ACTS = {
     "a path": lambda mine, one: mine.add_path_resolver("!path", [None], str),
     "a class's `resolve`": lambda mine, one: setattr(mine, "resolve", lambda self, *words: noting_resolve(*words)),
     "a loader's `resolve`": lambda mine, one: one and setattr(one, "resolve", noting_resolve),
+    "another's `resolve`": lambda mine, one: one and setattr(one, "resolve", Other().resolve),
+    "a class method `resolve`": lambda mine, one: one and of_class(mine, one),
+    "what wraps `resolve`": lambda mine, one: one and wrap(one, "resolve"),
+    "what wraps `descend_resolver`": lambda mine, one: one and wrap(one, "descend_resolver"),
 }
 
 

@@ -58,13 +58,13 @@ struct kept {
     struct known known_resolve, known_scalar_init, known_collection_init;
     newfunc plain_new; /* those of a class that has no such methods of its own */
     setattrofunc plain_setattr;
-    PyObject *pattern; /* re.Pattern */
+    PyObject *pattern, *method; /* re.Pattern, types.MethodType */
     PyObject *no_arguments;
     PyObject *styles[STYLES]; /* texts, by yaml_scalar_style_t */
     PyObject *implicits[2][2]; /* pairs of truth values: plain, quoted */
     /* Names of attributes, made once, since Python's cache of attributes goes by their addresses. */
     struct {
-        PyObject *read, *name, *resolve, *descend_resolver, *ascend_resolver, *yaml_path_resolvers, *function,
+        PyObject *read, *name, *resolve, *descend_resolver, *ascend_resolver, *yaml_path_resolvers, *function, *self,
             *start_mark, *end_mark, *max_depth, *max_nodes, *max_expanded, *strict_libyaml, *init, *code,
             *match, *yaml_implicit_resolvers, *default_scalar_tag, *default_sequence_tag, *default_mapping_tag;
     } names;

@@ -82,6 +82,7 @@ static int import_others(void)
         {"yaml.resolver", "BaseResolver", "descend_resolver", &its.descend_resolver},
         {"yaml.resolver", "BaseResolver", "ascend_resolver", &its.ascend_resolver},
         {"re", NULL, "Pattern", &its.pattern},
+        {"types", NULL, "MethodType", &its.method},
     };
     size_t i;
 
@@ -106,6 +107,7 @@ static int make_names(void)
         {"ascend_resolver", &its.names.ascend_resolver},
         {"yaml_path_resolvers", &its.names.yaml_path_resolvers},
         {"__func__", &its.names.function},
+        {"__self__", &its.names.self},
         {"start_mark", &its.names.start_mark},
         {"end_mark", &its.names.end_mark},
         {"max_depth", &its.names.max_depth},

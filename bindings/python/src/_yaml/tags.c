@@ -5,13 +5,20 @@
 
 /* ---- Hooks ---- */
 
-/* Whether a loader's method is this function of PyYAML's. */
-static int is_own(PyObject *method, PyObject *own)
+/* Whether a loader's method is this function of PyYAML's, of the loader itself. */
+static int is_own(parser_object *parser, PyObject *method, PyObject *own)
 {
-    PyObject *function = attribute_if_any(method, its.names.function);
+    PyObject *function, *self;
+    int same;
 
+    if ((PyObject *)Py_TYPE(method) != its.method)
+        return 0;
+    function = PyObject_GetAttr(method, its.names.function);
+    self = PyObject_GetAttr(method, its.names.self);
+    same = function == NULL || self == NULL ? -1 : function == own && self == (PyObject *)parser;
     Py_XDECREF(function);
-    return function == NULL && PyErr_Occurred() ? -1 : function == own;
+    Py_XDECREF(self);
+    return same;
 }
 
 /* Finds the loader's method of this name, unless it is PyYAML's own and has nothing to do. */
@@ -20,7 +27,7 @@ static int find_hook(parser_object *parser, PyObject *name, PyObject *own, int i
     int is_left = 0;
 
     *place = PyObject_GetAttr((PyObject *)parser, name);
-    if (*place == NULL || (is_idle && (is_left = is_own(*place, own)) < 0))
+    if (*place == NULL || (is_idle && (is_left = is_own(parser, *place, own)) < 0))
         return -1;
     if (is_left)
         Py_CLEAR(*place);
@@ -43,7 +50,7 @@ static int has_paths(parser_object *parser)
 /* Puts the loader's rules, if its `resolve` is the known one and they are a dict. */
 static int find_rules(parser_object *parser, struct hooks *hooks)
 {
-    int is_ours = is_own(hooks->resolve, its.known_resolve.function);
+    int is_ours = is_own(parser, hooks->resolve, its.known_resolve.function);
 
     if (is_ours <= 0 || !is_known(&its.known_resolve, its.known_resolve.function))
         return is_ours < 0 ? -1 : 0;
