@@ -223,33 +223,32 @@ class Steps:
         return (record, states, states_room, marks, marks_room, *map(pointer, (self.at, self.event, self.fault)))
 
     def __iter__(self):
-        return self
-
-    def __next__(self):
-        if self.has_ended:
-            raise StopIteration
-        if self.token is None and len(self.marks.all) > self.marks.few:
-            self.forget_marks()
+        """Gives the events. Python refuses to go on with a generator that is at work, in `read` or in another thread."""
         step = self.library.step
         record, states, states_room, marks, marks_room, at, event, fault = self.words
-        while True:
-            if self.token is None:
-                self.take()
-            did = step(record, states, states_room, marks, marks_room, self.kind, self.fact, at, event, fault)
-            if did == self.WANTS:
-                if self.kind in self.HELD:
-                    self.hold()
-                self.token = None
-            elif did == self.GAVE:
-                token, self.token = self.token, None
-                return self.made(token)
-            elif did == self.STAYS:
-                return self.made(None)
-            elif did == self.FAULT:
-                raise self.error()
-            else:
-                self.grow(did)
-                record, states, states_room, marks, marks_room, at, event, fault = self.words
+        while not self.has_ended:
+            if self.token is None and len(self.marks.all) > self.marks.few:
+                self.forget_marks()
+            while True:
+                if self.token is None:
+                    self.take()
+                did = step(record, states, states_room, marks, marks_room, self.kind, self.fact, at, event, fault)
+                if did == self.WANTS:
+                    if self.kind in self.HELD:
+                        self.hold()
+                    self.token = None
+                elif did == self.GAVE:
+                    token, self.token = self.token, None
+                    break
+                elif did == self.STAYS:
+                    token = None
+                    break
+                elif did == self.FAULT:
+                    raise self.error()
+                else:
+                    self.grow(did)
+                    record, states, states_room, marks, marks_room, at, event, fault = self.words
+            yield self.made(token)
 
     def grow(self, did):
         """Makes the stack larger that was full."""
@@ -436,9 +435,11 @@ class Parser:
             raise self.failure.with_traceback(None)  # else its traceback would grow by each call
         try:
             if self.events is None:
-                self.events = Steps(self)
+                self.events = iter(Steps(self))
             return next(self.events, None)
         except BaseException as failure:
+            if type(failure) is ValueError and failure.__traceback__.tb_next is None:  # of `next` itself: the steps are at work
+                raise RuntimeError("the loader is in use") from None
             self.failure = failure
             raise
 
