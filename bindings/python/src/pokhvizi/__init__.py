@@ -17,7 +17,6 @@ Each event takes as many tokens of the scanner as PyYAML's parser takes. These d
   document after `...` without `---`.
 - Like with libyaml, a collection whose tag is `!` alone is not implicit, an empty node with that tag is a string, and versions
   other than 1.1 and 1.2 are refused.
-- A directive that is neither YAML nor TAG is left out: the document starts at the next directive or `---`.
 
 A loader is for one thread; several loaders may be used at once. An error is raised again by each later call for an event.
 
@@ -266,10 +265,8 @@ class Steps:
 
     def take(self):
         """Takes the scanner's next token in hand, with its kind, fact and marks."""
-        token = self.scanner.get_token()
-        while type(token) is yaml.DirectiveToken and token.name not in self.DIRECTIVES:
-            token = self.leave_out()
-        self.token, self.kind = token, self.KINDS[type(token)] or self.DIRECTIVES[token.name]
+        self.token = token = self.scanner.get_token()
+        self.kind = self.KINDS[type(token)] or self.DIRECTIVES.get(token.name, self.TAG_DIRECTIVE)  # of others nothing is held
         self.at[0], self.at[3] = self.marks.put(token)
         self.look()
 
@@ -279,14 +276,6 @@ class Steps:
             self.fact = self.token.plain
         else:
             self.fact = self.FACTS[self.kind](self, self.token) if self.kind in self.FACTS else 0
-
-    def leave_out(self):
-        """Leaves a directive out, after which another or a document's start has to stand; returns the token after it."""
-        token = self.scanner.get_token()
-        if not isinstance(token, (yaml.DirectiveToken, yaml.DocumentStartToken)):
-            raise yaml.parser.ParserError(None, None, "expected '<document start>', but found %r" % token.id,
-                                          token.start_mark)
-        return token
 
     def forget_marks(self):
         """Forgets marks but those of open collections: between two events, without a token in hand, the steps have no other."""
@@ -300,7 +289,7 @@ class Steps:
         return self.library.version_fact(*(min(part, self.MOST) for part in token.value))
 
     def directive_fact(self, token):
-        return self.directives.fact(token.value[0])
+        return token.name == "TAG" and self.directives.fact(token.value[0])
 
     def tag_fact(self, token):
         fact, self.tag_in_hand = self.directives.tag(*token.value)
@@ -317,7 +306,7 @@ class Steps:
             self.tag, self.tag_token, self.holds = self.tag_in_hand, token, True
         elif kind == self.VERSION_DIRECTIVE:
             self.version, self.holds = token.value, True
-        elif kind == self.TAG_DIRECTIVE:
+        elif token.name == "TAG":
             self.directives.declare(*token.value)
 
     # Events
