@@ -181,7 +181,7 @@ class Document:
 
     def take(self, kind, start, anchor):
         """Takes an event that is a node or an alias; returns whether it is no error of another kind."""
-        if kind == ALIAS and anchor not in self.anchors or kind != ALIAS and anchor in self.anchors:
+        if kind == ALIAS and anchor not in self.anchors:
             return False
         if self.open:
             entry = self.open[-1]
@@ -191,6 +191,8 @@ class Document:
         if kind != ALIAS:
             if self.left == 0:
                 raise Stops(5, "found too many nodes", start)
+            if anchor in self.anchors:
+                return False
             self.left -= 1
             self.anchors |= {anchor} - {"-"}
         size = None if self.expanded is None else next(self.sizes)

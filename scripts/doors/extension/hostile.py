@@ -93,11 +93,14 @@ def bounds():
             self.noted += 1
             return super().compose_node(parent, index)
 
-    loader = Notes("[a, b]\n--- [c, d]\n--- [e, f, g]")
-    expect("a loader with a method of its own", [said(loader.get_data) for _ in "123"] + [loader.noted],
-           [["a", "b"], ["c", "d"], "ComposerError: found too many nodes", 9])
-    loader.dispose()
-    expect("what it leaves", "compose_node" in vars(loader), False)
+    for is_put in False, True:  # on the loader too
+        loader = Notes("[a, b]\n--- [c, d]\n--- [e, f, g]")
+        own = loader.compose_node if is_put else None
+        vars(loader).update({"compose_node": own} if is_put else {})
+        expect("a loader with a method of its own", [said(loader.get_data) for _ in "123"] + [loader.noted],
+               [["a", "b"], ["c", "d"], "ComposerError: found too many nodes", 9])
+        loader.dispose()
+        expect("what it leaves", vars(loader).get("compose_node"), own)
 
 
 ACTS = yaml.parse, yaml.compose_all, yaml.load_all
@@ -126,11 +129,13 @@ def bounds_of(base):
         yaml.compose("- [a]\n- [b, [c]]", type("Bounded", (base,), {"max_depth": 2}))
     except yaml.YAMLError as failure:
         expect("where it is", (failure.problem_mark.line, failure.problem_mark.column, failure.context), (1, 6, None))
-    for bound in (-1, "x", 1.5, 1 << 70):
-        for name in ("max_depth", "max_nodes"):
+    for name in "max_depth", "max_nodes", "max_expanded":
+        for bound in -1, "x", 1.5, -1 << 70:
             expect("no bound", bounded(base, "a", yaml.compose_all, **{name: bound}),
-                   "ValueError: %s has to be None or a number from 0 on, and is %r" % (name, bound))
-    expect("bounds that are larger than any", bounded(base, "[a]", yaml.compose_all, max_depth=1 << 62, max_nodes=1 << 62), 1)
+                   "ValueError: %s has to be None or a whole number from 0 on, and is %r" % (name, bound))
+        for bound in (1 << 62, 1 << 63, 1 << 64, 1 << 70):
+            expect("a bound that is larger than any", bounded(base, "[a]", yaml.compose_all, **{name: bound}), 1)
+    expect("a second anchor too many", place_of_error(base, "[&a b, &a c]", max_nodes=2), (0, 7, "found too many nodes"))
 
 
 # ---- Aliases written out ----
@@ -180,9 +185,6 @@ def expanded_by(base):
     begun = time.process_time()
     expect("a bomb of ten levels of ten", place_of_error(base, bomb(10, 10), max_expanded=1000000), (5, 44, many))
     expect("its time, which is less than 10 ms", time.process_time() - begun < .1, True)
-    for bound in (-1, "x", 1.5, 1 << 70):
-        expect("no bound", bounded(base, "a", yaml.compose_all, max_expanded=bound),
-               "ValueError: max_expanded has to be None or a number from 0 on, and is %r" % (bound,))
 
 
 # ---- Loaders that are called while they are at work ----

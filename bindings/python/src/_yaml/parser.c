@@ -243,16 +243,17 @@ static int begin_directives(struct directives *directives)
 static int find_bound(parser_object *parser, PyObject *name, size_t most, size_t *bound)
 {
     PyObject *found = PyObject_GetAttr((PyObject *)parser, name);
-    int done = found == NULL ? -1 : 0;
+    int is_larger = found == Py_None, done = found == NULL ? -1 : 0;
+    long long number = 0;
 
-    *bound = found == NULL || found == Py_None ? most : PyLong_AsSize_t(found);
-    if (*bound == (size_t)-1 && PyErr_Occurred() && found != NULL) {
-        PyErr_Format(PyExc_ValueError, "%U has to be None or a number from 0 on, and is %R", name, found);
+    if (found != NULL && found != Py_None)
+        number = PyLong_Check(found) ? PyLong_AsLongLongAndOverflow(found, &is_larger) : -1;
+    if (number < 0 && is_larger <= 0) {
+        PyErr_Format(PyExc_ValueError, "%U has to be None or a whole number from 0 on, and is %R", name, found);
         done = -1;
     }
+    *bound = is_larger > 0 || (unsigned long long)number > most ? most : (size_t)number;
     Py_XDECREF(found);
-    if (*bound > most)
-        *bound = most;
     return done;
 }
 

@@ -87,8 +87,8 @@ def pointer(buffer):
 def bound_of(loader, name, most):
     """Returns the loader's bound of this name, or `most` if it is None or a larger number."""
     bound = getattr(loader, name, None)
-    if bound is not None and (not isinstance(bound, int) or not 0 <= bound < 1 << 64):
-        raise ValueError("%s has to be None or a number from 0 on, and is %r" % (name, bound))
+    if bound is not None and (not isinstance(bound, int) or bound < 0):
+        raise ValueError("%s has to be None or a whole number from 0 on, and is %r" % (name, bound))
     return most if bound is None else min(bound, most)
 
 
@@ -434,21 +434,31 @@ class Parser:
 
     def compose_document(self):
         """As PyYAML's. Its composer calls itself, so nothing stands between its calls unless there is a bound."""
-        if self.max_nodes is not None or self.max_expanded is not None:
-            self.max_entries = self.nodes_left = bound_of(self, "max_nodes", (1 << 31) - 1)
-            self.expansion = Expansion(bound_of(self, "max_expanded", sys.maxsize))
-            if "compose_node" not in vars(self):
-                self.compose_node = functools.partial(self.compose_bounded, self.compose_node)
-        return super().compose_document()
+        if self.max_nodes is None and self.max_expanded is None:
+            return super().compose_document()
+        self.max_entries = self.nodes_left = bound_of(self, "max_nodes", (1 << 31) - 1)
+        self.expansion = Expansion(bound_of(self, "max_expanded", sys.maxsize))
+        kept = vars(self).get("compose_node")
+        self.compose_node = functools.partial(self.compose_bounded, self.compose_node)
+        try:
+            return super().compose_document()
+        finally:
+            del self.compose_node
+            if kept is not None:
+                self.compose_node = kept
 
     def compose_bounded(self, compose, parent, index):
         """Composes the next node, unless the document, or a list of it, would then be larger than it may."""
         event, before = self.peek_event(), self.expansion.total
         is_alias = isinstance(event, yaml.AliasEvent)
+        is_known = event.anchor in self.anchors
         is_entry = parent is not None and not isinstance(index, yaml.Node)  # an item or a key, and no value
-        if is_alias == (event.anchor in self.anchors):  # else PyYAML's composer has an error of its own
+        # PyYAML's composer refuses an alias of nothing, and a second anchor. As in C the bounds come behind the first of these, and
+        # around the other.
+        if is_known or not is_alias:
             if is_entry and len(parent.value) >= self.max_entries or not is_alias and self.nodes_left == 0:
                 raise yaml.composer.ComposerError(None, None, "found too many nodes", event.start_mark)
+        if is_alias == is_known:
             self.expansion.put(event)
         self.nodes_left -= not is_alias
         node = compose(parent, index)
@@ -458,7 +468,6 @@ class Parser:
 
     def dispose(self):
         """Gives back what the parser holds; it then has no further event."""
-        vars(self).pop("compose_node", None)
         self.events, self.failure = iter(()), None
 
 
