@@ -489,26 +489,49 @@ def marks():
                (10, '  in "<unicode string>", line 1, column 1', True))
     kind = type(node.start_mark)
     expect("no mark", "missing required argument 'index' (pos 2)" in said(lambda: kind("name")), True)
+    for number in -1, 1 << 64:
+        expect("a line that is %d" % number, str(said(lambda: kind("name", 0, number, 0)))[:14], "OverflowError:")
+    named = Stream()
+    named.mark, it = kind(named, 0, 0, 0), weakref.ref(named)
+    del named
+    gc.collect()
+    expect("what a mark's name refers to", it(), None)
     expect("marks stay", said(lambda: setattr(node.start_mark, "line", 3)), "AttributeError: readonly attribute")
 
 
 # ---- What is left behind ----
 
+class Stream:
+    given = ["key: &anchor [value, *anchor]\n", "other: [", ""]
+
+    def read(self, _):
+        self.given = self.given[1:]
+        return self.given[0]
+
+
+class Named(Stream):
+    """Its name is an object that refers to the loader, and a mark has the name."""
+    name = property(lambda self: self)
+
+
+class Text(str):
+    def __str__(self):
+        return self
+
+
+class Titled(Stream):
+    """Its name is a text of another class, which refers to the loader."""
+
+    def __init__(self):
+        self.name = Text("title")
+        self.name.stream = self
+
+
 def once():
-    class Stream:
-        given = ["key: &anchor [value, *anchor]\n", "other: [", ""]
-
-        def read(self, _):
-            self.given = self.given[1:]
-            return self.given[0]
-
     class Mine(pokhvizi.CSafeLoader):  # a class that goes as well
         pass
 
-    class Named(Stream):  # its name is an object that refers to the loader, and a mark has the name
-        name = property(lambda self: self)
-
-    stream = Stream() if random.random() < 0.5 else Named()
+    stream = random.choice((Stream, Named, Titled))()
     stream.loader = Mine(stream)
     stream.loader.me = stream.loader
     said(stream.loader.peek_event)

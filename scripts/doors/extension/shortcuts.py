@@ -321,6 +321,7 @@ def rules():
         alike(name, lambda mine: (act(mine, None), read(mine))[1])
         alike(name + ", between documents", lambda mine: between_documents(mine, act))
     alike("rules that refer to their loader", referring)
+    alike("a regular expression whose text does", referring_text)
     alike("rules that go while others are looked up", gone)
     own = resolver.BaseResolver
     alike("PyYAML's resolve", lambda mine: with_resolve(mine, own, "resolve", other_resolve))
@@ -339,6 +340,19 @@ def referring(mine):
     del one, tag, rules
     gc.collect()
     return it()
+
+
+def referring_text(mine):
+    """Whether a loader is collected to which the text of a regular expression of its own refers, which has matched."""
+    text, one = Text("word"), mine("word")
+    text.loader = one
+    one.yaml_implicit_resolvers = {"w": [("!word", re.compile(text))]}
+    re.purge()  # else Python keeps the text
+    one.check_node() and one.get_node()
+    it = weakref.ref(one)
+    del one, text
+    gc.collect()
+    return it() is None
 
 
 def gone(mine):

@@ -200,7 +200,11 @@ extern PyType_Spec parser_spec;
 
 extern PyType_Spec mark_spec;
 
+/* A mark of a name that is `name_of` another. */
 PyObject *make_mark(PyObject *name, const pokhvizi_mark_t *at);
+
+/* A name as marks have it: itself if it is a text or a number and refers to nothing, else a text of it. */
+PyObject *name_of(PyObject *given);
 
 /* The place of a mark, or zeros where it is none of these. */
 pokhvizi_mark_t place_of_mark(PyObject *mark);
@@ -325,6 +329,9 @@ PyObject *collection_tag(struct document *document, PyObject *class);
 
 /* Puts the tag and the value of the scalar at hand. */
 int find_scalar(struct document *document, PyObject **tag, PyObject **value);
+
+/* Visits what the parser has kept of tags and may refer to others: a regular expression may have any text. */
+int visit_resolved(const parser_object *parser, visitproc visit, void *arg);
 
 /* Gives back what the parser has kept of tags. */
 void forget_resolved(parser_object *parser);

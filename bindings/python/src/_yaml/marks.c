@@ -25,17 +25,45 @@ pokhvizi_mark_t place_of_mark(PyObject *mark)
     return Py_TYPE(mark) == its.mark ? ((mark_object *)mark)->at : (pokhvizi_mark_t){0, 0, 0};
 }
 
+PyObject *name_of(PyObject *given)
+{
+    PyObject *text, *name;
+
+    if (PyUnicode_CheckExact(given) || PyLong_CheckExact(given))
+        return shared(given);
+    text = PyObject_Str(given);
+    name = text == NULL ? NULL : PyUnicode_FromObject(text); /* the text may be of a class of its own */
+    Py_XDECREF(text);
+    return name;
+}
+
+/* Puts a number of a place; 0 where it is none, or too large. */
+static int take_number(PyObject *given, void *place)
+{
+    PyObject *number = PyNumber_Index(given);
+    uint64_t value = number == NULL ? 0 : PyLong_AsUnsignedLongLong(number);
+
+    Py_XDECREF(number);
+    if (PyErr_Occurred())
+        return 0;
+    memcpy(place, &value, sizeof value);
+    return 1;
+}
+
 static PyObject *mark_new(PyTypeObject *type, PyObject *arguments, PyObject *keywords)
 {
     static char *names[] = {"name", "index", "line", "column", "buffer", "pointer", NULL};
-    PyObject *name, *buffer = NULL, *pointer = NULL;
-    unsigned long long index, line, column;
+    PyObject *given, *buffer = NULL, *pointer = NULL, *name, *mark;
+    pokhvizi_mark_t at;
 
     (void)type; /* it has no subclass */
-    if (!PyArg_ParseTupleAndKeywords(arguments, keywords, "OKKK|OO:Mark", names, &name, &index, &line,
-                                     &column, &buffer, &pointer))
+    if (!PyArg_ParseTupleAndKeywords(arguments, keywords, "OO&O&O&|OO:Mark", names, &given, take_number, &at.index,
+                                     take_number, &at.line, take_number, &at.column, &buffer, &pointer))
         return NULL;
-    return make_mark(name, &(pokhvizi_mark_t){index, line, column});
+    name = name_of(given);
+    mark = name == NULL ? NULL : make_mark(name, &at);
+    Py_XDECREF(name);
+    return mark;
 }
 
 static void mark_dealloc(PyObject *object)

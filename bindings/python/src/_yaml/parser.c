@@ -215,7 +215,7 @@ static int parser_traverse(PyObject *object, visitproc visit, void *arg)
     Py_VISIT(parser->stream.name);
     Py_VISIT(parser->current_token);
     Py_VISIT(parser->current_event);
-    return 0; /* the others are texts, a dict of texts and numbers, and tuples of texts and expressions */
+    return visit_resolved(parser, visit, arg); /* the others are texts, and a dict of texts and numbers */
 }
 
 static void parser_dealloc(PyObject *object)

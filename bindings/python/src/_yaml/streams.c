@@ -52,14 +52,13 @@ static int read_stream(void *data, unsigned char *buffer, size_t size, size_t *s
 /* Takes a file, which may say its name. */
 static int take_file(parser_object *parser, PyObject *source)
 {
-    PyObject *name = attribute_if_any(source, its.names.name), *given = name;
+    PyObject *given = attribute_if_any(source, its.names.name), *name = NULL;
 
-    if (name == NULL && !PyErr_Occurred())
+    if (given != NULL)
+        name = name_of(given);
+    else if (!PyErr_Occurred())
         name = PyUnicode_FromString("<file>");
-    else if (name != NULL && !PyUnicode_CheckExact(name) && !PyLong_CheckExact(name)) {
-        name = PyObject_Str(given); /* marks are none of the collector's, so what they hold has to refer to nothing */
-        Py_DECREF(given);
-    }
+    Py_XDECREF(given);
     if (name == NULL)
         return -1;
     parser->stream.name = name;

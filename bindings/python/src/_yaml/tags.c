@@ -303,6 +303,15 @@ static void keep(struct resolved *at, const parser_object *parser, PyObject *val
     Py_XDECREF(old.rules);
 }
 
+int visit_resolved(const parser_object *parser, visitproc visit, void *arg)
+{
+    size_t i;
+
+    for (i = 0; parser->resolved != NULL && i < KEPT; i++)
+        Py_VISIT(parser->resolved[i].rules);
+    return 0;
+}
+
 void forget_resolved(parser_object *parser)
 {
     struct resolved *all = parser->resolved;
