@@ -276,6 +276,9 @@ def errors():
     expect("an error of `resolve`", [said(loader.get_data), said(loader.get_data)], ["KeyError: 'a'", failed])
     loader = pokhvizi.CSafeLoader("[*a]")
     expect("a fault", [said(loader.get_data), said(loader.check_event)], ["ComposerError: found undefined alias"] * 2)
+    for text in "b: !%ED%A0%80 ?", "[!%ED%A0%80 }", "!%ED%A0%80 !b", "[&a b, &a !%ED%A0%80 c]", "- !a b\n- !%ED%A0%80 c\n":
+        for act in yaml.parse, yaml.compose_all:
+            expect("a tag that is no text, %r" % text, *(bounded(base, text, act) for base in (pokhvizi.CSafeLoader, yaml.CSafeLoader)))
     for given, wanted in ((3, "TypeError: a string value is expected"), (bytearray(b"a"), "TypeError: a string value is expected"),
                           ("\ud800", "UnicodeEncodeError: 'utf-8' codec can't encode character '\\ud800' in position 0: "
                                      "surrogates not allowed")):

@@ -90,7 +90,6 @@ void leave_event(parser_object *parser)
         break;
     }
     Py_CLEAR(parser->held.anchor);
-    Py_CLEAR(parser->held.tag);
     if (!parser->stays)
         yaml_token_delete(&parser->token);
     parser->event.kind = 0;
@@ -135,7 +134,7 @@ static PyObject *anchor_of(const parser_object *parser)
 
 static PyObject *tag_of(const parser_object *parser)
 {
-    return shared_or_none(parser->event.has_tag ? parser->held.tag : NULL);
+    return parser->event.has_tag ? held_tag(parser) : shared(Py_None);
 }
 
 PyObject *implicits_of(const parser_object *parser)

@@ -146,8 +146,10 @@ struct stream {
 
 /* What tokens had for an event to come. */
 struct held {
-    PyObject *anchor, *tag; /* or NULL */
-    size_t tag_length;
+    PyObject *anchor; /* or NULL */
+    uint8_t *tag, first_tag[64]; /* in full */
+    size_t tag_length, tag_room;
+    size_t next_length; /* that of the tag in hand; SIZE_MAX if its handle isn't declared */
     yaml_version_directive_t version;
     int has_version;
 };
@@ -251,6 +253,9 @@ int fact_of(parser_object *parser);
 
 /* Takes what the token in hand has for an event that comes later. */
 int hold(parser_object *parser);
+
+/* The tag that is held. Where that is no text, the error comes as its event is used, as with PyYAML. */
+PyObject *held_tag(const parser_object *parser);
 
 /* Forgets the tag directives of a document. */
 void forget_directives(struct directives *all);

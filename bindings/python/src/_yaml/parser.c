@@ -177,6 +177,8 @@ static void free_memory(parser_object *parser)
         PyMem_Free(parser->states);
     if (parser->marks != parser->first_marks)
         PyMem_Free(parser->marks);
+    if (parser->held.tag != parser->held.first_tag)
+        PyMem_Free(parser->held.tag);
     PyMem_Free(parser->directives.handles);
     PyMem_Free(parser->directives.texts);
 }
@@ -188,12 +190,12 @@ static int parser_clear(PyObject *object)
     parser_object *parser = (parser_object *)object;
     PyObject *objects[] = {
         parser->stream.source, parser->stream.name, parser->stream.rest, parser->current_token,
-        parser->current_event, parser->held.anchor, parser->held.tag, parser->directives.places,
+        parser->current_event, parser->held.anchor, parser->directives.places,
     };
     size_t i;
 
     parser->stream.source = parser->stream.name = parser->stream.rest = NULL;
-    parser->current_token = parser->current_event = parser->held.anchor = parser->held.tag = NULL;
+    parser->current_token = parser->current_event = parser->held.anchor = NULL;
     parser->directives.places = NULL;
     if (parser->standing != UNBORN) {
         parser->standing = UNBORN;
@@ -284,6 +286,8 @@ static int begin(parser_object *parser)
     parser->states_room = LENGTH(parser->first_states);
     parser->marks = parser->first_marks;
     parser->marks_room = LENGTH(parser->first_marks);
+    parser->held.tag = parser->held.first_tag;
+    parser->held.tag_room = LENGTH(parser->held.first_tag);
     return begin_directives(&parser->directives) < 0 ? -1 : find_bounds(parser);
 }
 

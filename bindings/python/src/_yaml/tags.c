@@ -94,7 +94,7 @@ void forget_hooks(struct hooks *hooks)
 /* Whether the loader resolves the tag of the node at hand, which has none, or `!`. */
 static int has_no_tag(const parser_object *parser)
 {
-    return !parser->event.has_tag || PyUnicode_CompareWithASCIIString(parser->held.tag, "!") == 0;
+    return !parser->event.has_tag || (parser->held.tag_length == 1 && *parser->held.tag == '!');
 }
 
 static PyObject *resolve(const struct document *document, PyObject *class, PyObject *value,
@@ -122,7 +122,7 @@ PyObject *collection_tag(struct document *document, PyObject *class)
     const parser_object *parser = document->parser;
 
     if (!has_no_tag(parser))
-        return shared(parser->held.tag);
+        return held_tag(parser);
     if (document->hooks.rules != NULL)
         return default_tag(document);
     return resolve(document, class, Py_None, parser->event.implicit ? Py_True : Py_False);
@@ -351,7 +351,7 @@ static PyObject *scalar_tag(struct document *document, PyObject *value, struct r
     const parser_object *parser = document->parser;
 
     if (!has_no_tag(parser))
-        return shared(parser->held.tag);
+        return held_tag(parser);
     if (document->hooks.rules == NULL)
         return resolve(document, its.scalar_node, value, implicits_of(parser));
     return parser->event.implicit ? plain_tag(document, value, at) : default_tag(document);

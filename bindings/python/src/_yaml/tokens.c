@@ -75,7 +75,7 @@ int fact_of(parser_object *parser)
     case YAML_TAG_DIRECTIVE_TOKEN:
         return directive_fact(&parser->directives, token->data.tag_directive.handle);
     case YAML_TAG_TOKEN:
-        return put_tag(parser, &none, 0, &parser->held.tag_length);
+        return put_tag(parser, &none, 0, &parser->held.next_length);
     case YAML_SCALAR_TOKEN:
         return token->data.scalar.style == YAML_PLAIN_SCALAR_STYLE;
     default:
@@ -99,24 +99,19 @@ static int hold_anchor(parser_object *parser)
 /* Holds the tag in full of the token in hand, of which the fact was asked for. */
 static int hold_tag(parser_object *parser)
 {
-    uint8_t few[256], *out = few;
-    size_t length = parser->held.tag_length;
-    PyObject *tag;
+    struct held *held = &parser->held;
 
-    if (length == SIZE_MAX) /* the handle isn't declared: a fault comes */
+    if (held->next_length == SIZE_MAX) /* the handle isn't declared: a fault comes */
         return 0;
-    if (length > sizeof few && (out = PyMem_Malloc(length)) == NULL) {
-        PyErr_NoMemory();
+    if (held->next_length > held->tag_room &&
+        grow(&held->tag, held->first_tag, &held->tag_room, held->next_length, 1) < 0)
         return -1;
-    }
-    tag = put_tag(parser, out, length, &length) < 0 ? NULL : text_of_bytes(out, length);
-    if (out != few)
-        PyMem_Free(out);
-    if (tag == NULL)
-        return -1;
-    Py_XDECREF(parser->held.tag);
-    parser->held.tag = tag;
-    return 0;
+    return put_tag(parser, held->tag, held->tag_room, &held->tag_length) < 0 ? -1 : 0;
+}
+
+PyObject *held_tag(const parser_object *parser)
+{
+    return text_of_bytes(parser->held.tag, parser->held.tag_length);
 }
 
 void forget_directives(struct directives *all)
