@@ -356,7 +356,7 @@ def referring_text(mine):
 
 
 def gone(mine):
-    """The nodes of two documents, in the second of which the lookup of the rules for any takes those for a character away."""
+    """The nodes of two documents; in the second one the lookup of the rules for any takes those for a character away."""
     class Key:
         def __hash__(self):
             return hash(None)

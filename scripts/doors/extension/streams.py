@@ -2,9 +2,9 @@
 
     streams.py [--turned] FILE..
 
-A stream gives one byte at a time. With the C loaders all has to come at the same places, and with those in Python each event there
-or before. The first event with content has to come before the end of a text of many lines. With `--turned` the proved loader's
-stream gives two bytes, so the files have to differ. Says what is wrong, and exits with 1 then.
+A stream gives one byte at a time. With the C loaders all has to come at the same places, and with those in Python each
+event there or before. The first event with content has to come before the end of a text of many lines. With `--turned` the
+proved loader's stream gives two bytes, so the files have to differ. Says what is wrong, and exits with 1 then.
 
 Run by extension_checks.sh.
 """

@@ -64,8 +64,8 @@ struct kept {
     PyObject *implicits[2][2]; /* pairs of truth values: plain, quoted */
     /* Names of attributes, made once, since Python's cache of attributes goes by their addresses. */
     struct {
-        PyObject *read, *name, *resolve, *descend_resolver, *ascend_resolver, *yaml_path_resolvers, *function, *self,
-            *start_mark, *end_mark, *max_depth, *max_nodes, *max_expanded, *strict_libyaml, *init, *code,
+        PyObject *read, *name, *resolve, *descend_resolver, *ascend_resolver, *yaml_path_resolvers, *function,
+            *self, *start_mark, *end_mark, *max_depth, *max_nodes, *max_expanded, *strict_libyaml, *init, *code,
             *match, *yaml_implicit_resolvers, *default_scalar_tag, *default_sequence_tag, *default_mapping_tag;
     } names;
     PyObject *scalar_names[NODE_FIELDS], *collection_names[NODE_FIELDS]; /* of what nodes have, in order */

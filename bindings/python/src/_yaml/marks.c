@@ -57,8 +57,9 @@ static PyObject *mark_new(PyTypeObject *type, PyObject *arguments, PyObject *key
     pokhvizi_mark_t at;
 
     (void)type; /* it has no subclass */
-    if (!PyArg_ParseTupleAndKeywords(arguments, keywords, "OO&O&O&|OO:Mark", names, &given, take_number, &at.index,
-                                     take_number, &at.line, take_number, &at.column, &buffer, &pointer))
+    if (!PyArg_ParseTupleAndKeywords(arguments, keywords, "OO&O&O&|OO:Mark", names, &given, take_number,
+                                     &at.index, take_number, &at.line, take_number, &at.column, &buffer,
+                                     &pointer))
         return NULL;
     name = name_of(given);
     mark = name == NULL ? NULL : make_mark(name, &at);

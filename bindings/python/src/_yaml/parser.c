@@ -251,7 +251,8 @@ static int find_bound(parser_object *parser, PyObject *name, size_t most, size_t
     if (found != NULL && found != Py_None)
         number = PyLong_Check(found) ? PyLong_AsLongLongAndOverflow(found, &is_larger) : -1;
     if (number < 0 && is_larger <= 0) {
-        PyErr_Format(PyExc_ValueError, "%U has to be None or a whole number from 0 on, and is %R", name, found);
+        PyErr_Format(PyExc_ValueError, "%U has to be None or a whole number from 0 on, and is %R", name,
+                     found);
         done = -1;
     }
     *bound = is_larger > 0 || (unsigned long long)number > most ? most : (size_t)number;

@@ -266,7 +266,8 @@ class Steps:
     def take(self):
         """Takes the scanner's next token in hand, with its kind, fact and marks."""
         self.token = token = self.scanner.get_token()
-        self.kind = self.KINDS[type(token)] or self.DIRECTIVES.get(token.name, self.TAG_DIRECTIVE)  # of others nothing is held
+        # A directive that is neither YAML nor TAG stands where a tag directive may, and nothing of it is held.
+        self.kind = self.KINDS[type(token)] or self.DIRECTIVES.get(token.name, self.TAG_DIRECTIVE)
         self.at[0], self.at[3] = self.marks.put(token)
         self.look()
 
@@ -438,12 +439,12 @@ class Parser:
             return super().compose_document()
         self.max_entries = self.nodes_left = bound_of(self, "max_nodes", (1 << 31) - 1)
         self.expansion = Expansion(bound_of(self, "max_expanded", sys.maxsize))
-        kept = vars(self).get("compose_node")
+        kept = vars(self).get("compose_node")  # a method that was put on the loader
         self.compose_node = functools.partial(self.compose_bounded, self.compose_node)
         try:
             return super().compose_document()
         finally:
-            del self.compose_node
+            vars(self).pop("compose_node", None)
             if kept is not None:
                 self.compose_node = kept
 
@@ -453,8 +454,8 @@ class Parser:
         is_alias = isinstance(event, yaml.AliasEvent)
         is_known = event.anchor in self.anchors
         is_entry = parent is not None and not isinstance(index, yaml.Node)  # an item or a key, and no value
-        # PyYAML's composer refuses an alias of nothing, and a second anchor. As in C the bounds come behind the first of these, and
-        # around the other.
+        # PyYAML's composer refuses an alias of nothing and a second anchor: as in C, that comes before these bounds, and this
+        # between them.
         if is_known or not is_alias:
             if is_entry and len(parent.value) >= self.max_entries or not is_alias and self.nodes_left == 0:
                 raise yaml.composer.ComposerError(None, None, "found too many nodes", event.start_mark)
