@@ -208,6 +208,26 @@ def within_itself():
     expect("a value of a loader that calls itself", loader.get_data(), ["a", "b"])
     expect("calls from within `resolve`", loader.said, {IN_USE})
 
+    class Asked:
+        said = []
+
+        @property
+        def read(self):
+            self.said.append(said(self.loader.get_event))
+            return lambda _: b""
+
+        @property
+        def name(self):
+            self.said.append(said(self.loader.peek_token))
+            return "name"
+
+    stream = Asked()
+    stream.loader = pokhvizi.CSafeLoader.__new__(pokhvizi.CSafeLoader)
+    stream.loader.__init__(stream)
+    expect("calls from within `__init__`", set(stream.said), {IN_USE})
+
+
+def within_read():
     class Reads:
         def __init__(self):
             self.given, self.said = ["- a\n"] * 9 + [""], set()
@@ -226,24 +246,6 @@ def within_itself():
         stream.loader.__init__(stream)
         expect("a value of a stream that calls its loader", said(stream.loader.get_data), ["a"] * 9)
         expect("calls from within `read`, by it and by a thread", stream.said, {IN_USE})
-
-    class Asked:
-        said = []
-
-        @property
-        def read(self):
-            self.said.append(said(self.loader.get_event))
-            return lambda _: b""
-
-        @property
-        def name(self):
-            self.said.append(said(self.loader.peek_token))
-            return "name"
-
-    stream = Asked()
-    stream.loader = pokhvizi.CSafeLoader.__new__(pokhvizi.CSafeLoader)
-    stream.loader.__init__(stream)
-    expect("calls from within `__init__`", set(stream.said), {IN_USE})
 
 
 def finalizers():
@@ -568,8 +570,8 @@ def leaks():
     expect("KB after them, beside %d" % before, max(resident() - before, 500), 500)
 
 
-for part in (deep, bounds, expanded, within_itself, finalizers, errors, again_and_again, mixed, drawn_directives, second_interpreter, no_extension, hooks,
-             marks, leaks):
+for part in (deep, bounds, expanded, within_itself, within_read, finalizers, errors, again_and_again, mixed, drawn_directives,
+             second_interpreter, no_extension, hooks, marks, leaks):
     part()
 print("%d cases, %d levels, %d wrong" % (cases, LEVELS, wrong))
 sys.exit(wrong != 0)
