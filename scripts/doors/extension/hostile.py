@@ -1,4 +1,4 @@
-"""Loaders in bad hands: deep texts, streams and methods that call their own loader, calls for tokens, events and nodes in any
+"""Loaders in bad hands: deep texts, streams, methods and threads that call a loader at work, calls for tokens, events and nodes in any
 order, wrong arguments, a second interpreter, a package without its extension, cycles and leaks.
 
     hostile.py [--turned] [LEVELS]
@@ -246,6 +246,29 @@ def within_read():
         stream.loader.__init__(stream)
         expect("a value of a stream that calls its loader", said(stream.loader.get_data), ["a"] * 9)
         expect("calls from within `read`, by it and by a thread", stream.said, {IN_USE})
+
+
+def by_threads():
+    """Four threads at once that ask one loader for its events: each call has an event, or is refused."""
+    heard, interval = set(), sys.getswitchinterval()
+
+    def ask(loader, begin):
+        begin.wait()
+        event = IN_USE
+        while event == IN_USE or isinstance(event, yaml.Event):
+            event = said(loader.get_event)
+            heard.add(event if isinstance(event, str) else type(event))
+
+    sys.setswitchinterval(1e-6)
+    for base in (pokhvizi.CSafeLoader, pokhvizi.SafeLoader) * 50:
+        words = base("- a\n- [b, {c: d}]\n" * 3), threading.Barrier(4)
+        threads = [threading.Thread(target=ask, args=words) for _ in range(4)]
+        for thread in threads:
+            thread.start()
+        for thread in threads:
+            thread.join()
+    sys.setswitchinterval(interval)
+    expect("calls by threads", {word for word in heard if isinstance(word, str)} - {IN_USE}, set())
 
 
 def finalizers():
@@ -570,8 +593,8 @@ def leaks():
     expect("KB after them, beside %d" % before, max(resident() - before, 500), 500)
 
 
-for part in (deep, bounds, expanded, within_itself, within_read, finalizers, errors, again_and_again, mixed, drawn_directives,
-             second_interpreter, no_extension, hooks, marks, leaks):
+for part in (deep, bounds, expanded, within_itself, within_read, by_threads, finalizers, errors, again_and_again, mixed,
+             drawn_directives, second_interpreter, no_extension, hooks, marks, leaks):
     part()
 print("%d cases, %d levels, %d wrong" % (cases, LEVELS, wrong))
 sys.exit(wrong != 0)

@@ -425,7 +425,7 @@ class Parser:
             raise self.failure.with_traceback(None)  # else its traceback would grow by each call
         try:
             if self.events is None:
-                self.events = iter(Steps(self))
+                vars(self).setdefault("events", iter(Steps(self)))  # if two threads come here, both take the first one's
             return next(self.events, None)
         except BaseException as failure:
             if type(failure) is ValueError and failure.__traceback__.tb_next is None:  # of `next` itself: the steps are at work
