@@ -2,7 +2,7 @@
 
     loaders.py [--turned] FOLDER..
 
-Events are compared without marks, and without `flow_style`; errors with their text and snippet. Prints a line for each file
+Events are compared without marks; errors with their text and snippet. Prints a line for each file
 that differs, its name and how. With `--turned` the proved loader reads another text, so all have to differ. The last line,
 on standard error, has how many were read.
 
@@ -15,7 +15,7 @@ import yaml
 from pokhvizi import Marks, SafeLoader
 
 Marks.FEW = 0  # marks are forgotten at each event: an error shows one that was needed
-FIELDS = "anchor", "tag", "implicit", "value", "style", "explicit", "version", "tags", "encoding"
+FIELDS = "anchor", "tag", "implicit", "value", "style", "flow_style", "explicit", "version", "tags", "encoding"
 
 
 def outcome(read, text, loader):

@@ -102,6 +102,17 @@ def bounds():
         loader.dispose()
         expect("what it leaves", vars(loader).get("compose_node"), own)
 
+    class Puts(pokhvizi.SafeLoader):
+        """Puts a method on itself within a document."""
+        max_nodes = 9
+
+        def compose_sequence_node(self, anchor):
+            self.compose_node = self.own = super().compose_node
+            return super().compose_sequence_node(anchor)
+
+    loader = Puts("[a, b]")
+    expect("a loader that puts a method on itself", [said(loader.get_data), vars(loader)["compose_node"]], [["a", "b"], loader.own])
+
 
 ACTS = yaml.parse, yaml.compose_all, yaml.load_all
 TOO_DEEP = "ParserError: found too many levels"
@@ -246,6 +257,27 @@ def within_read():
         stream.loader.__init__(stream)
         expect("a value of a stream that calls its loader", said(stream.loader.get_data), ["a"] * 9)
         expect("calls from within `read`, by it and by a thread", stream.said, {IN_USE})
+
+
+def failures():
+    """What ends the steps of a loader in Python, and what later calls say."""
+    class Reads:
+        def __init__(self):
+            self.given = iter(["- a\n", "- b\n"])
+
+        def read(self, _):
+            return next(self.given)
+
+    for base in yaml.SafeLoader, pokhvizi.SafeLoader, pokhvizi.CSafeLoader:
+        expect("a read that raises StopIteration", said(lambda: yaml.compose(Reads(), base)), "StopIteration: ")
+    loader = pokhvizi.SafeLoader("- a\n- b\n")
+    loader.get_event()
+    loader.events.close()  # as by an interrupt, before the failure is kept
+    expect("a failure that wasn't kept", said(loader.get_event), "YAMLError: an earlier call of this loader failed")
+    loader.dispose()
+    expect("after dispose", said(loader.get_event), None)
+    levels = [said(lambda: yaml.compose("[" * depth + "!!str x" + "]" * depth, pokhvizi.SafeLoader)) for depth in range(470, 500)]
+    expect("the end of Python's stack", {word.partition(":")[0] for word in levels if isinstance(word, str)}, {"RecursionError"})
 
 
 def by_threads():
@@ -593,8 +625,8 @@ def leaks():
     expect("KB after them, beside %d" % before, max(resident() - before, 500), 500)
 
 
-for part in (deep, bounds, expanded, within_itself, within_read, by_threads, finalizers, errors, again_and_again, mixed,
-             drawn_directives, second_interpreter, no_extension, hooks, marks, leaks):
+for part in (deep, bounds, expanded, within_itself, within_read, failures, by_threads, finalizers, errors, again_and_again,
+             mixed, drawn_directives, second_interpreter, no_extension, hooks, marks, leaks):
     part()
 print("%d cases, %d levels, %d wrong" % (cases, LEVELS, wrong))
 sys.exit(wrong != 0)

@@ -1,11 +1,12 @@
 /* PyYAML's nodes. Where their classes are as PyYAML has them, they are made without a call. */
 #include "loader.h"
 
-/* A node of a class, of these fields, which it takes. `init` is NULL if `__init__` has to be called. */
+/* A node of a class, of these fields, which it takes. `init` is NULL if `__init__` has to be called. No class is looked at while an
+ * error is set, which CPython 3.11 may clear then. */
 static PyObject *new_node(PyObject *class, const struct known *init, PyObject *const *names,
                           PyObject *const *fields)
 {
-    if (init != NULL && is_plain_class(class, init))
+    if (init != NULL && !PyErr_Occurred() && is_plain_class(class, init))
         return make_plain(class, NODE_FIELDS, names, fields);
     return call(class, NODE_FIELDS, fields);
 }

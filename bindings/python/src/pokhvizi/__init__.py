@@ -16,7 +16,8 @@ Each event takes as many tokens of the scanner as PyYAML's parser takes. These d
 - Texts that PyYAML refuses and YAML 1.1 allows are read: `[ ? ]`, a value without a key in a block mapping (`: x`), and a
   document after `...` without `---`.
 - Like with libyaml, a collection whose tag is `!` alone is not implicit, an empty node with that tag is a string, and versions
-  other than 1.1 and 1.2 are refused.
+  other than 1.1 and 1.2 are refused. An empty key or value in a flow collection has its marks at the next token. Of a node with an
+  anchor and a tag whose handle isn't declared, the next token is taken before that error, and may be the scanner's error.
 
 A loader is for one thread; several loaders may be used at once. An error is raised again by each later call for an event.
 
@@ -27,6 +28,7 @@ pairs of a node, and `max_expanded` the nodes of a document with its aliases wri
 """
 import ctypes
 import functools
+import itertools
 import os
 import struct
 import sys
@@ -158,6 +160,21 @@ class Marks:
         self.few = self.FEW + 2 * len(self.all)
 
 
+def is_of_next(failure):
+    """Returns whether `next` of the steps itself raised this, and none of their code."""
+    return failure.__traceback__.tb_next is None
+
+
+def failure_of(failure):
+    """Returns what the steps failed by: a generator passes no StopIteration on, and ctypes tells the end of Python's stack as an
+    error of an argument."""
+    if is_of_next(failure) and isinstance(failure.__cause__, StopIteration):
+        return failure.__cause__
+    if type(failure) is ctypes.ArgumentError and "RecursionError" in str(failure):
+        return RecursionError(str(failure))
+    return failure
+
+
 class Steps:
     """The events of a scanner's tokens."""
 
@@ -248,6 +265,8 @@ class Steps:
                     self.grow(did)
                     record, states, states_room, marks, marks_room, at, event, fault = self.words
             yield self.made(token)
+        while True:  # so steps that end have failed
+            yield None
 
     def grow(self, did):
         """Makes the stack larger that was full."""
@@ -321,7 +340,8 @@ class Steps:
             value, style = (token.value, token.style) if token else ("", None)
             event = yaml.ScalarEvent(anchor, tag, (implicit == 1, quoted_implicit == 1), value, start, end, style=style)
         elif kind == 7:
-            event = yaml.SequenceStartEvent(anchor, tag, implicit == 1, start, end, flow_style=is_flow == 1)
+            flow_style = is_flow == 1 if token else None  # None without an indent, as PyYAML's
+            event = yaml.SequenceStartEvent(anchor, tag, implicit == 1, start, end, flow_style=flow_style)
         elif kind == 9:
             event = yaml.MappingStartEvent(anchor, tag, implicit == 1, start, end, flow_style=is_flow == 1)
         else:
@@ -426,12 +446,16 @@ class Parser:
         try:
             if self.events is None:
                 vars(self).setdefault("events", iter(Steps(self)))  # if two threads come here, both take the first one's
-            return next(self.events, None)
+            return next(self.events)
+        except StopIteration:  # an interrupt came before the failure of an earlier call was kept
+            raise yaml.YAMLError("an earlier call of this loader failed") from None
         except BaseException as failure:
-            if type(failure) is ValueError and failure.__traceback__.tb_next is None:  # of `next` itself: the steps are at work
+            if type(failure) is ValueError and is_of_next(failure):  # the steps are at work
                 raise RuntimeError("the loader is in use") from None
-            self.failure = failure
-            raise
+            self.failure = failure_of(failure)
+            if self.failure is failure:
+                raise
+            raise self.failure from None
 
     def compose_document(self):
         """As PyYAML's. Its composer calls itself, so nothing stands between its calls unless there is a bound."""
@@ -440,13 +464,14 @@ class Parser:
         self.max_entries = self.nodes_left = bound_of(self, "max_nodes", (1 << 31) - 1)
         self.expansion = Expansion(bound_of(self, "max_expanded", sys.maxsize))
         kept = vars(self).get("compose_node")  # a method that was put on the loader
-        self.compose_node = functools.partial(self.compose_bounded, self.compose_node)
+        bounded = self.compose_node = functools.partial(self.compose_bounded, self.compose_node)
         try:
             return super().compose_document()
         finally:
-            vars(self).pop("compose_node", None)
-            if kept is not None:
-                self.compose_node = kept
+            if vars(self).get("compose_node") is bounded:  # else a hook has put another on the loader
+                del self.compose_node
+                if kept is not None:
+                    self.compose_node = kept
 
     def compose_bounded(self, compose, parent, index):
         """Composes the next node, unless the document, or a list of it, would then be larger than it may."""
@@ -469,7 +494,7 @@ class Parser:
 
     def dispose(self):
         """Gives back what the parser holds; it then has no further event."""
-        self.events, self.failure = iter(()), None
+        self.events, self.failure = itertools.repeat(None), None
 
 
 class Loader(Parser, yaml.Loader):
