@@ -174,7 +174,8 @@ class Program:
 
     def __init__(self, mode, path):
         built = os.path.join(HERE, os.pardir, "crates", "yamltokens", "out", "yamltokens")
-        self.path = path or (os.path.normpath(built) if os.path.exists(built) else "yamltokens")
+        found = os.path.normpath(built) if os.path.exists(built) else "yamltokens"
+        self.path = found if path is None else path
         self.mode, self.has_node, self.output = mode, False, Output()
         pipe = subprocess.PIPE
         try:
@@ -182,7 +183,7 @@ class Program:
                                             stderr=subprocess.DEVNULL)
         except FileNotFoundError as error:
             failure = Failure.of("cannot run %s" % self.path, error)
-            raise failure if path else Failure("%s; to build it: %s" % (failure, HOW_TO_BUILD))
+            raise failure if path is not None else Failure("%s; to build it: %s" % (failure, HOW_TO_BUILD))
         except OSError as error:
             raise Failure.of("cannot run %s" % self.path, error)
         self.into, self.out = self.process.stdin.fileno(), self.process.stdout.fileno()
@@ -268,6 +269,9 @@ class Scanner:
     def directive(self, token):
         """Returns the form of a directive's line, which its name decides."""
         if token.name == "YAML":
+            if max(token.value) > 0x7FFFFFFF:  # of PyYAML without its C part
+                raise self.yaml.scanner.ScannerError("while scanning a %YAML directive", token.start_mark,
+                                                     "found extremely long version number", token.end_mark)
             return "VERSION-DIRECTIVE", lambda token: " %d.%d\n" % token.value, False
         if token.name == "TAG":
             return "TAG-DIRECTIVE", lambda token: " =%s =%s\n" % tuple(map(escaped, token.value)), False
@@ -316,6 +320,8 @@ class Scanner:
         except self.yaml.MarkedYAMLError as error:
             self.fault = Fault("scanner", place_of(error.problem_mark), error.problem,
                                place_of(error.context_mark), error.context)
+        except UnicodeEncodeError:  # of PyYAML without its C part, as by the escape "\uD800": the scanner is further on
+            self.fault = Fault("scanner", place_of(token.start_mark), "found a character or number out of range")
         except (ValueError, OverflowError):  # of PyYAML without its C part, as by the escape "\UFFFFFFFF"
             self.fault = Fault("scanner", place_of(self.loader.get_mark()), "found a character or number out of range")
 

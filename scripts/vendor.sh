@@ -30,9 +30,9 @@ for word; do
     case $word in '' | -*) echo "$usage" >&2; exit 2 ;; esac
 done
 [ -d "$1" ] || { echo "vendor.sh: no folder $1" >&2; exit 2; }
-dest=$(cd "$1" && pwd)
+dest=$(cd "$1" && pwd -P)
 shift
-cd "$(dirname "$0")/.."
+cd -P "$(dirname "$0")/.."
 case $dest/ in "$PWD"/*) fail "$dest is this repository, or in it" ;; esac
 parts='LICENSE README.md src specs proofs'
 record=$dest/vendored.txt

@@ -58,6 +58,8 @@ printf '\357\273\277a\n' > mark.yaml
 printf '"\\ud800"\n' > surrogate.yaml
 printf '"\\UFFFFFFFF"\n' > beyond.yaml
 printf '%%YAML 1.%05000d\n--- a\n' 9 > version.yaml
+printf -- '- "\\ud800"\n\n\n- b\n' > earlier.yaml
+printf '%%YAML 2147483648.0\n--- a\n' > larger.yaml
 yes -- '- some words' | head -n 200000 > long.yaml
 truncate -s 1G huge.yaml
 cp ok.yaml locked.yaml && chmod 0 locked.yaml
@@ -126,6 +128,10 @@ for name in surrogate beyond version; do
     expect 1 "yaml_lines.py: $name.yaml: line *(scanner)" "python3 $front tokens $name.yaml"
     expect 1 "yaml_lines.py: $name.yaml: line *(scanner)" "PYTHONPATH=pure python3 $front tokens $name.yaml"
 done
+expect 1 'yaml_lines.py: earlier.yaml: line 1, column 3: *(scanner)' "PYTHONPATH=pure python3 $front tokens earlier.yaml"
+expect 1 'yaml_lines.py: larger.yaml: line 1, column 19: found extremely long version number (scanner)' \
+    "PYTHONPATH=pure python3 $front events larger.yaml --program $program"
+expect 3 'yaml_lines.py: cannot run : *' "python3 $front events ok.yaml --program ''"
 
 # ---- Beside PyYAML and pokhvizi: no file of the folder hides a module of theirs ----
 

@@ -24,8 +24,8 @@ IMPL = re.compile(r"impl(<.*?>)? (?:(.+?) for )?(\w+)")
 USE = re.compile(r"pub use ([\w:]+?)(?:::\{([^}]*)\}| as (\w+))?;")
 LAWS = re.compile(r"(?:laws|vectors)::")
 NAMED = (
-    "unsafe_libyaml", "token_lines", "yaml_path", "yaml_expansion", "libyaml_composer", "token_steps", "token_steps_c",
-    "document_steps", "document_sizes", "document_steps_c",
+    "unsafe_libyaml", "token_lines", "token_limits", "yaml_path", "yaml_expansion", "libyaml_composer", "token_steps",
+    "token_steps_c", "document_steps", "document_sizes", "document_steps_c",
 )
 INNER = re.compile(r"putting::")  # a module for the crates above alone
 EXAMPLES = {"example_source", "example_theorems", "vectors_common"}
@@ -331,7 +331,7 @@ def page():
         can_name = [(n, i) for n, i in rows if crate in NAMED and not INNER.match(n) or any(n.split("::")[0] in passing[user] for user in users)]
         left = [(name, item) for name, item in in_order(can_name) if name not in first]
         if left:
-            title = f"### `{crate}`" + (f", re-exported by `{'` and `'.join(users)}`" if users else "")
+            title = f"### `{crate}`" + (f", re-exported by `{'` and `'.join(users)}`" if users and crate not in NAMED else "")
             lines += ["", title, "", *block(grouped(left), is_brief=True)]
     return "\n".join(lines) + "\n", without
 

@@ -62,6 +62,7 @@ expect 2 0 0 "$project" ''
 [ ! -e "$project/vendored.txt" ] || complain "wrong words change the project"
 expect 1 0 0 .
 expect 1 0 0 crates
+ln -s "$PWD/crates" "$work/link" && expect 1 0 0 "$work/link"
 [ ! -e crates/vendored.txt ] || complain "the repository's own crates are a project"
 refuse no_such_crate "$project" no_such_crate
 # It and all crates that stand below it.

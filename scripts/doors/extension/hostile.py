@@ -111,7 +111,7 @@ def bounds():
             return super().compose_sequence_node(anchor)
 
     loader = Puts("[a, b]")
-    expect("a loader that puts a method on itself", [said(loader.get_data), vars(loader)["compose_node"]], [["a", "b"], loader.own])
+    expect("a loader that puts a method on itself", [said(loader.get_data), vars(loader).get("compose_node")], [["a", "b"], loader.own])
 
 
 ACTS = yaml.parse, yaml.compose_all, yaml.load_all
