@@ -116,11 +116,11 @@ static size_t bound_of(const char *name, size_t most)
  * program may be changing. */
 __attribute__((constructor)) SELDOM void read_environment(void)
 {
-    const char *strict = getenv("POKHVIZI_STRICT");
+    const char *strict = getenv("POKHVIZI_STRICT"), *check = getenv("POKHVIZI_CHECK");
 
     if (is_read)
         return;
-    check_file = getenv("POKHVIZI_CHECK");
+    check_file = check == NULL ? NULL : strdup(check);
     is_strict = strict != NULL && *strict != '\0' && strcmp(strict, "0") != 0;
     bounds.depth = bound_of("POKHVIZI_MAX_DEPTH", PTRDIFF_MAX / sizeof(yaml_mark_t));
     bounds.nodes = bound_of("POKHVIZI_MAX_NODES", INT32_MAX);
