@@ -129,7 +129,7 @@ fn push_all(
     Ok(())
 }
 
-/// Whether a loader that failed so returns the same error at another token, and gives no document.
+/// Whether a loader that failed so keeps that error and returns it at another token, and gives no document.
 fn is_told_again(
     alloc: Global,
     loader: &mut yaml_push_loader_t,
@@ -145,5 +145,5 @@ fn is_told_again(
     };
     let mut documents = Vec::new(alloc);
     let again = loader.push(token, &mut documents);
-    again == Err(error) && documents.is_empty()
+    again == Err(error) && error == *loader.prefix() && documents.is_empty()
 }
