@@ -92,7 +92,7 @@ static struct {
 #define UNCOUNTED ((size_t)PTRDIFF_MAX)
 static int is_strict;  /* POKHVIZI_STRICT is set, to something else than 0 */
 static const char *check_file;
-static int is_read;  /* the environment */
+static int is_read;  /* whether the environment was read */
 
 /* The number that a variable of the environment has, or `most` if it has none. Another text ends the process: it would run
  * without the bound that is asked for. */

@@ -243,30 +243,26 @@ class Steps:
         step = self.library.step
         record, states, states_room, marks, marks_room, at, event, fault = self.words
         while not self.has_ended:
-            if self.token is None and len(self.marks.all) > self.marks.few:
-                self.forget_marks()
-            while True:
-                if self.token is None:
-                    self.take()
-                did = step(record, states, states_room, marks, marks_room, self.kind, self.fact, at, event, fault)
-                if did == self.WANTS:
-                    if self.kind in self.HELD:
-                        self.hold()
-                    self.token = None
-                elif did == self.GAVE:
-                    token, self.token = self.token, None
-                    break
-                elif did == self.STAYS:
-                    token = None
-                    break
-                elif did == self.FAULT:
-                    raise self.error()
-                else:
-                    self.grow(did)
-                    record, states, states_room, marks, marks_room, at, event, fault = self.words
-            yield self.made(token)
-        while True:  # so steps that end have failed
-            yield None
+            if self.token is None:
+                self.take()
+            did = step(record, states, states_room, marks, marks_room, self.kind, self.fact, at, event, fault)
+            if did == self.WANTS:
+                if self.kind in self.HELD:
+                    self.hold()
+                self.token = None
+            elif did == self.GAVE:
+                token, self.token = self.token, None
+                yield self.made(token)
+                if len(self.marks.all) > self.marks.few:
+                    self.forget_marks()
+            elif did == self.STAYS:
+                yield self.made(None)
+            elif did == self.FAULT:
+                raise self.error()
+            else:
+                self.grow(did)
+                record, states, states_room, marks, marks_room, at, event, fault = self.words
+        yield from itertools.repeat(None)  # so that only steps that have failed end
 
     def grow(self, did):
         """Makes the stack larger that was full."""
@@ -479,8 +475,8 @@ class Parser:
         is_alias = isinstance(event, yaml.AliasEvent)
         is_known = event.anchor in self.anchors
         is_entry = parent is not None and not isinstance(index, yaml.Node)  # an item or a key, and no value
-        # PyYAML's composer refuses an alias of nothing and a second anchor: as in C, that comes before these bounds, and this
-        # between them.
+        # PyYAML's composer refuses an alias without an anchor, as in C before both bounds, and a second anchor, as in C between
+        # them.
         if is_known or not is_alias:
             if is_entry and len(parent.value) >= self.max_entries or not is_alias and self.nodes_left == 0:
                 raise yaml.composer.ComposerError(None, None, "found too many nodes", event.start_mark)
