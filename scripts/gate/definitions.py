@@ -18,6 +18,7 @@ from pathlib import Path
 ROOT = Path(__file__).resolve().parents[2]
 PAGE = ROOT / "docs" / "HEADLINE.md"
 RUNS = [("parse_all", "yaml_parser_parse_all"), ("load_all", "yaml_parser_load_all")]
+CLAUSES = ["of_tree", "of_partial_tree"]
 PAGES = [*ROOT.glob("docs/*.md"), ROOT / "README.md", ROOT / "CONTRIBUTING.md", *ROOT.glob("crates/*/README.md"), *ROOT.glob("bindings/*/README.md"), *ROOT.glob("scripts/**/README.md")]
 FOLDERS = ["crates", "scripts", "examples", "bindings", "bench"]
 TEXTS = [".rt", ".antt", ".edit", ".py", ".sh", ".c", ".h", ".rs", ".txt", ""]
@@ -110,9 +111,10 @@ def seeds_of(name, function):
     text = (ROOT / "crates" / "unsafe_libyaml" / "src" / (name + ".rt")).read_text()
     start = text.index("pub fn " + function)
     clauses = re.split(r"(?=    ensures )", re.sub(r"//.*", "", text[start : text.index("\n{", start)]))
-    clauses = "".join(clause for clause in clauses if re.match(r" +ensures of_(cut_)?tree ", clause))
+    named = {clause.split()[1]: clause for clause in clauses if clause.startswith("    ensures ")}
+    cited = "".join(named[clause] for clause in CLAUSES)
     known = imports(text)
-    return [known[word] for word in {word.strip(".,") for word in WORD.findall(clauses)} if word in known]
+    return [known[word] for word in {word.strip(".,") for word in WORD.findall(cited)} if word in known]
 
 
 def table():
