@@ -26,7 +26,7 @@ def lines():
     """The layout of the structs, and the declarations of the functions, each on one line."""
     written = io.StringIO()
     with contextlib.redirect_stdout(written):
-        layout.main()
+        layout.write_structs()
     yield from (line for line in written.getvalue().splitlines() if not line.startswith("#include"))
     for header in sorted((C / "include" / "pokhvizi").glob("*.h")):
         for found in FUNCTION.findall(header.read_text()):

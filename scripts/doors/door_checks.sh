@@ -52,10 +52,10 @@ check() {
 
 # ---- A header and its library ----
 
-# check_header TURN: the header's structs, and where the sed command TURN has turned two fields.
+# check_header TURN: the headers' structs and functions, and where the sed command TURN has turned two fields.
 check_header() {
     python3 scripts/doors/layout.py > "$work/layout.c" || exit 2
-    check "structs of the headers and of the crates" \
+    check "structs and functions of the headers and of the crates" \
         sh -c "$cc $strict -fsyntax-only '$work/layout.c' && grep -c _Static_assert '$work/layout.c'"
     mkdir -p "$work/turned/pokhvizi"
     cp bindings/c/include/pokhvizi/*.h "$work/turned/pokhvizi"
