@@ -42,6 +42,7 @@
  * Depth. To bound how deep a text nests, don't make `marks` larger than that at POKHVIZI_FULL_MARKS, and stop: the token opens
  * a collection too deep (POKHVIZI_TOO_DEEP). An entry is one collection that a token opens, kinds 7, 8, 10 and 12. Two kinds
  * have none and count with what they stand in: a sequence that isn't indented in its mapping, and a pair in a flow sequence.
+ * These count among the N above, so with a bound of D `states` may need 2 * D + 1 entries.
  *
  * Facts. `fact` is the one number that a call has to know of a token's texts. It depends on the document's handles, so ask for
  * it at each call, even if the token stayed:
