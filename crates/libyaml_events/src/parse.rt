@@ -5,7 +5,7 @@ ghost use Rattle.libyaml_events.specs.machine.Config.{ended_or_failed, is_fault,
 ghost use Rattle.libyaml_events.specs.parsers.Left.{Left};
 ghost use Rattle.libyaml_events.specs.sources.Calls.{Call, event_result};
 ghost use Rattle.libyaml_events.specs.automaton.View.{Ready};
-ghost use Rattle.libyaml_events.specs.machine.Outcomes.{result_of, config_after, wanted};
+ghost use Rattle.libyaml_events.specs.machine.Outcomes.{result_of, wanted};
 ghost use Rattle.libyaml_events.specs.sources.History.{Remembers, has_failed};
 ghost use Rattle.libyaml_events.specs.sources.ParsesNext.{ParsesNext};
 ghost use Rattle.libyaml_events.specs.machine.Machine.{step};
@@ -48,10 +48,7 @@ impl TokenParser {
         self.next_token(source, lookahead)?;
         loop {
             match self.step::<S>(&mut lookahead.token, pending, event) {
-                Step::Given => {
-                    self.has_no_lookahead();
-                    return Ok(());
-                }
+                Step::Given => return Ok(()),
                 Step::GivenBefore => {
                     lookahead.stays = true;
                     return Ok(());

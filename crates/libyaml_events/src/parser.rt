@@ -81,15 +81,14 @@ pub(crate) struct TokenParser {
 
 impl Model for TokenParser {
     ghost use Rattle.std.specs.Coded.{codes};
-    ghost use Rattle.std.specs.Prelude.{None};
     ghost use Rattle.libyaml_types.specs.Fault.{fault_of};
-    ghost use Rattle.libyaml_events.specs.machine.Config.{Config, handles_code, config_with};
+    ghost use Rattle.libyaml_events.specs.machine.Config.{Machine, handles_code, config_with};
 
-    ghost Value = { Config };
+    ghost Value = { Machine };
 
     ghost coded = { Prim.hlevel (codes, handles_code) };
 
-    ghost view = { λ p. config_with p.automaton p.handles (fault_of p.prefix) None };
+    ghost view = { λ p. config_with p.automaton p.handles (fault_of p.prefix) };
 }
 
 /// Returns a parser at the start of this source's stream, without an allocation.

@@ -3,7 +3,7 @@ ghost use Rattle.std.specs.Prelude.{◌≡◌};
 ghost use Rattle.libyaml_events.specs.machine.Outcomes.{wanted};
 ghost use Rattle.libyaml_events.specs.machine.Config.{start};
 ghost use Rattle.libyaml_events.specs.machine.Want.{AtState};
-ghost use Rattle.libyaml_events.specs.automaton.View.{InStep};
+ghost use Rattle.libyaml_events.specs.automaton.View.{Ready};
 
 use crate::properties::PropertiesHeld;
 use libyaml_automaton::Reading;
@@ -45,7 +45,7 @@ impl Pending {
     #[inline(always)]
     pub(crate) fn new(alloc: Global) -> Self
         ensures wanted { wanted result ≡ AtState }
-        ensures at { InStep result start }
+        ensures at { Ready result start }
     {
         Pending {
             reading: Reading::new(),

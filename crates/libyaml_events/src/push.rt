@@ -1,11 +1,11 @@
 //! A parser that is handed its tokens.
-ghost use Rattle.std.specs.Prelude.{◌≡◌, ◌≤◌, ◌<◌, [], None, IfErr, IfOk, true, false};
+ghost use Rattle.std.specs.Prelude.{◌≡◌, ◌≤◌, ◌<◌, [], IfErr, IfOk, true, false};
 ghost use Rattle.std.specs.Vec.{vec_capacity, vec_len};
 ghost use Rattle.libyaml_types.specs.Fault.{fault_of, no_fault};
 ghost use Rattle.libyaml_events.specs.machine.Outcomes.{wanted};
 ghost use Rattle.libyaml_events.specs.machine.Config.{ended_or_failed, is_fault};
 ghost use Rattle.libyaml_events.specs.machine.StepsOnto.{StepsOnto};
-ghost use Rattle.libyaml_events.specs.automaton.View.{InStep, Ready};
+ghost use Rattle.libyaml_events.specs.automaton.View.{Ready};
 ghost use Rattle.libyaml_events.specs.sources.Pushed.{new_push_parser, push_parser_at, ForPushed, Pushed};
 ghost use Rattle.libyaml_events.specs.sources.Pushed.{fault_in};
 ghost use Rattle.libyaml_events.specs.sources.Pushed.{RemembersPushes};
@@ -34,11 +34,11 @@ pub struct yaml_push_parser_t {
 }
 
 impl Model for yaml_push_parser_t {
-    ghost use Rattle.std.specs.Prelude.{◌≡◌, None, false};
+    ghost use Rattle.std.specs.Prelude.{◌≡◌, false};
     ghost use Rattle.std.specs.Coded.{codes};
     ghost use Rattle.libyaml_events.specs.machine.Outcomes.{wanted};
     ghost use Rattle.libyaml_events.specs.machine.Config.{handles_code, ended_or_failed};
-    ghost use Rattle.libyaml_events.specs.automaton.View.{InStep};
+    ghost use Rattle.libyaml_events.specs.automaton.View.{Ready};
     ghost use Rattle.libyaml_events.specs.sources.Pushed.{PushParser, RemembersPushes, push_parser_at};
 
     ghost Value = { PushParser };
@@ -47,9 +47,7 @@ impl Model for yaml_push_parser_t {
 
     ghost view = { λ p. push_parser_at (wanted p.pending) p.token_parser };
 
-    // no token is held between two pushes
-    ghost invariant = { λ p. (p.token_parser.lookahead ≡ None)
-        × (ended_or_failed p.token_parser ≡ false → InStep p.pending p.token_parser)
+    ghost invariant = { λ p. (ended_or_failed p.token_parser ≡ false → Ready p.pending p.token_parser)
         × RemembersPushes (push_parser_at (wanted p.pending) p.token_parser) };
 }
 
@@ -149,15 +147,13 @@ impl TokenParser {
         events: &mut Vec<yaml_event_t>,
     ) -> Result<(), yaml_error_type_t>
         requires running { ended_or_failed self.old ≡ false }
-        requires no_lookahead { self.old.lookahead ≡ None }
-        requires agrees { InStep pending.old self.old }
+        requires agrees { Ready pending.old self.old }
         ensures kept { IfErr result (λ e. (e ≡ self.new.fault.error)
             × (is_fault self.new.fault.error ≡ true)) }
-        ensures no_lookahead { self.new.lookahead ≡ None }
         ensures takes { Takes (vec_capacity events.old ≤ vec_len events.new)
             (push_parser_at (wanted pending.old) self.old) token.old events.old.items result
             (push_parser_at (wanted pending.new) self.new) events.new.items }
-        ensures agrees { IfOk result (λ _. ended_or_failed self.new ≡ false → InStep pending.new self.new) }
+        ensures agrees { IfOk result (λ _. ended_or_failed self.new ≡ false → Ready pending.new self.new) }
     {
         loop {
             match self.step_onto(token, pending, events) {

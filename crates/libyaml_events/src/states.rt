@@ -6,7 +6,7 @@
 //!
 //! The token is in a variable of the parser's. A function moves out of it what it keeps of the token; the
 //! rest is dropped when the next token is put there.
-ghost use Rattle.std.specs.Prelude.{◌≡◌, None, true};
+ghost use Rattle.std.specs.Prelude.{◌≡◌, true};
 ghost use Rattle.libyaml_types.specs.Types.{token_type};
 ghost use Rattle.libyaml_grammar.specs.grammar.Events.{event};
 ghost use Rattle.libyaml_automaton.specs.Numbers.{next_of};
@@ -15,7 +15,7 @@ ghost use Rattle.libyaml_automaton.specs.Growth.{stack_part_of};
 ghost use Rattle.libyaml_events.specs.machine.Config.{with_fault};
 ghost use Rattle.libyaml_events.specs.machine.Machine.{fault_with, step};
 ghost use Rattle.libyaml_events.specs.machine.Steps.{Steps};
-ghost use Rattle.libyaml_events.specs.machine.Outcomes.{result_of, config_after, wanted};
+ghost use Rattle.libyaml_events.specs.machine.Outcomes.{result_of, wanted};
 ghost use Rattle.libyaml_events.specs.machine.Growth.{may_grow};
 ghost use Rattle.libyaml_events.specs.automaton.AutomatonResults.{GrowsAfter, IsPut, FollowsAutomaton, Puts};
 ghost use Rattle.libyaml_events.specs.automaton.View.{Ready};
@@ -75,8 +75,8 @@ impl TokenParser {
         out: &mut yaml_event_t,
     ) -> Step
         requires ready { Ready pending.old self.old }
-        ensures steps { Steps (step (wanted pending.old) self.old token.old) self.old
-            (result_of result pending.new out.new self.new) (config_after result token.new self.new) }
+        ensures steps { Steps (step (wanted pending.old) self.old token.old)
+            (result_of result pending.new out.new token.new self.new) self.new }
         ensures ready { result ≡ Step.Wants → Ready pending.new self.new }
         ensures grows { result ≡ Step.Failed → self.new.fault.error ≡ yaml_error_type_t.YAML_MEMORY_ERROR
             → may_grow (wanted pending.old) self.old token.old.content ≡ true }
@@ -101,8 +101,8 @@ impl TokenParser {
     ) -> Step
         requires ready { Ready pending.old self.old }
         requires grows { may_grow (wanted pending.old) self.old token.old.content ≡ true }
-        ensures steps { Steps (step (wanted pending.old) self.old token.old) self.old
-            (result_of result pending.new out.new self.new) (config_after result token.new self.new) }
+        ensures steps { Steps (step (wanted pending.old) self.old token.old)
+            (result_of result pending.new out.new token.new self.new) self.new }
         ensures ready { result ≡ Step.Wants → Ready pending.new self.new }
     {
         if !self.automaton.grow(full) {
@@ -123,7 +123,6 @@ impl TokenParser {
         ensures led { FollowsAutomaton (step (wanted pending.old) self.old token.now)
             (wanted pending.old).texts token.now result pending.new self.new }
         ensures fits { FitsStep result (token_type token.now.content) pending.new.reading self.new.state }
-        ensures none { self.new.lookahead ≡ None }
         ensures texts { pending.new ≡ record pending.old { reading = pending.new.reading } }
         ensures undone { IsNothingDone result → Ready pending.new self.new
             × (wanted pending.new ≡ wanted pending.old) × (self.new ≡ self.old) }
@@ -152,7 +151,6 @@ impl TokenParser {
         pending: &mut Pending,
         out: &mut yaml_event_t,
     ) -> Step
-        requires none { self.old.lookahead ≡ None }
         requires put { IsPut led }
         requires fits { FitsStep led (token_type token.old.content) pending.old.reading self.old.state }
         ensures puts { Puts led token.old pending.old self.old result token.new pending.new out.new self.new }

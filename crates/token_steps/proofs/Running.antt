@@ -7,8 +7,8 @@ use Rattle.libyaml_grammar.specs.grammar.Events.{Event}
 use Rattle.libyaml_automaton.specs.Automaton as automaton
 use Rattle.libyaml_automaton.specs.Config.{Stacks, stacks_of, first_stacks}
 use Rattle.libyaml_automaton.specs.Purposes.{purpose_of}
-use Rattle.libyaml_events.specs.machine.Config.{Handles, no_handles, config_with}
-use Rattle.libyaml_events.specs.machine.Machine.{declared_by, lookahead_after}
+use Rattle.libyaml_events.specs.machine.Config.{Handles, no_handles, config_with, holding, token_if}
+use Rattle.libyaml_events.specs.machine.Machine.{declared_by}
 use Rattle.libyaml_events.specs.machine.Want.{Texts, no_texts}
 use Rattle.libyaml_events.proofs.exported.Pushes as push_lemmas
 use Rattle.libyaml_events.proofs.exported.Pushes.{fed_ended}
@@ -33,7 +33,7 @@ use Rattle.token_steps.proofs.Tied.{After, kept_after, steps_told, told_with}
 -- such a parser, with what is kept
 pub record Stood (v : automaton.Purpose) (g : TagRead) (c : Stacks) (hs : Handles) (h : Texts) (o : Option Token) (l : List Token)
     (es : List Event) : Type 0 where
-  pub fed : Fed (record { next = v; texts = h }) (config_with c hs no_fault None) o l es
+  pub fed : Fed (record { next = v; texts = h }) (config_with c hs no_fault) o l es
   pub holds : Holds (keeping v) h
   pub tag : g ≡ tag_read_of hs h.tag
 
@@ -50,7 +50,7 @@ at_want v v' g g' c hs h o l es e f s = rw (e, f) s
 
 -- between two events nothing is kept
 between : (d : steps_t) (c : Stacks) (hs : Handles) (o : Option Token) (l : List Token) (es : List Event)
-    → purpose_of d.read ≡ automaton.AtState → Fed (record { next = automaton.AtState; texts = no_texts }) (config_with c hs no_fault None) o l es
+    → purpose_of d.read ≡ automaton.AtState → Fed (record { next = automaton.AtState; texts = no_texts }) (config_with c hs no_fault) o l es
     → StoodAt d c hs no_texts o l es
 between d c hs o l es e f = at_want automaton.AtState (purpose_of d.read) facts.NoTag (tag_in d) c hs no_texts o l es e
     (ap (λ (x : automaton.Purpose). tag_for x d.tag) e) (record { fed = f; holds = refl; tag = refl })
@@ -62,7 +62,7 @@ after_wants : (x : Did) (d d' : steps_t) (c c' : Stacks) (hs : Handles) (h : Tex
 after_wants did.Wants d d' c c' hs h l es t e f s q y =
     let kept = subst (After hs h t.content) y (kept_after (want_in d) hs h t c s.holds s.tag) in
     let stepped = steps_told (want_in d) hs h t c s.holds s.tag ∙ ap (told_with h hs t t.content) y in record {
-      fed = push_lemmas.wants (record { next = purpose_of d.read; texts = h }) (config_with c hs no_fault None) t s.fed stepped;
+      fed = push_lemmas.wants (record { next = purpose_of d.read; texts = h }) (config_with c hs no_fault) t s.fed stepped;
       holds = kept.0;
       tag = kept.1;
     }
@@ -71,12 +71,12 @@ after_wants _ d d' c c' hs h l es t e f s q y = absurd (omega arith)
 given : (d d' : steps_t) (c c' : Stacks) (hs : Handles) (h : Texts) (l : List Token) (es : List Event) (t : Token)
     (e : facts.StepEvent) → StoodAt d c hs h (Some t) l es → step_by_fact (want_in d) c (token_of hs t) ≡ Ok (Given e, c')
     → purpose_of d'.read ≡ automaton.AtState
-    → StoodAt d' c' (handles_past hs e.shape) no_texts (lookahead_after e.stays t None) l
+    → StoodAt d' c' (handles_past hs e.shape) no_texts (token_if e.stays t) l
     (es ++ event_with hs h t.content e ∷ [])
-given d d' c c' hs h l es t e s y w = between d' c' (handles_past hs e.shape) (lookahead_after e.stays t None) l
+given d d' c c' hs h l es t e s y w = between d' c' (handles_past hs e.shape) (token_if e.stays t) l
     (es ++ event_with hs h t.content e ∷ []) w
-    (push_lemmas.gives_on (record { next = purpose_of d.read; texts = h }) (config_with c hs no_fault None) t s.fed
-    (event_with hs h t.content e) (config_with c' (handles_past hs e.shape) no_fault (lookahead_after e.stays t None))
+    (push_lemmas.gives_on (record { next = purpose_of d.read; texts = h }) (config_with c hs no_fault) t s.fed
+    (event_with hs h t.content e) (holding (token_if e.stays t) (config_with c' (handles_past hs e.shape) no_fault))
     (steps_told (want_in d) hs h t c s.holds s.tag ∙ ap (told_with h hs t t.content) y))
 
 after_event : (x : Did) (d d' : steps_t) (c c' : Stacks) (hs : Handles) (h : Texts) (l : List Token) (es : List Event)
@@ -105,7 +105,7 @@ stood _ _ _ _ _ _ _ _ (moves d d' ss ss' ms ms' hs h o l es r v g e) =
 stood _ _ _ _ _ _ _ _ (takes d ss ms hs h l es t r e) =
     let s = stood d ss ms hs h None l es r in record {
       fed = push_lemmas.takes (record { next = purpose_of d.read; texts = h })
-          (config_with (stacks_of d.machine ss ms) hs no_fault None) l es t s.fed (fed_ended s.fed ∙ e);
+          (config_with (stacks_of d.machine ss ms) hs no_fault) l es t s.fed (fed_ended s.fed ∙ e);
       holds = s.holds;
       tag = s.tag;
     }

@@ -7,7 +7,7 @@ use Rattle.libyaml_grammar.specs.grammar.Tokens.{Token}
 use Rattle.libyaml_automaton.specs.Automaton as automaton
 use Rattle.libyaml_automaton.specs.Config.{Stacks, stacks_of}
 use Rattle.libyaml_automaton.specs.Purposes.{purpose_of}
-use Rattle.libyaml_events.specs.machine.Config.{Handles, config_with}
+use Rattle.libyaml_events.specs.machine.Config.{Handles, config_with, holding}
 use Rattle.libyaml_events.specs.machine.Machine.{declared_by, fault_with, step}
 use Rattle.libyaml_events.specs.machine.Want as parser
 use Rattle.libyaml_events.specs.machine.Want.{Texts}
@@ -43,11 +43,9 @@ stayed x p d e f c q h = grind arith
 pub step_wants : (d d' : steps_t) (ss ss' : List ℕ) (ms ms' : List yaml_mark_t) (hs : Handles) (kept : Texts)
     (l : List Token) (g : List Event) (t : Token) (e : step_event_t) (f : step_fault_t)
     → Run d ss ms hs kept (Some t) l g → StepCalls 0 d ss ms hs t d' ss' ms' e f
-    → step (want_with d kept) (config_with (stacks_of d.machine ss ms) hs no_fault None) t
-    ≡ Ok (
-      parser.Wants (want_with d' (texts_kept_after kept t.content)),
-      config_with (stacks_of d'.machine ss' ms') (declared_by hs t.content) no_fault None,
-    )
+    → step (want_with d kept) (config_with (stacks_of d.machine ss ms) hs no_fault) t
+    ≡ Ok (parser.Wants (want_with d' (texts_kept_after kept t.content))
+    (config_with (stacks_of d'.machine ss' ms') (declared_by hs t.content) no_fault))
 step_wants d d' ss ss' ms ms' hs kept l g t e f r c =
     let at = stood d ss ms hs kept (Some t) l g r in
     steps_told (want_in d) hs kept t (stacks_of d.machine ss ms) at.holds at.tag
@@ -56,11 +54,9 @@ step_wants d d' ss ss' ms ms' hs kept l g t e f r c =
 pub step_gives : (d d' : steps_t) (ss ss' : List ℕ) (ms ms' : List yaml_mark_t) (hs : Handles) (kept : Texts)
     (l : List Token) (g : List Event) (t : Token) (e : step_event_t) (f : step_fault_t)
     → Run d ss ms hs kept (Some t) l g → StepCalls 1 d ss ms hs t d' ss' ms' e f
-    → (step (want_with d kept) (config_with (stacks_of d.machine ss ms) hs no_fault None) t
-    ≡ Ok (
-      parser.Given (event_with hs kept t.content (event_of e false)),
-      config_with (stacks_of d'.machine ss' ms') (handles_past hs (shape_of e)) no_fault None,
-    )) × (purpose_of d'.read ≡ automaton.AtState)
+    → (step (want_with d kept) (config_with (stacks_of d.machine ss ms) hs no_fault) t
+    ≡ Ok (parser.Given (event_with hs kept t.content (event_of e false))
+    (holding None (config_with (stacks_of d'.machine ss' ms') (handles_past hs (shape_of e)) no_fault)))) × (purpose_of d'.read ≡ automaton.AtState)
 step_gives d d' ss ss' ms ms' hs kept l g t e f r c =
     let at = stood d ss ms hs kept (Some t) l g r in
     let h = gave c.0 _ d' e f _ c.1 c.2 in (
@@ -72,11 +68,9 @@ step_gives d d' ss ss' ms ms' hs kept l g t e f r c =
 pub step_stays : (d d' : steps_t) (ss ss' : List ℕ) (ms ms' : List yaml_mark_t) (hs : Handles) (kept : Texts)
     (l : List Token) (g : List Event) (t : Token) (e : step_event_t) (f : step_fault_t)
     → Run d ss ms hs kept (Some t) l g → StepCalls 2 d ss ms hs t d' ss' ms' e f
-    → (step (want_with d kept) (config_with (stacks_of d.machine ss ms) hs no_fault None) t
-    ≡ Ok (
-      parser.Given (event_with hs kept t.content (event_of e true)),
-      config_with (stacks_of d'.machine ss' ms') (handles_past hs (shape_of e)) no_fault (Some t),
-    )) × (purpose_of d'.read ≡ automaton.AtState)
+    → (step (want_with d kept) (config_with (stacks_of d.machine ss ms) hs no_fault) t
+    ≡ Ok (parser.Given (event_with hs kept t.content (event_of e true))
+    (holding (Some t) (config_with (stacks_of d'.machine ss' ms') (handles_past hs (shape_of e)) no_fault)))) × (purpose_of d'.read ≡ automaton.AtState)
 step_stays d d' ss ss' ms ms' hs kept l g t e f r c =
     let at = stood d ss ms hs kept (Some t) l g r in
     let h = stayed c.0 _ d' e f _ c.1 c.2 in (
@@ -88,7 +82,7 @@ step_stays d d' ss ss' ms ms' hs kept l g t e f r c =
 pub step_fails : (d d' : steps_t) (ss ss' : List ℕ) (ms ms' : List yaml_mark_t) (hs : Handles) (kept : Texts)
     (l : List Token) (g : List Event) (t : Token) (e : step_event_t) (f : step_fault_t)
     → Run d ss ms hs kept (Some t) l g → StepCalls 5 d ss ms hs t d' ss' ms' e f
-    → step (want_with d kept) (config_with (stacks_of d.machine ss ms) hs no_fault None) t ≡ Err (fault_with (step_fault f))
+    → step (want_with d kept) (config_with (stacks_of d.machine ss ms) hs no_fault) t ≡ Err (fault_with (step_fault f))
 step_fails d d' ss ss' ms ms' hs kept l g t e f r c =
     let at = stood d ss ms hs kept (Some t) l g r in
     steps_told (want_in d) hs kept t (stacks_of d.machine ss ms) at.holds at.tag

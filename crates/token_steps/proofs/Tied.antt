@@ -17,9 +17,9 @@ use Rattle.libyaml_automaton.specs.declared.node_place.NodePlace.{NodePlace}
 use Rattle.libyaml_automaton.specs.Automaton as automaton
 use Rattle.libyaml_automaton.specs.Config.{Stacks}
 use Rattle.libyaml_automaton.specs.Numbers.{flag}
-use Rattle.libyaml_events.specs.machine.Config.{Handles, config_with}
+use Rattle.libyaml_events.specs.machine.Config.{Handles, config_with, holding, token_if}
 use Rattle.libyaml_events.specs.machine.Machine as parser_machine
-use Rattle.libyaml_events.specs.machine.Machine.{declared_by, fault_with, lookahead_after, resolve}
+use Rattle.libyaml_events.specs.machine.Machine.{declared_by, fault_with, resolve}
 use Rattle.libyaml_events.specs.machine.Want as parser
 use Rattle.libyaml_events.specs.machine.Want.{Texts}
 use Rattle.token_steps.specs.Facts.{Given, StepResult, TagRead, NoTag, StepWant, Wants, put_by_fact, without_fact, step_by_fact, tag_for, tag_if, content_by_fact, shape_with, tag_read, with_facts}
@@ -70,20 +70,16 @@ handles_same hs g fact s = grind arith
 
 -- what is told, with the texts that are kept and the token's
 abbrev pub told_with : Texts → Handles → Token → unnamed_yaml_token_t_data → StepResult → parser_machine.Progressed
-told_with h hs t k (Ok (Given e, c)) = Ok (
-  parser.Given (event_with hs h k e),
-  config_with c (handles_past hs e.shape) no_fault (lookahead_after e.stays t None),
-)
-told_with h hs t k (Ok (Wants v, c)) = Ok (
-  parser.Wants (record { next = v.next; texts = texts_kept_after h k }),
-  config_with c (declared_by hs k) no_fault None,
-)
+told_with h hs t k (Ok (Given e, c)) = Ok (parser.Given (event_with hs h k e)
+    (holding (token_if e.stays t) (config_with c (handles_past hs e.shape) no_fault)))
+told_with h hs t k (Ok (Wants v, c)) = Ok (parser.Wants (record { next = v.next; texts = texts_kept_after h k })
+    (config_with c (declared_by hs k) no_fault))
 told_with h hs t k (Err f) = Err (fault_with f)
 
 gives_same : (hs : Handles) (h : Texts) (t : Token) (k : unnamed_yaml_token_t_data) (tag : ℕ) (b z : Bool)
     (w g : Option (List ℕ)) (c d : Stacks) (e : automaton.ShapedEvent) → GivesWith b z (token_type k) e.stays e.shape
     → only_if b h.anchor ≡ w → only_if z (resolved_tag hs h.tag) ≡ g
-    → parser_machine.put h w g (config_with c hs no_fault None) t k (automaton.Gives e d)
+    → parser_machine.put h w g (config_with c hs no_fault) t k (automaton.Gives e d)
     ≡ told_with h hs t k (put_by_fact (read_of g) tag (token_with hs t k) (automaton.Gives e d))
 gives_same hs h t k tag b z w g c d e f p q
     = rw (sym (content_same hs h k b z e.stays w g e.shape f p q), handles_same hs (read_of g) (fact_of hs k) e.shape) refl
@@ -91,13 +87,13 @@ gives_same hs h t k tag b z w g c d e f p q
 content_put : (hs : Handles) (h : Texts) (t : Token) (k : unnamed_yaml_token_t_data) (tag : ℕ) (b z : Bool)
     (w g : Option (List ℕ)) (c : Stacks) (s : automaton.Step) → Content b z (token_type k) s → only_if b h.anchor ≡ w
     → only_if z (resolved_tag hs h.tag) ≡ g
-    → parser_machine.put h w g (config_with c hs no_fault None) t k s ≡ told_with h hs t k (put_by_fact (read_of g) tag (token_with hs t k) s)
+    → parser_machine.put h w g (config_with c hs no_fault) t k s ≡ told_with h hs t k (put_by_fact (read_of g) tag (token_with hs t k) s)
 content_put hs h t k tag b z w g c s f p q = grind (arith, gives_same)
 
 resolved : (hs : Handles) (h : Texts) (t : Token) (k : unnamed_yaml_token_t_data) (tag : ℕ) (p : NodePlace)
     (r : automaton.PropertiesRead) (c x : Stacks) (o : Option (List ℕ)) → only_if r.anchor h.anchor ≡ h.anchor
     → only_if r.tag (resolved_tag hs h.tag) ≡ o
-    → parser_machine.content_resolved o p r x h (config_with c hs no_fault None) t k
+    → parser_machine.content_resolved o p r x h (config_with c hs no_fault) t k
     ≡ told_with h hs t k (content_by_fact (tag_read (tag_fact o)) tag p r x (token_with hs t k))
 resolved hs h t k tag p r c x None u v = refl
 resolved hs h t k tag p r c x (Some g) u v = content_put hs h t k tag r.anchor r.tag h.anchor (Some g) c
@@ -107,7 +103,7 @@ resolved hs h t k tag p r c x (Some g) u v = content_put hs h t k tag r.anchor r
 content_told : (hs : Handles) (h : Texts) (t : Token) (k : unnamed_yaml_token_t_data) (tag : ℕ) (p : NodePlace)
     (r : automaton.PropertiesRead) (c x : Stacks) (o : Option unnamed_yaml_token_t_data_tag) → only_if r.anchor h.anchor ≡ h.anchor
     → only_if r.tag (resolved_tag hs h.tag) ≡ resolved_tag hs o
-    → parser_machine.content_after o p r x h (config_with c hs no_fault None) t k
+    → parser_machine.content_after o p r x h (config_with c hs no_fault) t k
     ≡ told_with h hs t k (content_by_fact (tag_read_of hs o) tag p r x (token_with hs t k))
 content_told hs h t k tag p r c x None u v = content_put hs h t k tag r.anchor r.tag h.anchor None c
     (automaton.node_content p r x (parser_machine.seen t k) (token_type k)) (node_content p r x (parser_machine.seen t k) (token_type k)) u v
@@ -122,21 +118,21 @@ tag_kept_if hs b o e = grind arith
 
 asked : (x : Keeping) (hs : Handles) (h : Texts) (t : Token) (k : unnamed_yaml_token_t_data) (tag : ℕ) (p : NodePlace)
     (r : automaton.PropertiesRead) (c d : Stacks) → x ≡ properties r.anchor r.tag → Holds x h → tag_by x tag ≡ tag_read_of hs h.tag
-    → parser_machine.content_after h.tag p r d h (config_with c hs no_fault None) t k
+    → parser_machine.content_after h.tag p r d h (config_with c hs no_fault) t k
     ≡ told_with h hs t k (content_by_fact (tag_if r.tag tag) tag p r d (token_with hs t k))
 asked x hs h t k tag p r c d e = rw e (λ f q.
     content_told hs h t k tag p r c d h.tag (kept_if r.anchor h.anchor f.1.0) (tag_kept_if hs r.tag h.tag f.1.1)
     ∙ ap (λ (y : TagRead). told_with h hs t k (content_by_fact y tag p r d (token_with hs t k))) (sym q))
 
 first_version : (hs : Handles) (h : Texts) (t : Token) (v : unnamed_yaml_token_t_data_version_directive) (tag : ℕ) (b : Bool) (m : yaml_mark_t) (c d : Stacks)
-    → parser_machine.put h None None (config_with c hs no_fault None) t (tok.VersionDirective v)
+    → parser_machine.put h None None (config_with c hs no_fault) t (tok.VersionDirective v)
     (automaton.first_version b m d (parser_machine.seen t (tok.VersionDirective v)))
     ≡ told_with h hs t (tok.VersionDirective v) (put_by_fact NoTag tag (token_with hs t (tok.VersionDirective v))
     (automaton.first_version b m d (parser_machine.seen t (tok.VersionDirective v))))
 first_version hs h t v tag b m c d = grind arith
 
 tag_directive : (hs : Handles) (h : Texts) (t : Token) (g : unnamed_yaml_token_t_data_tag_directive) (tag : ℕ) (b q : Bool) (m : yaml_mark_t) (c d : Stacks)
-    → parser_machine.put h None None (config_with c hs no_fault None) t (tok.TagDirective g)
+    → parser_machine.put h None None (config_with c hs no_fault) t (tok.TagDirective g)
     (automaton.tag_directive b m q d (parser_machine.seen t (tok.TagDirective g)))
     ≡ told_with h hs t (tok.TagDirective g) (put_by_fact NoTag tag (token_with hs t (tok.TagDirective g))
     (automaton.tag_directive b m q d (parser_machine.seen t (tok.TagDirective g))))
@@ -144,25 +140,25 @@ tag_directive hs h t g tag b q m c d = grind arith
 
 version_told : (hs : Handles) (h : Texts) (t : Token) (k : unnamed_yaml_token_t_data) (tag : ℕ) (m : yaml_mark_t)
     (c d : Stacks) → token_type k ≡ kinds.YAML_VERSION_DIRECTIVE_TOKEN
-    → parser_machine.with_texts h (config_with c hs no_fault None) t k (automaton.AsksVersion m d)
+    → parser_machine.with_texts h (config_with c hs no_fault) t k (automaton.AsksVersion m d)
     ≡ told_with h hs t k (with_facts tag (token_with hs t k) (automaton.AsksVersion m d))
 version_told hs h t k tag m c d e = grind (arith, flag_bit)
 
 handle_told : (hs : Handles) (h : Texts) (t : Token) (k : unnamed_yaml_token_t_data) (tag : ℕ) (m : yaml_mark_t) (q : Bool)
     (c d : Stacks) → token_type k ≡ kinds.YAML_TAG_DIRECTIVE_TOKEN
-    → parser_machine.with_texts h (config_with c hs no_fault None) t k (automaton.AsksHandle m q d)
+    → parser_machine.with_texts h (config_with c hs no_fault) t k (automaton.AsksHandle m q d)
     ≡ told_with h hs t k (with_facts tag (token_with hs t k) (automaton.AsksHandle m q d))
 handle_told hs h t k tag m q c d e = grind (arith, flag_bit)
 
 same : (x : Keeping) (hs : Handles) (h : Texts) (t : Token) (k : unnamed_yaml_token_t_data) (tag : ℕ) (c : Stacks)
     (s : automaton.Step) → Holds x h → tag_by x tag ≡ tag_read_of hs h.tag → Follows x (token_type k) s
-    → parser_machine.with_texts h (config_with c hs no_fault None) t k s ≡ told_with h hs t k (with_facts tag (token_with hs t k) s)
+    → parser_machine.with_texts h (config_with c hs no_fault) t k s ≡ told_with h hs t k (with_facts tag (token_with hs t k) s)
 same x hs h t k tag c s f q y = grind (arith, gives_same, keeps, declares, version_told, handle_told, asked)
 
 -- a step of the parser is what is told of it
 pub steps_told : (v : StepWant) (hs : Handles) (h : Texts) (t : Token) (c : Stacks) → Holds (keeping v.next) h
     → tag_for v.next v.tag ≡ tag_read_of hs h.tag
-    → parser_machine.step (record { next = v.next; texts = h }) (config_with c hs no_fault None) t
+    → parser_machine.step (record { next = v.next; texts = h }) (config_with c hs no_fault) t
     ≡ told_with h hs t t.content (step_by_fact v c (token_of hs t))
 steps_told v hs h t c f q = same (keeping v.next) hs h t t.content v.tag c _ f
     (sym (tag_for_by v.next v.tag) ∙ q) (follows v.next c (parser_machine.seen t t.content) (token_type t.content))

@@ -25,7 +25,7 @@ want_with d kept = record { next = purpose_of d.read; texts = kept }
 
 -- a parser that was handed the same tokens gave the same events, and stands so, with the same handles and texts
 abbrev pub StandsAs : steps_t → Stacks → Handles → Texts → Option Token → List Token → List Event → Type 0
-StandsAs d c hs kept o l g = Fed (want_with d kept) (config_with c hs no_fault None) o l g × (tag_in d ≡ tag_read_of hs kept.tag)
+StandsAs d c hs kept o l g = Fed (want_with d kept) (config_with c hs no_fault) o l g × (tag_in d ≡ tag_read_of hs kept.tag)
 
 abbrev pub RunIsFed : Type 0
 RunIsFed = (d : steps_t) (ss : List ℕ) (ms : List yaml_mark_t) (hs : Handles) (kept : Texts)
@@ -58,5 +58,5 @@ ForFailed P = (d d' : steps_t) (ss ss' : List ℕ) (ms ms' : List yaml_mark_t) (
 -- a parser that was handed these tokens, and gave these events, has this error with the token in hand
 abbrev pub FailsInHand : List Token → List Event → Fault → Type 0
 FailsInHand l g f = (w : Want) × (c : Stacks) × (hs : Handles) × (t : Token)
-    × Fed w (config_with c hs no_fault None) (Some t) l g
-    × (parser_machine.step w (config_with c hs no_fault None) t ≡ Err f)
+    × Fed w (config_with c hs no_fault) (Some t) l g
+    × (parser_machine.step w (config_with c hs no_fault) t ≡ Err f)

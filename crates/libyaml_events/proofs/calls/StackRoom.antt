@@ -3,7 +3,7 @@ use Rattle.std.proofs.Common.{◌≡◌, ◌≤◌, ◌+◌, arith, ℕ, zero, s
 use Rattle.libyaml_types.specs.declared.enums.yaml_parser_state_t.{yaml_parser_state_t}
 use Rattle.libyaml_grammar.specs.grammar.Events.{Event}
 use Rattle.libyaml_grammar.specs.grammar.Tokens.{Mark, Token}
-use Rattle.libyaml_events.specs.machine.Config.{Config, Parser}
+use Rattle.libyaml_events.specs.machine.Config.{Machine, Parser}
 use Rattle.libyaml_events.specs.machine.Want.{Want}
 use Rattle.libyaml_events.specs.parsers.Stages.{Stage, open_collections, stage_of}
 use Rattle.libyaml_events.specs.sources.History.{ForHistory}
@@ -54,16 +54,16 @@ marks_open k ss ms o st h f = grind (arith, none_over, due, in_pair, inside)
 
 -- after a call
 module _ {S : Type 0} (p : Parser S) where
-  pub call_marks : ForHistory p (λ _ given. length p.config.marks ≤ open_collections (stage_of given))
+  pub call_marks : ForHistory p (λ _ given. length p.config.machine.marks ≤ open_collections (stage_of given))
   call_marks asked given h = grind (arith, marks_open, ran_staged, marked)
 
 -- within a push, and between two
-module _ {w : Want} {c : Config} {l : List Token} {g : List Event} where
+module _ {w : Want} {c : Machine} {l : List Token} {g : List Event} where
   pub fed_depth : (o : Option Token) → Fed w c o l g → length c.states ≤ open_collections (stage_of g) + 1
   fed_depth o h = grind (arith, depth, fed_to)
 
   pub fed_marks : (o : Option Token) → Fed w c o l g → length c.marks ≤ open_collections (stage_of g)
   fed_marks None h
-      = marks_open (kind_of w c) c.states c.marks c.lookahead (stage_of g) (fed_to h).good.0 (marked h)
+      = marks_open (kind_of w c) c.states c.marks None (stage_of g) (fed_to h).good.0 (marked h)
   fed_marks (Some t) h
-      = marks_open (kind_of w c) c.states c.marks c.lookahead (stage_of g) (fed_to h).good.0 (marked h)
+      = marks_open (kind_of w c) c.states c.marks None (stage_of g) (fed_to h).good.0 (marked h)

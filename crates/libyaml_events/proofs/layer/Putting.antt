@@ -1,5 +1,5 @@
 -- A result that is put.
-use Rattle.std.proofs.Common.{◌≡◌, ◌⊎◌, ◌∙◌, ◌∷◌, ◌++◌, [], Option, None, true, Result, Ok, Err, refl, sym, ap, subst, arith}
+use Rattle.std.proofs.Common.{◌≡◌, ◌⊎◌, ◌∙◌, ◌∷◌, ◌++◌, [], None, Some, true, inl, inr, Result, Ok, Err, refl, sym, ap, subst, arith}
 use Rattle.libyaml_types.specs.Events.{zero_mark}
 use Rattle.libyaml_types.specs.Fault.{Fault, memory_fault}
 use Rattle.libyaml_types.specs.Types.{token_type}
@@ -26,8 +26,8 @@ use Rattle.libyaml_automaton.specs.Purposes as purposes
 use Rattle.libyaml_events.specs.declared.pending.Pending.{Pending}
 use Rattle.libyaml_events.specs.declared.step.Step.{Step}
 use Rattle.libyaml_events.specs.declared.step.Step.TheVariants as stepped
-use Rattle.libyaml_events.specs.machine.Outcomes.{result_of, directive_texts, config_after, texts_for, wanted}
-use Rattle.libyaml_events.specs.machine.Config.{Config, Handles, config_with}
+use Rattle.libyaml_events.specs.machine.Outcomes.{result_of, directive_texts, texts_for, wanted}
+use Rattle.libyaml_events.specs.machine.Config.{Config, Machine, Handles, config_with, holding}
 use Rattle.libyaml_events.specs.machine.Machine.{Progressed, declared_by, fault_with, handles_after_directive, put, seen, step}
 use Rattle.libyaml_events.specs.machine.Growth.{may_grow}
 use Rattle.libyaml_events.specs.machine.Read.{DirectiveTexts, PropertyTexts}
@@ -35,24 +35,20 @@ use Rattle.libyaml_events.specs.machine.Steps.{FailsAs, Steps}
 use Rattle.libyaml_events.specs.machine.Want.{Progress, Given, Want, Wants, Texts, texts_after, with_directive}
 use Rattle.libyaml_events.specs.automaton.View.{Ready}
 
--- neither parser has a lookahead
-pub from_before : (out : Progressed) (old mid : Config) (r : Result Progress yaml_error_type_t) (new : Config)
-    → old.lookahead ≡ None → mid.lookahead ≡ None → Steps out mid r new → Steps out old r new
-from_before out old mid r new o m h = grind arith
-
 -- an event is given, before the token or not
-pub given_by : (out : Progressed) (old : Config) (s : Step) (t : yaml_token_t) (q : Pending) (e : yaml_event_t)
-    (new : Config) → (s ≡ stepped.Given) ⊎ (s ≡ stepped.GivenBefore) → Steps out old (result_of s q e new) (config_after s t new)
-    → Steps out old (Ok (Given e)) (config_after s t new)
-given_by out old s t q e new i h = grind arith
+pub given_by : (out : Progressed) (s : Step) (t : yaml_token_t) (q : Pending) (e : yaml_event_t) (new : Machine)
+    → (s ≡ stepped.Given) ⊎ (s ≡ stepped.GivenBefore) → Steps out (result_of s q e t new) new
+    → (d : Config) × (out ≡ Ok (Given e d))
+given_by out s t q e new (inl i) h = (holding None new, rw i at h)
+given_by out s t q e new (inr i) h = (holding (Some t) new, rw i at h)
 
 -- an error is kept
-pub fails_as : (out : Progressed) (new : Config) (f : Fault) → new.fault.error ≡ YAML_PARSER_ERROR → new.fault ≡ f
+pub fails_as : (out : Progressed) (new : Machine) (f : Fault) → new.fault.error ≡ YAML_PARSER_ERROR → new.fault ≡ f
     → out ≡ Err f → FailsAs new out new.fault.error
 fails_as out new f e k o = subst (λ (x : yaml_error_type_t). FailsAs new out x) (sym e) (o ∙ ap Err (sym k), e)
 
 -- a directive that is refused
-pub refused : (x : Action) (d : Config) (t : yaml_token_t) (r' : Reading) (out : Progressed) (h : Texts)
+pub refused : (x : Action) (d : Machine) (t : yaml_token_t) (r' : Reading) (out : Progressed) (h : Texts)
     (y : automaton.Step) (a' : automaton_config.Stacks) → FitsAtDirective x r' → (x ≡ action.Wants → ⊥)
     → out ≡ put h None None d t t.content y
     → IsOutcome y (outcome x (automaton.no_properties (seen t t.content)) (seen t t.content) r' a')
@@ -64,36 +60,36 @@ refused _ d t r' out h y a' f n o s = absurd f
 
 -- or after which a token is wanted
 goes_on : (n : Next) (r : Reading) (h : Texts) (k : unnamed_yaml_token_t_data) (p : PropertyTexts) (ds : DirectiveTexts)
-    (a : automaton_config.Stacks) (hs : Handles) (f : Fault) (o : Option yaml_token_t) (new : Config)
-    → n ≡ next.AfterDirective → with_directive h k ≡ directive_texts ds → config_with a (declared_by hs k) f o ≡ new
-    → ◌≡◌ {A = Progressed} (Ok (
-      Wants (record { next = purpose_by n r; texts = texts_after h k (purpose_by n r) }),
-      config_with a (handles_after_directive hs k (purpose_by n r)) f o,
-    )) (Ok (Wants (record { next = purpose_by n r; texts = texts_for (purpose_by n r) p ds }), new))
-goes_on n r h k p ds a hs f o new n' i j = grind arith
+    (a : automaton_config.Stacks) (hs : Handles) (f : Fault) (new : Machine)
+    → n ≡ next.AfterDirective → with_directive h k ≡ directive_texts ds → config_with a (declared_by hs k) f ≡ new
+    → ◌≡◌ {A = Progressed}
+    (Ok (Wants (record { next = purpose_by n r; texts = texts_after h k (purpose_by n r) })
+    (config_with a (handles_after_directive hs k (purpose_by n r)) f)))
+    (Ok (Wants (record { next = purpose_by n r; texts = texts_for (purpose_by n r) p ds }) new))
+goes_on n r h k p ds a hs f new n' i j = grind arith
 
-at_directive : (n : Next) (r : Reading) (c : Config) → n ≡ next.AfterDirective → purposes.IsAt n c.state
+at_directive : (n : Next) (r : Reading) (c : Machine) → n ≡ next.AfterDirective → purposes.IsAt n c.state
 at_directive n r c e = grind arith
 
-pub directive_wants : (out : Progressed) (d : Config) (t : yaml_token_t) (q : Pending) (h : Texts)
-    (a : automaton_config.Stacks) (new : Config) → next_of q.reading.next ≡ next.AfterDirective
+pub directive_wants : (out : Progressed) (d : Machine) (t : yaml_token_t) (q : Pending) (h : Texts)
+    (a : automaton_config.Stacks) (new : Machine) → next_of q.reading.next ≡ next.AfterDirective
     → with_directive h t.content ≡ directive_texts q.directives
-    → config_with a (declared_by d.handles t.content) d.fault d.lookahead ≡ new → d.lookahead ≡ None
+    → config_with a (declared_by d.handles t.content) d.fault ≡ new
     → out ≡ put h None None d t t.content (automaton.Wants (purposes.purpose_of q.reading) a)
-    → Steps out d (Ok (Wants (wanted q))) new × Ready q new
-directive_wants out d t q h a new n i j l o = grind arith
+    → Steps out (Ok (Wants (wanted q) new)) new × Ready q new
+directive_wants out d t q h a new n i j o = grind arith
 
 pub handle_of : (k : unnamed_yaml_token_t_data) → token_type k ≡ kinds.YAML_TAG_DIRECTIVE_TOKEN
     → (g : unnamed_yaml_token_t_data_tag_directive) × (k ≡ tok.TagDirective g)
 handle_of k e = grind arith
 
 -- the directive is kept, or there was no memory for it
-pub wants_or_fails : (out : Progressed) (old : Config) (s : Step) (t : yaml_token_t) (q : Pending) (e : yaml_event_t)
-    (new : Config) → (s ≡ stepped.Given → ⊥) → (s ≡ stepped.GivenBefore → ⊥)
-    → (s ≡ stepped.Wants → Steps out old (Ok (Wants (wanted q))) new × Ready q new)
+pub wants_or_fails : (out : Progressed) (s : Step) (t : yaml_token_t) (q : Pending) (e : yaml_event_t)
+    (new : Machine) → (s ≡ stepped.Given → ⊥) → (s ≡ stepped.GivenBefore → ⊥)
+    → (s ≡ stepped.Wants → Steps out (Ok (Wants (wanted q) new)) new × Ready q new)
     → (s ≡ stepped.Failed → new.fault ≡ memory_fault)
-    → Steps out old (result_of s q e new) (config_after s t new) × (s ≡ stepped.Wants → Ready q new)
-wants_or_fails out old s t q e new g b w f = grind arith
+    → Steps out (result_of s q e t new) new × (s ≡ stepped.Wants → Ready q new)
+wants_or_fails out s t q e new g b w f = grind arith
 
 pub directive_held : (h : Texts) (k : unnamed_yaml_token_t_data) (g : unnamed_yaml_token_t_data_tag_directive)
     (d : DirectiveTexts) → k ≡ tok.TagDirective g → h ≡ directive_texts d → with_directive h k
@@ -101,10 +97,10 @@ pub directive_held : (h : Texts) (k : unnamed_yaml_token_t_data) (g : unnamed_ya
 directive_held h k g d e i = rw (e, i) refl
 
 -- the same step of the same parser
-pub again : (w w' : Want) (c c' : Config) (t : yaml_token_t) (d : Config) (r : Result Progress yaml_error_type_t)
-    (new : Config) → w' ≡ w → c' ≡ c → Steps (step w' c' t) d r new → Steps (step w c t) d r new
-again w w' c c' t d r new i j h = rw i at (rw j at h)
+pub again : (w w' : Want) (c c' : Machine) (t : yaml_token_t) (r : Result Progress yaml_error_type_t)
+    (new : Machine) → w' ≡ w → c' ≡ c → Steps (step w' c' t) r new → Steps (step w c t) r new
+again w w' c c' t r new i j h = rw i at (rw j at h)
 
-pub grows_again : (w w' : Want) (c c' : Config) (k : unnamed_yaml_token_t_data) → w' ≡ w → c' ≡ c
+pub grows_again : (w w' : Want) (c c' : Machine) (k : unnamed_yaml_token_t_data) → w' ≡ w → c' ≡ c
     → may_grow w' c' k ≡ true → may_grow w c k ≡ true
 grows_again w w' c c' k i j h = rw i at (rw j at h)

@@ -24,7 +24,7 @@ use Rattle.libyaml_automaton.specs.Purposes.{IsAt, properties, kind_and_marks, p
 use Rattle.libyaml_automaton.specs.Purposes as purposes
 use Rattle.libyaml_events.specs.declared.pending.Pending.{Pending}
 use Rattle.libyaml_events.specs.machine.Outcomes.{property_texts, texts_for, wanted}
-use Rattle.libyaml_events.specs.machine.Config.{Config, Handles, config_of, config_with}
+use Rattle.libyaml_events.specs.machine.Config.{Machine, Handles, config_of, config_with}
 use Rattle.libyaml_events.specs.machine.Growth.{grows_for, joins, may_grow}
 use Rattle.libyaml_events.specs.machine.Machine.{Progressed, content_after, put, step, with_texts}
 use Rattle.libyaml_events.specs.machine.Read.{PropertyTexts, DirectiveTexts}
@@ -32,32 +32,32 @@ use Rattle.libyaml_events.specs.machine.Want.{Texts}
 use Rattle.libyaml_events.specs.automaton.AutomatonResults.{GrowsAfter, IsHeld, IsPlain, FollowsAutomaton, PutIn, SaysIn}
 use Rattle.libyaml_events.specs.automaton.View.{Ready}
 
--- What a step does with texts hangs on the handles, the error and the lookahead, which the automaton leaves alone.
-module _ (hs : Handles) (f : Fault) (o : Option yaml_token_t) (a b : automaton_config.Stacks) (h : Texts) (t : yaml_token_t)
+-- What a step does with texts hangs on the handles and the error, which the automaton leaves alone.
+module _ (hs : Handles) (f : Fault) (a b : automaton_config.Stacks) (h : Texts) (t : yaml_token_t)
     (k : unnamed_yaml_token_t_data) where
   content_same : (p : NodePlace) (r : automaton.PropertiesRead) (y : automaton_config.Stacks)
       (g : Option unnamed_yaml_token_t_data_tag)
-      → content_after g p r y h (config_with a hs f o) t k ≡ content_after g p r y h (config_with b hs f o) t k
+      → content_after g p r y h (config_with a hs f) t k ≡ content_after g p r y h (config_with b hs f) t k
   content_same p r y g = grind arith
 
   with_same : (x : automaton.Step)
-      → with_texts h (config_with a hs f o) t k x ≡ with_texts h (config_with b hs f o) t k x
+      → with_texts h (config_with a hs f) t k x ≡ with_texts h (config_with b hs f) t k x
   with_same x = grind arith
 
 -- so for what is said of it
-pub says_texts : (hs : Handles) (f : Fault) (o : Option yaml_token_t) (a b : automaton_config.Stacks) (h : Texts)
+pub says_texts : (hs : Handles) (f : Fault) (a b : automaton_config.Stacks) (h : Texts)
     (t : yaml_token_t) (s : automaton.Step) (x : Outcome) → IsOutcome s x
-    → SaysIn (with_texts h (config_with a hs f o) t t.content s) h (config_with b hs f o) t x
-says_texts hs f o a b h t s NothingDone e = tt
-says_texts hs f o a b h t s (Does x) e
-    = ap (λ (y : automaton.Step). with_texts h (config_with a hs f o) t t.content y) e ∙ with_same hs f o a b h t t.content x
+    → SaysIn (with_texts h (config_with a hs f) t t.content s) h (config_with b hs f) t x
+says_texts hs f a b h t s NothingDone e = tt
+says_texts hs f a b h t s (Does x) e
+    = ap (λ (y : automaton.Step). with_texts h (config_with a hs f) t t.content y) e ∙ with_same hs f a b h t t.content x
 
 -- and for the content after properties
-pub says_content : (hs : Handles) (f : Fault) (o : Option yaml_token_t) (a b : automaton_config.Stacks) (c : Config) (h : Texts)
+pub says_content : (hs : Handles) (f : Fault) (a b : automaton_config.Stacks) (c : Machine) (h : Texts)
     (t : yaml_token_t) (anchor tag : Option (List ℕ)) (out : Progressed) (s : automaton.Step) (x : Outcome)
-    → config_with a hs f o ≡ c → IsOutcome s x → out ≡ put h anchor tag c t t.content s
-    → PutIn out h anchor tag (config_with b hs f o) t x
-says_content hs f o a b c h t anchor tag out s x ec e i = grind arith
+    → config_with a hs f ≡ c → IsOutcome s x → out ≡ put h anchor tag c t t.content s
+    → PutIn out h anchor tag (config_with b hs f) t x
+says_content hs f a b c h t anchor tag out s x ec e i = grind arith
 
 -- A property is read: it is held with the other one, where that is this node's.
 abbrev AnchorIn : PropertyTexts → DirectiveTexts → List ℕ → Texts → automaton.Step → Type 0
@@ -126,39 +126,39 @@ held q r' action.AsksContent c t k s x f u e =
 held q r' _ c t k s x f u e = tt
 
 -- a step of the automaton is a step of the parser
-pub leads : (hs : Handles) (f : Fault) (o : Option yaml_token_t) (a b : automaton_config.Stacks) (c : Config)
-    (t : yaml_token_t) (q : Pending) (r' : Reading) (x : Action) (k : yaml_token_type_t) → config_with a hs f o ≡ c
+pub leads : (hs : Handles) (f : Fault) (a b : automaton_config.Stacks) (c : Machine)
+    (t : yaml_token_t) (q : Pending) (r' : Reading) (x : Action) (k : yaml_token_type_t) → config_with a hs f ≡ c
     → k ≡ token_type t.content → FitsStep x k r' b.state → (x ≡ action.AsksContent → r' ≡ q.reading)
     → IsOutcome (automaton.step (purposes.purpose_of q.reading) a (kind_and_marks k t.start_mark t.end_mark) k)
     (outcome x (automaton.no_properties (kind_and_marks k t.start_mark t.end_mark)) (kind_and_marks k t.start_mark t.end_mark) r' b)
-    → FollowsAutomaton (step (wanted q) c t) (wanted q).texts t x (record q { reading = r' }) (config_with b hs f o)
-leads hs f o a b c t q r' x k ec ek fits u s =
-    subst (λ (y : Config). FollowsAutomaton (step (wanted q) y t) (wanted q).texts t x (record q { reading = r' }) (config_with b hs f o))
+    → FollowsAutomaton (step (wanted q) c t) (wanted q).texts t x (record q { reading = r' }) (config_with b hs f)
+leads hs f a b c t q r' x k ec ek fits u s =
+    subst (λ (y : Machine). FollowsAutomaton (step (wanted q) y t) (wanted q).texts t x (record q { reading = r' }) (config_with b hs f))
     ec (
       held q r' x a (kind_and_marks k t.start_mark t.end_mark) k b.state b fits u s,
-      says_texts hs f o a b (wanted q).texts t _ _ (rw ek at s),
+      says_texts hs f a b (wanted q).texts t _ _ (rw ek at s),
     )
 
 -- a step that was undone leaves the parser ready
-pub still_ready : (q : Pending) (r' : Reading) (c d : Config) → d ≡ c → SameReading q.reading r' → Ready q c
+pub still_ready : (q : Pending) (r' : Reading) (c d : Machine) → d ≡ c → SameReading q.reading r' → Ready q c
     → Ready (record q { reading = r' }) d × (wanted (record q { reading = r' }) ≡ wanted q) × (d ≡ c)
 still_ready q r' c d e s y = grind arith
 
 -- where the automaton pushes, the parser may take memory
-grows_there : (n : Next) (r : Reading) (h : Texts) (c : Config) (k : unnamed_yaml_token_t_data) → IsAt n c.state
+grows_there : (n : Next) (r : Reading) (h : Texts) (c : Machine) (k : unnamed_yaml_token_t_data) → IsAt n c.state
     → pushes n (token_type k) || opens n (token_type k) ≡ true → grows_for (purpose_by n r) h c k ≡ true
 grows_there n r h c k i e = grind arith
 
 either : (b d : Bool) → (b ≡ true) ⊎ (d ≡ true) → b || d ≡ true
 either b d e = grind arith
 
-pub grows_full : (q : Pending) (c : Config) (k : unnamed_yaml_token_t_data) (kind : yaml_token_type_t) → Ready q c
+pub grows_full : (q : Pending) (c : Machine) (k : unnamed_yaml_token_t_data) (kind : yaml_token_type_t) → Ready q c
     → kind ≡ token_type k → (pushes (next_of q.reading.next) kind ≡ true) ⊎ (opens (next_of q.reading.next) kind ≡ true)
     → may_grow (wanted q) c k ≡ true
 grows_full q c k kind y e o = grind (arith, grows_there, either)
 
 -- content after properties may take memory
-content_grows : (n : Next) (r : Reading) (p : PropertyTexts) (d : DirectiveTexts) (c : Config) (t : automaton.KindAndMarks)
+content_grows : (n : Next) (r : Reading) (p : PropertyTexts) (d : DirectiveTexts) (c : Machine) (t : automaton.KindAndMarks)
     (m : NodePlace) (r' : automaton.PropertiesRead) (x : automaton_config.Stacks) (k : unnamed_yaml_token_t_data)
     → n ≡ next.AfterProperties
     → automaton.step (purpose_by n r) (config_of c) t (token_type k) ≡ automaton.AsksContent m r' x
@@ -166,14 +166,14 @@ content_grows : (n : Next) (r : Reading) (p : PropertyTexts) (d : DirectiveTexts
     → grows_for (purpose_by n r) (texts_for (purpose_by n r) p d) c k ≡ true
 content_grows n r p d c t m r' x k i e h = grind arith
 
-pub grows_asked : (hs : Handles) (f : Fault) (o : Option yaml_token_t) (a b : automaton_config.Stacks) (c : Config)
-    (t : yaml_token_t) (q : Pending) (r' : Reading) (x : Action) (k : yaml_token_type_t) → config_with a hs f o ≡ c
+pub grows_asked : (hs : Handles) (f : Fault) (a b : automaton_config.Stacks) (c : Machine)
+    (t : yaml_token_t) (q : Pending) (r' : Reading) (x : Action) (k : yaml_token_type_t) → config_with a hs f ≡ c
     → k ≡ token_type t.content → FitsStep x k r' b.state → (x ≡ action.AsksContent → r' ≡ q.reading)
     → IsOutcome (automaton.step (purposes.purpose_of q.reading) a (kind_and_marks k t.start_mark t.end_mark) k)
     (outcome x (automaton.no_properties (kind_and_marks k t.start_mark t.end_mark)) (kind_and_marks k t.start_mark t.end_mark) r' b)
-    → x ≡ action.AsksContent → GrowsAfter (record q { reading = r' }) (config_with b hs f o) t
+    → x ≡ action.AsksContent → GrowsAfter (record q { reading = r' }) (config_with b hs f) t
     → may_grow (wanted q) c t.content ≡ true
-grows_asked hs f o a b c t q r' x k ec ek fits u s i g = grind arith
+grows_asked hs f a b c t q r' x k ec ek fits u s i g = grind arith
 
 pub pushes_full : (x : Action) (p o : Bool) → (x ≡ action.FullStates → p ≡ true) → (x ≡ action.FullMarks → o ≡ true) → IsFull x
     → (p ≡ true) ⊎ (o ≡ true)

@@ -10,7 +10,7 @@ use Rattle.libyaml_grammar.specs.grammar.Trees.{Directives, directive, no_direct
 use Rattle.libyaml_grammar.specs.grammar.Events.{Event, declaration, prefix_of, resolved, tag_directives_then, version_of}
 use Rattle.libyaml_grammar.specs.grammar.Order.{declares, is_known, no_version}
 use Rattle.libyaml_grammar.proofs.exported.Reading.{keeps_order}
-use Rattle.libyaml_events.specs.machine.Config.{Config}
+use Rattle.libyaml_events.specs.machine.Config.{Machine}
 use Rattle.libyaml_events.proofs.machine.Link.{End, after, after_directives, directive_ends, handles_of, waits}
 use Rattle.libyaml_grammar.proofs.exported.TextMaps.{inserted}
 use Rattle.libyaml_types.specs.declared.directive.yaml_tag_directive_t.{yaml_tag_directive_t}
@@ -99,8 +99,8 @@ version_there no_directives e = absurd cc
 version_there (directive ds (version v m)) e = (record { major = v.major; minor = v.minor }, refl)
 version_there (directive ds (tag_directive d m)) e = version_there ds e
 
-pub version_after : (s : Mark) (ds : Directives) (c : Config) (v : VersionAsked) (m : Marks)
-    (f : Config → Token → List Event × End) (r : List Event)
+pub version_after : (s : Mark) (ds : Directives) (c : Machine) (v : VersionAsked) (m : Marks)
+    (f : Machine → Token → List Event × End) (r : List Event)
     → after (step_at (after_directives s ds) c (tok (VersionDirective v) m) (VersionDirective v)) f r
     ≡ (
       r,
@@ -117,8 +117,8 @@ directives_then (directive ds (tag_directive d m)) r = directives_then ds (decla
     ∙ (sym (append_assoc (tag_directives_then ds []) (declaration d ∷ []) r)
     ∙ ap (λ (x : List yaml_tag_directive_t). x ++ r) (sym (directives_then ds (declaration d ∷ []))))
 
-pub tag_after : (s : Mark) (ds : Directives) (c : Config) (d : HandleDeclared) (m : Marks)
-    (f : Config → Token → List Event × End) (r : List Event)
+pub tag_after : (s : Mark) (ds : Directives) (c : Machine) (d : HandleDeclared) (m : Marks)
+    (f : Machine → Token → List Event × End) (r : List Event)
     → c.handles ≡ handles_of ds
     → after (step_at (after_directives s ds) c (tok (TagDirective d) m) (TagDirective d)) f r
     ≡ (

@@ -3,7 +3,7 @@ use Rattle.std.proofs.Common.{◌≡◌, ℕ, suc, List, [], ◌∷◌, Option, 
 use Rattle.std.proofs.lemmas.Bool.{and_parts}
 use Rattle.libyaml_events.specs.machine.Machine.{Progressed, content_after, content_resolved, put, seen, with_texts}
 use Rattle.libyaml_events.specs.machine.Want.{Given, AtState, no_texts}
-use Rattle.libyaml_events.specs.machine.Config.{config_of as without_texts, Config, staying, no_handles, popped, without_lookahead}
+use Rattle.libyaml_events.specs.machine.Config.{config_of as without_texts, Machine, holding, no_handles, popped}
 use Rattle.libyaml_automaton.specs.Automaton as automaton
 use Rattle.libyaml_types.specs.Types.{token_type}
 use Rattle.libyaml_grammar.specs.partial.PartialTrees.{declared, open_collection, BlockPlace, Open, PartPlace, Place, block, entry, explicit_root, flow_entry, flow_key, flow_value, implicit_root, indentless_entry, part_place, root, slot}
@@ -28,7 +28,7 @@ IsProperty (Tag h) = Unit {0}
 IsProperty _ = ⊥
 
 -- what is left to do with a token that is kept
-abbrev pub more : ℕ → List Event → Config → Token → List Event × End
+abbrev pub more : ℕ → List Event → Machine → Token → List Event × End
 more n r d t = spends n AtState d t.content (marks_of t) r
 
 -- after a whole node
@@ -57,9 +57,8 @@ flow_waits : (p : Place) (x : FlowNode)
     → waits AtState (popped (node_config p)) ≡ waits (want_of (fill_flow p x)) (config_of (fill_flow p x))
 flow_waits p x = grind arith
 
-popped_flow : (p : Place) (x : FlowNode) (k : Content) (m : Marks)
-    → without_lookahead (staying (tok k m) (popped (node_config p))) ≡ config_of (fill_flow p x)
-popped_flow p x k m = let e = flow_waits p x in cc
+popped_flow : (p : Place) (x : FlowNode) → popped (node_config p) ≡ config_of (fill_flow p x)
+popped_flow p x = let e = flow_waits p x in cc
 
 item_follows : (n : ℕ) (c : BlockPlace) (o : Option Properties) (s : Marks) (is : BlockItems) (k : Content)
     (m : Marks) (r : List Event)
@@ -233,7 +232,8 @@ resolved_as p ps k m o = content_resolved o (kind p) (properties_of ps) (without
     (node_config p) (tok k m) k
 
 abbrev alone_given : Place → Properties → Content → Marks → Progressed
-alone_given p ps k m = Ok (Given (alone_of (declared p) ps), staying (tok k m) (popped (node_config p)))
+alone_given p ps k m = Ok (Given (alone_of (declared p) ps)
+    (holding (Some (tok k m)) (popped (node_config p))))
 
 only_is : (p : Place) (ps : Properties) (k : Content) (m : Marks)
     → with_none p ps k m ≡ alone_given p ps k m
@@ -259,7 +259,7 @@ LeadsAfter n p ps k m r o s g = after o (more (suc (suc (suc n))) r) r ≡ (g, s
 only_follow : (n : ℕ) (p : Place) (ps : Properties) (k : Content) (m : Marks) (r : List Event)
     → LeadsAfter n p ps k m r (alone_given p ps k m) (without p (Some ps) k m) (given_without p (Some ps) k m r)
 only_follow n p ps k m r = ap (emit (alone_of (declared p) ps))
-    (ap (λ (d : Config). spends (suc (suc (suc n))) AtState d k m r) (popped_flow p (alone ps) k m)
+    (ap (λ (d : Machine). spends (suc (suc (suc n))) AtState d k m r) (popped_flow p (alone ps))
     ∙ whole_follows n p (alone ps) k m r)
 
 none_follow : (n : ℕ) (p : Place) (ps : Properties) (k : Content) (m : Marks) (r : List Event)

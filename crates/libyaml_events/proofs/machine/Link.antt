@@ -11,7 +11,7 @@ use Rattle.libyaml_grammar.specs.grammar.Events.{Event, directive_start, first_d
 use Rattle.libyaml_grammar.specs.partial.PartialFaults.{directive_fault, fault}
 use Rattle.libyaml_grammar.proofs.exported.Positions.{Position, between, done, due, flow_after, flow_due, flow_keyed, headed, in_indentless, in_mapping, in_sequence, unopened}
 use Rattle.libyaml_grammar.proofs.exported.Reading.{Step, bad, goes, keeps_order, over, pending, step}
-use Rattle.libyaml_events.specs.machine.Config.{Config, Handles, no_handles, without_lookahead}
+use Rattle.libyaml_events.specs.machine.Config.{Machine, Handles, no_handles}
 use Rattle.libyaml_events.specs.machine.Machine.{Progressed, step_at}
 use Rattle.libyaml_events.specs.machine.Want.{Want, Texts, no_texts, AtState, Given, Wants}
 use Rattle.libyaml_automaton.specs.Automaton.{AfterDirective, AfterProperties, AfterBlockEntry, AfterIndentlessEntry, AfterKey, AfterValue, AfterFlowSequenceValue, AfterFlowMappingKey, AfterFlowMappingValue}
@@ -189,9 +189,8 @@ tag_name (tag_anchor h m a n) = Some h
 abbrev pub texts_of : Properties → Texts
 texts_of ps = record no_texts { anchor = anchor_of (Some ps); tag = tag_name ps }
 
-abbrev pub config : yaml_parser_state_t → List yaml_parser_state_t → List Mark → Handles → Config
+abbrev pub config : yaml_parser_state_t → List yaml_parser_state_t → List Mark → Handles → Machine
 config s ss ms hs = record {
-  lookahead = None;
   state = s;
   states = ss;
   marks = ms;
@@ -201,22 +200,22 @@ config s ss ms hs = record {
 }
 
 -- where a node is due, with its place pushed or not
-abbrev pub node_config : Place → Config
+abbrev pub node_config : Place → Machine
 node_config p = config (state_place p) (states_place p) (marks_place p) (handles_of (declared p))
 
-abbrev pub place_config : Place → Config
+abbrev pub place_config : Place → Machine
 place_config p = config (state_place p) (unpushed_place p) (marks_place p) (handles_of (declared p))
 
 abbrev pub ended_free : Free → Bool
 ended_free (opened e m) = false
 ended_free (ended e) = true
 
-abbrev pub free_config : Free → Handles → Config
+abbrev pub free_config : Free → Handles → Machine
 free_config f hs = record (config st.YAML_PARSE_IMPLICIT_DOCUMENT_START_STATE [] [] hs)
     { behind_document_end = ended_free f }
 
 -- where a document's start is due, after directives
-abbrev pub headed_config : Before → Handles → Config
+abbrev pub headed_config : Before → Handles → Machine
 headed_config (free f) hs = free_config f hs
 headed_config (following d) hs = config st.YAML_PARSE_DOCUMENT_START_STATE [] [] hs
 
@@ -225,7 +224,7 @@ abbrev pub documents_directives : Documents → Directives
 documents_directives (implicit f n) = no_directives
 documents_directives (explicit b ds m x) = ds
 
-abbrev pub between_config : Before → Config
+abbrev pub between_config : Before → Machine
 between_config (free f) = free_config f no_handles
 between_config (following d) = config st.YAML_PARSE_DOCUMENT_END_STATE [] [] (handles_of (documents_directives d))
 
@@ -243,7 +242,7 @@ member_state (open_collection p o sequence s is) (pair k x (with_value v y)) =
     st.YAML_PARSE_FLOW_SEQUENCE_ENTRY_MAPPING_END_STATE
 member_state (open_collection p o mapping s is) (pair k x (with_value v y)) = st.YAML_PARSE_FLOW_MAPPING_KEY_STATE
 
-abbrev pub done_config : Stream → Config
+abbrev pub done_config : Stream → Machine
 done_config (whole b m) = record (headed_config b no_handles) { state = st.YAML_PARSE_END_STATE }
 
 abbrev pub directive_texts : Directives → Texts
@@ -262,7 +261,7 @@ want_of (due p None) = wants (want_place p)
 want_of (due p (Some ps)) = record { next = AfterProperties (kind p) (properties_of ps); texts = texts_of ps }
 want_of _ = AtState
 
-abbrev pub config_of : Position → Config
+abbrev pub config_of : Position → Machine
 config_of unopened = config st.YAML_PARSE_STREAM_START_STATE [] [] no_handles
 config_of (between b) = between_config b
 config_of (headed b ds d) = headed_config b (handles_of (directive ds d))
@@ -282,7 +281,7 @@ config_of (done t) = done_config t
 
 -- what is left when a token is spent
 pub data End : Type 0 where
-  waits : Want → Config → End
+  waits : Want → Machine → End
   fails : Fault → End
   stuck : End
 
@@ -290,19 +289,19 @@ pub data End : Type 0 where
 abbrev pub emit : Event → List Event × End → List Event × End
 emit e (es, x) = (e ∷ es, x)
 
-abbrev pub keeps_on : Config → Option Token → (Config → Token → List Event × End) → List Event → List Event × End
-keeps_on c None f r = (r, waits AtState c)
-keeps_on c (Some t) f r = f (without_lookahead c) t
+abbrev pub keeps_on : Option Token → Machine → (Machine → Token → List Event × End) → List Event → List Event × End
+keeps_on None c f r = (r, waits AtState c)
+keeps_on (Some t) c f r = f c t
 
-abbrev pub after : Progressed → (Config → Token → List Event × End) → List Event → List Event × End
+abbrev pub after : Progressed → (Machine → Token → List Event × End) → List Event → List Event × End
 after (Err x) f r = (r, fails x)
-after (Ok (Wants w, c)) f r = (r, waits w c)
-after (Ok (Given e, c)) f r = emit e (keeps_on c c.lookahead f r)
+after (Ok (Wants w c)) f r = (r, waits w c)
+after (Ok (Given e c)) f r = emit e (keeps_on c.lookahead c.machine f r)
 
-abbrev pub spends : ℕ → Want → Config → Content → Marks → List Event → List Event × End
+abbrev pub spends : ℕ → Want → Machine → Content → Marks → List Event → List Event × End
 spends zero w c k m r = (r, stuck)
 spends (suc n) w c k m r =
-    after (step_at w c (tok k m) k) (λ (d : Config) (t : Token). spends n AtState d t.content (marks_of t) r) r
+    after (step_at w c (tok k m) k) (λ (d : Machine) (t : Token). spends n AtState d t.content (marks_of t) r) r
 
 -- what the grammar says of it
 abbrev pub directive_ends : Bool → Directives → Content → Marks → End → End

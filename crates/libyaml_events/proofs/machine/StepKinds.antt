@@ -28,7 +28,7 @@ use Rattle.libyaml_automaton.specs.Config as automaton_config
 use Rattle.libyaml_automaton.specs.Config.{top_mark}
 use Rattle.libyaml_automaton.specs.Automaton as automaton
 use Rattle.libyaml_automaton.specs.Automaton.{AfterBlockEntry, AfterDirective, AfterFlowMappingKey, AfterFlowMappingValue, AfterFlowSequenceValue, AfterIndentlessEntry, AfterKey, AfterProperties, AfterValue}
-use Rattle.libyaml_events.specs.machine.Config.{Config, state_set, config_of, staying, no_handles, popped, popped_mark, pushed_mark, with_handle}
+use Rattle.libyaml_events.specs.machine.Config.{Machine, holding, state_set, config_of, token_if, no_handles, popped, popped_mark, pushed_mark, with_handle}
 use Rattle.libyaml_events.specs.machine.Machine.{Progressed, content_after, content_resolved, empty_scalar, put, is_accepted_in, resolve, seen, with_texts}
 use Rattle.libyaml_events.specs.machine.Want.{Want, Given, Texts, Wants}
 
@@ -63,7 +63,7 @@ kind_for (AfterIndentlessEntry m) s = indentless
 kind_for AfterFlowSequenceValue s = pair
 kind_for _ s = inner
 
-abbrev pub kind_of : Want → Config → Kind
+abbrev pub kind_of : Want → Machine → Kind
 kind_of w c = kind_for w.next c.state
 
 -- where a collection goes on
@@ -87,30 +87,26 @@ pub data IsEnd : unnamed_yaml_event_t_data → Type 0 where
   mapping_end : IsEnd ev.MappingEnd
 
 -- a token is wanted, or an event is given
-abbrev pub want : Want → Config → Progressed
-want w c = Ok (Wants w, c)
+abbrev pub want : Want → Machine → Progressed
+want w c = Ok (Wants w c)
 
-abbrev pub give : unnamed_yaml_event_t_data → Mark → Mark → Config → Progressed
-give content start end c = Ok (Given (event content start end), c)
-
--- a token that is kept, or spent
-abbrev pub staying_if : Bool → Token → Config → Config
-staying_if true u c = staying u c
-staying_if false u c = c
+-- with the token that stays, if it does
+abbrev pub give : unnamed_yaml_event_t_data → Mark → Mark → Option Token → Machine → Progressed
+give content start end o c = Ok (Given (event content start end) (holding o c))
 
 -- the end of a collection, at its closing token
-abbrev pub close_collection : unnamed_yaml_event_t_data → Token → Config → Progressed
-close_collection content u c = give content u.start_mark u.end_mark (popped (popped_mark c))
+abbrev pub close_collection : unnamed_yaml_event_t_data → Token → Machine → Progressed
+close_collection content u c = give content u.start_mark u.end_mark None (popped (popped_mark c))
 
 -- a document's root comes next, and its end after it; or the document has ended
-abbrev pub begin_document : yaml_parser_state_t → Config → Config
+abbrev pub begin_document : yaml_parser_state_t → Machine → Machine
 begin_document state c = record c {
   state = state;
   states = st.YAML_PARSE_DOCUMENT_END_STATE ∷ c.states;
   behind_document_end = false;
 }
 
-abbrev pub end_document : yaml_parser_state_t → (behind_document_end : Bool) → Config → Config
+abbrev pub end_document : yaml_parser_state_t → (behind_document_end : Bool) → Machine → Machine
 end_document state behind_document_end c =
     record c { state = state; handles = no_handles; behind_document_end = behind_document_end }
 
@@ -129,7 +125,7 @@ abbrev pub room_for : automaton.Purpose → yaml_parser_state_t → Content → 
 room_for automaton.AtState s k = rank s k
 room_for _ s k = 6
 
-abbrev pub room : Want → Config → Content → ℕ
+abbrev pub room : Want → Machine → Content → ℕ
 room w c k = room_for w.next c.state k
 
 -- a rank is small
@@ -141,21 +137,21 @@ abbrev pub OnStacks : Type 0
 OnStacks = List yaml_parser_state_t → List Mark → Progressed
 
 -- the same parser over these stacks
-abbrev pub over : Config → List yaml_parser_state_t → List Mark → Config
+abbrev pub over : Machine → List yaml_parser_state_t → List Mark → Machine
 over c ss ms = record c { states = ss; marks = ms }
 
-module _ (u : Token) (c : Config) where
+module _ (u : Token) (c : Machine) where
   -- where a node is due: it fails, wants the token after a property, gives a whole node, or opens a collection
   pub data NodeStep (n : ℕ) (t : Content) : OnStacks → Type 0 where
     no_node : {f : Fault} → NodeStep n t (λ ss ms. Err f)
     property : (w : Want) → kind_of w c ≡ node_due → 0 < n → NodeStep n t (λ ss ms. want w (over c ss ms))
     whole : {e : unnamed_yaml_event_t_data} {a b : Mark} (kept : Bool) → IsLeaf e → back_rank kept < n
-        → NodeStep n t (λ ss ms. give e a b (staying_if kept u (popped (over c ss ms))))
+        → NodeStep n t (λ ss ms. give e a b (token_if kept u) (popped (over c ss ms)))
     opens : {e : unnamed_yaml_event_t_data} {a b m : Mark} (s : yaml_parser_state_t) → IsStart e → kind s ≡ inner → 0 < n
-        → NodeStep n t (λ ss ms. give e a b (state_set s (pushed_mark m (over c ss ms))))
+        → NodeStep n t (λ ss ms. give e a b None (state_set s (pushed_mark m (over c ss ms))))
     opens_indentless : {e : unnamed_yaml_event_t_data} {a b : Mark} → IsStart e
         → rank st.YAML_PARSE_INDENTLESS_SEQUENCE_ENTRY_STATE t < n
-        → NodeStep n t (λ ss ms. give e a b (staying u (state_set st.YAML_PARSE_INDENTLESS_SEQUENCE_ENTRY_STATE (over c ss ms))))
+        → NodeStep n t (λ ss ms. give e a b (Some u) (state_set st.YAML_PARSE_INDENTLESS_SEQUENCE_ENTRY_STATE (over c ss ms)))
 
   pub data StepKind (n : ℕ) (t : Content) : Kind → OnStacks → Type 0 where
     fails : {k : Kind} {f : Fault} → StepKind n t k (λ ss ms. Err f)
@@ -166,28 +162,28 @@ module _ (u : Token) (c : Config) where
     declares : (w : Want) (h p : List ℕ) → kind_of w c ≡ between → 0 < n
         → StepKind n t between (λ ss ms. want w (with_handle h p (over c ss ms)))
     begins_stream : {a b : Mark} (s : unnamed_yaml_event_t_data_stream_start) → 0 < n → StepKind n t stream_start
-        (λ ss ms. give (ev.StreamStart s) a b (state_set st.YAML_PARSE_IMPLICIT_DOCUMENT_START_STATE (over c ss ms)))
+        (λ ss ms. give (ev.StreamStart s) a b None (state_set st.YAML_PARSE_IMPLICIT_DOCUMENT_START_STATE (over c ss ms)))
     ends_stream : {a b : Mark} → 0 < n
-        → StepKind n t between (λ ss ms. give ev.StreamEnd a b (state_set st.YAML_PARSE_END_STATE (over c ss ms)))
+        → StepKind n t between (λ ss ms. give ev.StreamEnd a b None (state_set st.YAML_PARSE_END_STATE (over c ss ms)))
     begins_document : {a b : Mark} (d : unnamed_yaml_event_t_data_document_start) (s : yaml_parser_state_t)
         (kept : Bool) → kind s ≡ node_due → suc (kept_rank kept s t) < n → StepKind n t between
-        (λ ss ms. give (ev.DocumentStart d) a b (staying_if kept u (begin_document s (over c ss ms))))
+        (λ ss ms. give (ev.DocumentStart d) a b (token_if kept u) (begin_document s (over c ss ms)))
     ends_document : {a b : Mark} (d : unnamed_yaml_event_t_data_document_end) (s : yaml_parser_state_t)
         (e kept : Bool) → kind s ≡ between → kept_rank kept s t < n → StepKind n t root_end
-        (λ ss ms. give (ev.DocumentEnd d) a b (staying_if kept u (end_document s e (over c ss ms))))
+        (λ ss ms. give (ev.DocumentEnd d) a b (token_if kept u) (end_document s e (over c ss ms)))
     node : {f : OnStacks} → NodeStep n t f → StepKind n t node_due f
     entry : {k : Kind} {f : OnStacks} (s : yaml_parser_state_t) (m : ℕ) → n ≡ suc m → GoesOnWithin k (kind s)
         → NodeStep m t f → StepKind n t k (λ ss ms. f (s ∷ ss) ms)
     empty : {k : Kind} {m : Mark} (s : yaml_parser_state_t) → GoesOnWithin k (kind s) → rank s t < n
-        → StepKind n t k (λ ss ms. give empty_scalar m m (staying u (state_set s (over c ss ms))))
+        → StepKind n t k (λ ss ms. give empty_scalar m m (Some u) (state_set s (over c ss ms)))
     begins_pair : {a b : Mark} (s : unnamed_yaml_event_t_data_mapping_start) → 0 < n → StepKind n t inner
-        (λ ss ms. give (ev.MappingStart s) a b (state_set st.YAML_PARSE_FLOW_SEQUENCE_ENTRY_MAPPING_KEY_STATE (over c ss ms)))
+        (λ ss ms. give (ev.MappingStart s) a b None (state_set st.YAML_PARSE_FLOW_SEQUENCE_ENTRY_MAPPING_KEY_STATE (over c ss ms)))
     ends_pair : {a b : Mark} → 1 < n → StepKind n t pair
-        (λ ss ms. give ev.MappingEnd a b (staying u (state_set st.YAML_PARSE_FLOW_SEQUENCE_ENTRY_STATE (over c ss ms))))
+        (λ ss ms. give ev.MappingEnd a b (Some u) (state_set st.YAML_PARSE_FLOW_SEQUENCE_ENTRY_STATE (over c ss ms)))
     closes : {e : unnamed_yaml_event_t_data} → IsEnd e → 0 < n
         → StepKind n t inner (λ ss ms. close_collection e u (over c ss ms))
     ends_indentless : {a b : Mark} → 4 < n
-        → StepKind n t indentless (λ ss ms. give ev.SequenceEnd a b (staying u (popped (over c ss ms))))
+        → StepKind n t indentless (λ ss ms. give ev.SequenceEnd a b (Some u) (popped (over c ss ms)))
 
   -- the automaton's part of the parser, over these stacks
   abbrev at : List yaml_parser_state_t → List Mark → automaton_config.Stacks

@@ -3,7 +3,7 @@ use Rattle.std.proofs.Common.{◌≡◌, ◌≤◌, ◌+◌, ◌⊎◌, inl, inr
 use Rattle.libyaml_grammar.specs.grammar.Tokens.{Token}
 use Rattle.libyaml_grammar.specs.grammar.Events.{Event}
 use Rattle.libyaml_grammar.proofs.exported.Injectivity.{head_same, not_cons, tail_same}
-use Rattle.libyaml_events.specs.machine.Config.{Config}
+use Rattle.libyaml_events.specs.machine.Config.{Config, Machine}
 use Rattle.libyaml_events.specs.machine.Machine.{Progressed, step}
 use Rattle.libyaml_events.specs.machine.Want.{Want, Given, Wants}
 use Rattle.libyaml_events.specs.sources.Pushed.{Pushed, PushParser, push_parser_at}
@@ -65,8 +65,8 @@ one_next (amid w c (Some t) l g) x y h k r s e = by (step w c t) h k
   where
     by : (o : Progressed) → StepLeads o l g x → StepLeads o l g y → x ≡ y
     by (Err f) i j = absurd i
-    by (Ok (Wants v, d)) i j = i ∙ sym j
-    by (Ok (Given z, d)) i j = i ∙ sym j
+    by (Ok (Wants v d)) i j = i ∙ sym j
+    by (Ok (Given z d)) i j = i ∙ sym j
 
 -- of two moments that tokens of one list lead to, one leads to the other
 compared : {a b c : Moment} → Trace a b → Trace a c → (r s : List Token) → tokens b ++ r ≡ tokens c ++ s
@@ -92,7 +92,7 @@ no_event_more {g} {h} (goes_on {b = x} n u) e =
     absurd (omega arith)
 
 -- a further moment that wants a token comes of a further token alone
-no_token_more : {w v : Want} {c d : Config} {l m : List Token} {g h : List Event}
+no_token_more : {w v : Want} {c d : Machine} {l m : List Token} {g h : List Event}
     → Trace (amid w c None l g) (amid v d None m h) → l ≡ m → (push_parser_at w c ≡ push_parser_at v d) × (g ≡ h)
 no_token_more here e = (refl, refl)
 no_token_more {l} {g} (goes_on (i, (t, n)) u) e =

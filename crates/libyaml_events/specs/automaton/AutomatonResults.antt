@@ -26,20 +26,20 @@ use Rattle.libyaml_automaton.specs.Fits.{opens_at}
 use Rattle.libyaml_events.specs.declared.step.Step.{Step}
 use Rattle.libyaml_events.specs.declared.step.Step.TheVariants as stepped
 use Rattle.libyaml_events.specs.declared.pending.Pending.{Pending}
-use Rattle.libyaml_events.specs.machine.Config.{Config, config_of, with_fault}
+use Rattle.libyaml_events.specs.machine.Config.{Machine, config_of, with_fault}
 use Rattle.libyaml_events.specs.machine.Want.{Texts}
 use Rattle.libyaml_events.specs.machine.Machine.{Progressed, put, resolve, seen, sequence_start_with, mapping_start_with, with_texts}
 use Rattle.libyaml_events.specs.machine.Growth.{joins}
-use Rattle.libyaml_events.specs.machine.Outcomes.{result_of, directive_texts, property_texts, config_after, texts_for}
+use Rattle.libyaml_events.specs.machine.Outcomes.{result_of, directive_texts, property_texts, texts_for}
 use Rattle.libyaml_events.specs.machine.Steps.{Steps}
 use Rattle.libyaml_events.specs.automaton.View.{Ready}
 
--- out is the parser's step at the token t, h the texts that were held, and d where the parser stands now, without lookahead
-abbrev pub SaysIn : Progressed → Texts → Config → yaml_token_t → Outcome → Type 0
+-- out is the parser's step at the token t, h the texts that were held, and d where the parser stands now
+abbrev pub SaysIn : Progressed → Texts → Machine → yaml_token_t → Outcome → Type 0
 SaysIn out h d t NothingDone = Unit {0}
 SaysIn out h d t (Does x) = out ≡ with_texts h d t t.content x
 
-abbrev pub IsWithTexts : Progressed → Texts → yaml_token_t → Action → Reading → Config → Type 0
+abbrev pub IsWithTexts : Progressed → Texts → yaml_token_t → Action → Reading → Machine → Type 0
 IsWithTexts out h t a r d
     = SaysIn out h d t (outcome a (automaton.no_properties (seen t t.content)) (seen t t.content) r (config_of d))
 
@@ -69,13 +69,13 @@ IsHeld action.AsksContent h q = h ≡ property_texts (properties q.reading) q.pr
 IsHeld _ h q = Unit {0}
 
 -- the result a of a step
-abbrev pub FollowsAutomaton : Progressed → Texts → yaml_token_t → Action → Pending → Config → Type 0
+abbrev pub FollowsAutomaton : Progressed → Texts → yaml_token_t → Action → Pending → Machine → Type 0
 FollowsAutomaton out h t a q d = IsHeld a h q × IsWithTexts out h t a q.reading d
 
 -- so each step of the parser that the result says is done
-abbrev pub Puts : Action → yaml_token_t → Pending → Config → Step → yaml_token_t → Pending → yaml_event_t → Config → Type 0
+abbrev pub Puts : Action → yaml_token_t → Pending → Machine → Step → yaml_token_t → Pending → yaml_event_t → Machine → Type 0
 Puts a t q old s t' q' e new = (out : Progressed) (h : Texts) → FollowsAutomaton out h t a q old
-    → Steps out old (result_of s q' e new) (config_after s t' new) × (s ≡ stepped.Wants → Ready q' new)
+    → Steps out (result_of s q' e t' new) new × (s ≡ stepped.Wants → Ready q' new)
 
 -- the result is put
 abbrev pub IsPut : Action → Type 0
@@ -85,13 +85,13 @@ IsPut action.FullMarks = ⊥
 IsPut _ = Unit {0}
 
 -- directives: those that were held are those that are kept
-abbrev pub FollowsAutomatonInDocuments : Progressed → Texts → yaml_token_t → Action → Pending → Config → Type 0
+abbrev pub FollowsAutomatonInDocuments : Progressed → Texts → yaml_token_t → Action → Pending → Machine → Type 0
 FollowsAutomatonInDocuments out h t a q d = (h ≡ directive_texts q.directives) × IsWithTexts out h t a q.reading d
 
-abbrev pub PutsDocument : Action → yaml_token_t → Pending → Config → Step → yaml_token_t → Pending → yaml_event_t → Config
+abbrev pub PutsDocument : Action → yaml_token_t → Pending → Machine → Step → yaml_token_t → Pending → yaml_event_t → Machine
     → Type 0
 PutsDocument a t q old s t' q' e new = (out : Progressed) (h : Texts) → FollowsAutomatonInDocuments out h t a q old
-    → Steps out old (result_of s q' e new) (config_after s t' new) × (s ≡ stepped.Wants → Ready q' new)
+    → Steps out (result_of s q' e t' new) new × (s ≡ stepped.Wants → Ready q' new)
 
 abbrev pub IsPutDocument : Action → Type 0
 IsPutDocument action.FullStates = ⊥
@@ -105,25 +105,25 @@ collection_start a g tok.FlowMappingStart = mapping_start_with a g YAML_FLOW_MAP
 collection_start a g _ = mapping_start_with a g YAML_BLOCK_MAPPING_STYLE
 
 -- content after properties: out is the parser's step, where the node has this anchor and this tag in full
-abbrev pub IsContent : Progressed → Texts → (anchor tag : Option (List ℕ)) → yaml_token_t → Reading → Config → Type 0
+abbrev pub IsContent : Progressed → Texts → (anchor tag : Option (List ℕ)) → yaml_token_t → Reading → Machine → Type 0
 IsContent out h a g t r c = out ≡ put h a g c t t.content (automaton.node_content (place_of r.place) (properties r)
     (config_of c) (seen t t.content) (token_type t.content))
 
-abbrev pub PutIn : Progressed → Texts → (anchor tag : Option (List ℕ)) → Config → yaml_token_t → Outcome → Type 0
+abbrev pub PutIn : Progressed → Texts → (anchor tag : Option (List ℕ)) → Machine → yaml_token_t → Outcome → Type 0
 PutIn out h a g d t NothingDone = Unit {0}
 PutIn out h a g d t (Does x) = out ≡ put h a g d t t.content x
 
 -- what a result of `content_after` says of it, where the properties are those of the reading r
 abbrev pub SaysContent : Progressed → Texts → (anchor tag : Option (List ℕ)) → yaml_token_t → Action → (r r' : Reading)
-    → Config → Type 0
+    → Machine → Type 0
 SaysContent out h a g t x r r' d = PutIn out h a g d t (outcome x (properties r) (seen t t.content) r' (config_of d))
 
 -- so the content is put, of a node with this anchor and this tag in full, whose properties have these marks
 abbrev pub PutsContent : (anchor tag : Option (List ℕ)) → (start end : yaml_mark_t) → Action → yaml_token_t → Reading
-    → Config → Step → yaml_token_t → Pending → yaml_event_t → Config → Type 0
+    → Machine → Step → yaml_token_t → Pending → yaml_event_t → Machine → Type 0
 PutsContent a g start end x t r' old s t' q e new = (out : Progressed) (h : Texts) (r : Reading) → r.start_mark ≡ start
     → r.end_mark ≡ end → SaysContent out h a g t x r r' old
-    → Steps out old (result_of s q e new) (config_after s t' new) × (s ≡ stepped.Wants → ⊥)
+    → Steps out (result_of s q e t' new) new × (s ≡ stepped.Wants → ⊥)
 
 -- a collection whose start is kept
 abbrev pub IsOpening : Action → Type 0
@@ -134,13 +134,13 @@ IsOpening action.FlowMapping = Unit {0}
 IsOpening _ = ⊥
 
 -- the content after properties may take memory: the tag is joined, or a collection's start is pushed
-abbrev pub GrowsAfter : Pending → Config → yaml_token_t → Type 0
+abbrev pub GrowsAfter : Pending → Machine → yaml_token_t → Type 0
 GrowsAfter q d t = (joins (property_texts (properties q.reading) q.properties).tag d.handles ≡ true)
     ⊎ (opens_at (place_of q.reading.place) (token_type t.content) ≡ true)
 
 -- the tag in full can't be had: out of memory, or its handle isn't defined
-abbrev pub RefusesTag : Option unnamed_yaml_token_t_data_tag → (start mark : yaml_mark_t) → Config → yaml_error_type_t
-    → Config → Type 0
+abbrev pub RefusesTag : Option unnamed_yaml_token_t_data_tag → (start mark : yaml_mark_t) → Machine → yaml_error_type_t
+    → Machine → Type 0
 RefusesTag g start mark old YAML_MEMORY_ERROR new = (joins g old.handles ≡ true) × (new ≡ with_fault old memory_fault)
 RefusesTag None start mark old YAML_PARSER_ERROR new = ⊥
 RefusesTag (Some g) start mark old YAML_PARSER_ERROR new = (resolve old.handles g.handle g.suffix ≡ None)
@@ -148,7 +148,7 @@ RefusesTag (Some g) start mark old YAML_PARSER_ERROR new = (resolve old.handles 
 RefusesTag g start mark old _ new = ⊥
 
 -- the tag in full, where there is a tag
-abbrev pub ReadsTag : Option unnamed_yaml_token_t_data_tag → Config → Option (List ℕ) → Type 0
+abbrev pub ReadsTag : Option unnamed_yaml_token_t_data_tag → Machine → Option (List ℕ) → Type 0
 ReadsTag None c g = g ≡ None
 ReadsTag (Some tag) c None = ⊥
 ReadsTag (Some tag) c (Some g) = resolve c.handles tag.handle tag.suffix ≡ Some g

@@ -33,8 +33,7 @@ no_handles = from_entries []
 
 -- What the parser keeps between tokens. Both stacks have their top first. A document's explicit end came last where
 -- behind_document_end is true.
-pub record Config : Type 0 where
-  pub lookahead : Option yaml_token_t
+pub record Machine : Type 0 where
   pub state : yaml_parser_state_t
   pub states : List yaml_parser_state_t
   pub marks : List yaml_mark_t
@@ -42,22 +41,28 @@ pub record Config : Type 0 where
   pub behind_document_end : Bool
   pub fault : Fault
 
+-- and between calls: a token may be held, which is looked at again
+pub record Config : Type 0 where
+  pub lookahead : Option yaml_token_t
+  pub machine : Machine
+
 pub record Parser (S : Type 0) : Type 0 where
   pub source : S
   pub config : Config
   pub max_entries : ℤ
 
-abbrev pub start : Config
+abbrev pub start : Machine
 start = record {
-  lookahead = None;
   state = st.YAML_PARSE_STREAM_START_STATE;
   states = [];
   marks = [];
   handles = no_handles;
   behind_document_end = false;
-  fault
-      = no_fault;
+  fault = no_fault;
 }
+
+abbrev pub holding : Option yaml_token_t → Machine → Config
+holding o c = record { lookahead = o; machine = c }
 
 -- a parser of this source that stands so
 abbrev pub parser : {S : Type 0} → ℤ → S → Config → Parser S
@@ -66,15 +71,11 @@ parser max source c = record { source = source; config = c; max_entries = max }
 abbrev pub with_config : {S : Type 0} → Parser S → Config → Parser S
 with_config p c = record p { config = c }
 
-abbrev pub with_fault : Config → Fault → Config
+abbrev pub with_fault : Machine → Fault → Machine
 with_fault c f = record c { fault = f }
 
-abbrev pub state_set : yaml_parser_state_t → Config → Config
+abbrev pub state_set : yaml_parser_state_t → Machine → Machine
 state_set state c = record c { state = state }
-
--- the token stays: it is looked at again
-abbrev pub staying : yaml_token_t → Config → Config
-staying token c = record c { lookahead = Some token }
 
 -- a token, where there is one
 abbrev pub token_if : Bool → yaml_token_t → Option yaml_token_t
@@ -82,26 +83,23 @@ token_if true t = Some t
 token_if false t = None
 
 -- the token in this variable stays, or there is no lookahead
-abbrev pub with_lookahead : Lookahead → Config → Config
-with_lookahead l c = record c { lookahead = token_if l.stays l.token }
+abbrev pub with_lookahead : Lookahead → Machine → Config
+with_lookahead l c = holding (token_if l.stays l.token) c
 
-abbrev pub without_lookahead : Config → Config
-without_lookahead c = record c { lookahead = None }
-
-abbrev pub pushed : yaml_parser_state_t → Config → Config
+abbrev pub pushed : yaml_parser_state_t → Machine → Machine
 pushed state c = record c { states = state ∷ c.states }
 
-abbrev pub popped : Config → Config
+abbrev pub popped : Machine → Machine
 popped c = record c { state = automaton_config.top c.states; states = automaton_config.below c.states }
 
-abbrev pub pushed_mark : yaml_mark_t → Config → Config
+abbrev pub pushed_mark : yaml_mark_t → Machine → Machine
 pushed_mark mark c = record c { marks = mark ∷ c.marks }
 
-abbrev pub popped_mark : Config → Config
+abbrev pub popped_mark : Machine → Machine
 popped_mark c = record c { marks = automaton_config.below c.marks }
 
 -- the parser without its texts
-abbrev pub config_of : Config → automaton_config.Stacks
+abbrev pub config_of : Machine → automaton_config.Stacks
 config_of c = record {
   state = c.state;
   states = c.states;
@@ -110,9 +108,8 @@ config_of c = record {
 }
 
 -- and with them
-abbrev pub config_with : automaton_config.Stacks → Handles → Fault → Option yaml_token_t → Config
-config_with x hs f o = record {
-  lookahead = o;
+abbrev pub config_with : automaton_config.Stacks → Handles → Fault → Machine
+config_with x hs f = record {
   state = x.state;
   states = x.states;
   marks = x.marks;
@@ -121,10 +118,10 @@ config_with x hs f o = record {
   fault = f;
 }
 
-abbrev pub with_handle : List ℕ → List ℕ → Config → Config
+abbrev pub with_handle : List ℕ → List ℕ → Machine → Machine
 with_handle handle prefix c = record c { handles = insert c.handles handle prefix }
 
-abbrev pub without_handles : Config → Config
+abbrev pub without_handles : Machine → Machine
 without_handles c = record c { handles = no_handles }
 
 abbrev pub is_fault : yaml_error_type_t → Bool
@@ -142,7 +139,7 @@ is_end_state st.YAML_PARSE_END_STATE = true
 is_end_state _ = false
 
 -- after the stream's end or an error
-abbrev pub ended_or_failed : Config → Bool
+abbrev pub ended_or_failed : Machine → Bool
 ended_or_failed c = is_fault c.fault.error || is_end_state c.state
 
 -- in no document

@@ -14,7 +14,7 @@ use Rattle.libyaml_automaton.specs.Automaton as automaton
 use Rattle.libyaml_automaton.specs.Fits.{opens_at}
 use Rattle.libyaml_automaton.specs.Growth.{pushes, opens}
 use Rattle.libyaml_automaton.specs.Purposes.{next_for}
-use Rattle.libyaml_events.specs.machine.Config.{Config, Handles}
+use Rattle.libyaml_events.specs.machine.Config.{Machine, Handles}
 use Rattle.libyaml_events.specs.machine.Machine.{or_default}
 use Rattle.libyaml_events.specs.machine.Want.{Texts, Want}
 
@@ -55,10 +55,10 @@ grows_at next.AtImplicitDocumentStart behind_document_end k = grows_at_document 
 grows_at next.AtDocumentStart behind_document_end k = grows_at_directive k
 grows_at n behind_document_end k = pushes n (token_type k) || opens n (token_type k)
 
-abbrev pub grows_for : automaton.Purpose → Texts → Config → unnamed_yaml_token_t_data → Bool
+abbrev pub grows_for : automaton.Purpose → Texts → Machine → unnamed_yaml_token_t_data → Bool
 grows_for (AfterDirective start has_version) h c k = grows_at_directive k
 grows_for (AfterProperties p r) h c k = joins_before r h c.handles k || opens_at p (token_type k)
 grows_for w h c k = grows_at (next_for w c.state) c.behind_document_end k
 
-abbrev pub may_grow : Want → Config → unnamed_yaml_token_t_data → Bool
+abbrev pub may_grow : Want → Machine → unnamed_yaml_token_t_data → Bool
 may_grow w c k = grows_for w.next w.texts c k

@@ -27,12 +27,12 @@ use Rattle.libyaml_automaton.specs.Problems as problem
 use Rattle.libyaml_automaton.specs.Config as automaton_config
 use Rattle.libyaml_automaton.specs.declared.node_place.NodePlace.{NodePlace}
 use Rattle.libyaml_automaton.specs.Automaton as automaton
-use Rattle.libyaml_events.specs.machine.Config.{Config, Handles, no_handles, config_of, config_with}
+use Rattle.libyaml_events.specs.machine.Config.{Machine, Handles, no_handles, config_of, config_with, holding, token_if}
 use Rattle.libyaml_events.specs.machine.Want.{Texts, Want, Progress, Given, Wants, texts_after}
 
 -- a step gives an event or wants a token, or ends in an error
 abbrev pub Progressed : Type 0
-Progressed = Result (Progress × Config) Fault
+Progressed = Result Progress Fault
 
 -- handles: a TAG-DIRECTIVE declares one, and a document's end with it
 
@@ -165,34 +165,25 @@ fault_with f =
 abbrev pub seen : yaml_token_t → unnamed_yaml_token_t_data → automaton.KindAndMarks
 seen t k = record { kind = token_type k; start_mark = t.start_mark; end_mark = t.end_mark }
 
--- a token that stays is looked at again
-abbrev pub lookahead_after : (stays : Bool) → yaml_token_t → Option yaml_token_t → Option yaml_token_t
-lookahead_after true t o = Some t
-lookahead_after false t o = o
-
 -- what the automaton did that asks nothing, with the texts that were held, and of a node its anchor and its tag in full
-abbrev pub put : Texts → (anchor tag : Option (List ℕ)) → Config → yaml_token_t → unnamed_yaml_token_t_data
+abbrev pub put : Texts → (anchor tag : Option (List ℕ)) → Machine → yaml_token_t → unnamed_yaml_token_t_data
     → automaton.Step → Progressed
-put h a g c t k (automaton.Gives e x) = Ok (
-  Given (event (content_with h a g k e.shape) e.start_mark e.end_mark),
-  config_with x (handles_after c.handles e.shape) c.fault (lookahead_after e.stays t c.lookahead),
-)
-put h a g c t k (automaton.Wants n x) = Ok (
-  Wants (record { next = n; texts = texts_after h k n }),
-  config_with x (handles_after_directive c.handles k n) c.fault c.lookahead,
-)
+put h a g c t k (automaton.Gives e x) = Ok (Given (event (content_with h a g k e.shape) e.start_mark e.end_mark)
+    (holding (token_if e.stays t) (config_with x (handles_after c.handles e.shape) c.fault)))
+put h a g c t k (automaton.Wants n x) = Ok (Wants (record { next = n; texts = texts_after h k n })
+    (config_with x (handles_after_directive c.handles k n) c.fault))
 put h a g c t k (automaton.Fails f) = Err (fault_with f)
 put h a g c t k _ = Err no_fault
 
 -- the content after properties: an undefined handle is found now
-abbrev pub content_resolved : Option (List ℕ) → NodePlace → automaton.PropertiesRead → automaton_config.Stacks → Texts → Config
+abbrev pub content_resolved : Option (List ℕ) → NodePlace → automaton.PropertiesRead → automaton_config.Stacks → Texts → Machine
     → yaml_token_t → unnamed_yaml_token_t_data → Progressed
 content_resolved None p r x h c t k = Err (fault.tag_fault r.start_mark r.tag_mark)
 content_resolved (Some tag) p r x h c t k
     = put h h.anchor (Some tag) c t k (automaton.node_content p r x (seen t k) (token_type k))
 
 abbrev pub content_after : Option unnamed_yaml_token_t_data_tag → NodePlace → automaton.PropertiesRead
-    → automaton_config.Stacks → Texts → Config → yaml_token_t → unnamed_yaml_token_t_data → Progressed
+    → automaton_config.Stacks → Texts → Machine → yaml_token_t → unnamed_yaml_token_t_data → Progressed
 content_after None p r x h c t k = put h h.anchor None c t k (automaton.node_content p r x (seen t k) (token_type k))
 content_after (Some g) p r x h c t k = content_resolved (resolve c.handles g.handle g.suffix) p r x h c t k
 
@@ -205,7 +196,7 @@ was_declared hs (tok.TagDirective g) = is_some (get hs g.handle)
 was_declared hs _ = false
 
 -- and where it asks, what it does as texts decide
-abbrev pub with_texts : Texts → Config → yaml_token_t → unnamed_yaml_token_t_data → automaton.Step → Progressed
+abbrev pub with_texts : Texts → Machine → yaml_token_t → unnamed_yaml_token_t_data → automaton.Step → Progressed
 with_texts h c t k (automaton.AsksVersion start x)
     = put h None None c t k (automaton.first_version (is_accepted_in k) start x (seen t k))
 with_texts h c t k (automaton.AsksHandle start has_version x)
@@ -213,9 +204,9 @@ with_texts h c t k (automaton.AsksHandle start has_version x)
 with_texts h c t k (automaton.AsksContent p r x) = content_after h.tag p r x h c t k
 with_texts h c t k s = put h None None c t k s
 
-abbrev pub step_at : Want → Config → yaml_token_t → unnamed_yaml_token_t_data → Progressed
+abbrev pub step_at : Want → Machine → yaml_token_t → unnamed_yaml_token_t_data → Progressed
 step_at w c t k = with_texts w.texts c t k (automaton.step w.next (config_of c) (seen t k) (token_type k))
 
 -- a step by a token
-abbrev pub step : Want → Config → yaml_token_t → Progressed
+abbrev pub step : Want → Machine → yaml_token_t → Progressed
 step w c t = step_at w c t t.content

@@ -1,5 +1,5 @@
 -- What a step returned, and the event and the rest that it left, as the machine's result.
-use Rattle.std.specs.Prelude.{Bool, true, false, Option, None, Result, Ok, Err}
+use Rattle.std.specs.Prelude.{Bool, true, false, Option, None, Some, Result, Ok, Err}
 use Rattle.libyaml_types.specs.declared.event.yaml_event_t.{yaml_event_t}
 use Rattle.libyaml_types.specs.declared.enums.yaml_error_type_t.{yaml_error_type_t}
 use Rattle.libyaml_automaton.specs.Automaton.{AfterDirective, AfterProperties}
@@ -9,7 +9,7 @@ use Rattle.libyaml_events.specs.declared.step.Step.{Step}
 use Rattle.libyaml_events.specs.declared.step.Step.TheVariants as stepped
 use Rattle.libyaml_events.specs.declared.pending.Pending.{Pending}
 use Rattle.libyaml_types.specs.declared.token.yaml_token_t.{yaml_token_t}
-use Rattle.libyaml_events.specs.machine.Config.{Config, staying}
+use Rattle.libyaml_events.specs.machine.Config.{Machine, holding}
 use Rattle.libyaml_events.specs.machine.Read.{PropertyTexts, DirectiveTexts}
 use Rattle.libyaml_events.specs.machine.Want.{Texts, no_texts, Want, Progress, Given, Wants}
 
@@ -39,14 +39,9 @@ wanted p = record {
   texts = texts_for (purposes.purpose_of p.reading) p.properties p.directives;
 }
 
--- a step that failed has the kind of the error that is kept
-abbrev pub result_of : Step → Pending → yaml_event_t → Config → Result Progress yaml_error_type_t
-result_of stepped.Given p e c = Ok (Given e)
-result_of stepped.GivenBefore p e c = Ok (Given e)
-result_of stepped.Wants p e c = Ok (Wants (wanted p))
-result_of stepped.Failed p e c = Err c.fault.error
-
--- where the parser then stands: the token t stays where the event comes before it
-abbrev pub config_after : Step → (t : yaml_token_t) → Config → Config
-config_after stepped.GivenBefore t c = staying t c
-config_after _ t c = c
+-- the token t is held where the event comes before it; a step that failed has the kind of the error that is kept
+abbrev pub result_of : Step → Pending → yaml_event_t → (t : yaml_token_t) → Machine → Result Progress yaml_error_type_t
+result_of stepped.Given p e t c = Ok (Given e (holding None c))
+result_of stepped.GivenBefore p e t c = Ok (Given e (holding (Some t) c))
+result_of stepped.Wants p e t c = Ok (Wants (wanted p) c)
+result_of stepped.Failed p e t c = Err c.fault.error

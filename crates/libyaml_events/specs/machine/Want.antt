@@ -7,6 +7,7 @@ use Rattle.libyaml_types.specs.declared.token.unnamed_yaml_token_t_data.{unnamed
 use Rattle.libyaml_types.specs.declared.token.unnamed_yaml_token_t_data.TheVariants as tok
 use Rattle.libyaml_types.specs.declared.token.unnamed_yaml_token_t_data_tag.{unnamed_yaml_token_t_data_tag}
 use Rattle.libyaml_automaton.specs.Automaton as automaton
+use Rattle.libyaml_events.specs.machine.Config.{Config, Machine}
 
 -- The texts that the parser holds: those of a node's properties, or of a document's directives.
 pub record Texts : Type 0 where
@@ -27,10 +28,10 @@ pub record Want : Type 0 where
 abbrev pub AtState : Want
 AtState = record { next = automaton.AtState; texts = no_texts }
 
--- an event, or nothing yet
+-- an event, after which a token may be held, or nothing yet
 pub data Progress : Type 0 where
-  Given : yaml_event_t → Progress
-  Wants : Want → Progress
+  Given : yaml_event_t → Config → Progress
+  Wants : Want → Machine → Progress
 
 -- what is held once a token was taken: a property or a directive is added
 abbrev pub with_property : Texts → unnamed_yaml_token_t_data → Texts

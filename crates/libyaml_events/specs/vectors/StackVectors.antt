@@ -7,22 +7,22 @@ use Rattle.libyaml_types.specs.declared.enums.yaml_error_type_t.TheVariants.{YAM
 use Rattle.libyaml_types.specs.declared.enums.yaml_parser_state_t.{yaml_parser_state_t}
 use Rattle.libyaml_types.specs.declared.enums.yaml_parser_state_t.TheVariants as st
 use Rattle.libyaml_grammar.specs.grammar.Tokens.{Token}
-use Rattle.libyaml_events.specs.machine.Config.{Config, start, with_fault}
+use Rattle.libyaml_events.specs.machine.Config.{Config, holding, start, with_fault}
 use Rattle.libyaml_events.specs.parsers.Pops.{KeepsBelow}
 use Rattle.libyaml_events.specs.parsers.Lookahead.{LookaheadIsLast}
 use Rattle.libyaml_grammar.specs.vectors.VectorNotation.{SCALAR, STREAM, at, place, says_while, token}
 
 -- a parser in this state, over these stacks
 abbrev pub over : yaml_parser_state_t → List yaml_parser_state_t → List yaml_mark_t → Config
-over state states marks = record start { state = state; states = states; marks = marks }
+over state states marks = holding None (record start { state = state; states = states; marks = marks })
 
 abbrev pub in_sequence : List yaml_parser_state_t → List yaml_mark_t → Config
 in_sequence states marks = over st.YAML_PARSE_BLOCK_SEQUENCE_ENTRY_STATE states marks
 
 abbrev pub MissesEntry : List yaml_mark_t → (opened_at : ℕ) → Type 0
 MissesEntry marks i = KeepsBelow (in_sequence (st.YAML_PARSE_DOCUMENT_END_STATE ∷ []) marks) (Ok (token 4 Key)
-    ∷ []) (Err YAML_PARSER_ERROR) (with_fault (in_sequence (st.YAML_PARSE_DOCUMENT_END_STATE ∷ []) marks)
-    (says_while (codes "while parsing a block collection") i (codes "did not find expected '-' indicator") 8))
+    ∷ []) (Err YAML_PARSER_ERROR) (holding None (with_fault (in_sequence (st.YAML_PARSE_DOCUMENT_END_STATE ∷ []) marks).machine
+    (says_while (codes "while parsing a block collection") i (codes "did not find expected '-' indicator") 8)))
 
 -- A sequence ends: its state goes and the one below comes, and its mark goes.
 abbrev pub VectorSequenceEnds : Type 0
@@ -48,7 +48,7 @@ NeverByNoMark = MissesEntry [] 0 → ⊥
 -- the token that is held, of two that were asked for
 abbrev pub LookaheadOf : Option Token → Type 0
 LookaheadOf held = LookaheadIsLast {S = Unit {0}}
-    (record { source = tt; config = record start { lookahead = held }; max_entries = pos 1 }) (token 0 STREAM
+    (record { source = tt; config = holding held start; max_entries = pos 1 }) (token 0 STREAM
     ∷ token 1 (SCALAR (codes "a")) ∷ [])
 
 abbrev pub VectorHoldsNone : Type 0

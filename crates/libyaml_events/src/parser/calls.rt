@@ -1,5 +1,5 @@
 //! Where a call begins, and what one that failed leaves.
-ghost use Rattle.std.specs.Prelude.{◌≡◌, None};
+ghost use Rattle.std.specs.Prelude.{◌≡◌};
 ghost use Rattle.libyaml_events.specs.machine.Outcomes.{wanted};
 ghost use Rattle.libyaml_events.specs.machine.Want.{AtState};
 ghost use Rattle.libyaml_events.specs.automaton.View.{Ready};
@@ -17,14 +17,6 @@ impl TokenParser {
         ensures ready { Ready pending.new self.now }
     {
         pending.reading.at_state_of(&self.automaton.automaton);
-    }
-
-    /// Does nothing. The lookahead is not in the machine.
-    #[inline(always)]
-    pub(crate) fn has_no_lookahead(&self)
-        ensures { self.now.lookahead ≡ None }
-    {
-        let _ = &self.alloc;
     }
 
     /// Drops the stacks, since after an error nothing asks for them. Returns the kind of the error.

@@ -1,7 +1,7 @@
 //! The next token: that of lookahead, or else the source's.
-ghost use Rattle.std.specs.Prelude.{◌≡◌, ℤ, Ok, Err, None, MatchResult, IfErr, true, false};
+ghost use Rattle.std.specs.Prelude.{◌≡◌, Ok, Err, None, MatchResult, IfErr, true, false};
 ghost use Rattle.libyaml_types.specs.Errors.{IsSourceError};
-ghost use Rattle.libyaml_events.specs.machine.Config.{with_fault, with_lookahead, is_fault, parser};
+ghost use Rattle.libyaml_events.specs.machine.Config.{with_fault, is_fault, token_if};
 ghost use Rattle.libyaml_events.specs.sources.Calls.{Fetches};
 
 use crate::lookahead::Lookahead;
@@ -17,12 +17,9 @@ impl TokenParser {
         source: &mut S,
         token: &mut yaml_token_t,
     ) -> Result<(), yaml_error_type_t>
-        requires none { self.old.lookahead ≡ None }
-        ensures fetches { (max : ℤ) → MatchResult result
-            (λ _. Fetches S.gives (parser max source.old self.old) (Ok token.new)
-            (parser max source.new self.new))
-            (λ e. Fetches S.gives (parser max source.old self.old) (Err e) (parser max source.new self.new)) }
-        ensures none { self.new.lookahead ≡ None }
+        ensures fetches { MatchResult result
+            (λ _. Fetches S.gives None source.old self.old (Ok token.new) source.new self.new)
+            (λ e. Fetches S.gives None source.old self.old (Err e) source.new self.new) }
         ensures error { IfErr result (λ e. is_fault e ≡ true) }
     {
         match source.next_token_into(token) {
@@ -42,14 +39,12 @@ impl TokenParser {
         source: &mut S,
         lookahead: &mut Lookahead,
     ) -> Result<(), yaml_error_type_t>
-        requires none { self.old.lookahead ≡ None }
-        ensures fetches { (max : ℤ) → MatchResult result
-            (λ _. Fetches S.gives (parser max source.old (with_lookahead lookahead.old self.old))
-            (Ok lookahead.new.token) (parser max source.new self.new))
-            (λ e. Fetches S.gives (parser max source.old (with_lookahead lookahead.old self.old)) (Err e)
-            (parser max source.new self.new)) }
+        ensures fetches { MatchResult result
+            (λ _. Fetches S.gives (token_if lookahead.old.stays lookahead.old.token) source.old self.old
+            (Ok lookahead.new.token) source.new self.new)
+            (λ e. Fetches S.gives (token_if lookahead.old.stays lookahead.old.token) source.old self.old (Err e)
+            source.new self.new) }
         ensures taken { lookahead.new.stays ≡ false }
-        ensures none { self.new.lookahead ≡ None }
         ensures error { IfErr result (λ e. is_fault e ≡ true) }
     {
         if lookahead.stays {

@@ -6,7 +6,7 @@ ghost use Rattle.libyaml_grammar.specs.grammar.Events.{event};
 ghost use Rattle.libyaml_types.specs.declared.enums.yaml_token_type_t.TheVariants.{YAML_SCALAR_TOKEN};
 ghost use Rattle.libyaml_automaton.specs.Numbers.{flag, place_of};
 ghost use Rattle.libyaml_automaton.specs.Fits.{FitsContent, IsFull, opens_at};
-ghost use Rattle.libyaml_events.specs.machine.Outcomes.{only_if, result_of, config_after};
+ghost use Rattle.libyaml_events.specs.machine.Outcomes.{only_if, result_of};
 ghost use Rattle.libyaml_events.specs.machine.Growth.{joins};
 ghost use Rattle.libyaml_events.specs.machine.Machine.{Progressed};
 ghost use Rattle.libyaml_events.specs.machine.Steps.{Steps};
@@ -37,7 +37,6 @@ impl TokenParser {
         pending: &mut Pending,
         out: &mut yaml_event_t,
     ) -> Step
-        requires none { self.old.lookahead ≡ None }
         ensures puts { Puts Action.AsksContent token.old pending.old self.old result token.new pending.new
             out.new self.new }
         ensures grows { result ≡ Step.Failed → self.new.fault.error ≡ yaml_error_type_t.YAML_MEMORY_ERROR
@@ -58,7 +57,6 @@ impl TokenParser {
         pending: &mut Pending,
         out: &mut yaml_event_t,
     ) -> Step
-        requires none { self.old.lookahead ≡ None }
         requires untagged { pending.old.reading.has_tag ≡ 0 }
         ensures puts { Puts Action.AsksContent token.old pending.old self.old result token.new pending.new
             out.new self.new }
@@ -78,12 +76,10 @@ impl TokenParser {
         pending: &mut Pending,
         out: &mut yaml_event_t,
     ) -> Step
-        requires none { self.old.lookahead ≡ None }
         ensures puts { (o : Progressed) (h : Texts) → IsContent o h
             (only_if (flag pending.old.reading.has_anchor) pending.old.properties.anchor)
             (option_map string_bytes tag) token.old pending.old.reading self.old
-            → Steps o self.old (result_of result pending.new out.new self.new)
-            (config_after result token.new self.new)
+            → Steps o (result_of result pending.new out.new token.new self.new) self.new
             × (result ≡ Step.Wants → ⊥) }
         ensures grows { result ≡ Step.Failed → self.new.fault.error ≡ yaml_error_type_t.YAML_MEMORY_ERROR
             → opens_at (place_of pending.old.reading.place) (token_type token.old.content) ≡ true }
@@ -106,13 +102,11 @@ impl TokenParser {
         pending: &mut Pending,
         out: &mut yaml_event_t,
     ) -> Step
-        requires none { self.old.lookahead ≡ None }
         requires kind { kind ≡ token_type token.old.content }
         requires start { out.old.start_mark ≡ pending.old.reading.start_mark }
         ensures puts { (o : Progressed) (h : Texts) → IsContent o h pending.old.properties.anchor
             (option_map string_bytes tag) token.old pending.old.reading self.old
-            → Steps o self.old (result_of result pending.new out.new self.new)
-            (config_after result token.new self.new)
+            → Steps o (result_of result pending.new out.new token.new self.new) self.new
             × (result ≡ Step.Wants → ⊥) }
         ensures grows { result ≡ Step.Failed → self.new.fault.error ≡ yaml_error_type_t.YAML_MEMORY_ERROR
             → opens_at (place_of pending.old.reading.place) (token_type token.old.content) ≡ true }
@@ -130,13 +124,11 @@ impl TokenParser {
         pending: &mut Pending,
         out: &mut yaml_event_t,
     ) -> Step
-        requires none { self.old.lookahead ≡ None }
         requires kind { kind ≡ token_type token.old.content }
         requires start { out.old.start_mark ≡ pending.old.reading.start_mark }
         ensures puts { (o : Progressed) (h : Texts) → IsContent o h pending.old.properties.anchor
             (option_map string_bytes tag) token.old pending.old.reading self.old
-            → Steps o self.old (result_of result pending.new out.new self.new)
-            (config_after result token.new self.new)
+            → Steps o (result_of result pending.new out.new token.new self.new) self.new
             × (result ≡ Step.Wants → ⊥) }
         ensures grows { result ≡ Step.Failed → self.new.fault.error ≡ yaml_error_type_t.YAML_MEMORY_ERROR
             → opens_at (place_of pending.old.reading.place) (token_type token.old.content) ≡ true }
@@ -160,14 +152,12 @@ impl TokenParser {
         pending: &mut Pending,
         out: &mut yaml_event_t,
     ) -> Step
-        requires none { self.old.lookahead ≡ None }
         requires kind { kind ≡ token_type token.old.content }
         requires start { out.old.start_mark ≡ pending.old.reading.start_mark }
         requires end { end_mark.now ≡ pending.old.reading.end_mark }
         ensures puts { (o : Progressed) (h : Texts) → IsContent o h pending.old.properties.anchor
             (option_map string_bytes tag) token.old pending.old.reading self.old
-            → Steps o self.old (result_of result pending.new out.new self.new)
-            (config_after result token.new self.new)
+            → Steps o (result_of result pending.new out.new token.new self.new) self.new
             × (result ≡ Step.Wants → ⊥) }
     {
         if !self.automaton.grow(Action::FullMarks) {
@@ -211,13 +201,11 @@ impl TokenParser {
         token: &yaml_token_t,
         pending: &mut Pending,
     ) -> Action
-        requires none { self.old.lookahead ≡ None }
         requires kind { kind ≡ token_type token.now.content }
         ensures led { (o : Progressed) (h : Texts) (a g : Option (List ℕ))
             → IsContent o h a g token.now pending.old.reading self.old
             → SaysContent o h a g token.now result pending.old.reading pending.new.reading self.new }
         ensures fits { FitsContent result (token_type token.now.content) pending.new.reading }
-        ensures none { self.new.lookahead ≡ None }
         ensures texts { pending.new ≡ record pending.old { reading = pending.new.reading } }
         ensures full { result ≡ Action.FullMarks
             → opens_at (place_of pending.old.reading.place) (token_type token.now.content) ≡ true }
@@ -244,7 +232,6 @@ impl TokenParser {
         pending: &mut Pending,
         out: &mut yaml_event_t,
     ) -> Step
-        requires none { self.old.lookahead ≡ None }
         requires fits { FitsContent led (token_type token.old.content) pending.old.reading }
         requires done { IsFull led → ⊥ }
         ensures puts { PutsContent pending.old.properties.anchor (option_map string_bytes tag)
@@ -287,7 +274,6 @@ impl TokenParser {
         pending: &mut Pending,
         out: &mut yaml_event_t,
     )
-        requires none { self.old.lookahead ≡ None }
         requires scalar { token_type token.old.content ≡ YAML_SCALAR_TOKEN }
         ensures puts { PutsContent pending.old.properties.anchor (option_map string_bytes tag)
             out.old.start_mark end_mark.now Action.Scalar token.old pending.old.reading self.old Step.Given
@@ -330,7 +316,6 @@ impl TokenParser {
         pending: &mut Pending,
         out: &mut yaml_event_t,
     )
-        requires none { self.old.lookahead ≡ None }
         ensures puts { PutsContent pending.old.properties.anchor (option_map string_bytes tag)
             out.old.start_mark end_mark.now Action.EmptyHead token.now pending.old.reading self.old
             Step.GivenBefore token.now pending.new out.new self.new }
@@ -352,7 +337,6 @@ impl TokenParser {
         pending: &mut Pending,
         out: &mut yaml_event_t,
     )
-        requires none { self.old.lookahead ≡ None }
         ensures puts { PutsContent pending.old.properties.anchor (option_map string_bytes tag)
             out.old.start_mark end_mark.now Action.IndentlessSequence token.now pending.old.reading self.old
             Step.GivenBefore token.now pending.new out.new self.new }
@@ -374,7 +358,6 @@ impl TokenParser {
         pending: &mut Pending,
         out: &mut yaml_event_t,
     )
-        requires none { self.old.lookahead ≡ None }
         requires fits { FitsContent led (token_type token.now.content) pending.old.reading }
         requires opening { IsOpening led }
         ensures puts { PutsContent pending.old.properties.anchor (option_map string_bytes tag)

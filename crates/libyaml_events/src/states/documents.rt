@@ -15,7 +15,7 @@ ghost use Rattle.libyaml_events.specs.machine.Config.{with_fault};
 ghost use Rattle.libyaml_events.specs.machine.Machine.{declared_by, document_end, document_start, fault_with};
 ghost use Rattle.libyaml_events.specs.machine.Machine.{is_accepted_in, step, was_declared};
 ghost use Rattle.libyaml_events.specs.machine.Steps.{Steps};
-ghost use Rattle.libyaml_events.specs.machine.Outcomes.{directive_texts, result_of, config_after, wanted};
+ghost use Rattle.libyaml_events.specs.machine.Outcomes.{directive_texts, result_of, wanted};
 ghost use Rattle.libyaml_events.specs.machine.Growth.{may_grow};
 ghost use Rattle.libyaml_events.specs.automaton.AutomatonResults.{IsPutDocument, FollowsAutomatonInDocuments};
 ghost use Rattle.libyaml_events.specs.automaton.AutomatonResults.{PutsDocument};
@@ -163,8 +163,8 @@ impl TokenParser {
     ) -> Step
         requires ready { Ready pending.old self.old }
         requires documents { stack_part_of (next_of pending.old.reading.next) ≡ Documents }
-        ensures steps { Steps (step (wanted pending.old) self.old token.old) self.old
-            (result_of result pending.new out.new self.new) (config_after result token.new self.new) }
+        ensures steps { Steps (step (wanted pending.old) self.old token.old)
+            (result_of result pending.new out.new token.new self.new) self.new }
         ensures ready { result ≡ Step.Wants → Ready pending.new self.new }
         ensures grows { result ≡ Step.Failed → self.new.fault.error ≡ yaml_error_type_t.YAML_MEMORY_ERROR
             → may_grow (wanted pending.old) self.old token.old.content ≡ true }
@@ -189,8 +189,8 @@ impl TokenParser {
         requires documents { stack_part_of (next_of pending.old.reading.next) ≡ Documents }
         requires declared { (wanted pending.old).texts ≡ directive_texts pending.old.directives }
         requires grows { may_grow (wanted pending.old) self.old token.old.content ≡ true }
-        ensures steps { Steps (step (wanted pending.old) self.old token.old) self.old
-            (result_of result pending.new out.new self.new) (config_after result token.new self.new) }
+        ensures steps { Steps (step (wanted pending.old) self.old token.old)
+            (result_of result pending.new out.new token.new self.new) self.new }
         ensures ready { result ≡ Step.Wants → Ready pending.new self.new }
     {
         if !self.automaton.grow(Action::FullStates) {
@@ -231,7 +231,6 @@ impl TokenParser {
         ensures led { FollowsAutomatonInDocuments (step (wanted pending.old) self.old token.now)
             (wanted pending.old).texts token.now result pending.new self.new }
         ensures fits { FitsDocument result (token_type token.now.content) pending.new.reading self.new.state }
-        ensures none { self.new.lookahead ≡ None }
         ensures texts { pending.new ≡ record pending.old { reading = pending.new.reading } }
         ensures undone { result ≡ Action.FullStates → Ready pending.new self.new
             × (wanted pending.new ≡ wanted pending.old) × (self.new ≡ self.old)
@@ -258,7 +257,6 @@ impl TokenParser {
         pending: &mut Pending,
         out: &mut yaml_event_t,
     ) -> Step
-        requires none { self.old.lookahead ≡ None }
         requires put { IsPutDocument led }
         requires fits { FitsDocument led (token_type token.old.content) pending.old.reading
             self.old.state }
@@ -350,7 +348,6 @@ impl TokenParser {
     /// Takes a VERSION-DIRECTIVE, the first of its document.
     #[inline(never)]
     fn take_version(&mut self, token: &yaml_token_t, pending: &mut Pending) -> Step
-        requires none { self.old.lookahead ≡ None }
         requires version { token_type token.now.content ≡ yaml_token_type_t.YAML_VERSION_DIRECTIVE_TOKEN }
         ensures puts { (out : yaml_event_t) → PutsDocument Action.AsksVersion token.now pending.old
             self.old result token.now pending.new out self.new }
@@ -369,7 +366,6 @@ impl TokenParser {
     /// Takes a TAG-DIRECTIVE: its handle may be declared once.
     #[inline(never)]
     fn take_handle(&mut self, token: &mut yaml_token_t, pending: &mut Pending) -> Step
-        requires none { self.old.lookahead ≡ None }
         requires directive { token_type token.old.content ≡ yaml_token_type_t.YAML_TAG_DIRECTIVE_TOKEN }
         ensures puts { (out : yaml_event_t) → PutsDocument Action.AsksHandle token.old pending.old
             self.old result token.new pending.new out self.new }

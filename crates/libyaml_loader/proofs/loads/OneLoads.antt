@@ -145,7 +145,7 @@ module _ {S : Type 0} (g : Ghosts S) (load : List Event → Ending → Load) (le
   outcome (Err x) new k (by_loader before e parser took f kept o l) =
       let c = took.history asked given history in
       let n = kept (asked ++ c.more) (given ++ (before ++ e ∷ [])) c.history in
-      let v : kept_fault new ≡ f = ap (λ (p : Parser S). p.config.fault) n in
+      let v : kept_fault new ≡ f = ap (λ (p : Parser S). p.config.machine.fault) n in
       record {
         gave = subst (λ (p : Parser S). Gave g.gives old.source (source_results c.more []) p.source) (sym n) c.gave;
         came = decided c.more (before ++ e ∷ []) parser (Err f) refl c.history l (
@@ -159,7 +159,7 @@ module _ {S : Type 0} (g : Ghosts S) (load : List Event → Ending → Load) (le
       let n = kept (asked ++ c.more) (given ++ (before ++ e ∷ [])) c.history in
       record {
         gave = subst (λ (p : Parser S). Gave g.gives old.source (source_results c.more []) p.source) (sym n) c.gave;
-        came = out (in_loader (ap Err (k ∙ ap (λ (p : Parser S). p.config.fault.error) n)) before e parser c grows n);
+        came = out (in_loader (ap Err (k ∙ ap (λ (p : Parser S). p.config.machine.fault.error) n)) before e parser c grows n);
       }
 
   -- two parsers that gave the same events, over tokens of one list

@@ -15,7 +15,7 @@ use Rattle.libyaml_graphs.specs.loads.Linear.{documents_size}
 use Rattle.libyaml_graphs.specs.loads.Loads.{Load, last_load}
 use Rattle.libyaml_graphs.specs.machine.Loader.{State, between}
 use Rattle.libyaml_graphs.proofs.exported.RunLoads.{first_linear}
-use Rattle.libyaml_events.specs.machine.Config.{Config, is_fault}
+use Rattle.libyaml_events.specs.machine.Config.{Machine, is_fault}
 use Rattle.libyaml_events.specs.machine.Want.{Want}
 use Rattle.libyaml_events.specs.sources.Determined.{BeginsEachRun}
 use Rattle.libyaml_events.specs.sources.Pushed as pushed
@@ -131,7 +131,7 @@ refused_so Full n tokens given more later documents here e f begins leads (no_me
     by_memory is more here (begins_prefix tokens events (e ∷ later) begins) leads (in_loader e with_it needs)
 
 -- the parser stopped
-any_room : (Room : Type 0) (w : Want) (c : Config) (u : Token) → NeedsMemory Room w c u → NeedsMemory (Unit {0}) w c u
+any_room : (Room : Type 0) (w : Want) (c : Machine) (u : Token) → NeedsMemory Room w c u → NeedsMemory (Unit {0}) w c u
 any_room Room w c u (for_step grows) = for_step grows
 any_room Room w c u (for_event e d is full) = for_event e d is tt
 

@@ -6,7 +6,7 @@ use Rattle.libyaml_grammar.specs.grammar.Events.{Event}
 use Rattle.libyaml_grammar.specs.grammar.ValidLists.{has_end}
 use Rattle.libyaml_grammar.specs.runs.Runs.{Ends}
 use Rattle.libyaml_documents.specs.Documents.{Document}
-use Rattle.libyaml_events.specs.machine.Config.{Config}
+use Rattle.libyaml_events.specs.machine.Config.{Machine}
 use Rattle.libyaml_events.specs.machine.Want.{Want}
 use Rattle.libyaml_events.specs.sources.Determined.{BeginsEachRun}
 use Rattle.libyaml_events.specs.sources.Pushed.{Fed}
@@ -33,7 +33,7 @@ BeginsEachLoads n tokens documents = (rest : List Token) (source : Fault) (loads
 -- for the event that it gives, for which the loader's own list may have no room; or at an event that the tokens
 -- determine.
 pub data LoadNeedsMemory (Full : Type 0) (tokens : List Token) (events : List Event) (here : State) : Type 0 where
-  in_parser : (w : Want) (c : Config) (u : Token) → Fed w c (Some u) tokens events → NeedsMemory (Unit {0}) w c u
+  in_parser : (w : Want) (c : Machine) (u : Token) → Fed w c (Some u) tokens events → NeedsMemory (Unit {0}) w c u
       → LoadNeedsMemory Full tokens events here
   in_loader : (e : Event) → BeginsEachRun tokens (events ++ e ∷ []) → NeedsMemoryAt Full here e
       → LoadNeedsMemory Full tokens events here

@@ -1,12 +1,12 @@
 -- A call of each parser, where they stand to one another, does the same, and they stand so again.
-use Rattle.std.proofs.Common.{◌≡◌, ◌∷◌, List, None, Bool, false, arith}
+use Rattle.std.proofs.Common.{◌≡◌, ◌∷◌, List, Bool, false, arith}
 use Rattle.libyaml_types.specs.declared.directive.yaml_tag_directive_t.{yaml_tag_directive_t}
 use Rattle.libyaml_types.specs.declared.enums.yaml_parser_state_t.{yaml_parser_state_t}
 use Rattle.libyaml_types.specs.declared.enums.yaml_parser_state_t.TheVariants as st
 use Rattle.libyaml_types.specs.Fault.{Fault}
 use Rattle.libyaml_grammar.specs.grammar.ValidLists.{is_end}
 use Rattle.libyaml_grammar.specs.grammar.Tokens.{Mark, Token}
-use Rattle.libyaml_events.specs.machine.Config.{Config, Handles, is_end_state, without_lookahead}
+use Rattle.libyaml_events.specs.machine.Config.{Config, Machine, Handles, is_end_state}
 use Rattle.libyaml_events.specs.machine.Want.{AtState}
 use Rattle.rust_original.specs.parser.Parser.{Mends, OriginalParser, yaml_parser_state_machine}
 use Rattle.rust_original.specs.parser.Runs.{as_here, call}
@@ -15,9 +15,9 @@ use Rattle.rust_original.proofs.parser.States as states
 use Rattle.rust_original.proofs.parser.Relation.{Agree, Below, Fits, IsInside, Matches, Opens, SamePlace, before, following, after_end, entering, feed, first, inside, over, root_end, there_with, tokens_of}
 
 module _ (f : Fault) (x : Fault) (ss : List yaml_parser_state_t) where
-  abbrev conf : yaml_parser_state_t → List Mark → Handles → Bool → Config
+  abbrev conf : yaml_parser_state_t → List Mark → Handles → Bool → Machine
   conf s ms hs be
-      = record { lookahead = None; state = s; states = ss; marks = ms; handles = hs; behind_document_end = be; fault = x }
+      = record { state = s; states = ss; marks = ms; handles = hs; behind_document_end = be; fault = x }
 
   abbrev Same : (here there_state : yaml_parser_state_t) → (marks marks_there : List Mark) → List yaml_tag_directive_t
       → Handles → Bool → Bool → Bool → (tokens tokens_there : List Token) → Type 0
@@ -99,6 +99,12 @@ begun_call : (m : Mends) (q : OriginalParser) → q.stream_end_produced ≡ fals
 begun_call m q h k = grind arith
 
 -- a call of both
-pub call_same : (f : Fault) (q : OriginalParser) (d : Config) (l : List Token) → SamePlace f q d l → is_end_state d.state ≡ false
-    → Matches f (call as_here q) (feed f AtState (without_lookahead d) (tokens_of d.lookahead l))
-call_same f q d l s e = grind (arith, begun_call, flagged, both_end, called)
+pub call_same : (f : Fault) (q : OriginalParser) (d : Config) (l : List Token) → SamePlace f q d l
+    → is_end_state d.machine.state ≡ false
+    → Matches f (call as_here q) (feed f AtState d.machine (tokens_of d.lookahead l))
+call_same f q d l s e =
+    let same = called f d.machine.fault d.machine.states s.fits e in
+    let ended = flagged s.fits in
+    let both = both_end s.fits in
+    let is = s.is in
+    grind (arith, begun_call)

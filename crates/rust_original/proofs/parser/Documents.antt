@@ -8,7 +8,7 @@ use Rattle.libyaml_types.specs.declared.enums.yaml_parser_state_t.TheVariants as
 use Rattle.libyaml_types.specs.Fault.{Fault}
 use Rattle.libyaml_grammar.specs.grammar.Tokens.{Content, DocumentEnd, DocumentStart, HandleDeclared, Mark, StreamEnd, TagDirective, Token, VersionAsked, VersionDirective}
 use Rattle.libyaml_automaton.specs.Automaton as automaton
-use Rattle.libyaml_events.specs.machine.Config.{Config, Handles, config_of, no_handles}
+use Rattle.libyaml_events.specs.machine.Config.{Machine, Handles, config_of, no_handles}
 use Rattle.libyaml_events.specs.machine.Machine.{put, seen}
 use Rattle.libyaml_events.specs.machine.Want.{AtState, Texts, Want, no_texts}
 use Rattle.rust_original.specs.parser.Parser as orig
@@ -18,9 +18,9 @@ use Rattle.rust_original.proofs.parser.Handles.{Reads, agree, defaults_appended,
 use Rattle.rust_original.proofs.parser.Relation.{standing, Matches, fed, feed, first, inside, is_document_end, over, there, tk}
 
 module _ (f : Fault) (x : Fault) (ss : List yaml_parser_state_t) (ms : List Mark) where
-  abbrev pub here : yaml_parser_state_t → Bool → Handles → Config
+  abbrev pub here : yaml_parser_state_t → Bool → Handles → Machine
   here s be hs
-      = record { lookahead = None; state = s; states = ss; marks = ms; handles = hs; behind_document_end = be; fault = x }
+      = record { state = s; states = ss; marks = ms; handles = hs; behind_document_end = be; fault = x }
 
   abbrev pub par : yaml_parser_state_t → Bool → List yaml_tag_directive_t → List Token → OriginalParser
   par s' flag tags l = there f tags flag s' false (here s' false no_handles) l

@@ -11,7 +11,7 @@ use Rattle.libyaml_grammar.specs.grammar.Tokens.{Alias, Anchor, AnchorName, Cont
 use Rattle.libyaml_automaton.specs.declared.node_place.NodePlace.{NodePlace}
 use Rattle.libyaml_automaton.specs.Automaton as automaton
 use Rattle.libyaml_automaton.specs.Automaton.{PropertiesRead, Step, content_problem, is_block_place, may_be_indentless}
-use Rattle.libyaml_events.specs.machine.Config.{Config, Handles, config_of}
+use Rattle.libyaml_events.specs.machine.Config.{Machine, Handles, config_of}
 use Rattle.libyaml_events.specs.machine.Machine as parser_machine
 use Rattle.libyaml_events.specs.machine.Machine.{Progressed, fault_with, or_default, put, seen, with_prefix, with_texts}
 use Rattle.libyaml_events.specs.machine.Want.{Texts, no_texts}
@@ -39,7 +39,7 @@ problem_of : (p : NodePlace) (m : Mark) → content_fault (is_block_place p) m
     ≡ fault_with (record { problem = content_problem p; context_mark = m; mark = m })
 problem_of p m = grind arith
 
-plain : (h : Texts) (c : Config) (t : Token) (k : Content) (p : NodePlace) (r : PropertiesRead)
+plain : (h : Texts) (c : Machine) (t : Token) (k : Content) (p : NodePlace) (r : PropertiesRead)
     → with_texts h c t k (automaton.node_content p r (config_of c) (seen t k) (token_type k))
     ≡ put h None None c t k (automaton.node_content p r (config_of c) (seen t k) (token_type k))
 plain h c t k p r = grind arith
@@ -47,9 +47,9 @@ plain h c t k p r = grind arith
 module _ (f : Fault) (tags : List yaml_tag_directive_t) (hs : Handles) (agree : Agree tags hs) (be flag : Bool)
     (x : Fault) (s s' : yaml_parser_state_t)
     (ms : List Mark) where
-  abbrev pub conf : List yaml_parser_state_t → Config
+  abbrev pub conf : List yaml_parser_state_t → Machine
   conf ss =
-      record { lookahead = None; state = s; states = ss; marks = ms; handles = hs; behind_document_end = be; fault = x }
+      record { state = s; states = ss; marks = ms; handles = hs; behind_document_end = be; fault = x }
 
   abbrev pub par : List yaml_parser_state_t → List Token → OriginalParser
   par ss l = there f tags flag s' false (conf ss) l

@@ -8,7 +8,7 @@ use Rattle.libyaml_types.specs.Fault.{Fault}
 use Rattle.libyaml_grammar.specs.grammar.Events.{Event}
 use Rattle.libyaml_grammar.specs.grammar.ValidLists.{is_end}
 use Rattle.libyaml_grammar.specs.grammar.Tokens.{Content, DocumentEnd, Mark, Token}
-use Rattle.libyaml_events.specs.machine.Config.{Config, Handles, no_handles}
+use Rattle.libyaml_events.specs.machine.Config.{Config, Machine, Handles, no_handles}
 use Rattle.libyaml_automaton.specs.Config.{below, top}
 use Rattle.libyaml_events.specs.machine.Machine.{Progressed, or_default, step}
 use Rattle.libyaml_events.specs.machine.Want.{Want, Given, Wants}
@@ -22,12 +22,12 @@ pub data HereCall : Type 0 where
   given : Event → Config → List Token → HereCall
   stopped : Fault → HereCall
 
-abbrev pub led : Progressed → List Token → (Want → Config → HereCall) → HereCall
+abbrev pub led : Progressed → List Token → (Want → Machine → HereCall) → HereCall
 led (Err g) l more = stopped g
-led (Ok (Given e, d)) l more = given e d l
-led (Ok (Wants v, d)) l more = more v d
+led (Ok (Given e d)) l more = given e d l
+led (Ok (Wants v d)) l more = more v d
 
-abbrev pub feed : Fault → Want → Config → List Token → HereCall
+abbrev pub feed : Fault → Want → Machine → List Token → HereCall
 feed f w c [] = stopped f
 feed f w c (t ∷ l) = led (step w c t) l (λ v d. feed f v d l)
 
@@ -39,7 +39,7 @@ tokens_of None l = l
 tokens_of (Some t) l = t ∷ l
 
 -- the original's parser with the stacks of a configuration; its marks may be others
-abbrev pub there : Fault → List yaml_tag_directive_t → Bool → yaml_parser_state_t → Bool → Config → List Token → OriginalParser
+abbrev pub there : Fault → List yaml_tag_directive_t → Bool → yaml_parser_state_t → Bool → Machine → List Token → OriginalParser
 there f tags flag state ended c l = record {
   tokens = l;
   scanner_fault = f;
@@ -51,7 +51,7 @@ there f tags flag state ended c l = record {
   after_explicit_end = flag;
 }
 
-abbrev pub there_with : Fault → List yaml_tag_directive_t → Bool → yaml_parser_state_t → Bool → Config → List Mark
+abbrev pub there_with : Fault → List yaml_tag_directive_t → Bool → yaml_parser_state_t → Bool → Machine → List Mark
     → List Token → OriginalParser
 there_with f tags flag state ended c marks l = record (there f tags flag state ended c l) { marks = marks }
 
@@ -137,17 +137,17 @@ pub record SamePlace (f : Fault) (q : OriginalParser) (d : Config) (l : List Tok
   pub ended : Bool
   pub marks : List Mark
   pub tokens : List Token
-  pub is : q ≡ there_with f tags flag state ended d marks tokens
-  pub fits : Fits d.states d.state state d.marks marks tags d.handles d.behind_document_end flag ended
-      (tokens_of d.lookahead l) tokens
-  pub fresh : IsFresh d.state d.lookahead
+  pub is : q ≡ there_with f tags flag state ended d.machine marks tokens
+  pub fits : Fits d.machine.states d.machine.state state d.machine.marks marks tags d.machine.handles
+      d.machine.behind_document_end flag ended (tokens_of d.lookahead l) tokens
+  pub fresh : IsFresh d.machine.state d.lookahead
 
 -- the parsers stand so, with what the original's fields say
 pub standing : {f : Fault} {q : OriginalParser} {d : Config} {l : List Token} {tags : List yaml_tag_directive_t} {flag ended :
     Bool} {state : yaml_parser_state_t} {marks : List Mark} {tokens : List Token}
-    → q ≡ there_with f tags flag state ended d marks tokens
-    → Fits d.states d.state state d.marks marks tags d.handles d.behind_document_end flag ended (tokens_of d.lookahead l)
-    tokens → IsFresh d.state d.lookahead → SamePlace f q d l
+    → q ≡ there_with f tags flag state ended d.machine marks tokens
+    → Fits d.machine.states d.machine.state state d.machine.marks marks tags d.machine.handles d.machine.behind_document_end
+    flag ended (tokens_of d.lookahead l) tokens → IsFresh d.machine.state d.lookahead → SamePlace f q d l
 standing {tags} {flag} {ended} {state} {marks} {tokens} i fits fresh = record {
   tags = tags;
   flag = flag;

@@ -13,7 +13,7 @@ use Rattle.libyaml_automaton.specs.declared.node_place.NodePlace.TheVariants.{Bl
 use Rattle.libyaml_automaton.specs.Automaton as automaton
 use Rattle.libyaml_automaton.specs.Automaton.{is_block_place, may_be_indentless}
 use Rattle.libyaml_automaton.specs.Config.{below, top}
-use Rattle.libyaml_events.specs.machine.Config.{Config, Handles, config_of}
+use Rattle.libyaml_events.specs.machine.Config.{Machine, Handles, config_of, holding}
 use Rattle.libyaml_events.specs.machine.Machine.{seen, with_texts}
 use Rattle.libyaml_events.specs.machine.Want.{AtState, Want, no_texts}
 use Rattle.rust_original.specs.parser.Parser as orig
@@ -37,9 +37,9 @@ skipped t e P h = subst P (sym (end_same t.content t.start_mark t.end_mark)) (su
 
 module _ (f : Fault) (tags : List yaml_tag_directive_t) (hs : Handles) (be flag : Bool) (x : Fault)
     (ss : List yaml_parser_state_t) where
-  abbrev pub here : yaml_parser_state_t → List Mark → Config
+  abbrev pub here : yaml_parser_state_t → List Mark → Machine
   here s ms
-      = record { lookahead = None; state = s; states = ss; marks = ms; handles = hs; behind_document_end = be; fault = x }
+      = record { state = s; states = ss; marks = ms; handles = hs; behind_document_end = be; fault = x }
 
   abbrev pub par : yaml_parser_state_t → Bool → List Mark → List Token → OriginalParser
   par s' ended ms l = there f tags flag s' ended (here s' ms) l
@@ -68,15 +68,15 @@ module _ (f : Fault) (tags : List yaml_tag_directive_t) (hs : Handles) (be flag 
 
       -- a node, after which the parser goes on from the states of this stack
       node : (s : yaml_parser_state_t) (p : NodePlace) (rest : List yaml_parser_state_t) → Below rest → (u : Token)
-          (l : List Token) → let c : Config = record (here s ms) { states = rest } in Matches f
+          (l : List Token) → let c : Machine = record (here s ms) { states = rest } in Matches f
           (orig.yaml_parser_parse_node (there f tags flag s' false c (u ∷ l)) (is_block_place p) (may_be_indentless p))
           (fed f (with_texts no_texts c u u.content (automaton.parse_node p (config_of c) (seen u u.content)
           (token_type u.content))) l)
       node s p rest b u l = parsed f tags hs agree be flag x s s' ms p rest b u.content u.start_mark u.end_mark l
 
       -- the parser goes back to a state from the stack
-      popped : (marks : List Mark) (l : List Token) → let c : Config = record (here (top ss) marks) { states = below ss } in
-          SamePlace f (there f tags flag (top ss) false c l) c l
+      popped : (marks : List Mark) (l : List Token) → let c : Machine = record (here (top ss) marks) { states = below ss } in
+          SamePlace f (there f tags flag (top ss) false c l) (holding None c) l
       popped marks l = standing refl (popped_fits ss inner agree) (popped_fresh ss _ inner)
 
       -- block sequences

@@ -11,7 +11,7 @@ use Rattle.libyaml_grammar.specs.runs.Runs.{Ending, Ends, Fails, IsRun}
 use Rattle.libyaml_grammar.specs.grammar.Events.{Event, event}
 use Rattle.libyaml_grammar.specs.grammar.Nesting.{NestsSoFar}
 use Rattle.libyaml_grammar.specs.grammar.Tokens.{Content, Mark, Scalar, Token}
-use Rattle.libyaml_events.specs.machine.Config.{Config, Handles, ended_or_failed, is_end_state, start, without_lookahead}
+use Rattle.libyaml_events.specs.machine.Config.{Config, Machine, holding, Handles, ended_or_failed, is_end_state, start}
 use Rattle.libyaml_events.specs.machine.Machine.{step}
 use Rattle.libyaml_events.specs.machine.Want.{AtState, Given}
 use Rattle.libyaml_events.specs.sources.History.{is_stream_end}
@@ -30,8 +30,8 @@ use Rattle.rust_original.proofs.runs.Ended.{NoEnd}
 
 -- where the key of a flow sequence's pair is due: an empty scalar that stands at the end of the token that the
 -- original skips
-abbrev after_pair_key : Config → Config
-after_pair_key c = record c { lookahead = None; state = st.YAML_PARSE_FLOW_SEQUENCE_ENTRY_MAPPING_VALUE_STATE }
+abbrev after_pair_key : Machine → Config
+after_pair_key c = holding None (record c { state = st.YAML_PARSE_FLOW_SEQUENCE_ENTRY_MAPPING_VALUE_STATE })
 
 abbrev empty_token : Mark → Token
 empty_token n = tk (Scalar (record { value = []; style = YAML_PLAIN_SCALAR_STYLE })) n n
@@ -39,14 +39,14 @@ empty_token n = tk (Scalar (record { value = []; style = YAML_PLAIN_SCALAR_STYLE
 abbrev empty_at : Mark → Event
 empty_at n = event (scalar_event_with None None [] true false YAML_PLAIN_SCALAR_STYLE) n n
 
-empty_step : (n : Mark) (c : Config) → c.state ≡ st.YAML_PARSE_FLOW_SEQUENCE_ENTRY_MAPPING_KEY_STATE
-    → step AtState (without_lookahead c) (empty_token n) ≡ Ok (Given (empty_at n), after_pair_key c)
+empty_step : (n : Mark) (c : Machine) → c.state ≡ st.YAML_PARSE_FLOW_SEQUENCE_ENTRY_MAPPING_KEY_STATE
+    → step AtState c (empty_token n) ≡ Ok (Given (empty_at n) (after_pair_key c))
 empty_step n c i = grind arith
 
 not_both : {b : Bool} → b ≡ false → b ≡ true → ⊥
 not_both e h = grind arith
 
-not_over : (c : Config) → ended_or_failed c ≡ false → is_end_state c.state ≡ false
+not_over : (c : Machine) → ended_or_failed c ≡ false → is_end_state c.state ≡ false
 not_over c e = grind arith
 
 opens_pair_key : (s : yaml_parser_state_t) → Opens st.YAML_PARSE_FLOW_SEQUENCE_ENTRY_MAPPING_KEY_STATE s → ⊥
@@ -77,7 +77,7 @@ module _ (f : Fault) (m : Mends) (b : Bool)
   -- it stands beside our machine, which was handed l and gave g, with no more tokens than there are
   record Along (q : OriginalParser) (d : Config) (rest l : List Token) (g : List Event) : Type 0 where
     stands : SamePlace f q d rest
-    fed : Fed AtState (without_lookahead d) d.lookahead l g
+    fed : Fed AtState d.machine d.lookahead l g
     few : length l + length rest ≤ most
 
   pub record HasRun (q : OriginalParser) (all : List Token) (g : List Event) : Type 0 where
@@ -93,7 +93,7 @@ module _ (f : Fault) (m : Mends) (b : Bool)
       → 4 * most < n + length g → q.stream_end_produced ≡ false → HasRun q (l ++ rest) g
 
   over_flag : (q : OriginalParser) (d : Config) (rest l : List Token) (g : List Event) → Along q d rest l g
-      → ended_or_failed d ≡ q.stream_end_produced
+      → ended_or_failed d.machine ≡ q.stream_end_produced
   over_flag q d rest l g a = grind (arith, none_kept a.fed, flagged a.stands.fits, a.stands.is)
 
   failed_here : (q : OriginalParser) (d : Config) (rest l : List Token) (g : List Event) → Along q d rest l g → (x : Fault)
@@ -109,12 +109,12 @@ module _ (f : Fault) (m : Mends) (b : Bool)
 
   -- after an event
   after_event : (n : ℕ) (q p : OriginalParser) (e : Event) (d : Config) (rest l all : List Token) (g : List Event)
-      → call m q ≡ OK e p → Along p d rest l (g ++ e ∷ []) → ended_or_failed d ≡ is_stream_end e
+      → call m q ≡ OK e p → Along p d rest l (g ++ e ∷ []) → ended_or_failed d.machine ≡ is_stream_end e
       → (b ≡ false → all ≡ l ++ rest) → 4 * most < suc n + length g → Next n → HasRun q all g
   after_event n q p e d rest l all g i a ends_so same less next = go p.stream_end_produced refl
     where
-      none : (o : Option Token) → Fed AtState (without_lookahead d) o l (g ++ e ∷ []) → ended_or_failed d ≡ true
-          → Fed AtState (without_lookahead d) None l (g ++ e ∷ [])
+      none : (o : Option Token) → Fed AtState d.machine o l (g ++ e ∷ []) → ended_or_failed d.machine ≡ true
+          → Fed AtState d.machine None l (g ++ e ∷ [])
       none o h j = grind (arith, not_both, hand_runs)
 
       whole : p.stream_end_produced ≡ true → IsRun (l ++ rest) f (g ++ e ∷ []) Ends
@@ -149,10 +149,10 @@ module _ (f : Fault) (m : Mends) (b : Bool)
 
   -- where both do the same
   alike : (n : ℕ) (q : OriginalParser) (d : Config) (rest l : List Token) (g : List Event) → Along q d rest l g
-      → 4 * most < suc n + length g → ended_or_failed d ≡ false → Next n → call m q ≡ call_here q
+      → 4 * most < suc n + length g → ended_or_failed d.machine ≡ false → Next n → call m q ≡ call_here q
       → HasRun q (l ++ rest) g
   alike n q d rest l g a less begun next same
-      = go (call_here q) refl (does.does f d rest l g a.fed begun) (call_same f q d rest a.stands (not_over d begun))
+      = go (call_here q) refl (does.does f d rest l g a.fed begun) (call_same f q d rest a.stands (not_over d.machine begun))
     where
       go : (o : ParserResult) → call_here q ≡ o → {z : HereCall} → Does f l g rest z → Matches f o z
           → HasRun q (l ++ rest) g
@@ -177,36 +177,36 @@ module _ (f : Fault) (m : Mends) (b : Bool)
 
   -- where they part
   parted : (n : ℕ) (q : OriginalParser) (d : Config) (rest l : List Token) (g : List Event) → Along q d rest l g
-      → 4 * most < suc n + length g → ended_or_failed d ≡ false → Next n → b ≡ true
+      → 4 * most < suc n + length g → ended_or_failed d.machine ≡ false → Next n → b ≡ true
       → {o u : ParserResult} → Differs q o u → call m q ≡ o → HasRun q (l ++ rest) g
   parted n q d rest l g a less begun next may (pair_key t k s e i) c =
       let fits = pair_stands a.stands.fits (sym (ap (λ (p : OriginalParser). p.state) a.stands.is) ∙ s) in
-      let none = fresh_none d.state d.lookahead fits.2 a.stands.fresh in
+      let none = fresh_none d.machine.state d.lookahead fits.2 a.stands.fresh in
       let left : rest ≡ t ∷ k = cc in
-      let hand : Fed AtState (without_lookahead d) (Some (empty_token t.end_mark)) (l ++ empty_token t.end_mark ∷ []) g
-      = push_lemmas.takes AtState (without_lookahead d) l g (empty_token t.end_mark) (rw none at a.fed) begun in
-      let led = empty_step t.end_mark d fits.2 in
+      let hand : Fed AtState d.machine (Some (empty_token t.end_mark)) (l ++ empty_token t.end_mark ∷ []) g
+      = push_lemmas.takes AtState d.machine l g (empty_token t.end_mark) (rw none at a.fed) begun in
+      let led = empty_step t.end_mark d.machine fits.2 in
       let one : length (l ++ empty_token t.end_mark ∷ []) ≡ length l + 1 = length-append l (empty_token t.end_mark ∷ []) in
       let gone : length rest ≡ suc (length k) = ap length left in
       let few = a.few in
       let past = no_end t.content t.start_mark t.end_mark i in
       after_event n q (set_state st.YAML_PARSE_FLOW_SEQUENCE_ENTRY_MAPPING_VALUE_STATE (SKIP_TOKEN q))
-      (empty_at t.end_mark) (after_pair_key d) k (l ++ empty_token t.end_mark ∷ []) (l ++ rest) g c (record {
+      (empty_at t.end_mark) (after_pair_key d.machine) k (l ++ empty_token t.end_mark ∷ []) (l ++ rest) g c (record {
         stands = record {
           tags = a.stands.tags;
           flag = a.stands.flag;
           state = st.YAML_PARSE_FLOW_SEQUENCE_ENTRY_MAPPING_VALUE_STATE;
           ended = false;
-          marks = d.marks;
+          marks = d.machine.marks;
           tokens = k;
           is = grind arith;
           fits = inside tt fits.0 fits.1;
           fresh = tt;
         };
-        fed = push_lemmas.gives_on AtState (without_lookahead d) (empty_token t.end_mark) hand (empty_at t.end_mark) (after_pair_key d) led;
+        fed = push_lemmas.gives_on AtState d.machine (empty_token t.end_mark) hand (empty_at t.end_mark) (after_pair_key d.machine) led;
         few = omega arith;
       })
-      (gives_end hand (empty_at t.end_mark) (after_pair_key d) led) (λ j. absurd (not_both j may)) less next
+      (gives_end hand (empty_at t.end_mark) (after_pair_key d.machine) led) (λ j. absurd (not_both j may)) less next
   parted n q d rest l g a less begun next may i c = failed_here q d rest l g a _ c (λ j. absurd (not_both j may))
 
   total : (n : ℕ) → Next n
@@ -214,7 +214,7 @@ module _ (f : Fault) (m : Mends) (b : Bool)
       let i = fed_count a.fed in let few = a.few in absurd (omega arith)
   total (suc n) q d rest l g a less k = go (places q) (λ p x r v h. total n p x r v h)
     where
-      begun : ended_or_failed d ≡ false
+      begun : ended_or_failed d.machine ≡ false
       begun = over_flag q d rest l g a ∙ k
 
       go : (call m q ≡ call_here q) ⊎ ((b ≡ true) × Differs q (call m q) (call_here q)) → Next n → HasRun q (l ++ rest) g
@@ -224,5 +224,5 @@ module _ (f : Fault) (m : Mends) (b : Bool)
 pub has_run : (f : Fault) (m : Mends) (b : Bool)
     → (places : (p : OriginalParser) → (call m p ≡ call_here p) ⊎ ((b ≡ true) × Differs p (call m p) (call_here p)))
     → (l : List Token) → HasRun f m b places (length l) (new_original_parser l f) l []
-has_run f m b places l = total f m b places (length l) (suc (4 * length l)) (new_original_parser l f) start l [] []
+has_run f m b places l = total f m b places (length l) (suc (4 * length l)) (new_original_parser l f) (holding None start) l [] []
     (record { stands = standing refl before tt; fed = push_lemmas.begins; few = omega arith }) (omega arith) refl

@@ -12,7 +12,7 @@ use Rattle.libyaml_automaton.specs.Numbers.{state_of}
 use Rattle.libyaml_automaton.specs.Purposes.{purpose_of}
 use Rattle.libyaml_automaton.specs.declared.difference.Difference.{Difference}
 use Rattle.libyaml_automaton.specs.declared.difference.Difference.TheVariants.{Nowhere}
-use Rattle.libyaml_events.specs.machine.Config.{Config, Handles, config_with, is_end_state, no_handles, start}
+use Rattle.libyaml_events.specs.machine.Config.{Machine, Handles, config_with, is_end_state, no_handles, start}
 use Rattle.libyaml_events.specs.machine.Machine.{declared_by, fault_with}
 use Rattle.libyaml_events.specs.machine.Want.{AtState, Texts, Want, no_texts}
 use Rattle.libyaml_events.proofs.exported.Pushes.{fed_ended, hand_runs, wants_runs}
@@ -29,8 +29,8 @@ use Rattle.rust_original.specs.parser.Strict.{Over, Stopped, StrictEnding, Stric
 use Rattle.rust_original.specs.parser.StrictCalls.{IsAsked, differs_with, innermost}
 use Rattle.rust_original.proofs.strict.Runs.{StrictOver}
 
-abbrev config_at : steps_t → List ℕ → List yaml_mark_t → Handles → Config
-config_at d ss ms hs = config_with (stacks_of d.machine ss ms) hs no_fault None
+abbrev config_at : steps_t → List ℕ → List yaml_mark_t → Handles → Machine
+config_at d ss ms hs = config_with (stacks_of d.machine ss ms) hs no_fault
 
 abbrev is_over : steps_t → Bool
 is_over d = is_end_state (state_of d.machine.state)
@@ -52,11 +52,11 @@ pub leads : {d : steps_t} {ss : List ℕ} {ms : List yaml_mark_t} {hs : Handles}
     → StrictOver (l ++ more) f (g ++ later) x
 leads (begins d ss ms e i) k n f more later x s
     = subst (λ (w : Want). StrictFrom f w start more later x) (at_state d e)
-    (subst (λ (c : Stacks). StrictFrom f (want_with d no_texts) (config_with c no_handles no_fault None) more later x) i s)
+    (subst (λ (c : Stacks). StrictFrom f (want_with d no_texts) (config_with c no_handles no_fault) more later x) i s)
 leads (moves d d' ss ss' ms ms' hs h o l g r v w e) k n f more later x s
     = leads r k (ap (λ (c : Stacks). is_end_state c.state) (sym e) ∙ n) f more later x
     (subst (λ (p : automaton.Purpose). StrictFrom f (record { next = p; texts = h }) (config_at d ss ms hs) (to_come o more) later x) v
-    (subst (λ (c : Stacks). StrictFrom f (want_with d' h) (config_with c hs no_fault None) (to_come o more) later x) e s))
+    (subst (λ (c : Stacks). StrictFrom f (want_with d' h) (config_with c hs no_fault) (to_come o more) later x) e s))
 leads (takes d ss ms hs h l g t r e) k n f more later x s
     = rw (append_assoc l (t ∷ []) more)
     (leads r k n f (t ∷ more) later x s)

@@ -10,7 +10,7 @@ use Rattle.libyaml_automaton.specs.Automaton as automaton
 use Rattle.libyaml_automaton.specs.Config.{top_mark}
 use Rattle.libyaml_automaton.specs.declared.difference.Difference.{Difference}
 use Rattle.libyaml_automaton.specs.declared.difference.Difference.TheVariants.{Nowhere}
-use Rattle.libyaml_events.specs.machine.Config.{Config, Handles, config_of, is_end_state, no_handles, without_lookahead}
+use Rattle.libyaml_events.specs.machine.Config.{Config, Machine, Handles, config_of, is_end_state, no_handles}
 use Rattle.libyaml_events.specs.machine.Machine.{Progressed, seen, step}
 use Rattle.libyaml_events.specs.machine.Want.{AtState, Given, Want, Wants}
 use Rattle.rust_original.specs.parser.Differences.{Differs, KeyDue, bare_document, after_entry, after_start, call_here, call_there, pair_key, value_first}
@@ -26,25 +26,25 @@ pub data Judged : Type 0 where
   none : Judged
   met : Difference → (context_mark mark : Mark) → Judged
 
-abbrev pub judged_at : Difference → Config → Token → Judged → Judged
+abbrev pub judged_at : Difference → Machine → Token → Judged → Judged
 judged_at Nowhere c t j = j
 judged_at k c t j = met k (top_mark c.marks) t.start_mark
 
-abbrev pub judged_by : Progressed → (Want → Config → Judged) → Judged
+abbrev pub judged_by : Progressed → (Want → Machine → Judged) → Judged
 judged_by (Err g) more = none
-judged_by (Ok (Given e, d)) more = none
-judged_by (Ok (Wants v, d)) more = more v d
+judged_by (Ok (Given e d)) more = none
+judged_by (Ok (Wants v d)) more = more v d
 
-abbrev pub judged : Want → Config → List Token → Judged
+abbrev pub judged : Want → Machine → List Token → Judged
 judged w c [] = none
 judged w c (t ∷ l) = judged_at (differs_by w c t) c t (judged_by (step w c t) (λ v d. judged v d l))
 
 -- no further question is met
-after : (more : Want → Config → Judged) → ((v : Want) (d : Config) → Quiet v.next → more v d ≡ none)
+after : (more : Want → Machine → Judged) → ((v : Want) (d : Machine) → Quiet v.next → more v d ≡ none)
     → (o : Progressed) → QuietProgress o → judged_by o more ≡ none
 after more h o q = grind arith
 
-still : (l : List Token) (w : Want) (c : Config) → Quiet w.next → judged w c l ≡ none
+still : (l : List Token) (w : Want) (c : Machine) → Quiet w.next → judged w c l ≡ none
 still [] w c q = refl
 still (t ∷ l) w c q = grind (arith, quiet.nowhere, after (λ v d. judged v d l) (λ v d h. still l v d h), quiet_after)
 
@@ -60,9 +60,9 @@ found_none : (j : Judged) (p : OriginalParser) → j ≡ none → call_there p �
 found_none j p i e = subst (λ (x : Judged). Found x p) (sym i) e
 
 module _ (f : Fault) (x : Fault) (ss : List yaml_parser_state_t) where
-  abbrev conf : yaml_parser_state_t → List Mark → Handles → Bool → Config
+  abbrev conf : yaml_parser_state_t → List Mark → Handles → Bool → Machine
   conf s ms hs be
-      = record { lookahead = None; state = s; states = ss; marks = ms; handles = hs; behind_document_end = be; fault = x }
+      = record { state = s; states = ss; marks = ms; handles = hs; behind_document_end = be; fault = x }
 
   -- the states where no question is met, and none after them
   abbrev Silent : yaml_parser_state_t → Type 0
@@ -237,5 +237,5 @@ module _ (f : Fault) (x : Fault) (ss : List yaml_parser_state_t) where
 
 -- a call, where the parsers stand to one another
 pub call_found : (f : Fault) (q : OriginalParser) (d : Config) (l : List Token) → SamePlace f q d l
-    → is_end_state d.state ≡ false → Found (judged AtState (without_lookahead d) (tokens_of d.lookahead l)) q
-call_found f q d l s e = grind (arith, found)
+    → is_end_state d.machine.state ≡ false → Found (judged AtState d.machine (tokens_of d.lookahead l)) q
+call_found f q d l s e = rw s.is (found f d.machine.fault d.machine.states s.fits e)

@@ -11,7 +11,7 @@ use Rattle.libyaml_automaton.specs.Automaton.{KindAndMarks, PropertiesRead, Step
 use Rattle.libyaml_automaton.specs.Config.{Stacks, top_mark}
 use Rattle.libyaml_automaton.specs.declared.difference.Difference.{Difference}
 use Rattle.libyaml_automaton.specs.declared.difference.Difference.TheVariants.{Nowhere}
-use Rattle.libyaml_events.specs.machine.Config.{Config, config_of, is_end_state, start, without_lookahead}
+use Rattle.libyaml_events.specs.machine.Config.{Config, Machine, config_of, is_end_state, start}
 use Rattle.libyaml_events.specs.machine.Machine.{Progressed, step}
 use Rattle.libyaml_events.specs.machine.Want.{AtState, Given, Want, Wants}
 use Rattle.token_limits.specs.Limited.{limited, if_passed}
@@ -31,34 +31,34 @@ IsPassed (Done s) = Unit {0}
 IsPassed (Again d) = ⊥
 
 -- what a look does where the machine does this
-abbrev LooksLike : Config → Token → Progressed → Looked → Type 0
-LooksLike c t (Ok (Wants v, d)) l = (l ≡ Done (At v.next (config_of d))) × (d.lookahead ≡ c.lookahead)
-LooksLike c t (Ok (Given e, d)) l = ((l ≡ Again (config_of d)) × (d.lookahead ≡ Some t))
-    ⊎ ((l ≡ Done (At automaton.AtState (config_of d))) × (d.lookahead ≡ c.lookahead))
-LooksLike c t (Err g) l = IsPassed l ⊎ IsTagFault g
+abbrev LooksLike : Token → Progressed → Looked → Type 0
+LooksLike t (Ok (Wants v d)) l = l ≡ Done (At v.next (config_of d))
+LooksLike t (Ok (Given e d)) l = ((l ≡ Again (config_of d.machine)) × (d.lookahead ≡ Some t))
+    ⊎ ((l ≡ Done (At automaton.AtState (config_of d.machine))) × (d.lookahead ≡ None))
+LooksLike t (Err g) l = IsPassed l ⊎ IsTagFault g
 
-like : (w : Want) (c : Config) (t : Token) → differs_by w c t ≡ Nowhere
-    → LooksLike c t (step w c t) (look true w.next (config_of c) (without_texts t))
+like : (w : Want) (c : Machine) (t : Token) → differs_by w c t ≡ Nowhere
+    → LooksLike t (step w c t) (look true w.next (config_of c) (without_texts t))
 like w c t e = grind arith
 
 -- a whole token
 
-abbrev at : Want → Config → Standing
+abbrev at : Want → Machine → Standing
 at w c = At w.next (config_of c)
 
 unbounded : (n : Mark) (s : Standing) → within None n s ≡ s
 unbounded n s = grind arith
 
-taken_by : (w : Want) (c : Config) (t : Token) → taken strict_alone (at w c) t
+taken_by : (w : Want) (c : Machine) (t : Token) → taken strict_alone (at w c) t
     ≡ then_again (look true w.next (config_of c) (without_texts t)) (λ d. looks (most_looks d) true automaton.AtState d (without_texts t))
 taken_by w c t = unbounded t.start_mark _ ∙ looked_again true w.next (config_of c) (without_texts t)
 
 -- where the token stays, and where it is done with
-taken_again : (w : Want) (c d : Config) (t : Token) → look true w.next (config_of c) (without_texts t) ≡ Again (config_of d)
+taken_again : (w : Want) (c d : Machine) (t : Token) → look true w.next (config_of c) (without_texts t) ≡ Again (config_of d)
     → taken strict_alone (at w c) t ≡ taken strict_alone (at AtState d) t
 taken_again w c d t e = grind (arith, taken_by, unbounded)
 
-taken_done : (w : Want) (c : Config) (s : Standing) (t : Token) → look true w.next (config_of c) (without_texts t) ≡ Done s
+taken_done : (w : Want) (c : Machine) (s : Standing) (t : Token) → look true w.next (config_of c) (without_texts t) ≡ Done s
     → taken strict_alone (at w c) t ≡ s
 taken_done w c s t e = grind (arith, taken_by)
 
@@ -79,7 +79,7 @@ refused_so : (g : Fault) (x : StrictEnding) (e : List Event) → RefusedAs g x �
 refused_so g x e h = grind arith
 
 -- a run over these tokens, with the error after them
-pub record LimitedRun (r : Coming) (w : Want) (c : Config) (e : List Event) (x : StrictEnding) : Type 0 where
+pub record LimitedRun (r : Coming) (w : Want) (c : Machine) (e : List Event) (x : StrictEnding) : Type 0 where
   pub events : List Event
   pub ending : Ending
   pub more : List Event
@@ -88,15 +88,15 @@ pub record LimitedRun (r : Coming) (w : Want) (c : Config) (e : List Event) (x :
   pub ends : EndsAs r.fault x ending more
 
 -- where the token t is at hand, and the limiter comes to stand so
-abbrev Beside : Standing → Want → Config → Token → List Token → Fault → List Event → StrictEnding → Type 0
+abbrev Beside : Standing → Want → Machine → Token → List Token → Fault → List Event → StrictEnding → Type 0
 Beside (Refuses g) w c t l f e x = RefusedAs g x
 Beside s w c t l f e x = LimitedRun (coming (t ∷ (limited strict_alone s l f).tokens) (limited strict_alone s l f).fault) w c e x
 
-abbrev Out : Want → Config → List Token → Fault → List Event → StrictEnding → Type 0
+abbrev Out : Want → Machine → List Token → Fault → List Event → StrictEnding → Type 0
 Out w c [] f e x = LimitedRun (coming [] f) w c e x
 Out w c (t ∷ l) f e x = Beside (taken strict_alone (at w c) t) w c t l f e x
 
-beside : (s : Standing) (w : Want) (c : Config) (t : Token) (l : List Token) (f : Fault) (e : List Event) (x : StrictEnding)
+beside : (s : Standing) (w : Want) (c : Machine) (t : Token) (l : List Token) (f : Fault) (e : List Event) (x : StrictEnding)
     → Beside s w c t l f e x → LimitedRun (if_passed t s (limited strict_alone s l f)) w c e x
 beside (Refuses g) w c t l f e x h = record {
   events = [];
@@ -108,19 +108,19 @@ beside (Refuses g) w c t l f e x h = record {
 }
 beside _ w c t l f e x h = h
 
-pub outcome : (w : Want) (c : Config) (l : List Token) (f : Fault) (e : List Event) (x : StrictEnding) → Out w c l f e x
+pub outcome : (w : Want) (c : Machine) (l : List Token) (f : Fault) (e : List Event) (x : StrictEnding) → Out w c l f e x
     → LimitedRun (limited strict_alone (at w c) l f) w c e x
 outcome w c l f e x h = grind (arith, beside)
 
 -- from a known step
-beside_is : (s z : Standing) (w : Want) (c : Config) (t : Token) (l : List Token) (f : Fault) (e : List Event) (x : StrictEnding)
+beside_is : (s z : Standing) (w : Want) (c : Machine) (t : Token) (l : List Token) (f : Fault) (e : List Event) (x : StrictEnding)
     → z ≡ s → Beside s w c t l f e x → Beside z w c t l f e x
 beside_is s z w c t l f e x i h = grind arith
 
 over_same : (g : Fault) (y : Ending) → EndsAs g (Over y) y []
 over_same g y = grind arith
 
-passes_over : (s : Standing) (w : Want) (c : Config) (t : Token) (l : List Token) (f : Fault) (e : List Event) (y : Ending)
+passes_over : (s : Standing) (w : Want) (c : Machine) (t : Token) (l : List Token) (f : Fault) (e : List Event) (y : Ending)
     → IsPassed (Done s) → ((m : List Token) (g : Fault) → StrictFrom g w c (t ∷ m) e (Over y)) → Beside s w c t l f e (Over y)
 passes_over (Refuses g) w c t l f e y p h = absurd p
 passes_over s w c t l f e y p h = record {
@@ -142,17 +142,17 @@ ended : (s : yaml_parser_state_t) (ss : List yaml_parser_state_t) (ms : List Mar
     → look true automaton.AtState (record { state = s; states = ss; marks = ms; behind_document_end = b }) t ≡ Done Passes
 ended s ss ms b t e = grind arith
 
-module _ (w : Want) (c : Config) (t : Token) (l : List Token) (f : Fault) where
+module _ (w : Want) (c : Machine) (t : Token) (l : List Token) (f : Fault) where
   -- the machine failed
   failed : (g : Fault) → ((m : List Token) (i : Fault) → StrictFrom i w c (t ∷ m) [] (Over (Fails g)))
       → (x : Looked) → look true w.next (config_of c) (without_texts t) ≡ x → IsPassed x ⊎ IsTagFault g
       → Beside (taken strict_alone (at w c) t) w c t l f [] (Over (Fails g))
   failed g h x e o = grind (arith, beside_is, taken_done, passes_over)
 
-  module _ (d : Config) (e : Event) (differs : differs_by w c t ≡ Nowhere) (steps : step w c t ≡ Ok (Given e, d)) where
+  module _ (d : Config) (e : Event) (differs : differs_by w c t ≡ Nowhere) (steps : step w c t ≡ Ok (Given e d)) where
     -- an event was given, and the token stays
-    stayed : (later : List Event) (x : StrictEnding) → is_end_state d.state ≡ false → d.lookahead ≡ Some t
-        → (z : Standing) → Beside z AtState (without_lookahead d) t l f later x → Beside z w c t l f (e ∷ later) x
+    stayed : (later : List Event) (x : StrictEnding) → is_end_state d.machine.state ≡ false → d.lookahead ≡ Some t
+        → (z : Standing) → Beside z AtState d.machine t l f later x → Beside z w c t l f (e ∷ later) x
     stayed later x n k (Refuses g) h = h
     stayed later x n k z h = record {
       events = e ∷ h.events;
@@ -165,9 +165,9 @@ module _ (w : Want) (c : Config) (t : Token) (l : List Token) (f : Fault) where
     }
 
     -- it was taken
-    gone : (later : List Event) (x : StrictEnding) → is_end_state d.state ≡ false → d.lookahead ≡ None
-        → LimitedRun (limited strict_alone (at AtState d) l f) AtState (without_lookahead d) later x
-        → Beside (at AtState d) w c t l f (e ∷ later) x
+    gone : (later : List Event) (x : StrictEnding) → is_end_state d.machine.state ≡ false → d.lookahead ≡ None
+        → LimitedRun (limited strict_alone (at AtState d.machine) l f) AtState d.machine later x
+        → Beside (at AtState d.machine) w c t l f (e ∷ later) x
     gone later x n k h = record {
       events = e ∷ h.events;
       ending = h.ending;
@@ -178,9 +178,9 @@ module _ (w : Want) (c : Config) (t : Token) (l : List Token) (f : Fault) where
       ends = h.ends;
     }
 
-pub leads : {f : Fault} {w : Want} {c : Config} {l : List Token} {e : List Event} {x : StrictEnding} → StrictFrom f w c l e x
-    → c.lookahead ≡ None → Out w c l f e x
-leads {f} (strict.source_fails {w} {c}) k = record {
+pub leads : {f : Fault} {w : Want} {c : Machine} {l : List Token} {e : List Event} {x : StrictEnding} → StrictFrom f w c l e x
+    → Out w c l f e x
+leads {f} (strict.source_fails {w} {c}) = record {
   events = [];
   ending = Fails f;
   more = [];
@@ -188,12 +188,12 @@ leads {f} (strict.source_fails {w} {c}) k = record {
   all = refl;
   ends = inl (refl, refl);
 }
-leads {f} (strict.stops {w} {c} {t} {l} n) k = beside_is _ (taken strict_alone (at w c) t) w c t l f [] _
+leads {f} (strict.stops {w} {c} {t} {l} n) = beside_is _ (taken strict_alone (at w c) t) w c t l f [] _
     (taken_done w c _ t (apart (differs_by w c t) (config_of c) (without_texts t) _ n)) refl
-leads {f} (strict.wants {w} {v} {c} {d} {t} {l} {e} {x} i s rest) k =
+leads {f} (strict.wants {w} {v} {c} {d} {t} {l} {e} {x} i s rest) =
     let y = rw s at (like w c t i) in
-    let h = outcome v d l f e x (leads rest (y.1 ∙ k)) in
-    beside_is (at v d) (taken strict_alone (at w c) t) w c t l f e x (taken_done w c (at v d) t y.0) (record {
+    let h = outcome v d l f e x (leads rest) in
+    beside_is (at v d) (taken strict_alone (at w c) t) w c t l f e x (taken_done w c (at v d) t y) (record {
       events = h.events;
       ending = h.ending;
       more = h.more;
@@ -201,36 +201,33 @@ leads {f} (strict.wants {w} {v} {c} {d} {t} {l} {e} {x} i s rest) k =
       all = h.all;
       ends = h.ends;
     })
-leads {f} (strict.gives {w} {c} {d} {t} {l} {e} {later} {x} i s n rest) k =
+leads {f} (strict.gives {w} {c} {d} {t} {l} {e} {later} {x} i s n rest) =
     elim (rw s at (like w c t i)) [
-      | inl y ↦ beside_is (taken strict_alone (at AtState d) t) (taken strict_alone (at w c) t) w c t l f (e ∷ later) x
-          (taken_again w c d t y.0)
-          (stayed w c t l f d e i s later x n y.1 (taken strict_alone (at AtState d) t)
-          (rw y.1 at (leads rest refl)))
-      | inr y ↦ beside_is (at AtState d) (taken strict_alone (at w c) t) w c t l f (e ∷ later) x
-          (taken_done w c (at AtState d) t y.0)
-          (gone w c t l f d e i s later x n (y.1 ∙ k)
-          (outcome AtState (without_lookahead d) l f later x
-          (rw (y.1 ∙ k) at (leads rest refl))))
+      | inl y ↦ beside_is (taken strict_alone (at AtState d.machine) t) (taken strict_alone (at w c) t) w c t l f (e ∷ later) x
+          (taken_again w c d.machine t y.0)
+          (stayed w c t l f d e i s later x n y.1 (taken strict_alone (at AtState d.machine) t) (rw y.1 at (leads rest)))
+      | inr y ↦ beside_is (at AtState d.machine) (taken strict_alone (at w c) t) w c t l f (e ∷ later) x
+          (taken_done w c (at AtState d.machine) t y.0)
+          (gone w c t l f d e i s later x n y.1 (outcome AtState d.machine l f later x (rw y.1 at (leads rest))))
     ]
-leads {f} (strict.ends {w} {c} {d} {t} {l} {e} i s n) k =
+leads {f} (strict.ends {w} {c} {d} {t} {l} {e} i s n) =
     elim (rw s at (like w c t i)) [
       | inl y ↦ beside_is Passes (taken strict_alone (at w c) t) w c t l f (e ∷ []) (Over Ends)
-          (taken_again w c d t y.0
-          ∙ taken_done AtState d Passes t (ended d.state d.states d.marks d.behind_document_end (without_texts t) n))
+          (taken_again w c d.machine t y.0 ∙ taken_done AtState d.machine Passes t
+          (ended d.machine.state d.machine.states d.machine.marks d.machine.behind_document_end (without_texts t) n))
           (passes_over Passes w c t l f (e ∷ []) Ends tt (λ m g. strict.ends i s n))
-      | inr y ↦ beside_is (at AtState d) (taken strict_alone (at w c) t) w c t l f (e ∷ []) (Over Ends)
-          (taken_done w c (at AtState d) t y.0)
-          (passes_over (at AtState d) w c t l f (e ∷ []) Ends tt (λ m g. strict.ends i s n))
+      | inr y ↦ beside_is (at AtState d.machine) (taken strict_alone (at w c) t) w c t l f (e ∷ []) (Over Ends)
+          (taken_done w c (at AtState d.machine) t y.0)
+          (passes_over (at AtState d.machine) w c t l f (e ∷ []) Ends tt (λ m g. strict.ends i s n))
     ]
-leads {f} (strict.fails {w} {c} {t} {l} {g} i s) k
+leads {f} (strict.fails {w} {c} {t} {l} {g} i s)
     = failed w c t l f g (λ m j. strict.fails i s) (look true w.next (config_of c) (without_texts t)) refl
     (rw s at (like w c t i))
 
 -- a strict run from a place is a run from there over what the limiter passes
-pub limited_run : {f : Fault} {w : Want} {c : Config} {l : List Token} {e : List Event} {x : StrictEnding} → StrictFrom f w c l e x
-    → c.lookahead ≡ None → LimitedRun (limited strict_alone (at w c) l f) w c e x
-limited_run {f} {w} {c} {l} {e} {x} s k = outcome w c l f e x (leads s k)
+pub limited_run : {f : Fault} {w : Want} {c : Machine} {l : List Token} {e : List Event} {x : StrictEnding} → StrictFrom f w c l e x
+    → LimitedRun (limited strict_alone (at w c) l f) w c e x
+limited_run {f} {w} {c} {l} {e} {x} s = outcome w c l f e x (leads s)
 
 -- and so is that of the grammar
 module _ (l : List Token) (f : Fault) where
@@ -257,7 +254,7 @@ module _ (l : List Token) (f : Fault) where
   ]
 
   run_of : (e : List Event) (x : StrictEnding) → StrictOver l f e x → LimitedRun (passed l f) AtState start e x
-  run_of e x s = limited_run s refl
+  run_of e x s = limited_run s
 
   pub ends_so : (e : List Event) → StrictOver l f e (Over Ends) → PassedRun l f e Ends
   ends_so e s = by_ends e (run_of e (Over Ends) s)

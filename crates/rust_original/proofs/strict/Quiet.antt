@@ -12,7 +12,7 @@ use Rattle.libyaml_automaton.specs.Config.{Stacks}
 use Rattle.libyaml_automaton.specs.declared.difference.Difference.TheVariants.{Nowhere}
 use Rattle.libyaml_automaton.specs.declared.node_place.NodePlace.{NodePlace}
 use Rattle.libyaml_automaton.specs.Differing.{differs}
-use Rattle.libyaml_events.specs.machine.Config.{Config, config_of}
+use Rattle.libyaml_events.specs.machine.Config.{Machine, config_of}
 use Rattle.libyaml_events.specs.machine.Machine.{Progressed, seen, step}
 use Rattle.libyaml_events.specs.machine.Want.{Want, Wants}
 
@@ -25,7 +25,7 @@ QuietStep (automaton.Wants p c) = Quiet p
 QuietStep _ = Unit {0}
 
 abbrev pub QuietProgress : Progressed → Type 0
-QuietProgress (Ok (Wants v, d)) = Quiet v.next
+QuietProgress (Ok (Wants v d)) = Quiet v.next
 QuietProgress _ = Unit {0}
 
 pub nowhere : (p : Purpose) (s : yaml_parser_state_t) (b : Bool) (k : yaml_token_type_t) → Quiet p
@@ -62,9 +62,9 @@ at_state s x t k q = grind arith
 following : (p : Purpose) (x : Stacks) (t : KindAndMarks) (k : yaml_token_type_t) → Quiet p → QuietStep (automaton.step p x t k)
 following p x t k q = grind arith
 
-pub quiet_by : (w : Want) (c : Config) (t : Token)
+pub quiet_by : (w : Want) (c : Machine) (t : Token)
     → QuietStep (automaton.step w.next (config_of c) (seen t t.content) (token_type t.content)) → QuietProgress (step w c t)
 quiet_by w c t q = grind arith
 
-pub quiet_after : (w : Want) (c : Config) (t : Token) → Quiet w.next → QuietProgress (step w c t)
+pub quiet_after : (w : Want) (c : Machine) (t : Token) → Quiet w.next → QuietProgress (step w c t)
 quiet_after w c t q = quiet_by w c t (following w.next (config_of c) (seen t t.content) (token_type t.content) q)

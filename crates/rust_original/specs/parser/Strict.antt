@@ -11,7 +11,7 @@ use Rattle.libyaml_automaton.specs.Config.{top_mark}
 use Rattle.libyaml_automaton.specs.declared.difference.Difference.{Difference}
 use Rattle.libyaml_automaton.specs.declared.difference.Difference.TheVariants.{Nowhere, PairKey, ValueFirst, BareDocument}
 use Rattle.libyaml_automaton.specs.Differing.{differs}
-use Rattle.libyaml_events.specs.machine.Config.{Config, is_end_state, start, without_lookahead}
+use Rattle.libyaml_events.specs.machine.Config.{Config, Machine, is_end_state, start}
 use Rattle.libyaml_events.specs.machine.Machine.{step}
 use Rattle.libyaml_events.specs.machine.Want.{AtState, Given, Want, Wants}
 use Rattle.rust_original.specs.parser.Differences.{Differs, Reaches, call_here, call_there}
@@ -25,7 +25,7 @@ pub data StrictEnding : Type 0 where
   Stopped : Difference → (context_mark mark : Mark) → StrictEnding
 
 -- the question, where this is wanted
-abbrev pub differs_by : Want → Config → Token → Difference
+abbrev pub differs_by : Want → Machine → Token → Difference
 differs_by w c t = differs w.next c.state c.behind_document_end (token_type t.content)
 
 -- a token that stayed comes first
@@ -34,19 +34,19 @@ to_come None l = l
 to_come (Some t) l = t ∷ l
 
 -- From here on, with these tokens to come, after which the source fails: the events, and how it ends.
-pub data StrictFrom (f : Fault) : Want → Config → List Token → List Event → StrictEnding → Type 0 where
-  source_fails : {w : Want} {c : Config} → StrictFrom f w c [] [] (Over (Fails f))
-  stops : {w : Want} {c : Config} {t : Token} {l : List Token} → (differs_by w c t ≡ Nowhere → ⊥)
+pub data StrictFrom (f : Fault) : Want → Machine → List Token → List Event → StrictEnding → Type 0 where
+  source_fails : {w : Want} {c : Machine} → StrictFrom f w c [] [] (Over (Fails f))
+  stops : {w : Want} {c : Machine} {t : Token} {l : List Token} → (differs_by w c t ≡ Nowhere → ⊥)
       → StrictFrom f w c (t ∷ l) [] (Stopped (differs_by w c t) (top_mark c.marks) t.start_mark)
-  wants : {w v : Want} {c d : Config} {t : Token} {l : List Token} {e : List Event} {x : StrictEnding}
-      → differs_by w c t ≡ Nowhere → step w c t ≡ Ok (Wants v, d) → StrictFrom f v d l e x
+  wants : {w v : Want} {c d : Machine} {t : Token} {l : List Token} {e : List Event} {x : StrictEnding}
+      → differs_by w c t ≡ Nowhere → step w c t ≡ Ok (Wants v d) → StrictFrom f v d l e x
       → StrictFrom f w c (t ∷ l) e x
-  gives : {w : Want} {c d : Config} {t : Token} {l : List Token} {e : Event} {later : List Event} {x : StrictEnding}
-      → differs_by w c t ≡ Nowhere → step w c t ≡ Ok (Given e, d) → is_end_state d.state ≡ false
-      → StrictFrom f AtState (without_lookahead d) (to_come d.lookahead l) later x → StrictFrom f w c (t ∷ l) (e ∷ later) x
-  ends : {w : Want} {c d : Config} {t : Token} {l : List Token} {e : Event} → differs_by w c t ≡ Nowhere
-      → step w c t ≡ Ok (Given e, d) → is_end_state d.state ≡ true → StrictFrom f w c (t ∷ l) (e ∷ []) (Over Ends)
-  fails : {w : Want} {c : Config} {t : Token} {l : List Token} {g : Fault} → differs_by w c t ≡ Nowhere
+  gives : {w : Want} {c : Machine} {d : Config} {t : Token} {l : List Token} {e : Event} {later : List Event} {x : StrictEnding}
+      → differs_by w c t ≡ Nowhere → step w c t ≡ Ok (Given e d) → is_end_state d.machine.state ≡ false
+      → StrictFrom f AtState d.machine (to_come d.lookahead l) later x → StrictFrom f w c (t ∷ l) (e ∷ later) x
+  ends : {w : Want} {c : Machine} {d : Config} {t : Token} {l : List Token} {e : Event} → differs_by w c t ≡ Nowhere
+      → step w c t ≡ Ok (Given e d) → is_end_state d.machine.state ≡ true → StrictFrom f w c (t ∷ l) (e ∷ []) (Over Ends)
+  fails : {w : Want} {c : Machine} {t : Token} {l : List Token} {g : Fault} → differs_by w c t ≡ Nowhere
       → step w c t ≡ Err g → StrictFrom f w c (t ∷ l) [] (Over (Fails g))
 
 -- over a list whose texts are held as there

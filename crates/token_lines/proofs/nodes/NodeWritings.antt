@@ -219,7 +219,7 @@ module _ {S W : Type 0} (g : Ghosts S) (contents : W → Option (List ℕ)) (n :
         let taken = prior ++ e ∷ [] in
         let k = further (Faulted told) o parser taken c in
         let all = o.earlier.loaded.taken ++ taken in
-        let is : kept_fault last ≡ f = ap (λ (p : Parser S). p.config.fault)
+        let is : kept_fault last ≡ f = ap (λ (p : Parser S). p.config.machine.fault)
         (kept (asked_there (Faulted told) o ++ c.more) (given_there (Faulted told) o ++ taken) c.history) in
         composer k.more all o.earlier.documents f (answers_both (so_far (Faulted told) o).more c.more [])
         (histories.needed parser (asked ++ k.more) (given ++ all) k.history)
@@ -233,7 +233,7 @@ module _ {S W : Type 0} (g : Ghosts S) (contents : W → Option (List ℕ)) (n :
         broke (record {
           faulted = refl;
           fault = kept_fault last;
-          cause = inl (ap (λ (p : Parser S). p.config.fault)
+          cause = inl (ap (λ (p : Parser S). p.config.machine.fault)
               (kept (asked_there (Faulted told) o ++ c.more) (given_there (Faulted told) o ++ (prior ++ e ∷ []))
               c.history));
           written = text (Faulted told) o;

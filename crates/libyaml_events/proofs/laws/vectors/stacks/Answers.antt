@@ -1,9 +1,9 @@
 use Rattle.std.proofs.Common.{◌≡◌, ◌++◌, ◌∷◌, List, [], Ok, Err, refl, sym, ap, arith, inl, inr, codes}
 use Rattle.libyaml_types.specs.declared.enums.yaml_error_type_t.TheVariants.{YAML_MEMORY_ERROR, YAML_PARSER_ERROR}
 use Rattle.libyaml_types.specs.declared.enums.yaml_parser_state_t.TheVariants.{YAML_PARSE_DOCUMENT_END_STATE, YAML_PARSE_END_STATE}
-use Rattle.libyaml_events.specs.machine.Config.{Config, start}
+use Rattle.libyaml_events.specs.machine.Config.{Config, Machine, start}
 use Rattle.libyaml_events.specs.machine.Machine.{Progressed, step}
-use Rattle.libyaml_events.specs.machine.Want.{Want, Given}
+use Rattle.libyaml_events.specs.machine.Want.{Want, Given, Wants}
 use Rattle.libyaml_events.specs.sources.Calls.{Calls, after_want, by_error, by_event, returns}
 use Rattle.libyaml_types.specs.declared.enums.yaml_error_type_t.{yaml_error_type_t}
 use Rattle.libyaml_types.specs.Fault.{Fault, no_fault}
@@ -14,18 +14,19 @@ use Rattle.libyaml_grammar.specs.grammar.Tokens.{Content, Token}
 use Rattle.libyaml_events.proofs.laws.vectors.stacks.Goals as goal
 
 -- a call that looks at one token
-by_one : (w : Want) (c : Config) (t : Token) (e : Event) (d : Config) → Calls w c (Ok t ∷ []) (returns (Ok e) d)
-    → step w c t ≡ Ok (Given e, d)
+by_one : (w : Want) (c : Machine) (t : Token) (e : Event) (d : Config) → Calls w c (Ok t ∷ []) (returns (Ok e) d)
+    → step w c t ≡ Ok (Given e d)
 by_one w c t e d (by_event s) = s
 by_one w c t e d (after_want s z) = elim z [ ]
 
-fails_by_one : (w : Want) (c : Config) (t : Token) (x : yaml_error_type_t) (d : Config)
-    → Calls w c (Ok t ∷ []) (returns (Err x) d) → step w c t ≡ Err d.fault
+fails_by_one : (w : Want) (c : Machine) (t : Token) (x : yaml_error_type_t) (d : Config)
+    → Calls w c (Ok t ∷ []) (returns (Err x) d) → step w c t ≡ Err d.machine.fault
 fails_by_one w c t x d (by_error s) = s
 fails_by_one w c t x d (after_want s z) = elim z [ ]
 
-abbrev left_by : Progressed → Config
-left_by (Ok (p, d)) = d
+abbrev left_by : Progressed → Machine
+left_by (Ok (Given e d)) = d.machine
+left_by (Ok (Wants w d)) = d
 left_by (Err f) = start
 
 abbrev fault_by : Progressed → Fault

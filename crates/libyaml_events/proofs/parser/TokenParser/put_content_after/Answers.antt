@@ -1,5 +1,5 @@
 use Rattle.std.proofs.Common.{option_map, string_bytes}
-use Rattle.libyaml_events.proofs.layer.Contents.{asked_content, steps_from}
+use Rattle.libyaml_events.proofs.layer.Contents.{asked_content}
 use Rattle.libyaml_events.proofs.parser.TokenParser.put_content_after.Goals as goal
 
 pub returns-clause-puts : goal.returns-clause-puts
@@ -7,8 +7,5 @@ returns-clause-puts c = λ out h l.
     let w = c.put_content.ensures.puts out h
     (rw (c.take_tag.ensures.reading, c.take_tag.ensures.anchor, c.in-Ok.ensures.ok)
     (asked_content out h c.args.token.now c.args.pending.now c.args.self.now (option_map string_bytes c.in-Ok.tag)
-    c.in-Ok.ensures.tag l)) in (
-      steps_from out c.take_tag.new.self c.args.self.now c.put_content.result c.put_content.new.token c.put_content.new.pending
-          c.put_content.new.out c.put_content.new.self w.1 w.0,
-      λ e. absurd (w.1 e),
-    )
+    c.in-Ok.ensures.tag l)) in
+    (w.0, λ e. absurd (w.1 e))

@@ -1,11 +1,10 @@
-use Rattle.libyaml_events.proofs.layer.Putting.{from_before}
 use Rattle.libyaml_events.proofs.parser.TokenParser.step.Goals as goal
 
 pub returns-in_default : goal.returns-in_default
 returns-in_default g c =
     let y = c.put.ensures.puts _ _ c.step_automaton.ensures.led in
     record {
-      steps = from_before _ c.args.self.now c.step_automaton.new.self _ _ c.requires.ready.none c.step_automaton.ensures.none y.0;
+      steps = y.0;
       ready = y.1;
       grows = λ f m. let w = c.put.ensures.grows f m in c.step_automaton.ensures.content w.0 w.1;
     }

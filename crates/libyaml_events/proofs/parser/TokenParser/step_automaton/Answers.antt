@@ -1,4 +1,4 @@
-use Rattle.std.proofs.Common.{None, true, ◌≡◌, ◌∙◌, rules, arith}
+use Rattle.std.proofs.Common.{true, ◌≡◌, ◌∙◌, rules, arith}
 use Rattle.std.specs.Vec.{with_items}
 use Rattle.std.proofs.lemmas.List.{with_items_is}
 use Rattle.libyaml_types.specs.Fault.{fault_of}
@@ -13,7 +13,7 @@ use Rattle.libyaml_events.proofs.parser.TokenParser.step_automaton.Goals as goal
 
 -- the parser before the step, by its buffers
 was : (c : goal.After-self-2-1) → config_with (stacks_of c.self-inside.inside.0.0.automaton c.as_mut_slice.result.now
-    c.as_mut_slice-2.result.now) c.self-inside.inside.0.1.0 (fault_of c.self-inside.inside.0.1.1.1.0) None ≡ c.args.self.now
+    c.as_mut_slice-2.result.now) c.self-inside.inside.0.1.0 (fault_of c.self-inside.inside.0.1.1.1.0) ≡ c.args.self.now
 was c = grind arith
 
 -- the buffers after the step are what the step left
@@ -27,7 +27,7 @@ asked : (c : goal.After-self-2-1) → c.step.result ≡ action.AsksContent → c
 asked c e = rw e at (c.step.ensures.undone (rw e tt)).1.1.1
 
 pub returns-clause-led : goal.returns-clause-led
-returns-clause-led c = rw (states c, marks c) (leads c.self-inside.inside.0.1.0 (fault_of c.self-inside.inside.0.1.1.1.0) None _ _
+returns-clause-led c = rw (states c, marks c) (leads c.self-inside.inside.0.1.0 (fault_of c.self-inside.inside.0.1.1.1.0) _ _
     c.args.self.now c.args.token.now c.args.pending.now c.step.new.read c.step.result c.type_.result (was c)
     c.type_.ensures c.step.ensures.fits (asked c) c.step.ensures.steps)
 
@@ -35,12 +35,12 @@ pub returns-clause-undone : goal.returns-clause-undone
 returns-clause-undone c = λ h.
     let u = c.step.ensures.undone h in
     let same : config_with (stacks_of c.step.new.self c.step.new.states c.step.new.marks) c.self-inside.inside.0.1.0
-    (fault_of c.self-inside.inside.0.1.1.1.0) None ≡ c.args.self.now = rw (u.0, u.1.0, u.1.1.0) (was c) in
+    (fault_of c.self-inside.inside.0.1.1.1.0) ≡ c.args.self.now = rw (u.0, u.1.0, u.1.1.0) (was c) in
     rw (states c, marks c) (still_ready c.args.pending.now c.step.new.read c.args.self.now _ same
     (same_reading c.step.result c.args.pending.now.reading c.step.new.read u.1.1.1) c.requires)
 
 pub returns-clause-content : goal.returns-clause-content
-returns-clause-content c = (grows_asked c.self-inside.inside.0.1.0 (fault_of c.self-inside.inside.0.1.1.1.0) None
+returns-clause-content c = (grows_asked c.self-inside.inside.0.1.0 (fault_of c.self-inside.inside.0.1.1.1.0)
     _ _ c.args.self.now c.args.token.now c.args.pending.now c.step.new.read c.step.result c.type_.result (was c)
     c.type_.ensures c.step.ensures.fits (asked c) c.step.ensures.steps)
 

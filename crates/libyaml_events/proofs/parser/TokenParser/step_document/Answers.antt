@@ -1,13 +1,11 @@
-use Rattle.libyaml_events.proofs.layer.Putting.{again, from_before, grows_again}
+use Rattle.libyaml_events.proofs.layer.Putting.{again, grows_again}
 use Rattle.libyaml_events.proofs.parser.TokenParser.step_document.Goals as goal
 
 pub returns-in_default : goal.returns-in_default
 returns-in_default c =
     let y = c.put_document.ensures.puts _ _ c.step_automaton_in_documents.ensures.led in
     record {
-      steps = from_before _ c.args.self.now c.step_automaton_in_documents.new.self _ _ c.requires.ready.none
-          c.step_automaton_in_documents.ensures.none (again _ _ _ _ c.args.token.now c.step_automaton_in_documents.new.self _ _
-          c.forget_directives.ensures.wanted c.forget_directives.ensures.same y.0);
+      steps = again _ _ _ _ c.args.token.now _ _ c.forget_directives.ensures.wanted c.forget_directives.ensures.same y.0;
       ready = y.1;
       grows = λ f m. grows_again _ _ _ _ c.args.token.now.content c.forget_directives.ensures.wanted
           c.forget_directives.ensures.same (c.step_automaton_in_documents.ensures.handle (c.put_document.ensures.grows f m));

@@ -4,7 +4,7 @@ use Rattle.libyaml_automaton.specs.Automaton as automaton
 use Rattle.libyaml_automaton.specs.Purposes.{purpose_of}
 use Rattle.libyaml_events.specs.declared.pending.Pending.{Pending}
 use Rattle.libyaml_events.specs.machine.Outcomes.{directive_texts}
-use Rattle.libyaml_events.specs.machine.Config.{Config, config_of, config_with}
+use Rattle.libyaml_events.specs.machine.Config.{Machine, config_of, config_with}
 use Rattle.libyaml_events.specs.machine.Machine.{put, seen}
 use Rattle.libyaml_events.proofs.layer.Putting.{directive_held, directive_wants, fails_as, handle_of, refused, wants_or_fails}
 use Rattle.libyaml_events.proofs.parser.TokenParser.take_handle.Goals as goal
@@ -21,20 +21,20 @@ returns-in-Wants c = record {
         ap config_of c.self.view_is,
         ap config_of c.in-Ok.ensures.ok,
       ) at s in
-      wants_or_fails out c.args.self.now c.hold_directive.result c.hold_directive.new.token c.hold_directive.new.pending e
+      wants_or_fails out c.hold_directive.result c.hold_directive.new.token c.hold_directive.new.pending e
       c.hold_directive.new.self c.hold_directive.ensures.given c.hold_directive.ensures.before (λ w.
       let held = c.hold_directive.ensures.held g.0 g.1 w in
       let made : config_with c.tag_directive.new.self c.self.inside.handles
-      (fault_of c.self.inside.prefix) None
+      (fault_of c.self.inside.prefix)
       ≡ c.declare_handle.new.self = rw c.tag_directive.ensures.kept c.self.view_is in
       directive_wants out c.args.self.now c.args.token.now c.hold_directive.new.pending h (config_of c.args.self.now)
       c.hold_directive.new.self (rw held (rw c.in-Wants.is at c.tag_directive.ensures.fits))
       (directive_held h c.args.token.now.content g.0 c.args.pending.now.directives g.1 l.0
-      ∙ ap (λ (p : Pending). directive_texts p.directives) (sym held)) (sym (c.hold_directive.ensures.same w ∙ (made ∙ c.in-Ok.ensures.ok))) c.requires.none
+      ∙ ap (λ (p : Pending). directive_texts p.directives) (sym held)) (sym (c.hold_directive.ensures.same w ∙ (made ∙ c.in-Ok.ensures.ok)))
       (l.1 ∙ ap (λ (z : automaton.Step). put h None None c.args.self.now c.args.token.now c.args.token.now.content z)
       (does
       ∙ ap (λ (p : Pending). automaton.Wants (purpose_of p.reading) (config_of c.args.self.now)) (sym held))))
-      (λ i. ap (λ (d : Config). d.fault) (c.hold_directive.ensures.failed i));
+      (λ i. ap (λ (d : Machine). d.fault) (c.hold_directive.ensures.failed i));
 }
 
 pub returns-in_default : goal.returns-in_default
@@ -46,7 +46,7 @@ returns-in_default c = record {
       (rw (c.in-Ok.ensures.before, ap config_of c.self.view_is, ap config_of c.in-Ok.ensures.ok) at s) in
       rw c.set_document_problem.ensures.failed (
         fails_as out c.set_document_problem.new.self _ c.set_document_problem.ensures.error
-            (ap (λ (d : Config). d.fault) c.set_document_problem.ensures.kept) o,
+            (ap (λ (d : Machine). d.fault) c.set_document_problem.ensures.kept) o,
         λ i. absurd cc,
       );
 }

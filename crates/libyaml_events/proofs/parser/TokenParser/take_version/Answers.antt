@@ -1,5 +1,5 @@
 use Rattle.std.proofs.Common.{ap}
-use Rattle.libyaml_events.specs.machine.Config.{Config, config_of}
+use Rattle.libyaml_events.specs.machine.Config.{Machine, config_of}
 use Rattle.libyaml_events.specs.machine.Machine.{seen}
 use Rattle.libyaml_events.proofs.layer.Putting.{fails_as, refused}
 use Rattle.libyaml_events.proofs.parser.TokenParser.take_version.Goals as goal
@@ -17,7 +17,7 @@ returns-in_default c = record {
       ) at s) in
       rw c.set_document_problem.ensures.failed (
         fails_as out c.set_document_problem.new.self _ c.set_document_problem.ensures.error
-            (ap (λ (d : Config). d.fault) c.set_document_problem.ensures.kept) o,
+            (ap (λ (d : Machine). d.fault) c.set_document_problem.ensures.kept) o,
         λ i. absurd cc,
       );
   error = λ h. c.set_document_problem.ensures.error;
