@@ -1,5 +1,6 @@
 pub mod Split
 pub mod Numerals
+pub mod PlainScalars
 pub mod Texts
 pub mod WholeNumbers
 pub mod Marks
