@@ -4,3 +4,4 @@ pub mod code
 pub mod exported
 pub mod pushes
 pub mod layer
+pub mod expected

@@ -1,14 +1,17 @@
 //! The parser without texts, with its stacks.
 ghost use Rattle.std.specs.Prelude.{◌≡◌, ◌++◌, All, List, ℕ, [], true};
 ghost use Rattle.libyaml_types.specs.declared.mark.yaml_mark_t.{yaml_mark_t};
+ghost use Rattle.libyaml_types.specs.declared.enums.yaml_token_type_t.{yaml_token_type_t};
+ghost use Rattle.libyaml_automaton.specs.Acceptable.{acceptable, has};
 ghost use Rattle.libyaml_automaton.specs.Config.{first_stacks};
+ghost use Rattle.libyaml_automaton.specs.Purposes.{purpose_of};
 ghost use Rattle.libyaml_automaton.specs.Numbers.{flag, IsBackByte};
 ghost use Rattle.libyaml_automaton.specs.Fits.{FitsAtDirective};
 ghost use Rattle.libyaml_automaton.specs.Automaton.{KindAndMarks};
 ghost use Rattle.libyaml_automaton.specs.Automaton as automaton;
 ghost use Rattle.libyaml_automaton.specs.Outcomes.{IsOutcome, outcome};
 
-use libyaml_automaton::{Action, Automaton, Reading, state_of_number};
+use libyaml_automaton::{Action, Automaton, Reading, TokenTypes, state_of_number};
 use libyaml_types::{ZERO_MARK, yaml_mark_t, yaml_parser_state_t};
 use std::alloc::Global;
 use std::marker::Model;
@@ -103,6 +106,14 @@ impl AutomatonWithStacks {
         ensures { result ≡ self.now.state }
     {
         state_of_number(self.automaton.state)
+    }
+
+    /// Returns which types of token may come next.
+    #[inline(always)]
+    pub(crate) fn expected(&self, read: &Reading) -> TokenTypes
+        ensures { (k : yaml_token_type_t) → has result k ≡ acceptable (purpose_of read.now) self.now k }
+    {
+        self.automaton.expected(read, self.states.as_slice())
     }
 
     /// Makes room after a step returned this, and returns whether there was memory. A step that pushes a mark

@@ -18,6 +18,7 @@ mod step;
 mod texts;
 
 pub use event_kinds::{is_event, is_stream_end, no_event};
+pub use libyaml_automaton::TokenTypes;
 pub use parse::{yaml_parser_parse, yaml_parser_parse_into};
 pub use parser::{
     yaml_parser_between_documents, yaml_parser_delete, yaml_parser_initialize,

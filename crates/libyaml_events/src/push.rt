@@ -2,10 +2,14 @@
 ghost use Rattle.std.specs.Prelude.{◌≡◌, ◌≤◌, ◌<◌, [], IfErr, IfOk, true, false};
 ghost use Rattle.std.specs.Vec.{vec_capacity, vec_len};
 ghost use Rattle.libyaml_types.specs.Fault.{fault_of, no_fault};
+ghost use Rattle.libyaml_types.specs.declared.enums.yaml_token_type_t.{yaml_token_type_t};
+ghost use Rattle.libyaml_automaton.specs.Acceptable.{acceptable, has};
 ghost use Rattle.libyaml_events.specs.machine.Outcomes.{wanted};
-ghost use Rattle.libyaml_events.specs.machine.Config.{ended_or_failed, is_fault};
+ghost use Rattle.libyaml_events.specs.machine.Config.{config_of, ended_or_failed, is_fault};
 ghost use Rattle.libyaml_events.specs.machine.StepsOnto.{StepsOnto};
 ghost use Rattle.libyaml_events.specs.automaton.View.{Ready};
+ghost use Rattle.libyaml_events.specs.sources.Acceptable.{AreAcceptable};
+ghost use Rattle.libyaml_events.specs.sources.Pushed.{has_stopped};
 ghost use Rattle.libyaml_events.specs.sources.Pushed.{new_push_parser, push_parser_at, ForPushed, Pushed};
 ghost use Rattle.libyaml_events.specs.sources.Pushed.{fault_in};
 ghost use Rattle.libyaml_events.specs.sources.Pushed.{RemembersPushes};
@@ -15,6 +19,7 @@ use crate::event_kinds::no_event;
 use crate::parser::TokenParser;
 use crate::pending::Pending;
 use crate::step::Step;
+use libyaml_automaton::TokenTypes;
 use libyaml_types::{yaml_error_type_t, yaml_event_t, yaml_parser_t_prefix, yaml_token_t};
 use std::alloc::Global;
 use std::marker::Model;
@@ -122,6 +127,22 @@ impl yaml_push_parser_t {
         self.token_parser.feed(token, &mut self.pending, events)
     }
 
+    /// Returns which types of token may come next: those with some token of which the tokens pushed so far
+    /// still begin a valid list. After the stream's end or an error none may.
+    ///
+    /// Of a VERSION-DIRECTIVE, a TAG-DIRECTIVE or a TAG such a token has an accepted version, a handle that is
+    /// not declared yet, or a handle that is defined. After a TAG whose handle is not defined, which is an error
+    /// only at a later token, the types are those that may follow it if it were.
+    pub fn expected(&self) -> TokenTypes
+        ensures acceptable { ForPushed self.now (λ tokens _. AreAcceptable result tokens) }
+        ensures stopped { has_stopped self.now ≡ true → (k : yaml_token_type_t) → has result k ≡ false }
+    {
+        if self.token_parser.is_over() {
+            return TokenTypes::none();
+        }
+        self.token_parser.expected(&self.pending)
+    }
+
     /// Does nothing. A parser that keeps no error has a history: some pushes lead to a parser like it.
     pub fn remembered(&self)
         ensures { RemembersPushes self.now }
@@ -139,6 +160,14 @@ impl yaml_push_parser_t {
 }
 
 impl TokenParser {
+    /// Returns which types of token may come next.
+    fn expected(&self, pending: &Pending) -> TokenTypes
+        ensures { (k : yaml_token_type_t) → has result k
+            ≡ acceptable (wanted pending.now).next (config_of self.now) k }
+    {
+        self.automaton.expected(&pending.reading)
+    }
+
     /// Takes the token in its variable, as long as it stays.
     fn feed(
         &mut self,

@@ -4,3 +4,4 @@ pub use Rattle.libyaml_events.proofs.pushes.HistoryOfPushes.{fed_begins, fed_beg
 pub use Rattle.libyaml_events.proofs.pushes.Moments.{one_pushed}
 pub use Rattle.libyaml_events.proofs.pushes.Steps.{begins, gives_on, takes, wants}
 pub use Rattle.libyaml_events.proofs.pushes.StepOfPush.{fault_runs, gives_end, hand_runs, none_kept, wants_runs}
+pub use Rattle.libyaml_events.proofs.expected.Expected.{fed_accepts}

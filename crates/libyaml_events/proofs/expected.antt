@@ -1,0 +1,4 @@
+pub mod AtPosition
+pub mod Accepting
+pub mod Expected
+pub mod Completing
