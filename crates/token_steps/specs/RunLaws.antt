@@ -1,9 +1,13 @@
 -- What holds of every run.
-use Rattle.std.specs.Prelude.{◌≡◌, List, ℕ, Option, None, Some, Err}
+use Rattle.std.specs.Prelude.{◌≡◌, ◌↔◌, List, ℕ, Option, None, Some, Err, true, false}
 use Rattle.libyaml_types.specs.declared.mark.yaml_mark_t.{yaml_mark_t}
 use Rattle.libyaml_types.specs.Fault.{Fault, no_fault}
 use Rattle.libyaml_grammar.specs.grammar.Tokens.{Token}
 use Rattle.libyaml_grammar.specs.grammar.Events.{Event}
+use Rattle.libyaml_grammar.specs.grammar.ValidLists.{IsViablePrefix, has_end}
+use Rattle.libyaml_types.specs.declared.enums.yaml_token_type_t.{yaml_token_type_t}
+use Rattle.libyaml_automaton.specs.Acceptable.{acceptable}
+use Rattle.libyaml_events.specs.sources.Acceptable.{IsAcceptable}
 use Rattle.libyaml_automaton.specs.Config.{Stacks, Within, stacks_of}
 use Rattle.libyaml_automaton.specs.Purposes.{purpose_of}
 use Rattle.libyaml_events.specs.machine.Config.{Handles, config_with}
@@ -31,6 +35,12 @@ abbrev pub RunIsFed : Type 0
 RunIsFed = (d : steps_t) (ss : List ℕ) (ms : List yaml_mark_t) (hs : Handles) (kept : Texts)
     (o : Option Token) (l : List Token) (g : List Event) → Run d ss ms hs kept o l g
     → StandsAs d (stacks_of d.machine ss ms) hs kept o l g
+
+-- the types that are acceptable to the record of a run before STREAM-END are those with which a valid list goes on
+abbrev pub NextTypes : Type 0
+NextTypes = (d : steps_t) (ss : List ℕ) (ms : List yaml_mark_t) (hs : Handles) (kept : Texts)
+    (l : List Token) (g : List Event) → Run d ss ms hs kept None l g → has_end l ≡ false → IsViablePrefix l
+    → (k : yaml_token_type_t) → (acceptable (purpose_of d.read) (stacks_of d.machine ss ms) k ≡ true) ↔ IsAcceptable l k
 
 -- P holds of the tokens and events of each run, whether a token is in hand or none
 abbrev pub ForRuns : (List Token → List Event → Type 0) → Type 0

@@ -19,7 +19,7 @@ ghost use Rattle.token_steps.specs.Texts.{bit, fact_of, tag_fact};
 ghost use Rattle.token_steps.specs.declared.tags.handles.handle_t.{handle_t};
 ghost use Rattle.token_steps.specs.Handles.{AreHandlesWithin, bytes_at, handles_at};
 ghost use Rattle.token_steps.specs.RunLaws.{BetweenTokens, FailsInHand, ForFailed, ForRuns, ForStacks};
-ghost use Rattle.token_steps.specs.RunLaws.{RunIsFed};
+ghost use Rattle.token_steps.specs.RunLaws.{NextTypes, RunIsFed};
 
 /// Some parser was handed what a caller passed in, and gave what the caller was given, with the texts that it
 /// kept by the kinds of tokens alone. So what is proved of pushes holds of a caller's calls.
@@ -40,6 +40,12 @@ pub fn run_is_right()
     ensures begins { BetweenTokens BeginsEach }
     ensures nests { ForRuns (λ _ events. NestsSoFar events) }
     ensures at_most_four { ForRuns (λ tokens events. length events ≤ 4 * length tokens) }
+{}
+
+/// Between two tokens, before STREAM-END, the types that `steps_t::expected` returns are those of a token with
+/// which the tokens handed in still begin a valid list, if they begin one.
+pub fn next_types()
+    ensures { NextTypes }
 {}
 
 /// How large the stacks get: the record counts at most one state more than collections are open, and at most

@@ -15,7 +15,7 @@ mod tags;
 mod tell;
 
 pub use did::Did;
-pub use libyaml_automaton::Difference;
+pub use libyaml_automaton::{Difference, TokenTypes};
 pub use records::{step_event_t, step_fault_t, step_span_t};
 pub use steps::{steps_t, token_kind};
 pub use tags::{directive_fact, handle_t, prefix_of, tag, text_t, version_fact};

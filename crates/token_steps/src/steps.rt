@@ -1,6 +1,8 @@
 //! The call.
 ghost use Rattle.std.specs.Prelude.{◌≡◌, ◌≤◌, ◌↔◌, ℕ, List, length, true};
 ghost use Rattle.libyaml_types.specs.declared.mark.yaml_mark_t.{yaml_mark_t};
+ghost use Rattle.libyaml_types.specs.declared.enums.yaml_token_type_t.{yaml_token_type_t};
+ghost use Rattle.libyaml_automaton.specs.Acceptable.{acceptable, has};
 ghost use Rattle.libyaml_automaton.specs.Automaton.{AtState};
 ghost use Rattle.libyaml_automaton.specs.Config.{stacks_of, first_stacks, Within};
 ghost use Rattle.libyaml_automaton.specs.Growth.{HasNoRoom};
@@ -15,7 +17,7 @@ ghost use Rattle.token_steps.specs.Tells.{Tells, want_in, IsGiven, IsUntold};
 use crate::did::Did;
 use crate::head::NO_HEAD;
 use crate::records::{step_event_t, step_fault_t, step_span_t};
-use libyaml_automaton::{Action, Automaton, Difference, Reading};
+use libyaml_automaton::{Action, Automaton, Difference, Reading, TokenTypes};
 use libyaml_types::{yaml_mark_t, yaml_token_type_t};
 
 /// What is kept between two calls, beside the two stacks: plain numbers, each with any value.
@@ -84,6 +86,22 @@ impl steps_t {
         ensures { result ≡ differs_in self.now kind }
     {
         self.machine.differs(&self.read, kind)
+    }
+
+    /// Returns which types of token may be handed in next, in a run of calls (`laws::next_types`). If the record
+    /// counts more states than their stack has room for, it returns none.
+    ///
+    /// The states that the record counts lie at the start of their slice.
+    #[inline(always)]
+    pub fn expected(&self, states: &[u8]) -> TokenTypes
+        ensures { self.now.machine.states_count ≤ length states.now → (marks : List yaml_mark_t)
+            (k : yaml_token_type_t) → has result k
+            ≡ acceptable (purpose_of self.now.read) (stacks_of self.now.machine states.now marks) k }
+    {
+        if self.machine.states_count > states.len() {
+            return TokenTypes::none();
+        }
+        self.machine.expected(&self.read, states)
     }
 
     /// Takes a token by its kind, fact and marks. Puts at most one event, or an error, and returns which.

@@ -4,8 +4,10 @@
 
 mod tags;
 
-ghost use Rattle.std.specs.Prelude.{◌≡◌, ◌≤◌, ◌↔◌, ℕ, List, true, false};
+ghost use Rattle.std.specs.Prelude.{◌≡◌, ◌≤◌, ◌↔◌, ℕ, List, length, true, false};
 ghost use Rattle.libyaml_types.specs.declared.mark.yaml_mark_t.{yaml_mark_t};
+ghost use Rattle.libyaml_types.specs.declared.enums.yaml_token_type_t.{yaml_token_type_t};
+ghost use Rattle.libyaml_automaton.specs.Acceptable.{acceptable, has};
 ghost use Rattle.libyaml_automaton.specs.Automaton.{AtState};
 ghost use Rattle.libyaml_automaton.specs.Config.{stacks_of, first_stacks, Within};
 ghost use Rattle.libyaml_automaton.specs.Differing.{difference_number};
@@ -42,6 +44,17 @@ pub extern "C" fn pokhvizi_differs(steps: &steps_t, kind: u8) -> u8
     ensures { result ≡ difference_number (differs_in steps.now (kind_of kind)) }
 {
     steps.differs(token_kind(kind)).number()
+}
+
+/// Returns which types of token may be handed in next, like `steps_t::expected`: a bit for each, that of its
+/// number.
+#[unsafe(no_mangle)]
+pub extern "C" fn pokhvizi_expected(steps: &steps_t, states: &[u8]) -> u32
+    ensures { steps.now.machine.states_count ≤ length states.now → (marks : List yaml_mark_t)
+        (k : yaml_token_type_t) → has (record { bits = result }) k
+        ≡ acceptable (purpose_of steps.now.read) (stacks_of steps.now.machine states.now marks) k }
+{
+    steps.expected(states).bits
 }
 
 /// Takes a token by its kind, fact and marks, like `steps_t::step`. Returns 0 if the next token is wanted; 1

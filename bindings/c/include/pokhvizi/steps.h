@@ -140,6 +140,11 @@ uint32_t pokhvizi_step(pokhvizi_steps_t *steps, uint8_t *states, size_t states_r
 /* Whether libyaml does something else with a token of this kind, if it is handed in next: one of the four numbers above. */
 uint8_t pokhvizi_differs(const pokhvizi_steps_t *steps, uint8_t kind);
 
+/* Which tokens may come next: bit N is set if a token of kind N may be handed in and be no error, with some fact. It is exact: no
+ * stream goes on from the tokens so far with a token of another kind. Ask before a token is handed in for the first time, and keep
+ * the answer until it is taken: at POKHVIZI_FAULT it says what was expected in the token's place, in words pokhvizi_expected_words. */
+uint32_t pokhvizi_expected(const pokhvizi_steps_t *steps, const uint8_t *states, size_t states_room);
+
 /* Of a strict parse: 1 if libyaml does something else with this token, and then `fault` is libyaml's, or says that it loses the
  * token; 0 if it does the same. `marks` are those of the next step. */
 static __inline int pokhvizi_refuses(const pokhvizi_steps_t *steps, const pokhvizi_mark_t *marks, size_t marks_room,
@@ -211,6 +216,42 @@ static __inline const char *pokhvizi_problem(uint8_t problem, const char **conte
 
     *context = words[problem < 15 ? problem : 0][1];
     return words[problem < 15 ? problem : 0][0];
+}
+
+/* Writes what `expected` allows in words, such as "a node, a key or the end of the block mapping", and returns their length, as
+ * snprintf does: the text is cut at `room`, and ends with a zero byte if `room` isn't 0. */
+static __inline size_t pokhvizi_expected_words(uint32_t expected, char *text, size_t room)
+{
+    static const uint8_t order[20] = {1, 21, 18, 19, 20, 10, 12, 7, 8, 14, 16, 17, 15, 11, 13, 9, 3, 4, 5, 6};
+    static const char *const words[22] = {
+        "", "the start of the stream", "the end of the stream", "%YAML", "%TAG", "'---'", "'...'", "a block sequence",
+        "a block mapping", "the end of the block sequence", "'['", "']'", "'{'", "'}'", "'-'", "','", "a key", "a value",
+        "an alias", "an anchor", "a tag", "a scalar",
+    };
+    const uint32_t flow = 1u << 18 | 1u << 19 | 1u << 20 | 1u << 21 | 1u << 10 | 1u << 12, block = 3u << 7;
+    const char *told[22], *from;
+    size_t count = 0, length = 0, i;
+
+    if ((expected & flow) == flow) {
+        told[count++] = (expected & block) == block ? "a node" : "a flow node";
+        expected &= ~(flow | block);
+    }
+    for (i = 0; i < 21; i++) {
+        uint8_t kind = i < 20 ? order[i] : 2;
+        if (expected >> kind & 1)
+            told[count++] = kind == 9 && expected >> 16 & 1 ? "the end of the block mapping" : words[kind];
+    }
+    for (i = 0; i < count; i++) {
+        for (from = i == 0 ? "" : i + 1 < count ? ", " : " or "; *from; from++, length++)
+            if (length + 1 < room)
+                text[length] = *from;
+        for (from = told[i]; *from; from++, length++)
+            if (length + 1 < room)
+                text[length] = *from;
+    }
+    if (room)
+        text[length < room ? length : room - 1] = 0;
+    return length;
 }
 
 #ifdef __cplusplus
