@@ -103,7 +103,7 @@ class Fault:
         return cls(kind, place, problem, context_place, context), output.index(b"FAULT", found.start())
 
     def is_of_lines(self):
-        return self.kind in ("reader", "scanner") and self.problem.split(": ")[0] in self.OF_LINES
+        return self.kind in ("reader", "scanner") and self.problem in self.OF_LINES
 
     def is_limit(self):
         return self.kind == "reader" and self.problem in self.LIMITS

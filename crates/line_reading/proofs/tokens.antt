@@ -8,4 +8,3 @@ pub mod Names
 pub mod PrefixTokens
 pub mod Digits
 pub mod Repeats
-pub mod AllDigits

@@ -3,6 +3,5 @@ pub mod Field
 pub mod Pieces
 pub mod TokenName
 pub mod TokenLine
-pub mod LineCause
 pub mod Prefixes
 pub mod Reading

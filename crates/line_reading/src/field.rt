@@ -6,9 +6,9 @@ ghost use Rattle.percent_encoding.specs.Percent as percent;
 ghost use Rattle.line_reading.specs.tokens.Reading.{IsTextReadAs};
 
 use crate::bytes::is_clean;
+use crate::line_problem::LineProblem;
 use crate::number::read_signed;
 use crate::pieces::Pieces;
-use crate::token_line_error::TokenLineError;
 use libyaml_types::{
     unnamed_yaml_token_t_data_version_directive, yaml_encoding_t, yaml_scalar_style_t,
 };
@@ -35,20 +35,20 @@ pub(crate) fn read_version(field: &[u8]) -> Option<unnamed_yaml_token_t_data_ver
 ///
 /// # Errors
 ///
-/// `Bad` if it is none, and `Memory` if an allocation fails.
+/// `BadTokenLine` if it is none, and `Memory` if an allocation fails.
 #[inline(always)]
-pub(crate) fn read_text(alloc: Global, field: &[u8]) -> Result<String, TokenLineError>
+pub(crate) fn read_text(alloc: Global, field: &[u8]) -> Result<String, LineProblem>
     ensures { IsTextReadAs result (text_of field.now) }
 {
     let [b'=', escaped @ ..] = field else {
-        return Err(TokenLineError::Bad);
+        return Err(LineProblem::BadTokenLine);
     };
     escaped_text(alloc, escaped)
 }
 
 #[inline(always)]
 #[tactic(auto, using(crate::proofs::tokens::Texts::clean_text))]
-fn escaped_text(alloc: Global, escaped: &[u8]) -> Result<String, TokenLineError>
+fn escaped_text(alloc: Global, escaped: &[u8]) -> Result<String, LineProblem>
     ensures { IsTextReadAs result (utf8_text (percent.percent_decode escaped.now)) }
 {
     if is_clean(escaped) {
@@ -59,14 +59,14 @@ fn escaped_text(alloc: Global, escaped: &[u8]) -> Result<String, TokenLineError>
 }
 
 #[inline(never)]
-fn decoded_text(alloc: Global, escaped: &[u8]) -> Result<String, TokenLineError>
+fn decoded_text(alloc: Global, escaped: &[u8]) -> Result<String, LineProblem>
     ensures { IsTextReadAs result (utf8_text (percent.percent_decode escaped.now)) }
 {
     let mut bytes = Vec::with_capacity(alloc, escaped.len())?;
     percent_decode(escaped).append_to(&mut bytes)?;
     match String::from_utf8(bytes) {
         Ok(text) => Ok(text),
-        Err(_) => Err(TokenLineError::Bad),
+        Err(_) => Err(LineProblem::BadTokenLine),
     }
 }
 

@@ -5,7 +5,6 @@ pub mod bytes;
 mod field;
 pub mod laws;
 mod line;
-mod line_cause;
 mod line_problem;
 mod line_source;
 mod marks;
@@ -13,7 +12,6 @@ mod number;
 mod pieces;
 mod search;
 mod token_line;
-mod token_line_error;
 mod token_name;
 
 pub use line_problem::READ_FAILED;

@@ -4,7 +4,6 @@ ghost use Rattle.libyaml_types.specs.Errors.{IsSourceError};
 ghost use Rattle.libyaml_types.specs.Fault.{source_fault};
 ghost use Rattle.line_reading.specs.sources.LineFault.{problem_at, line_fault};
 
-use crate::line_cause::LineCause;
 use libyaml_types::{ZERO_MARK, yaml_error_type_t, yaml_mark_t, yaml_source_fault_t};
 use std::alloc::AllocError;
 use std::io;
@@ -18,8 +17,8 @@ pub(crate) enum LineProblem {
     ReadFailed,
     /// The line has more than `MAX_LINE` bytes.
     LineTooLong,
-    /// The line is no token line, for this cause.
-    BadTokenLine(LineCause),
+    /// The line is no token line.
+    BadTokenLine,
     /// As many tokens were given as are allowed.
     TooManyTokens,
     /// The input has ended.
@@ -62,7 +61,7 @@ impl LineProblem {
             LineProblem::Memory => yaml_source_fault_t::out_of_memory(),
             LineProblem::ReadFailed => fault_at(reader, READ_FAILED, given),
             LineProblem::LineTooLong => fault_at(reader, "line too long", given),
-            LineProblem::BadTokenLine(cause) => fault_at(scanner, cause.words(), given),
+            LineProblem::BadTokenLine => fault_at(scanner, "bad token line", given),
             LineProblem::TooManyTokens => fault_at(reader, "too many tokens", given),
             LineProblem::NoMoreTokens => fault_at(reader, "no more tokens", given),
         }

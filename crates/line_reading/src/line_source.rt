@@ -7,7 +7,6 @@ ghost use Rattle.line_reading.specs.sources.LineSourceLaws.{source_falls, source
 ghost use Rattle.line_reading.specs.sources.ReadLines.{longest_line, read_lines};
 ghost use Rattle.line_reading.specs.sources.NextLine.{TakesAtMost, IsAfterLine, IsWithinLine};
 ghost use Rattle.line_reading.specs.sources.LineFault.{line_fault};
-ghost use Rattle.line_reading.specs.declared.line_cause.LineCause.{LineCause};
 ghost use Rattle.line_reading.specs.declared.line_problem.LineProblem.TheVariants.{BadTokenLine, LineTooLong};
 
 use crate::line::read_next;
@@ -111,8 +110,8 @@ impl<R: BufRead> yaml_token_source_t for yaml_line_source_t<R> {
         ensures gives { Gives R.remaining self.old (answer_of result) self.new }
         ensures leaves { IfOk result (λ _. IsAfterLine (R.remaining self.old.reader)
             (R.remaining self.new.reader)) }
-        ensures bad_line { (cause : LineCause) → self.old.fault ≡ None
-            → answer_of result ≡ Err (line_fault (BadTokenLine cause) self.old.given)
+        ensures bad_line { self.old.fault ≡ None
+            → answer_of result ≡ Err (line_fault BadTokenLine self.old.given)
             → IsAfterLine (R.remaining self.old.reader) (R.remaining self.new.reader) }
         ensures too_long { self.old.fault ≡ None
             → answer_of result ≡ Err (line_fault LineTooLong self.old.given)
@@ -134,8 +133,8 @@ impl<R: BufRead> yaml_token_source_t for yaml_line_source_t<R> {
         ensures gives { Gives R.remaining self.old (answer_in result token.new) self.new }
         ensures leaves { IfOk result (λ _. IsAfterLine (R.remaining self.old.reader)
             (R.remaining self.new.reader)) }
-        ensures bad_line { (cause : LineCause) → self.old.fault ≡ None
-            → answer_in result token.new ≡ Err (line_fault (BadTokenLine cause) self.old.given)
+        ensures bad_line { self.old.fault ≡ None
+            → answer_in result token.new ≡ Err (line_fault BadTokenLine self.old.given)
             → IsAfterLine (R.remaining self.old.reader) (R.remaining self.new.reader) }
         ensures too_long { self.old.fault ≡ None
             → answer_in result token.new ≡ Err (line_fault LineTooLong self.old.given)

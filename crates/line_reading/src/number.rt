@@ -5,7 +5,7 @@ ghost use Rattle.line_reading.specs.tokens.Number.{number_of, signed_of};
 use crate::marks::read_number;
 
 /// Returns the number that the digits write: no sign, no leading zero, within 64 bits.
-pub(crate) fn whole_number(digits: &[u8]) -> Option<u64>
+fn whole_number(digits: &[u8]) -> Option<u64>
     ensures { result ≡ number_of digits.now }
 {
     let number = read_number(digits, 0);

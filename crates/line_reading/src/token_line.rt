@@ -6,16 +6,13 @@ ghost use Rattle.line_reading.specs.tokens.Pieces.{pieces_of};
 ghost use Rattle.line_reading.specs.tokens.Prefixes.{further, line_token_at};
 ghost use Rattle.line_reading.specs.tokens.TokenLine.{bare_content, content_of_one, content_of_two};
 ghost use Rattle.line_reading.specs.tokens.TokenLine.{content_of, token_of_line};
-ghost use Rattle.line_reading.specs.tokens.LineCause.{cause_of_line};
-ghost use Rattle.line_reading.specs.tokens.Reading.{IsLineRead, IsReadInto};
+ghost use Rattle.line_reading.specs.tokens.Reading.{IsReadInto};
 
 use crate::bytes::{end_alike, is_clean};
 use crate::field::{read_encoding, read_scalar_style, read_text, read_version};
-use crate::line_cause::cause_of_line;
 use crate::line_problem::LineProblem;
 use crate::marks::{NO_ROW, read_mark};
 use crate::pieces::Pieces;
-use crate::token_line_error::TokenLineError;
 use crate::token_name::{NameRead, read_name};
 use libyaml_types::{
     unnamed_yaml_token_t_data, unnamed_yaml_token_t_data_alias, unnamed_yaml_token_t_data_anchor,
@@ -30,45 +27,33 @@ use std::alloc::Global;
 ///
 /// # Errors
 ///
-/// `BadTokenLine` if the line is no token line, with what is wrong with it, and `Memory` if an allocation
-/// fails. Then the value of `token` is unspecified.
+/// `BadTokenLine` if the line is no token line, and `Memory` if an allocation fails. Then the value of
+/// `token` is unspecified.
 pub(crate) fn read_token_line(
     alloc: Global,
     line: &[u8],
     token: &mut yaml_token_t,
 ) -> Result<(), LineProblem>
-    ensures { IsLineRead result token.new line.now }
-{
-    match read_token(alloc, line, token) {
-        Ok(()) => Ok(()),
-        Err(TokenLineError::Memory) => Err(LineProblem::Memory),
-        Err(TokenLineError::Bad) => Err(LineProblem::BadTokenLine(cause_of_line(line))),
-    }
-}
-
-/// Reads the token of a line, without what is wrong with it.
-#[inline(always)]
-fn read_token(alloc: Global, line: &[u8], token: &mut yaml_token_t) -> Result<(), TokenLineError>
     ensures { IsReadInto result token.new (token_of_line line.now) }
 {
     take_token(alloc, line, token)
 }
 
 /// Reads the token; this contract follows the code, prefix by prefix.
-fn take_token(alloc: Global, line: &[u8], token: &mut yaml_token_t) -> Result<(), TokenLineError>
+fn take_token(alloc: Global, line: &[u8], token: &mut yaml_token_t) -> Result<(), LineProblem>
     ensures { IsReadInto result token.new (line_token_at line.now) }
 {
     let Some(NameRead { type_, end: name }) = read_name(line) else {
-        return Err(TokenLineError::Bad);
+        return Err(LineProblem::BadTokenLine);
     };
     let mut row = NO_ROW;
     let start = read_mark(line, name + 1, &mut row, &mut token.start_mark);
     if start == 0 || start == line.len() {
-        return Err(TokenLineError::Bad);
+        return Err(LineProblem::BadTokenLine);
     }
     let end = read_mark(line, start + 1, &mut row, &mut token.end_mark);
     if end == 0 {
-        return Err(TokenLineError::Bad);
+        return Err(LineProblem::BadTokenLine);
     }
     read_content(alloc, type_, fields_after(line, end), &mut token.content)
 }
@@ -92,7 +77,7 @@ fn read_content(
     type_: yaml_token_type_t,
     fields: Option<&[u8]>,
     content: &mut unnamed_yaml_token_t_data,
-) -> Result<(), TokenLineError>
+) -> Result<(), LineProblem>
     ensures { IsReadInto result content.new (content_of type_ (pieces_of 32 (option_copied fields.entry))) }
 {
     if type_ == yaml_token_type_t::YAML_SCALAR_TOKEN {
@@ -127,7 +112,7 @@ fn put_plain_scalar(
     alloc: Global,
     text: &[u8],
     content: &mut unnamed_yaml_token_t_data,
-) -> Result<(), TokenLineError>
+) -> Result<(), LineProblem>
     requires { All IsClean text.now }
     ensures { IsReadInto result content.new
         (content_of_two YAML_SCALAR_TOKEN (61 ∷ text.now) (codes "plain")) }
@@ -145,7 +130,7 @@ fn read_any_content(
     type_: yaml_token_type_t,
     mut fields: Pieces,
     content: &mut unnamed_yaml_token_t_data,
-) -> Result<(), TokenLineError>
+) -> Result<(), LineProblem>
     ensures { IsReadInto result content.new (content_of type_ fields.entry) }
 {
     let Some(first) = fields.next() else {
@@ -155,7 +140,7 @@ fn read_any_content(
         return read_content_of_one(alloc, type_, first, content);
     };
     if fields.next().is_some() {
-        return Err(TokenLineError::Bad);
+        return Err(LineProblem::BadTokenLine);
     }
     read_content_of_two(alloc, type_, first, second, content)
 }
@@ -165,7 +150,7 @@ fn read_any_content(
 fn read_bare_content(
     type_: yaml_token_type_t,
     content: &mut unnamed_yaml_token_t_data,
-) -> Result<(), TokenLineError>
+) -> Result<(), LineProblem>
     ensures { IsReadInto result content.new (bare_content type_) }
 {
     *content = match type_ {
@@ -189,7 +174,7 @@ fn read_bare_content(
         yaml_token_type_t::YAML_FLOW_ENTRY_TOKEN => unnamed_yaml_token_t_data::FlowEntry,
         yaml_token_type_t::YAML_KEY_TOKEN => unnamed_yaml_token_t_data::Key,
         yaml_token_type_t::YAML_VALUE_TOKEN => unnamed_yaml_token_t_data::Value,
-        _ => return Err(TokenLineError::Bad),
+        _ => return Err(LineProblem::BadTokenLine),
     };
     Ok(())
 }
@@ -200,18 +185,18 @@ fn read_content_of_one(
     type_: yaml_token_type_t,
     field: &[u8],
     content: &mut unnamed_yaml_token_t_data,
-) -> Result<(), TokenLineError>
+) -> Result<(), LineProblem>
     ensures { IsReadInto result content.new (content_of_one type_ field.now) }
 {
     *content = match type_ {
         yaml_token_type_t::YAML_STREAM_START_TOKEN => {
-            let encoding = read_encoding(field).ok_or(TokenLineError::Bad)?;
+            let encoding = read_encoding(field).ok_or(LineProblem::BadTokenLine)?;
             unnamed_yaml_token_t_data::StreamStart(unnamed_yaml_token_t_data_stream_start {
                 encoding,
             })
         }
         yaml_token_type_t::YAML_VERSION_DIRECTIVE_TOKEN => {
-            let version = read_version(field).ok_or(TokenLineError::Bad)?;
+            let version = read_version(field).ok_or(LineProblem::BadTokenLine)?;
             unnamed_yaml_token_t_data::VersionDirective(version)
         }
         yaml_token_type_t::YAML_ALIAS_TOKEN => {
@@ -222,7 +207,7 @@ fn read_content_of_one(
             let value = read_text(alloc, field)?;
             unnamed_yaml_token_t_data::Anchor(unnamed_yaml_token_t_data_anchor { value })
         }
-        _ => return Err(TokenLineError::Bad),
+        _ => return Err(LineProblem::BadTokenLine),
     };
     Ok(())
 }
@@ -235,7 +220,7 @@ fn read_content_of_two(
     first: &[u8],
     second: &[u8],
     content: &mut unnamed_yaml_token_t_data,
-) -> Result<(), TokenLineError>
+) -> Result<(), LineProblem>
     ensures { IsReadInto result content.new (content_of_two type_ first.now second.now) }
 {
     *content = match type_ {
@@ -252,10 +237,10 @@ fn read_content_of_two(
         }
         yaml_token_type_t::YAML_SCALAR_TOKEN => {
             let value = read_text(alloc, first)?;
-            let style = read_scalar_style(second).ok_or(TokenLineError::Bad)?;
+            let style = read_scalar_style(second).ok_or(LineProblem::BadTokenLine)?;
             unnamed_yaml_token_t_data::Scalar(unnamed_yaml_token_t_data_scalar { value, style })
         }
-        _ => return Err(TokenLineError::Bad),
+        _ => return Err(LineProblem::BadTokenLine),
     };
     Ok(())
 }

@@ -87,7 +87,7 @@ fn read_any_name(line: &[u8]) -> Option<NameRead>
 }
 
 /// Returns a token's type by its name in lines.
-pub(crate) fn read_token_type(name: &[u8]) -> Option<yaml_token_type_t>
+fn read_token_type(name: &[u8]) -> Option<yaml_token_type_t>
     ensures { result ≡ token_type_of name.now }
 {
     if name == b"NO-TOKEN".as_slice() {

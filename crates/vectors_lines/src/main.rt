@@ -2,9 +2,9 @@
 //! and writers that fail.
 //!
 //! The program makes each check of `Check` for each run that the file `names` names, and for each line of
-//! `good_lines` and the folder `bad_lines`; those of `STRICT`, and with allocations that fail, for each run
-//! of `strict_names`; it counts the test vectors of each table and names those that differ. It also runs
-//! over more lines than are read. `vectors_lines TABLE` makes the checks of one table, `vectors_lines TABLE
+//! `good_lines` and `bad_lines`; those of `STRICT`, and with allocations that fail, for each run of
+//! `strict_names`; it counts the test vectors of each table and names those that differ. It also runs over
+//! more lines than are read. `vectors_lines TABLE` makes the checks of one table, `vectors_lines TABLE
 //! VECTOR` those of one test vector, and `vectors_lines failing` those of `failing`, for
 //! `scripts/gate/allocation_failures.sh`.
 #![tactic(auto)]
@@ -198,55 +198,6 @@ fn show_lines(
     Ok(())
 }
 
-/// What may be wrong with a line: the table, its lines, and their fault.
-const BAD_LINES: [[&str; 3]; 9] = [
-    [
-        "unknown names",
-        "bad_lines/unknown_name",
-        "bad_lines/unknown_name.events",
-    ],
-    [
-        "bad start marks",
-        "bad_lines/bad_start",
-        "bad_lines/bad_start.events",
-    ],
-    [
-        "bad end marks",
-        "bad_lines/bad_end",
-        "bad_lines/bad_end.events",
-    ],
-    [
-        "large numbers",
-        "bad_lines/large_number",
-        "bad_lines/large_number.events",
-    ],
-    [
-        "wrong numbers of fields",
-        "bad_lines/field_count",
-        "bad_lines/field_count.events",
-    ],
-    [
-        "unknown words",
-        "bad_lines/unknown_word",
-        "bad_lines/unknown_word.events",
-    ],
-    [
-        "bad versions",
-        "bad_lines/bad_version",
-        "bad_lines/bad_version.events",
-    ],
-    [
-        "texts without =",
-        "bad_lines/no_text",
-        "bad_lines/no_text.events",
-    ],
-    [
-        "texts that are not UTF-8",
-        "bad_lines/not_utf8",
-        "bad_lines/not_utf8.events",
-    ],
-];
-
 /// What is checked of strict runs.
 const STRICT: [(&str, Check); 4] = [
     ("strict runs in pieces", Check::Pieces),
@@ -254,13 +205,6 @@ const STRICT: [(&str, Check); 4] = [
     ("strict runs, writes that fail", Check::Writes),
     ("strict runs, flushes", Check::Flushes),
 ];
-
-fn show_bad_lines(rt: &(impl Files + Print + AllocGlobal), tables: &mut Tables<'_>) -> Result<()> {
-    for [name, lines, fault] in BAD_LINES {
-        show_lines(rt, tables, name, lines, fault)?;
-    }
-    Ok(())
-}
 
 fn show_strict(rt: &(impl Files + Print + AllocGlobal), tables: &mut Tables<'_>) -> Result<()> {
     for (name, check) in STRICT {
@@ -298,7 +242,13 @@ fn show_tables(rt: &(impl Files + Print + AllocGlobal), tables: &mut Tables<'_>)
         "good_lines",
         "good_line.events",
     )?;
-    show_bad_lines(rt, tables)?;
+    show_lines(
+        rt,
+        tables,
+        "lines of no token",
+        "bad_lines",
+        "bad_line.events",
+    )?;
     flushes::show(rt, tables)?;
     words::show(rt, tables)?;
     source::show(rt, tables)?;

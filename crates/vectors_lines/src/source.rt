@@ -75,7 +75,7 @@ fn stops_at_its_bound(alloc: Global) -> bool {
 
 fn stops_at_a_bad_line(alloc: Global) -> bool {
     let source = yaml_line_source_t::new(alloc, JUNK_IN_A_STREAM, MAX_TOKENS);
-    let problem = Some("bad token line: unknown name of a token");
+    let problem = Some("bad token line");
     let fault = yaml_source_fault_t::new(
         YAML_SCANNER_ERROR,
         problem,

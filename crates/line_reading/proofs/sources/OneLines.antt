@@ -5,7 +5,6 @@ use Rattle.std.specs.Io.KnownBytes.{Consumes}
 use Rattle.std.specs.List.{onto_first, slice_split}
 use Rattle.libyaml_types.specs.declared.token.yaml_token_t.{yaml_token_t}
 use Rattle.libyaml_types.specs.Fault.{SourceResult, Fault}
-use Rattle.line_reading.specs.declared.line_cause.LineCause.{LineCause}
 use Rattle.line_reading.specs.declared.line_problem.LineProblem.TheVariants.{BadTokenLine, LineTooLong}
 use Rattle.line_reading.specs.sources.LineFault.{line_fault}
 use Rattle.line_reading.specs.sources.LineLaws.{HasPieces, has_pieces}
@@ -33,15 +32,15 @@ module _ {R : Type 0} (remaining : R → Option (List ℕ)) where
   -- what a result leaves of known bytes, where n tokens were given
   record Leaves (bytes : List ℕ) (n : ℕ) (answer : SourceResult) (after : Option (List ℕ)) : Type 0 where
     token : (t : yaml_token_t) → answer ≡ Ok t → after ≡ Some (after_line bytes)
-    bad_line : (cause : LineCause) → answer ≡ Err (line_fault (BadTokenLine cause) n) → after ≡ Some (after_line bytes)
+    bad_line : answer ≡ Err (line_fault BadTokenLine n) → after ≡ Some (after_line bytes)
     too_long : answer ≡ Err (line_fault LineTooLong n) → after ≡ Some (drop (longest_line + 1) bytes)
     none : bytes ≡ [] → after ≡ Some []
 
   -- a result of the first line leaves one thing
-  left_by_token : (bytes : List ℕ) (n : ℕ) (o : Option yaml_token_t) (c : LineCause) (a b : SourceResult) (x y : Option (List ℕ))
-      → token_or_fault o c n ≡ a → a ≡ b
+  left_by_token : (bytes : List ℕ) (n : ℕ) (o : Option yaml_token_t) (a b : SourceResult) (x y : Option (List ℕ))
+      → token_or_fault o n ≡ a → a ≡ b
       → Leaves bytes n a x → Leaves bytes n b y → x ≡ y
-  left_by_token bytes n o c a b x y e i h k = grind arith
+  left_by_token bytes n o a b x y e i h k = grind arith
 
   left_by_line : (bytes line : List ℕ) (n : ℕ) (a b : SourceResult) (x y : Option (List ℕ)) (is_long : Bool)
       → nat_lt longest_line (length line) ≡ is_long
@@ -82,7 +81,7 @@ module _ {R : Type 0} (remaining : R → Option (List ℕ)) where
       → KnownAnswer bytes s.given answer (remaining t.reader) → Leaves bytes s.given answer (remaining t.reader)
   leaves s t bytes answer known running o k = record {
     token = after_token s bytes answer (remaining t.reader) k;
-    bad_line = λ cause e. known_after (remaining s.reader) (remaining t.reader) bytes known (o.bad_line cause running e);
+    bad_line = λ e. known_after (remaining s.reader) (remaining t.reader) bytes known (o.bad_line cause running e);
     too_long = λ e. known_within (longest_line + 1) (remaining s.reader) (remaining t.reader) bytes known
         (o.too_long running e);
     none = λ e. consumed_none (remaining t.reader) o.takes.0

@@ -4,7 +4,7 @@ use Rattle.std.proofs.lemmas.List.{at_drop_more}
 use Rattle.libyaml_types.specs.declared.mark.yaml_mark_t.{yaml_mark_t}
 use Rattle.libyaml_types.specs.declared.token.yaml_token_t.{yaml_token_t}
 use Rattle.libyaml_types.specs.declared.token.unnamed_yaml_token_t_data.{unnamed_yaml_token_t_data}
-use Rattle.line_reading.specs.declared.token_line_error.TokenLineError.{TokenLineError}
+use Rattle.line_reading.specs.declared.line_problem.LineProblem.{LineProblem}
 use Rattle.line_reading.specs.tokens.Field.{◌>>=◌}
 use Rattle.line_reading.specs.tokens.Reading.{IsReadInto}
 use Rattle.line_reading.specs.tokens.Pieces.{pieces_of}
@@ -44,7 +44,7 @@ pub with_content : (line : List ℕ) (a z : ℕ) (name : NameRead) (start end : 
 with_content line a z name start end h s more e = rw (h.behind, h.type, s, some_further line a more, e) refl
 
 -- what is read of the content is read of the token
-pub with_marks : (result : Result (Unit {0}) TokenLineError) (content : unnamed_yaml_token_t_data)
+pub with_marks : (result : Result (Unit {0}) LineProblem) (content : unnamed_yaml_token_t_data)
     (there : Option unnamed_yaml_token_t_data)
     (start end : yaml_mark_t) → IsReadInto result content there
     → IsReadInto {A = yaml_token_t} result (record { content = content; start_mark = start; end_mark = end })

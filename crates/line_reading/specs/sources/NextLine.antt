@@ -3,7 +3,6 @@ use Rattle.std.specs.Prelude.{◌≡◌, ◌<◌, ◌≤◌, ◌⊎◌, ◌+◌,
 use Rattle.std.specs.Io.KnownBytes.{Consumes}
 use Rattle.libyaml_types.specs.declared.token.yaml_token_t.{yaml_token_t}
 use Rattle.libyaml_types.specs.Fault.{Fault, SourceResult}
-use Rattle.line_reading.specs.declared.line_cause.LineCause.{LineCause}
 use Rattle.line_reading.specs.declared.line_problem.LineProblem.{LineProblem}
 use Rattle.line_reading.specs.declared.line_problem.LineProblem.TheVariants.{Memory, ReadFailed, LineTooLong, BadTokenLine, TooManyTokens, NoMoreTokens}
 use Rattle.line_reading.specs.tokens.Prefixes.{before_byte}
@@ -39,7 +38,7 @@ abbrev pub HasNoLine : List ℕ → LineProblem → Type 0
 HasNoLine bytes Memory = Unit {0}
 HasNoLine bytes ReadFailed = Unit {0}
 HasNoLine bytes LineTooLong = BeginsTooLong (lines bytes)
-HasNoLine bytes (BadTokenLine cause) = ⊥
+HasNoLine bytes BadTokenLine = ⊥
 HasNoLine bytes TooManyTokens = ⊥
 HasNoLine bytes NoMoreTokens = lines bytes ≡ []
 
@@ -88,6 +87,6 @@ pub record ReadsNext (before : Option (List ℕ)) (result : Result (Unit {0}) Li
     (after : Option (List ℕ)) : Type 0 where
   pub answers : (n : ℕ) → LineAnswer before n (line_answer_in n result token) after
   pub leaves : IfOk result (λ done. IsAfterLine before after)
-  pub bad_line : (cause : LineCause) → result ≡ Err (BadTokenLine cause) → IsAfterLine before after
+  pub bad_line : result ≡ Err BadTokenLine → IsAfterLine before after
   pub too_long : result ≡ Err LineTooLong → IsWithinLine (longest_line + 1) before after
   pub takes : TakesAtMost (longest_line + 1) before after

@@ -1,7 +1,6 @@
 -- Two results of line sources that keep the same, over readers of the same bytes (docs/DEFINITIONS.md, "One outcome").
 use Rattle.std.specs.Prelude.{◌≡◌, ◌+◌, ℕ, List, Option, None, Err}
 use Rattle.libyaml_types.specs.Fault.{SourceResult, Fault}
-use Rattle.line_reading.specs.declared.line_cause.LineCause.{LineCause}
 use Rattle.line_reading.specs.declared.line_problem.LineProblem.TheVariants.{BadTokenLine, LineTooLong}
 use Rattle.line_reading.specs.sources.LineFault.{line_fault}
 use Rattle.line_reading.specs.sources.LineSource.{Gives, LineSource}
@@ -12,7 +11,7 @@ use Rattle.line_reading.specs.sources.ReadLines.{longest_line}
 pub record LineOutcome {R : Type 0} (remaining : R → Option (List ℕ)) (s : LineSource R) (answer : SourceResult)
     (t : LineSource R) : Type 0 where
   pub gives : Gives remaining s answer t
-  pub bad_line : (cause : LineCause) → s.fault ≡ None → answer ≡ Err (line_fault (BadTokenLine cause) s.given)
+  pub bad_line : s.fault ≡ None → answer ≡ Err (line_fault BadTokenLine s.given)
       → IsAfterLine (remaining s.reader) (remaining t.reader)
   pub too_long : s.fault ≡ None → answer ≡ Err (line_fault LineTooLong s.given)
       → IsWithinLine (longest_line + 1) (remaining s.reader) (remaining t.reader)

@@ -6,8 +6,6 @@ use Rattle.libyaml_types.specs.Fault.{SourceResult}
 use Rattle.libyaml_types.specs.Source.{Coming, coming}
 use Rattle.line_reading.specs.declared.line_problem.LineProblem.TheVariants.{LineTooLong, BadTokenLine, TooManyTokens, NoMoreTokens}
 use Rattle.line_reading.specs.sources.LineFault.{line_fault}
-use Rattle.line_reading.specs.declared.line_cause.LineCause.{LineCause}
-use Rattle.line_reading.specs.tokens.LineCause.{cause_of_line}
 use Rattle.line_reading.specs.tokens.TokenLine.{token_of_line}
 
 -- a token line has at most so many bytes, its LF not counted
@@ -33,14 +31,14 @@ abbrev pub after_line : List ℕ → List ℕ
 after_line [] = []
 after_line (b ∷ bs) = if b == 10 then bs else after_line bs
 
--- a line's token, or the error of what is wrong with it, if n tokens were given before it
-abbrev pub token_or_fault : Option yaml_token_t → LineCause → ℕ → SourceResult
-token_or_fault (Some token) cause n = Ok token
-token_or_fault None cause n = Err (line_fault (BadTokenLine cause) n)
+-- a line's token, or its error if n tokens were given before it
+abbrev pub token_or_fault : Option yaml_token_t → ℕ → SourceResult
+token_or_fault (Some token) n = Ok token
+token_or_fault None n = Err (line_fault BadTokenLine n)
 
 abbrev pub line_answer : ℕ → List ℕ → SourceResult
 line_answer n line = if nat_lt longest_line (length line) then Err (line_fault LineTooLong n) else token_or_fault
-    (token_of_line line) (cause_of_line line) n
+    (token_of_line line) n
 
 -- a result, and what comes after it: nothing after an error
 abbrev pub coming_after : SourceResult → Coming → Coming
