@@ -17,9 +17,6 @@ extern const char *const ENCODINGS[4], *const SCALAR_STYLES[6];
 /* Makes the token of a line of so many bytes, its LF left out; 0 where it is no token line. */
 int read_token(const unsigned char *line, size_t length, yaml_token_t *token);
 
-/* The error of a line that is no token line. */
-const char *problem_of_line(const unsigned char *line, size_t length);
-
 /* What this program does in place of libyaml's scanner, and around its parser. */
 int yaml_parser_fetch_more_tokens(yaml_parser_t *parser);
 int __wrap_yaml_parser_parse(yaml_parser_t *parser, yaml_event_t *event);

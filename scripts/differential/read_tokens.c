@@ -228,25 +228,17 @@ static int split(struct field line, struct field fields[MOST_FIELDS + 1])
     while (count < MOST_FIELDS && take_part(&line, ' ', &fields[count]))
         count++;
     fields[count] = line;
-    return count + 1;
-}
-
-/* The type that a field names, or TOKEN_TYPES. */
-static int read_type(struct field name)
-{
-    int type = 0;
-
-    while (type < TOKEN_TYPES && !is_word(name, TOKENS[type].name))
-        type++;
-    return type;
+    return count + (count < MOST_FIELDS || memchr(line.at, ' ', (size_t)(line.end - line.at)) == NULL);
 }
 
 int read_token(const unsigned char *line, size_t length, yaml_token_t *token)
 {
     struct field fields[MOST_FIELDS + 1];
-    int count = split((struct field){line, line + length}, fields), type = read_type(fields[0]);
+    int count = split((struct field){line, line + length}, fields), type = 0;
 
     memset(token, 0, sizeof *token);
+    while (type < TOKEN_TYPES && !is_word(fields[0], TOKENS[type].name))
+        type++;
     if (type == TOKEN_TYPES || count != 3 + TOKENS[type].fields)
         return 0;
     token->type = (yaml_token_type_t)type;
@@ -255,69 +247,4 @@ int read_token(const unsigned char *line, size_t length, yaml_token_t *token)
         return 1;
     yaml_token_delete(token);
     return 0;
-}
-
-/* ---- What is wrong with a line ---- */
-
-/* Whether these are digits without a leading zero, of a value beyond 64 bits. */
-static int is_large(struct field digits)
-{
-    const unsigned char *at;
-    size_t number;
-
-    if (digits.at == digits.end || *digits.at == '0')
-        return 0;
-    for (at = digits.at; at < digits.end; at++)
-        if (*at < '0' || *at > '9')
-            return 0;
-    return !read_number(digits, &number);
-}
-
-static const char *problem_of_mark(struct field mark, const char *other)
-{
-    struct field index, line;
-
-    if (take_part(&mark, ':', &index) && take_part(&mark, ':', &line) &&
-        memchr(mark.at, ':', (size_t)(mark.end - mark.at)) == NULL && (is_large(index) || is_large(line) || is_large(mark)))
-        return "bad token line: number beyond 64 bits";
-    return other;
-}
-
-static int begins_text(struct field field)
-{
-    return field.at < field.end && *field.at == '=';
-}
-
-/* Of the fields after the marks, as many as the token has. */
-static const char *problem_of_content(int type, const struct field *fields)
-{
-    int i;
-
-    if (type == YAML_STREAM_START_TOKEN)
-        return "bad token line: unknown word";
-    if (type == YAML_VERSION_DIRECTIVE_TOKEN)
-        return "bad token line: bad version";
-    for (i = 0; i < TOKENS[type].fields - (type == YAML_SCALAR_TOKEN); i++)
-        if (!begins_text(fields[i]))
-            return "bad token line: text without =";
-    if (type == YAML_SCALAR_TOKEN && read_word(fields[1], SCALAR_STYLES, 6) < 0)
-        return "bad token line: unknown word";
-    return "bad token line: text is not UTF-8";
-}
-
-const char *problem_of_line(const unsigned char *line, size_t length)
-{
-    struct field fields[MOST_FIELDS + 1];
-    int count = split((struct field){line, line + length}, fields), type = read_type(fields[0]);
-    yaml_mark_t mark;
-
-    if (type == TOKEN_TYPES)
-        return "bad token line: unknown name of a token";
-    if (count < 2 || !read_mark(fields[1], &mark))
-        return count < 2 ? "bad token line: bad start mark" : problem_of_mark(fields[1], "bad token line: bad start mark");
-    if (count < 3 || !read_mark(fields[2], &mark))
-        return count < 3 ? "bad token line: bad end mark" : problem_of_mark(fields[2], "bad token line: bad end mark");
-    if (count != 3 + TOKENS[type].fields)
-        return "bad token line: wrong number of fields";
-    return problem_of_content(type, fields + 3);
 }

@@ -43,7 +43,7 @@ int yaml_parser_fetch_more_tokens(yaml_parser_t *parser)
         length--;
     parser->tokens.head = parser->tokens.tail = parser->tokens.start;
     if (!read_token((unsigned char *)line, (size_t)length, parser->tokens.head))
-        return source_fault(parser, YAML_SCANNER_ERROR, problem_of_line((unsigned char *)line, (size_t)length));
+        return source_fault(parser, YAML_SCANNER_ERROR, "bad token line");
     parser->tokens.tail++;
     parser->token_available = 1;
     parser->stream_start_produced = 1; /* for the loader, which begins the stream where it isn't set */
