@@ -1,4 +1,5 @@
 pub mod parser
 pub mod runs
 pub mod strict
+pub mod exact
 pub mod loads

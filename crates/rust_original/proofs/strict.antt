@@ -1,5 +1,4 @@
 pub mod Quiet
 pub mod Judged
 pub mod Runs
-pub mod Calls
 pub mod Passed

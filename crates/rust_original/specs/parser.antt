@@ -3,5 +3,5 @@ pub mod Texts
 pub mod Runs
 pub mod Differences
 pub mod Strict
-pub mod StrictCalls
+pub mod ExactCalls
 pub mod Passed

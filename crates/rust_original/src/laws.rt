@@ -9,7 +9,7 @@ ghost use Rattle.libyaml_grammar.specs.grammar.Nesting.{IsNested, NestsSoFar};
 ghost use Rattle.libyaml_grammar.specs.grammar.ValidLists.{has_end};
 ghost use Rattle.libyaml_grammar.specs.grammar.Tokens.{Mark, Token};
 ghost use Rattle.libyaml_automaton.specs.declared.difference.Difference.{Difference};
-ghost use Rattle.libyaml_automaton.specs.declared.difference.Difference.TheVariants.{BareDocument, PairKey};
+ghost use Rattle.libyaml_automaton.specs.declared.difference.Difference.TheVariants.{BareDocument};
 ghost use Rattle.libyaml_automaton.specs.declared.difference.Difference.TheVariants.{ValueFirst};
 ghost use Rattle.libyaml_graphs.specs.loads.Bounds.{IsBoundedLoads, bounded_loads};
 ghost use Rattle.libyaml_graphs.specs.loads.Loads.{Load};
@@ -18,6 +18,7 @@ ghost use Rattle.libyaml_events.specs.machine.Want.{AtState};
 ghost use Rattle.rust_original.specs.loader.Loader.{loads_there};
 ghost use Rattle.rust_original.specs.loader.LoadsThere.{LoadsCompare, LoadsThere};
 ghost use Rattle.rust_original.specs.parser.Differences.{Compares, Differs, call_here, call_there};
+ghost use Rattle.rust_original.specs.parser.ExactCalls.{BetweenExact, ForExactFailed, RunThere};
 ghost use Rattle.rust_original.specs.parser.Passed.{FailsBefore, IsTagFault, PassedRun, passed};
 ghost use Rattle.rust_original.specs.parser.Parser.{Mends, OK, OriginalParser, yaml_parser_parse};
 ghost use Rattle.rust_original.specs.parser.Runs.{Runs, RunsThere, as_here, as_there, call};
@@ -25,8 +26,6 @@ ghost use Rattle.rust_original.specs.parser.Runs.{new_original_parser, run_withi
 ghost use Rattle.rust_original.specs.parser.Strict.{Over, Stopped, StopsAt, StrictEnding};
 ghost use Rattle.rust_original.specs.parser.Strict.{StrictFrom, StrictRun};
 ghost use Rattle.rust_original.specs.parser.Strict.{document_fault, key_fault};
-ghost use Rattle.rust_original.specs.parser.StrictCalls.{BetweenAsked, ForAskedFailed, ForStopped};
-ghost use Rattle.rust_original.specs.parser.StrictCalls.{RunThere, StopThere};
 ghost use Rattle.rust_original.specs.parser.Texts.{NoneHoldsZero, as_held};
 ghost use Rattle.token_limits.specs.Limits.{difference_fault};
 
@@ -105,17 +104,14 @@ pub fn strict_source()
         → ((passed l f).fault ≡ difference_fault k m n) × FailsBefore l f e }
 {}
 
-/// So it is with a caller of the steps that asks before each call (`steps_t::differs`): what it was given,
-/// and the error, are those of the Rust crate over the same tokens. Where something differs at the token in
-/// hand, the Rust crate gave the same so far, and fails with this error, or goes on otherwise.
-pub fn strict_calls()
-    ensures so_far { BetweenAsked (λ l g. has_end l ≡ false
+/// A caller of exact steps (`steps_t::step_exact`) has the Rust crate's run over the same tokens, whatever they are:
+/// after each token the same events, at the stream's end the whole run, and its errors at the same tokens, with
+/// the same words and marks.
+pub fn exact_calls()
+    ensures so_far { BetweenExact (λ l g. has_end l ≡ false
         → (f : Fault) → Runs as_there (new_original_parser l f) g (Fails f)) }
-    ensures ended { BetweenAsked (λ l g. has_end l ≡ true → RunThere l g Ends) }
-    ensures failed { ForAskedFailed (λ l g f. RunThere l g (Fails f)) }
-    ensures value_first { ForStopped ValueFirst (λ l g m n. RunThere l g (Fails (key_fault m n))) }
-    ensures bare_document { ForStopped BareDocument (λ l g m n. RunThere l g (Fails (document_fault n))) }
-    ensures pair_key { ForStopped PairKey (λ l g m n. StopThere PairKey l g m n) }
+    ensures ended { BetweenExact (λ l g. has_end l ≡ true → RunThere l g Ends) }
+    ensures failed { ForExactFailed (λ l g f. RunThere l g (Fails f)) }
 {}
 
 /// What the original's loader makes of events that nest, whole ones with the stream's end alone, and with any

@@ -13,9 +13,9 @@ use Rattle.token_steps.specs.Tells.{Tells, want_in}
 use Rattle.token_steps.proofs.Running.{stood}
 use Rattle.token_steps.proofs.Tied.{steps_told, told_with}
 
-pub told : (x : Did) (p : StepResult) (d : steps_t) (e : step_event_t) (f : step_fault_t) (c : Stacks) → 5 ≡ number x
+pub tells_fails : (x : Did) (p : StepResult) (d : steps_t) (e : step_event_t) (f : step_fault_t) (c : Stacks) → 5 ≡ number x
     → Tells x p d e f c → p ≡ Err (step_fault f)
-told x p d e f c q h = grind arith
+tells_fails x p d e f c q h = grind arith
 
 pub fails : ForFailed FailsInHand
 fails d d' ss ss' ms ms' hs kept l g t e f r c =
@@ -26,5 +26,5 @@ fails d d' ss ss' ms ms' hs kept l g t e f r c =
       t,
       at.fed,
       steps_told (want_in d) hs kept t (stacks_of d.machine ss ms) at.holds at.tag
-          ∙ ap (told_with kept hs t t.content) (told c.0 _ d' e f _ c.1 c.2),
+          ∙ ap (told_with kept hs t t.content) (tells_fails c.0 _ d' e f _ c.1 c.2),
     )

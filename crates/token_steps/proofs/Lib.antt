@@ -10,4 +10,6 @@ pub mod Stacks
 pub mod Failing
 pub mod Stepped
 pub mod Tables
+pub mod Exactly
+pub mod Seen
 pub mod exported

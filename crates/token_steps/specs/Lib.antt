@@ -3,8 +3,10 @@ pub mod Facts
 pub mod Numbers
 pub mod Records
 pub mod Growth
+pub mod Exact
 pub mod Tells
 pub mod Handles
 pub mod Texts
 pub mod Runs
+pub mod SeenRuns
 pub mod RunLaws

@@ -19,7 +19,7 @@ use Rattle.token_steps.specs.declared.steps.steps_t.{steps_t}
 use Rattle.token_steps.specs.declared.records.step_event_t.{step_event_t}
 use Rattle.token_steps.specs.declared.records.step_fault_t.{step_fault_t}
 use Rattle.token_steps.specs.Records.{step_fault}
-use Rattle.token_steps.specs.Runs.{Run, StepCalls}
+use Rattle.token_steps.specs.Runs.{ExactRun, Run, StepCalls}
 use Rattle.token_steps.specs.Tells.{tag_in}
 use Rattle.token_steps.specs.Texts.{tag_read_of}
 
@@ -47,6 +47,11 @@ abbrev pub ForRuns : (List Token → List Event → Type 0) → Type 0
 ForRuns P = (d : steps_t) (ss : List ℕ) (ms : List yaml_mark_t) (hs : Handles) (kept : Texts)
     (o : Option Token) (l : List Token) (g : List Event) → Run d ss ms hs kept o l g → P l g
 
+-- the same of exact calls
+abbrev pub ForExactRuns : (List Token → List Event → Type 0) → Type 0
+ForExactRuns P = (d : steps_t) (ss : List ℕ) (ms : List yaml_mark_t) (hs : Handles) (kept : Texts)
+    (o : Option Token) (l : List Token) (g : List Event) → ExactRun d ss ms hs kept o l g → P l g
+
 -- and of each run between two tokens
 abbrev pub BetweenTokens : (List Token → List Event → Type 0) → Type 0
 BetweenTokens P = (d : steps_t) (ss : List ℕ) (ms : List yaml_mark_t) (hs : Handles) (kept : Texts)
@@ -56,6 +61,12 @@ BetweenTokens P = (d : steps_t) (ss : List ℕ) (ms : List yaml_mark_t) (hs : Ha
 abbrev pub ForStacks : ((states marks : ℕ) → List Event → Type 0) → Type 0
 ForStacks P = (d : steps_t) (ss : List ℕ) (ms : List yaml_mark_t) (hs : Handles) (kept : Texts)
     (o : Option Token) (l : List Token) (g : List Event) → Run d ss ms hs kept o l g → Within d.machine ss ms
+    → P d.machine.states_count d.machine.marks_count g
+
+-- the same of exact calls
+abbrev pub ForExactStacks : ((states marks : ℕ) → List Event → Type 0) → Type 0
+ForExactStacks P = (d : steps_t) (ss : List ℕ) (ms : List yaml_mark_t) (hs : Handles) (kept : Texts)
+    (o : Option Token) (l : List Token) (g : List Event) → ExactRun d ss ms hs kept o l g → Within d.machine ss ms
     → P d.machine.states_count d.machine.marks_count g
 
 -- and of the tokens, the events and the error of each run that ended with an error, which has the text of its

@@ -1,5 +1,5 @@
 //! What holds of a caller's run of calls. Each function does nothing when it runs: its contract is the law.
-ghost use Rattle.std.specs.Prelude.{◌≡◌, ◌≤◌, ◌+◌, ◌*◌, ◌++◌, ◌∷◌, List, [], ℕ, length, is_some, true, false};
+ghost use Rattle.std.specs.Prelude.{◌≡◌, ◌≤◌, ◌+◌, ◌*◌, ◌++◌, ◌∷◌, List, [], ℕ, Option, length, is_some, true, false};
 ghost use Rattle.std.specs.FinMap.{get};
 ghost use Rattle.libyaml_types.specs.declared.token.unnamed_yaml_token_t_data.TheVariants as tok;
 ghost use Rattle.libyaml_types.specs.declared.token.unnamed_yaml_token_t_data_version_directive as version;
@@ -19,7 +19,13 @@ ghost use Rattle.token_steps.specs.Texts.{bit, fact_of, tag_fact};
 ghost use Rattle.token_steps.specs.declared.tags.handles.handle_t.{handle_t};
 ghost use Rattle.token_steps.specs.Handles.{AreHandlesWithin, bytes_at, handles_at};
 ghost use Rattle.token_steps.specs.RunLaws.{BetweenTokens, FailsInHand, ForFailed, ForRuns, ForStacks};
-ghost use Rattle.token_steps.specs.RunLaws.{NextTypes, RunIsFed};
+ghost use Rattle.token_steps.specs.RunLaws.{ForExactRuns, ForExactStacks, NextTypes, RunIsFed};
+ghost use Rattle.token_steps.specs.Runs.{ExactRun};
+ghost use Rattle.token_steps.specs.SeenRuns.{SeenRun};
+ghost use Rattle.token_steps.specs.declared.steps.steps_t.{steps_t};
+ghost use Rattle.libyaml_types.specs.declared.mark.yaml_mark_t.{yaml_mark_t};
+ghost use Rattle.libyaml_events.specs.machine.Want.{Texts};
+ghost use Rattle.libyaml_grammar.specs.grammar.Events.{Event};
 
 /// Some parser was handed what a caller passed in, and gave what the caller was given, with the texts that it
 /// kept by the kinds of tokens alone. So what is proved of pushes holds of a caller's calls.
@@ -61,6 +67,18 @@ pub fn run_fails()
     ensures parser { ForFailed FailsInHand }
     ensures run { ForFailed (λ tokens events fault. (more : List Token) (source : Fault)
         → IsRun (tokens ++ more) source events (Fails fault)) }
+{}
+
+/// A run of exact calls is one of the other calls over tokens in which an empty plain scalar stands for each that
+/// is lost, at its end. So its events nest, and are at most four for each token, and its stacks get no larger.
+pub fn exact_runs()
+    ensures seen { (d : steps_t) (ss : List ℕ) (ms : List yaml_mark_t) (hs : Handles) (kept : Texts)
+        (o : Option Token) (l : List Token) (g : List Event) → ExactRun d ss ms hs kept o l g
+        → SeenRun d ss ms hs kept o l g }
+    ensures nests { ForExactRuns (λ _ events. NestsSoFar events) }
+    ensures at_most_four { ForExactRuns (λ tokens events. length events ≤ 4 * length tokens) }
+    ensures states { ForExactStacks (λ states _ events. states ≤ open_collections (stage_of events) + 1) }
+    ensures marks { ForExactStacks (λ _ marks events. marks ≤ open_collections (stage_of events)) }
 {}
 
 /// The functions over a table of handles return the facts of tokens, if the table stands for the document's

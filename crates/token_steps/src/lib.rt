@@ -7,6 +7,7 @@
 
 mod asking;
 mod did;
+mod exact;
 mod head;
 pub mod laws;
 mod records;

@@ -30,7 +30,7 @@ fn byte(set: bool) -> u8
 
 /// Puts an event that isn't a node's.
 #[inline(never)]
-fn put_event(
+pub(crate) fn put_event(
     event: &mut step_event_t,
     kind: u8,
     is_implicit: bool,
@@ -102,7 +102,7 @@ const DOCUMENT_END: u8 = 4;
 
 const ALIAS: u8 = 5;
 
-const SCALAR: u8 = 6;
+pub(crate) const SCALAR: u8 = 6;
 
 const SEQUENCE_START: u8 = 7;
 
@@ -115,7 +115,7 @@ const MAPPING_END: u8 = 10;
 impl steps_t {
     /// The parser's state says what the next token is wanted for. Returns what the call did.
     #[inline(always)]
-    fn rest(&mut self, did: Did) -> Did
+    pub(crate) fn rest(&mut self, did: Did) -> Did
         ensures did { result ≡ did }
         ensures wanted { purpose_of self.new.read ≡ AtState }
         ensures kept { self.new ≡ record self.old { read = record self.old.read { next = 0 } } }

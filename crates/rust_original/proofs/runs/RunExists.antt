@@ -30,13 +30,13 @@ use Rattle.rust_original.proofs.runs.Ended.{NoEnd}
 
 -- where the key of a flow sequence's pair is due: an empty scalar that stands at the end of the token that the
 -- original skips
-abbrev after_pair_key : Machine → Config
+abbrev pub after_pair_key : Machine → Config
 after_pair_key c = holding None (record c { state = st.YAML_PARSE_FLOW_SEQUENCE_ENTRY_MAPPING_VALUE_STATE })
 
 abbrev empty_token : Mark → Token
 empty_token n = tk (Scalar (record { value = []; style = YAML_PLAIN_SCALAR_STYLE })) n n
 
-abbrev empty_at : Mark → Event
+abbrev pub empty_at : Mark → Event
 empty_at n = event (scalar_event_with None None [] true false YAML_PLAIN_SCALAR_STYLE) n n
 
 empty_step : (n : Mark) (c : Machine) → c.state ≡ st.YAML_PARSE_FLOW_SEQUENCE_ENTRY_MAPPING_KEY_STATE
@@ -53,7 +53,7 @@ opens_pair_key : (s : yaml_parser_state_t) → Opens st.YAML_PARSE_FLOW_SEQUENCE
 opens_pair_key _ i = i
 
 -- where they part: after the KEY of a pair the original goes on, elsewhere it fails
-pair_stands : {ss : List yaml_parser_state_t} {s s' : yaml_parser_state_t} {ms ms' : List Mark} {tags : List
+pub pair_stands : {ss : List yaml_parser_state_t} {s s' : yaml_parser_state_t} {ms ms' : List Mark} {tags : List
     yaml_tag_directive_t} {hs : Handles} {be flag ended : Bool} {l l' : List Token}
     → Fits ss s s' ms ms' tags hs be flag ended l l' → s' ≡ st.YAML_PARSE_FLOW_SEQUENCE_ENTRY_MAPPING_KEY_STATE
     → Below ss × Agree tags hs × (s ≡ st.YAML_PARSE_FLOW_SEQUENCE_ENTRY_MAPPING_KEY_STATE) × (ms' ≡ ms) × (l' ≡ l)
@@ -61,7 +61,7 @@ pair_stands (entering {s} {s'} i b a n) e = absurd (opens_pair_key s (rw e at i)
 pair_stands (inside i b a) e = (b, a, e, refl, refl)
 pair_stands _ e = absurd cc
 
-fresh_none : (s : yaml_parser_state_t) (o : Option Token) → s ≡ st.YAML_PARSE_FLOW_SEQUENCE_ENTRY_MAPPING_KEY_STATE
+pub fresh_none : (s : yaml_parser_state_t) (o : Option Token) → s ≡ st.YAML_PARSE_FLOW_SEQUENCE_ENTRY_MAPPING_KEY_STATE
     → IsFresh s o → o ≡ None
 fresh_none s o e h = grind arith
 

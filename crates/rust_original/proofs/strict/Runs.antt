@@ -261,10 +261,6 @@ result : (l : List Token) (f : Fault) (e : List Event) (x : StrictEnding) → St
     → Result f (new_original_parser l f) e x
 result l f e x run = follows f e x (new_original_parser l f) (holding None start) l (standing refl before tt) refl (split f run)
 
-pub same_there : (l : List Token) (f : Fault) (e : List Event) (x : Ending) → StrictOver l f e (Over x)
-    → Runs as_there (new_original_parser l f) e x
-same_there l f e x run = (result l f e (Over x) run).0
-
 pub same : (l : List Token) (f : Fault) (e : List Event) (x : Ending) → StrictRun l f e (Over x)
     → RunsThere l f e x × IsRun (map as_held l) f e x
 same l f e x run =

@@ -1,0 +1,31 @@
+-- A caller of exact steps (token_steps).
+use Rattle.std.specs.Prelude.{◌++◌, List, ℕ, None, Some}
+use Rattle.libyaml_types.specs.Fault.{Fault}
+use Rattle.libyaml_types.specs.declared.mark.yaml_mark_t.{yaml_mark_t}
+use Rattle.libyaml_grammar.specs.runs.Runs.{Ending}
+use Rattle.libyaml_grammar.specs.grammar.Events.{Event}
+use Rattle.libyaml_grammar.specs.grammar.Tokens.{Token}
+use Rattle.libyaml_events.specs.machine.Config.{Handles}
+use Rattle.libyaml_events.specs.machine.Machine.{fault_with}
+use Rattle.libyaml_events.specs.machine.Want.{Texts}
+use Rattle.token_steps.specs.Records.{step_fault}
+use Rattle.token_steps.specs.Runs.{ExactCalls, ExactRun}
+use Rattle.token_steps.specs.declared.records.step_event_t.{step_event_t}
+use Rattle.token_steps.specs.declared.records.step_fault_t.{step_fault_t}
+use Rattle.token_steps.specs.declared.steps.steps_t.{steps_t}
+use Rattle.rust_original.specs.parser.Runs.{Runs, as_there, new_original_parser}
+
+-- P holds of the tokens and events of each run of exact calls between two tokens
+abbrev pub BetweenExact : (List Token → List Event → Type 0) → Type 0
+BetweenExact P = (d : steps_t) (ss : List ℕ) (ms : List yaml_mark_t) (hs : Handles) (kept : Texts) (l : List Token)
+    (g : List Event) → ExactRun d ss ms hs kept None l g → P l g
+
+-- and of the tokens, the events and the error of each that ended with an error
+abbrev pub ForExactFailed : (List Token → List Event → Fault → Type 0) → Type 0
+ForExactFailed P = (d d' : steps_t) (ss ss' : List ℕ) (ms ms' : List yaml_mark_t) (hs : Handles) (kept : Texts)
+    (l : List Token) (g : List Event) (t : Token) (e : step_event_t) (f : step_fault_t)
+    → ExactRun d ss ms hs kept (Some t) l g → ExactCalls 5 d ss ms hs t d' ss' ms' e f → P l g (fault_with (step_fault f))
+
+-- the original's run over these tokens, whatever comes after them
+abbrev pub RunThere : List Token → List Event → Ending → Type 0
+RunThere l g x = (more : List Token) (f : Fault) → Runs as_there (new_original_parser (l ++ more) f) g x
