@@ -14,6 +14,8 @@ ghost use Rattle.libyaml_automaton.specs.Differing.{difference_number};
 ghost use Rattle.libyaml_automaton.specs.Growth.{HasNoRoom};
 ghost use Rattle.libyaml_automaton.specs.Purposes.{purpose_of};
 ghost use Rattle.token_steps.specs.Differing.{differs_in};
+ghost use Rattle.token_steps.specs.Exact.{exact_step_by_fact, exactly_grows_marks};
+ghost use Rattle.token_steps.specs.Exact.{exactly_grows_states};
 ghost use Rattle.token_steps.specs.Facts as facts;
 ghost use Rattle.token_steps.specs.Growth.{grows_states, grows_marks};
 ghost use Rattle.token_steps.specs.Records.{AreFlags, AreUnused, kind_of, span_token};
@@ -96,5 +98,44 @@ pub extern "C" fn pokhvizi_step(
 {
     steps
         .step(states, marks, token_kind(kind), fact, at, event, fault)
+        .number()
+}
+
+/// Takes a token like `steps_t::step_exact`, which does what libyaml does. Returns what `pokhvizi_step` does.
+#[unsafe(no_mangle)]
+pub extern "C" fn pokhvizi_step_exact(
+    steps: &mut steps_t,
+    states: &mut [u8],
+    marks: &mut [yaml_mark_t],
+    kind: u8,
+    fact: u8,
+    at: &step_span_t,
+    event: &mut step_event_t,
+    fault: &mut step_fault_t,
+) -> u32
+    ensures tells { TellsNumber result (exact_step_by_fact (want_in steps.old)
+        (stacks_of steps.old.machine states.old marks.old) (span_token (kind_of kind) fact at.now))
+        steps.new event.new fault.new (stacks_of steps.new.machine states.new marks.new) }
+    ensures numbers { result ≤ 6 }
+    ensures within { Within steps.old.machine states.old marks.old
+        → Within steps.new.machine states.new marks.new }
+    ensures bad { (result ≡ 6) ↔ (Within steps.old.machine states.old marks.old → ⊥) }
+    ensures full_states { Within steps.old.machine states.old marks.old → (result ≡ 3)
+        ↔ (HasNoRoom (exactly_grows_states steps.old (kind_of kind)) states.old steps.old.machine.states_count
+        × (HasNoRoom (exactly_grows_marks steps.old (kind_of kind)) marks.old steps.old.machine.marks_count → ⊥)) }
+    ensures full_marks { Within steps.old.machine states.old marks.old → (result ≡ 4)
+        ↔ HasNoRoom (exactly_grows_marks steps.old (kind_of kind)) marks.old steps.old.machine.marks_count }
+    ensures undone { is_nothing_done result ≡ true → (steps.new.machine ≡ steps.old.machine)
+        × ((states.new ≡ states.old) × ((marks.new ≡ marks.old) × (want_in steps.new ≡ want_in steps.old))) }
+    ensures holds_nothing { is_given result ≡ true → purpose_of steps.new.read ≡ AtState }
+    ensures event_number { is_given result ≡ true → IsEventNumber event.new.kind }
+    ensures event_flags { is_given result ≡ true → AreFlags event.new }
+    ensures event_unused { is_given result ≡ true → AreUnused event.new }
+    ensures event_kept { is_given result ≡ false → event.new ≡ event.old }
+    ensures fault_number { result ≡ 5 → IsFaultNumber fault.new.problem }
+    ensures fault_kept { (result ≡ 5 → ⊥) → fault.new ≡ fault.old }
+{
+    steps
+        .step_exact(states, marks, token_kind(kind), fact, at, event, fault)
         .number()
 }
