@@ -77,7 +77,7 @@ build_door() {
 
 # The names that a header declares.
 names_of() {
-    sed -n 's/^[a-z].*\b\(pokhvizi_[a-z_]*\)(.*/\1/p' "bindings/c/include/pokhvizi/$1.h" | grep -v -x -e pokhvizi_problem -e pokhvizi_refusal -e pokhvizi_refuses | sort -u
+    sed -n 's/^[a-z].*\b\(pokhvizi_[a-z_]*\)(.*/\1/p' "bindings/c/include/pokhvizi/$1.h" | grep -v -x -e pokhvizi_problem -e pokhvizi_refusal | sort -u
 }
 
 build_door steps token_steps_c $(names_of steps)

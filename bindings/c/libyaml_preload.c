@@ -19,8 +19,8 @@
  * many nodes" or "found too many nodes, with aliases written out", at the node or alias. With the third, an alias within the node
  * that it names is a composer error, "found an alias within the node that it names".
  *
- * What is other than with libyaml stands in docs/DIFFERENCES.md. With POKHVIZI_STRICT=1 in the environment nothing is: if libyaml
- * has an error, so has a call, and if it loses a token, a call has an error of its own. */
+ * Events and errors are libyaml's. With POKHVIZI_MENDS=1 in the environment they are those of this project's own grammar, which
+ * differs at three places (docs/DIFFERENCES.md). */
 #include <pokhvizi/compose.h>
 #include <pokhvizi/steps.h>
 #include <assert.h>
@@ -45,9 +45,6 @@ struct kept {
     pokhvizi_steps_t steps;
     size_t states_room, marks_room;
     uint32_t key;  /* for the hashes of anchors and handles, or 0 */
-    /* What is looked at before a step, a bit for each kind of token: those with texts, or all of a strict parser, for which there
-     * is an error if libyaml does something else. And the kind whose fact is its style, and nothing else: a scalar's, or none. */
-    uint32_t looked_at, by_style;
     uint8_t tag[64];  /* the tag in full whose fact was asked for last, if it is so short */
     uint8_t states[];
 };
@@ -90,7 +87,7 @@ static struct {
     size_t depth, nodes, expanded;
 } bounds;
 #define UNCOUNTED ((size_t)PTRDIFF_MAX)
-static int is_strict;  /* POKHVIZI_STRICT is set, to something else than 0 */
+static int has_mends;  /* POKHVIZI_MENDS is set, to something else than 0 */
 static const char *check_file;
 static int is_read;  /* whether the environment was read */
 
@@ -116,12 +113,12 @@ static size_t bound_of(const char *name, size_t most)
  * program may be changing. */
 __attribute__((constructor)) SELDOM void read_environment(void)
 {
-    const char *strict = getenv("POKHVIZI_STRICT"), *check = getenv("POKHVIZI_CHECK");
+    const char *mends = getenv("POKHVIZI_MENDS"), *check = getenv("POKHVIZI_CHECK");
 
     if (is_read)
         return;
     check_file = check == NULL ? NULL : strdup(check);
-    is_strict = strict != NULL && *strict != '\0' && strcmp(strict, "0") != 0;
+    has_mends = mends != NULL && *mends != '\0' && strcmp(mends, "0") != 0;
     bounds.depth = bound_of("POKHVIZI_MAX_DEPTH", PTRDIFF_MAX / sizeof(yaml_mark_t));
     bounds.nodes = bound_of("POKHVIZI_MAX_NODES", INT32_MAX);
     bounds.expanded = bound_of("POKHVIZI_MAX_EXPANDED", UNCOUNTED);
@@ -367,7 +364,7 @@ static uint8_t directive_fact(yaml_parser_t *parser, const yaml_char_t *handle)
 }
 
 /* The fact that a step takes with a token. */
-static uint8_t fact_of(yaml_parser_t *parser, const yaml_token_t *token, struct held *held)
+APART uint8_t fact_of(yaml_parser_t *parser, const yaml_token_t *token, struct held *held)
 {
     struct kept *kept = kept_of(parser);
 
@@ -481,13 +478,13 @@ static void properties(const pokhvizi_event_t *made, struct held *held, yaml_cha
     }
 }
 
-/* A scalar has the value and style of its token, or is empty where the token isn't its own. */
+/* A scalar has the value and style of its token, or is empty where the token isn't its own: it stays, or libyaml loses it. */
 static int scalar(const pokhvizi_event_t *made, const yaml_token_t *token, struct held *held, yaml_event_t *event)
 {
     event->data.scalar.plain_implicit = made->implicit;
     event->data.scalar.quoted_implicit = made->quoted_implicit;
     properties(made, held, &event->data.scalar.anchor, &event->data.scalar.tag);
-    if (token == NULL) {
+    if (token == NULL || token->type != YAML_SCALAR_TOKEN) {
         event->data.scalar.style = YAML_PLAIN_SCALAR_STYLE;
         return (event->data.scalar.value = calloc(1, 1)) != NULL;
     }
@@ -567,8 +564,6 @@ static int begin(yaml_parser_t *parser)
     pokhvizi_steps_new(&kept_of(parser)->steps);
     kept_of(parser)->marks_room = least((size_t)(parser->marks.end - parser->marks.start), bounds.depth);
     kept_of(parser)->key = 0;
-    kept_of(parser)->looked_at = is_strict ? UINT32_MAX : WITH_TEXT;
-    kept_of(parser)->by_style = is_strict ? YAML_NO_TOKEN : YAML_SCALAR_TOKEN;
     free(parser->tag_directives.start);
     memset(&parser->tag_directives, 0, sizeof parser->tag_directives);
     parser->state = YAML_PARSE_DOCUMENT_CONTENT_STATE;
@@ -597,33 +592,21 @@ static int give_event(yaml_parser_t *parser, const pokhvizi_event_t *made, const
     return 1;
 }
 
-/* Looks at a token before a step, and returns its fact; -1 if a strict parser has an error. */
-APART int look(yaml_parser_t *parser, const yaml_token_t *token, struct held *held, pokhvizi_fault_t *fault)
-{
-    const struct kept *kept = kept_of(parser);
-    const pokhvizi_mark_t *marks = (const pokhvizi_mark_t *)(const void *)parser->marks.start;
-
-    if (kept->looked_at != WITH_TEXT &&
-        pokhvizi_refuses(&kept->steps, marks, kept->marks_room, token->type, span_of(token), fault))
-        return -1;
-    return fact_of(parser, token, held);
-}
-
 OFTEN uint32_t step(yaml_parser_t *parser, const yaml_token_t *token, struct held *held, pokhvizi_event_t *made,
                     pokhvizi_fault_t *fault)
 {
     struct kept *kept = kept_of(parser);
     pokhvizi_mark_t *marks = (pokhvizi_mark_t *)(void *)parser->marks.start;
-    int fact = 0;
+    uint8_t fact = 0;
 
-    if (__builtin_expect(kept->looked_at >> token->type & 1, 0)) {
-        if (token->type == kept->by_style)
-            fact = token->data.scalar.style == YAML_PLAIN_SCALAR_STYLE;
-        else if ((fact = look(parser, token, held, fault)) < 0)
-            return POKHVIZI_FAULT;
-    }
-    return pokhvizi_step(&kept->steps, kept->states, kept->states_room, marks, kept->marks_room, token->type, (uint8_t)fact,
-                         span_of(token), made, fault);
+    if (__builtin_expect(WITH_TEXT >> token->type & 1, 0))
+        fact = token->type == YAML_SCALAR_TOKEN ? token->data.scalar.style == YAML_PLAIN_SCALAR_STYLE
+                                                : fact_of(parser, token, held);
+    if (__builtin_expect(has_mends, 0))
+        return pokhvizi_step(&kept->steps, kept->states, kept->states_room, marks, kept->marks_room, token->type, fact,
+                             span_of(token), made, fault);
+    return pokhvizi_step_exact(&kept->steps, kept->states, kept->states_room, marks, kept->marks_room, token->type, fact,
+                               span_of(token), made, fault);
 }
 
 /* Does what a step asks for that gave no event, and wants no other token; 0 where there is an error. */
@@ -899,13 +882,13 @@ OFTEN yaml_char_t *tag_of(const pokhvizi_event_t *made, struct held *held, const
 
 #define TAG_OF(made, held, by_kind) tag_of(made, held, by_kind, sizeof(by_kind))
 
-/* A scalar has the value and style of its token, or is empty where the token isn't its own. */
+/* Likewise a scalar's node. */
 OFTEN int make_scalar(const pokhvizi_event_t *made, yaml_token_t *token, struct held *held, yaml_node_t *node)
 {
     node->type = YAML_SCALAR_NODE;
     if ((node->tag = TAG_OF(made, held, YAML_DEFAULT_SCALAR_TAG)) == NULL)
         return 0;
-    if (token == NULL) {
+    if (token == NULL || token->type != YAML_SCALAR_TOKEN) {
         node->data.scalar.style = YAML_PLAIN_SCALAR_STYLE;
         node->data.scalar.length = 0;
         return (node->data.scalar.value = calloc(1, 1)) != NULL;

@@ -128,7 +128,8 @@ check_steps() {
     printf '%s\n' '#include <pokhvizi/steps.h>' '#include <string.h>' 'int main(void) { pokhvizi_steps_t s; uint8_t states[1];' \
         'pokhvizi_mark_t marks[1]; pokhvizi_event_t e; pokhvizi_fault_t f; const char *context; pokhvizi_span_t at;' \
         'memset(&at, 0, sizeof at); memset(&f, 0, sizeof f); pokhvizi_steps_new(&s);' \
-        'return pokhvizi_differs(&s, 2) == POKHVIZI_SAME && pokhvizi_refuses(&s, marks, 1, 2, &at, &f) == 0 &&' \
+        'return pokhvizi_differs(&s, 2) == POKHVIZI_SAME &&' \
+        'pokhvizi_step_exact(&s, states, 1, marks, 1, 2, 0, &at, &e, &f) == POKHVIZI_FAULT &&' \
         'pokhvizi_step(&s, states, 1, marks, 1, 2, 0, &at, &e, &f) == POKHVIZI_FAULT && f.problem == 1 &&' \
         'strcmp(pokhvizi_problem(f.problem, &context), "did not find expected <stream-start>") == 0 && context == 0 ? 0 : 1; }' \
         > "$work/header.c"
@@ -141,10 +142,10 @@ check_steps() {
     check_sample events
     check "two tags of a node" sh -c "'$work/events' < scripts/parts/broken/parser_two_tags.yaml 2> /dev/null | grep -x '=VAL 0:3 0:5 <!b> '"
     check_three "beside libyaml's events" "$@"
-    mkdir "$work/strict"
-    python3 scripts/doors/clients/strict.py write "$work/strict" 400 1 > /dev/null
-    check_three "strict, beside libyaml's events" strict "$work/strict"/*.yaml
-    ! "$work/plain" "$work/strict"/*.yaml > /dev/null || complain "what is not strict is libyaml's, too"
+    mkdir "$work/exact"
+    python3 scripts/doors/clients/exact.py write "$work/exact" 400 1 > /dev/null
+    check_three "exact steps, beside libyaml's events" exact "$work/exact"/*.yaml
+    ! "$work/plain" "$work/exact"/*.yaml > /dev/null || complain "the other steps give libyaml's events, too"
     check_three "bad calls" bad "$@"
     check_threads examples/*.yaml
 }

@@ -3,7 +3,7 @@
  *     cc -O2 -o steps_driver scripts/doors/steps_driver.c DIR/libpokhvizi.a -lyaml -lpthread
  *     steps_driver FILE..             the events of YAML files, of libyaml's tokens (Debian: libyaml-dev), beside those that its
  *                                     `yaml_parser_parse` gives: each field and mark, and the fault
- *     steps_driver strict FILE..      the same of strict parsing, where an error may say that libyaml loses a token
+ *     steps_driver exact FILE..       the same of exact steps
  *     steps_driver bad FILE..         numbers that are no token's, stacks that are too small, records of any bytes
  *     steps_driver threads FILE..     the first, in eight threads at once
  *     steps_driver times N FILE       the least time of N runs of libyaml's parser, and of the steps
@@ -29,7 +29,7 @@ struct stream {
     pokhvizi_handle_t *handles;  /* of the document's tag directives, whose texts stand in `texts` */
     size_t handles_count, handles_room;
     struct bytes texts;
-    int is_strict;
+    int is_exact;
 };
 
 /* An event. What an event of its kind hasn't is empty. */
@@ -153,6 +153,12 @@ static int take(struct stream *stream)
     return stream->has_token;
 }
 
+/* Whether a token has gone with an event that has nothing of it. */
+static int is_lost(const struct stream *stream, const pokhvizi_event_t *shape)
+{
+    return shape->kind == YAML_SCALAR_EVENT && stream->token.type != YAML_SCALAR_TOKEN;
+}
+
 /* Steps to the next event: POKHVIZI_GAVE or POKHVIZI_STAYS, a fault, or POKHVIZI_WANTS where the scanner has an error. `did` is
  * what the step before did. The buffers of an event may be used again. */
 static uint32_t next(struct stream *stream, uint32_t did, struct event *event, pokhvizi_fault_t *fault)
@@ -163,11 +169,10 @@ static uint32_t next(struct stream *stream, uint32_t did, struct event *event, p
         if ((did == POKHVIZI_WANTS || did == POKHVIZI_GAVE) && !take(stream))
             return POKHVIZI_WANTS;
         const pokhvizi_span_t *at = (const pokhvizi_span_t *)(const void *)&stream->token.start_mark;
-        if (stream->is_strict && pokhvizi_refuses(&stream->steps, stream->marks, stream->marks_room, stream->token.type, at, fault))
-            return POKHVIZI_FAULT;
-        did = pokhvizi_step(&stream->steps, stream->states, stream->states_room, stream->marks, stream->marks_room,
-                            stream->token.type, fact_of(stream, &event->next_tag), at, &event->shape, fault);
-        event->token = did == POKHVIZI_GAVE ? &stream->token : NULL;
+        did = (stream->is_exact ? pokhvizi_step_exact : pokhvizi_step)(
+            &stream->steps, stream->states, stream->states_room, stream->marks, stream->marks_room, stream->token.type,
+            fact_of(stream, &event->next_tag), at, &event->shape, fault);
+        event->token = did == POKHVIZI_GAVE && !is_lost(stream, &event->shape) ? &stream->token : NULL;
         if (did == POKHVIZI_WANTS)
             hold(stream, event);
         else if (did == POKHVIZI_FULL_STATES)
@@ -292,11 +297,8 @@ struct counts {
     size_t events, faults, lost;
 };
 
-enum { LOSES_A_TOKEN = 13 };
-
-/* Compares the events of a text, with stacks that have room for so many at first; 1 where all are alike, and the fault. A strict
- * parse may end where libyaml loses a token. */
-static int is_alike(const struct bytes *yaml, size_t room, int is_strict, struct counts *counts)
+/* Compares the events of a text, with stacks that have room for so many at first; 1 where all are alike, and the fault. */
+static int is_alike(const struct bytes *yaml, size_t room, int is_exact, struct counts *counts)
 {
     yaml_parser_t parser;
     yaml_event_t event;
@@ -307,22 +309,18 @@ static int is_alike(const struct bytes *yaml, size_t room, int is_strict, struct
     int alike = 1, more = 1;
 
     begin(&stream, yaml, room);
-    stream.is_strict = is_strict;
+    stream.is_exact = is_exact;
     begin_parser(&parser, yaml);
     while (alike && more) {
         int given = yaml_parser_parse(&parser, &event);
         did = next(&stream, did, &made, &fault);
-        if (is_strict && did == POKHVIZI_FAULT && fault.problem == LOSES_A_TOKEN) {
-            yaml_event_delete(&event);
-            counts->lost++;
-            break;
-        }
         if (!given) {
             alike = fault_is(&stream, did, &fault, &parser);
             counts->faults++;
             break;
         }
         alike = (did == POKHVIZI_GAVE || did == POKHVIZI_STAYS) && event_is(&stream, &made, &event);
+        counts->lost += did == POKHVIZI_GAVE && is_lost(&stream, &made.shape);
         if (event.type == YAML_DOCUMENT_END_EVENT)
             end_document(&stream);
         more = event.type != YAML_STREAM_END_EVENT;
@@ -336,7 +334,7 @@ static int is_alike(const struct bytes *yaml, size_t room, int is_strict, struct
 }
 
 /* Each file, with stacks of no entry, of one, of three, and of many. */
-static int compare(char **names, int is_strict)
+static int compare(char **names, int is_exact)
 {
     static const size_t rooms[] = {0, 1, 3, 65536};
     struct counts all = {0}, again = {0};
@@ -346,7 +344,7 @@ static int compare(char **names, int is_strict)
         struct bytes yaml = read_file(*names);
         int alike = 1;
         for (size_t i = 0; i < sizeof rooms / sizeof *rooms; i++)
-            alike = is_alike(&yaml, rooms[i], is_strict, i == 0 ? &all : &again) && alike;
+            alike = is_alike(&yaml, rooms[i], is_exact, i == 0 ? &all : &again) && alike;
         if (!alike)
             printf("%s differs\n", *names);
         differ += !alike;
@@ -354,7 +352,7 @@ static int compare(char **names, int is_strict)
         free(yaml.at);
     }
     printf("%zu files, %zu events, %zu faults, %zu lost tokens, %zu differ\n", files, all.events, all.faults, all.lost, differ);
-    return differ != 0 || is_strict != (all.lost != 0);
+    return differ != 0 || is_exact != (all.lost != 0);
 }
 
 /* ---- Bad calls ---- */
@@ -400,7 +398,7 @@ static struct call call_with(const struct stream *stream, size_t states_room, si
     call.marks = copy_of(stream->marks, marks_room * sizeof *call.marks);
     call.states_room = states_room;
     call.marks_room = marks_room;
-    call.did = pokhvizi_step(&call.steps, call.states, states_room, call.marks, marks_room, kind, fact,
+    call.did = (stream->is_exact ? pokhvizi_step_exact : pokhvizi_step)(&call.steps, call.states, states_room, call.marks, marks_room, kind, fact,
                              (const pokhvizi_span_t *)(const void *)&stream->token.start_mark, &call.event, &call.fault);
     calls++;
     return call;
@@ -502,6 +500,7 @@ static void check_spoiled(const struct stream *stream, const char *name)
     for (size_t i = 0; i < sizeof spoiled.steps; i++)
         if (drawn() % 2)
             bytes[i] = drawn();
+    spoiled.is_exact = drawn() % 2;
     if (drawn() % 8 != 0) {
         spoiled.steps.machine.states_count = drawn() % (states + 1);
         spoiled.steps.machine.marks_count = drawn() % (marks + 1);
@@ -515,10 +514,6 @@ static void check_spoiled(const struct stream *stream, const char *name)
                (call.event.kind >= YAML_STREAM_START_EVENT && call.event.kind <= YAML_MAPPING_END_EVENT),
            "an event's number", name);
     free_call(&call);
-    pokhvizi_mark_t *few = copy_of(spoiled.marks, marks * sizeof *few);
-    if (pokhvizi_refuses(&spoiled.steps, few, marks, drawn(), &(pokhvizi_span_t){{0, 0, 0}, {0, 0, 0}}, &call.fault))
-        expect(call.fault.problem == 2 || call.fault.problem == 10 || call.fault.problem == LOSES_A_TOKEN, "a refusal", name);
-    free(few);
     free(spoiled.states);
     free(spoiled.marks);
 }
@@ -704,7 +699,7 @@ int main(int count, char **words)
         return threads(words + 2);
     if (count == 4 && strcmp(words[1], "times") == 0)
         return times(atoi(words[2]), words[3]);
-    if (count > 2 && strcmp(words[1], "strict") == 0)
+    if (count > 2 && strcmp(words[1], "exact") == 0)
         return compare(words + 2, 1);
     return compare(words + 1, 0);
 }

@@ -24,8 +24,7 @@
 //! - A document with more nodes than it may have is the composer's fault `found too many nodes`, in place of one of memory.
 //! - [`POKHVIZI_VERSION`] and the module [`bounds`] are added.
 //!
-//! With the feature `strict` nothing is read otherwise: if the original has an error there is that error, and if it loses a
-//! token there is one that says so.
+//! Events and errors are the original's. With the feature `mends` they are those of this project's own grammar.
 
 #![allow(non_camel_case_types, clippy::missing_safety_doc)]
 

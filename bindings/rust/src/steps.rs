@@ -9,15 +9,9 @@ use std::collections::HashMap;
 use std::mem::{size_of, MaybeUninit};
 use std::{iter, ptr};
 
-/// What is kept between two steps: plain numbers, which nobody reads here, but for how many marks there are.
+/// What is kept between two steps: plain numbers, which nobody reads here.
 #[repr(C)]
 struct Record([u64; 17]);
-
-impl Record {
-    fn marks_count(&self) -> usize {
-        self.0[2] as usize
-    }
-}
 
 /// An event without its texts; flags are 1 or 0, and the number of its kind is the original's.
 #[derive(Clone, Copy)]
@@ -75,7 +69,18 @@ extern "C" {
         fault: *mut Problem,
     ) -> u32;
 
-    fn pokhvizi_differs(steps: *const Record, kind: u8) -> u8;
+    fn pokhvizi_step_exact(
+        steps: *mut Record,
+        states: *mut u8,
+        states_room: usize,
+        marks: *mut yaml_mark_t,
+        marks_room: usize,
+        kind: u8,
+        fact: u8,
+        at: *const [yaml_mark_t; 2],
+        event: *mut Shape,
+        fault: *mut Problem,
+    ) -> u32;
 
     fn pokhvizi_version_fact(major: i32, minor: i32) -> u8;
 
@@ -110,7 +115,7 @@ const STAYS: u32 = 2;
 const FULL_STATES: u32 = 3;
 const FULL_MARKS: u32 = 4;
 const FAULT: u32 = 5;
-pub const TOO_DEEP: usize = 14;
+pub const TOO_DEEP: usize = 13;
 
 /// The tag directives of a document.
 #[derive(Default)]
@@ -269,40 +274,20 @@ impl Steps {
         }
     }
 
-    /// Returns the fault of a strict parser if the original does something else with a token: the original's, or that the
-    /// original loses the token.
-    fn refuse(&self, kind: u8, at: yaml_mark_t) -> Result<(), Fault> {
-        // SAFETY: the record is a steps' own.
-        let number = match unsafe { pokhvizi_differs(&self.record, kind) } {
-            0 => return Ok(()),
-            1 => 13,
-            2 => 10,
-            _ => 2,
-        };
-        let innermost = self.marks[..self.record.marks_count()].last();
-        Err(Fault::of_problem(&Problem {
-            number,
-            context_mark: innermost.copied().unwrap_or_else(no_mark),
-            problem_mark: at,
-        }))
-    }
-
     /// Steps with a token and its fact, and writes the shape of the event that it gives.
     ///
     /// # Errors
     ///
-    /// The parser's error, or no memory for a stack; with the feature `strict`, also if the original does something else.
+    /// The parser's error, or no memory for a stack.
     #[inline]
     pub unsafe fn step(&mut self, token: &Token, fact: u8, shape: &mut Shape) -> Result<Did, Fault> {
         let kind = token.type_ as u8;
-        if cfg!(feature = "strict") {
-            self.refuse(kind, token.start_mark)?;
-        }
+        let step = if cfg!(feature = "mends") { pokhvizi_step } else { pokhvizi_step_exact };
         // The two marks of a token are neighbours.
         let at = ptr::addr_of!(token.start_mark).cast();
         loop {
             let mut problem = MaybeUninit::uninit();
-            let did = pokhvizi_step(
+            let did = step(
                 &mut self.record,
                 self.states.as_mut_ptr(),
                 self.states.len(),

@@ -22,7 +22,7 @@ import sys
 
 import yaml
 
-import strict
+import exact
 
 LEAVES = ["a", "'b c'", "*z", "&x d", "&x", "!t e", "", "&x [f, *x]", "? g", "{h: i}", "[j, k, l]", "[m: n, ? o]", "{&x p: q, *x : r}"]
 BLOCK, FLOW = ["- ", "? ", "k: "], ["[", "{k: ", "[p: ", "[q, ", "&z [", "{? "]
@@ -75,7 +75,7 @@ def unindented(random_):
 def drawn(random_):
     how = random_.random()
     if how < 0.5:
-        return strict.drawn(random_)
+        return exact.drawn(random_)
     text = (nested if how < 0.7 else bomb if how < 0.85 else unindented)(random_)
     return "--- " * (text[0] not in "-?k") + text + (nested(random_) if random_.random() < 0.2 else "")
 

@@ -1,14 +1,13 @@
-"""Texts for strict parsing, and the comparison of what was read of them.
+"""Texts at which libyaml does something else than this project's own grammar, and the comparison of what was read of them.
 
-    strict.py write DIR COUNT SEED     draws texts, and writes them as files of DIR; prints their names
-    strict.py plain|strict|loose < NAMES
-    strict.py compare PLAIN STRICT LOOSE
-    strict.py alike PLAIN STRICT
+    exact.py write DIR COUNT SEED     draws texts, and writes them as files of DIR; prints their names
+    exact.py plain|exact|mends < NAMES
+    exact.py compare PLAIN EXACT MENDS
+    exact.py alike PLAIN EXACT
 
-The second reads files by PyYAML's CLoader, and by that of bindings/python, strict or not. PLAIN, STRICT and LOOSE are its outputs,
-or those of events.c over these files: of libyaml, of a strict parser, and of one that isn't. What is strict must be libyaml's, byte
-by byte; or, if libyaml loses a token after the KEY of a flow pair, begin so and end with the error that says it. Of `compare` there
-must be texts of each kind, and the parser that isn't strict must differ at all three places; `alike` takes any files.
+The second reads files by PyYAML's CLoader, and by that of bindings/python, without its mends or with them. PLAIN, EXACT and MENDS are
+its outputs, or those of events.c over these files: of libyaml, of a parser that is to do the same, and of one with the mends. EXACT
+must be libyaml's, byte by byte. Of `compare` the parser with the mends must differ at all three places; `alike` takes any files.
 
 Run by clients.sh.
 """
@@ -57,7 +56,7 @@ def read(how):
     import yaml
 
     class Loader(yaml.CLoader if how == "plain" else pokhvizi.CLoader):
-        strict_libyaml = how == "strict"
+        mends = how == "mends"
 
     def mark(at):
         return at and (at.index, at.line, at.column)
@@ -86,53 +85,36 @@ def blocks(name):
     return found
 
 
-LOSES = "found an empty key before a token that libyaml loses"
-ERRORS = {"value_first": "did not find expected key", "bare_document": "did not find expected <document start>"}
+ERRORS = {"did not find expected key": "value_first", "did not find expected <document start>": "bare_document"}
 
 
-def place_of(plain, loose, strict):
-    """The place where a parser that isn't strict does something else, though a load may fail later and hide it."""
-    if LOSES in strict[-1]:
-        return "pair_key"
-    for place, words in ERRORS.items():
-        if plain != loose and words in strict[-1]:
-            return place
-    return None
+def place_of(plain):
+    """The place of a difference, by libyaml's error; where it goes on it has lost a token."""
+    return next((place for words, place in ERRORS.items() if words in plain[-1]), "pair_key")
 
 
-def is_as_there(plain, strict):
-    """Whether a strict parser read what libyaml reads, or as much and refused what libyaml loses."""
-    if LOSES in strict[-1]:
-        return strict[:-1] == plain[:len(strict) - 1]
-    return strict == plain
-
-
-def alike(plain, strict):
-    plain, strict = blocks(plain), blocks(strict)
-    wrong = [name for name, lines in plain.items() if not is_as_there(lines or [""], strict.get(name) or [""])]
+def alike(plain, exact):
+    plain, exact = blocks(plain), blocks(exact)
+    wrong = [name for name, lines in plain.items() if lines != exact.get(name)]
     print("\n".join(wrong[:20] + [f"{len(plain)} files, of which {len(wrong)} are read otherwise"]))
-    return int(bool(wrong) or list(plain) != list(strict))
+    return int(bool(wrong) or list(plain) != list(exact))
 
 
-def compare(plain, strict, loose):
-    plain, strict, loose = blocks(plain), blocks(strict), blocks(loose)
-    counts = {"accepted": 0, "refused": 0, "pair_key": 0, "value_first": 0, "bare_document": 0}
-    wrong = [] if list(plain) == list(strict) == list(loose) else ["other files"]
+def compare(plain, exact, mends):
+    plain, exact, mends = blocks(plain), blocks(exact), blocks(mends)
+    counts = {"alike": 0, "pair_key": 0, "value_first": 0, "bare_document": 0}
+    wrong = [] if list(plain) == list(exact) == list(mends) else ["other files"]
     for name, lines in plain.items():
-        here = strict.get(name, [""])
-        place = place_of(lines, loose.get(name), here)
-        if not is_as_there(lines, here):
+        if exact.get(name) != lines:
             wrong.append(name)
-        elif place is None and lines != loose.get(name):
-            wrong.append(name + ", which is read otherwise though nothing is told apart")
-        counts[place or ("refused" if lines[-1].startswith("error") else "accepted")] += 1
+        counts["alike" if mends.get(name) == lines else place_of(lines)] += 1
     lacking = [word for word, count in counts.items() if count == 0]
     if wrong or lacking:
         print("\n".join(wrong[:20]))
-        print(f"{len(wrong)} of {len(plain)} texts are wrong; none is there of: {' '.join(lacking) or 'nothing'}")
+        print(f"{len(wrong)} of {len(plain)} texts are wrong; with mends none is: {' '.join(lacking) or 'nothing'}")
         return 1
     said = ", ".join(f"{count} {word}" for word, count in counts.items())
-    print(f"{len(plain)} texts: {said}")
+    print(f"{len(plain)} texts are read as by libyaml; with mends {said}")
     return 0
 
 

@@ -82,8 +82,6 @@ def bounds():
         found = bounded(loader, deep, yaml.compose_all)
         expect("a text that is too deep for PyYAML's composer", found if found == wanted else str(found).split(":")[0], wanted)
     expect("the same within a bound", bounded(pokhvizi.SafeLoader, deep, yaml.compose_all, max_depth=300), TOO_DEEP)
-    expect("strict parsing by a loader in Python", bounded(pokhvizi.SafeLoader, "a", yaml.parse, strict_libyaml=True),
-           "ValueError: strict_libyaml is for the loaders in C, such as CSafeLoader")
 
     class Notes(pokhvizi.SafeLoader):
         """Its own method stays in use."""

@@ -23,11 +23,12 @@
  *     POKHVIZI_FAULT         `fault` is set              stop: the tokens are no YAML stream
  *     POKHVIZI_BAD           nothing was done            stop: `steps` counts more than `states_room` or `marks_room`
  *
- * Strict parsing. This parser accepts some streams that libyaml refuses or reads differently, at three places. If you want
- * libyaml's language, ask pokhvizi_differs before each step, or let pokhvizi_refuses do so, and stop if the result isn't 0:
+ * Exact parsing. pokhvizi_step accepts some streams that libyaml refuses or reads differently, at three places.
+ * pokhvizi_step_exact has the same arguments and results, and does what libyaml does there, too; pokhvizi_differs says before a
+ * step whether the two differ at a token:
  *
- *     POKHVIZI_SAME           libyaml does the same      go on with the step
- *     POKHVIZI_PAIR_KEY       it loses the token         after KEY in a flow sequence: `[ ? ]`
+ *     POKHVIZI_SAME           they do the same
+ *     POKHVIZI_PAIR_KEY       libyaml loses the token    after KEY in a flow sequence: `[ ? , a ]`
  *     POKHVIZI_VALUE_FIRST    it has an error            an entry of a block mapping begins with VALUE: `: x`
  *     POKHVIZI_BARE_DOCUMENT  it has an error            an implicit document after a document's explicit end
  *
@@ -54,8 +55,8 @@
  *     SCALAR (21)             1 if it is plain, else 0
  *     any other               ignored
  *
- * Texts of an event. An ALIAS (kind 5) has the text of its token. A SCALAR (6) has the text and style of the token in hand;
- * if the token stays, its text is empty and it is plain. A node with `has_anchor` or `has_tag` has the texts of the ANCHOR
+ * Texts of an event. An ALIAS (kind 5) has the text of its token. A SCALAR (6) has the text and style of the token in hand if
+ * that is a SCALAR (21) and is taken; else its text is empty and it is plain. A node with `has_anchor` or `has_tag` has the texts of the ANCHOR
  * and TAG tokens since the last event. A DOCUMENT-START (3) has the directives since the last event, and their handles last
  * until the document's DOCUMENT-END (4). So between two events only the document's handles are held, and you may give up a
  * parse at any time. Keep the token in hand until you have used its event.
@@ -100,8 +101,8 @@ typedef struct {
     pokhvizi_mark_t start_mark, end_mark;
 } pokhvizi_event_t;
 
-/* Why the tokens are no YAML stream: `problem` is 1 to 12, and `context_mark` is 0 if it has no context. The two numbers after
- * these are what you refuse yourself: a token that libyaml loses (pokhvizi_refuses), and a depth beyond your own bound. */
+/* Why the tokens are no YAML stream: `problem` is 1 to 12, and `context_mark` is 0 if it has no context. The number after these is
+ * what you refuse yourself: a depth beyond your own bound. */
 typedef struct {
     uint8_t problem;
     pokhvizi_mark_t context_mark, problem_mark;
@@ -125,8 +126,7 @@ enum {
 };
 
 enum {
-    POKHVIZI_LOST_TOKEN = 13,
-    POKHVIZI_TOO_DEEP = 14
+    POKHVIZI_TOO_DEEP = 13
 };
 
 /* Begins a parse. */
@@ -137,31 +137,19 @@ uint32_t pokhvizi_step(pokhvizi_steps_t *steps, uint8_t *states, size_t states_r
                        size_t marks_room, uint8_t kind, uint8_t fact, const pokhvizi_span_t *at, pokhvizi_event_t *event,
                        pokhvizi_fault_t *fault);
 
-/* Whether libyaml does something else with a token of this kind, if it is handed in next: one of the four numbers above. */
+/* Takes a token, exactly as libyaml does. */
+uint32_t pokhvizi_step_exact(pokhvizi_steps_t *steps, uint8_t *states, size_t states_room, pokhvizi_mark_t *marks,
+                             size_t marks_room, uint8_t kind, uint8_t fact, const pokhvizi_span_t *at,
+                             pokhvizi_event_t *event, pokhvizi_fault_t *fault);
+
+/* Where pokhvizi_step does something else than libyaml with a token of this kind, if it is handed in next: one of the four numbers
+ * above. */
 uint8_t pokhvizi_differs(const pokhvizi_steps_t *steps, uint8_t kind);
 
 /* Which tokens may come next: bit N is set if a token of kind N may be handed in and be no error, with some fact. It is exact: no
  * stream goes on from the tokens so far with a token of another kind. Ask before a token is handed in for the first time, and keep
  * the answer until it is taken: at POKHVIZI_FAULT it says what was expected in the token's place, in words pokhvizi_expected_words. */
 uint32_t pokhvizi_expected(const pokhvizi_steps_t *steps, const uint8_t *states, size_t states_room);
-
-/* Of a strict parse: 1 if libyaml does something else with this token, and then `fault` is libyaml's, or says that it loses the
- * token; 0 if it does the same. `marks` are those of the next step. */
-static __inline int pokhvizi_refuses(const pokhvizi_steps_t *steps, const pokhvizi_mark_t *marks, size_t marks_room,
-                                     uint8_t kind, const pokhvizi_span_t *at, pokhvizi_fault_t *fault)
-{
-    static const uint8_t problems[4] = {0, POKHVIZI_LOST_TOKEN, 10, 2};
-    static const pokhvizi_mark_t none = {0, 0, 0};
-    uint8_t difference = pokhvizi_differs(steps, kind);
-    size_t count = steps->machine.marks_count;
-
-    if (difference == POKHVIZI_SAME)
-        return 0;
-    fault->problem = problems[difference & 3];
-    fault->context_mark = difference != POKHVIZI_BARE_DOCUMENT && count - 1 < marks_room ? marks[count - 1] : none;
-    fault->problem_mark = at->start_mark;
-    return 1;
-}
 
 /* ---- Directives and tags ---- */
 
@@ -193,10 +181,10 @@ uint8_t pokhvizi_tag(const pokhvizi_handle_t *handles, size_t count, const uint8
 
 /* ---- Words ---- */
 
-/* Returns the words of an error's problem, libyaml's but of the last two, and sets `*context` to those of its context, or to NULL. */
+/* Returns the words of an error's problem, libyaml's but of the last, and sets `*context` to those of its context, or to NULL. */
 static __inline const char *pokhvizi_problem(uint8_t problem, const char **context)
 {
-    static const char *const words[15][2] = {
+    static const char *const words[14][2] = {
         {"no fault", NULL},
         {"did not find expected <stream-start>", NULL},
         {"did not find expected <document start>", NULL},
@@ -210,12 +198,11 @@ static __inline const char *pokhvizi_problem(uint8_t problem, const char **conte
         {"did not find expected key", "while parsing a block mapping"},
         {"did not find expected ',' or ']'", "while parsing a flow sequence"},
         {"did not find expected ',' or '}'", "while parsing a flow mapping"},
-        {"found an empty key before a token that libyaml loses", "while parsing a flow sequence"},
         {"found too many levels", NULL},
     };
 
-    *context = words[problem < 15 ? problem : 0][1];
-    return words[problem < 15 ? problem : 0][0];
+    *context = words[problem < 14 ? problem : 0][1];
+    return words[problem < 14 ? problem : 0][0];
 }
 
 /* Writes what `expected` allows in words, such as "a node, a key or the end of the block mapping", and returns their length, as

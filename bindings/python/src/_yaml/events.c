@@ -3,12 +3,9 @@
 
 static uint32_t step(parser_object *parser, uint8_t fact, pokhvizi_fault_t *fault)
 {
-    if (parser->is_strict && pokhvizi_refuses(&parser->steps, parser->marks, parser->marks_room,
-                                              (uint8_t)parser->token.type, span_of(parser), fault))
-        return POKHVIZI_FAULT;
-    return pokhvizi_step(&parser->steps, parser->states, parser->states_room, parser->marks,
-                         parser->marks_room, (uint8_t)parser->token.type, fact, span_of(parser),
-                         &parser->event, fault);
+    return (parser->has_mends ? pokhvizi_step : pokhvizi_step_exact)(
+        &parser->steps, parser->states, parser->states_room, parser->marks, parser->marks_room,
+        (uint8_t)parser->token.type, fact, span_of(parser), &parser->event, fault);
 }
 
 /* Makes the stack of marks larger, unless the token in hand opens one collection more than may be open. */
@@ -72,6 +69,11 @@ int take_event(parser_object *parser)
                 return -1;
         }
         parser->stays = did == POKHVIZI_STAYS;
+        if (did == POKHVIZI_GAVE && parser->event.kind == YAML_SCALAR_EVENT &&
+            parser->token.type != YAML_SCALAR_TOKEN) { /* libyaml loses the token */
+            yaml_token_delete(&parser->token);
+            parser->stays = 1;
+        }
     }
     return 0;
 }

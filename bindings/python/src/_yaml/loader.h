@@ -65,7 +65,7 @@ struct kept {
     /* Names of attributes, made once, since Python's cache of attributes goes by their addresses. */
     struct {
         PyObject *read, *name, *resolve, *descend_resolver, *ascend_resolver, *yaml_path_resolvers, *function,
-            *self, *start_mark, *end_mark, *max_depth, *max_nodes, *max_expanded, *strict_libyaml, *init, *code,
+            *self, *start_mark, *end_mark, *max_depth, *max_nodes, *max_expanded, *mends, *init, *code,
             *match, *yaml_implicit_resolvers, *default_scalar_tag, *default_sequence_tag, *default_mapping_tag;
     } names;
     PyObject *scalar_names[NODE_FIELDS], *collection_names[NODE_FIELDS]; /* of what nodes have, in order */
@@ -187,7 +187,7 @@ typedef struct {
     struct held held;
     struct directives directives;
     pokhvizi_steps_t steps;
-    int is_strict; /* if libyaml does something else there is an error */
+    int has_mends; /* events are of this project's own grammar, not libyaml's */
     uint8_t *states, first_states[64];
     pokhvizi_mark_t *marks, first_marks[32];
     size_t states_room, marks_room;

@@ -113,7 +113,7 @@ static int make_names(void)
         {"max_depth", &its.names.max_depth},
         {"max_nodes", &its.names.max_nodes},
         {"max_expanded", &its.names.max_expanded},
-        {"strict_libyaml", &its.names.strict_libyaml},
+        {"mends", &its.names.mends},
         {"__init__", &its.names.init},
         {"__code__", &its.names.code},
         {"match", &its.names.match},
@@ -204,7 +204,7 @@ static int add_parser_type(PyObject *module)
     PyObject *type = PyType_FromSpec(&parser_spec);
 
     if (type == NULL || add(type, "max_depth", shared(Py_None)) < 0 || add(type, "max_nodes", shared(Py_None)) < 0 ||
-        add(type, "max_expanded", shared(Py_None)) < 0 || add(type, "strict_libyaml", shared(Py_False)) < 0) {
+        add(type, "max_expanded", shared(Py_None)) < 0 || add(type, "mends", shared(Py_False)) < 0) {
         Py_XDECREF(type);
         return -1;
     }

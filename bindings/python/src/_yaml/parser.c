@@ -292,16 +292,16 @@ static int begin(parser_object *parser)
     return begin_directives(&parser->directives) < 0 ? -1 : find_bounds(parser);
 }
 
-/* Whether the loader's attribute `strict_libyaml` is there and true. */
-static int find_strict(parser_object *parser)
+/* Whether the loader's attribute `mends` is there and true. */
+static int find_mends(parser_object *parser)
 {
-    PyObject *strict = attribute_if_any((PyObject *)parser, its.names.strict_libyaml);
+    PyObject *mends = attribute_if_any((PyObject *)parser, its.names.mends);
 
-    if (strict == NULL && PyErr_Occurred())
+    if (mends == NULL && PyErr_Occurred())
         return -1;
-    parser->is_strict = strict == NULL ? 0 : PyObject_IsTrue(strict);
-    Py_XDECREF(strict);
-    return parser->is_strict < 0 ? -1 : 0;
+    parser->has_mends = mends == NULL ? 0 : PyObject_IsTrue(mends);
+    Py_XDECREF(mends);
+    return parser->has_mends < 0 ? -1 : 0;
 }
 
 static int parser_init(PyObject *object, PyObject *arguments, PyObject *keywords)
@@ -318,7 +318,7 @@ static int parser_init(PyObject *object, PyObject *arguments, PyObject *keywords
         PyErr_SetString(PyExc_RuntimeError, "the loader is in use");
         return -1;
     }
-    if (begin(parser) == 0 && find_strict(parser) == 0 && take_stream(parser, stream) == 0) {
+    if (begin(parser) == 0 && find_mends(parser) == 0 && take_stream(parser, stream) == 0) {
         parser->standing = READY;
         return 0;
     }
@@ -346,7 +346,7 @@ static PyMethodDef parser_methods[] = {
 static PyType_Slot parser_slots[] = {
     {Py_tp_doc,
      "CParser(stream): tokens, events and documents of a text, of bytes, or of a file, as PyYAML's CParser. "
-     "If its attribute `strict_libyaml` is true, what libyaml doesn't read is an error."},
+     "If its attribute `mends` is true, events are of this project's own grammar."},
     {Py_tp_new, PyType_GenericNew},
     {Py_tp_init, parser_init},
     {Py_tp_dealloc, parser_dealloc},

@@ -212,8 +212,6 @@ class Steps:
     INCOMPATIBLE, DUPLICATE_HANDLE, UNDECLARED_HANDLE = 4, 5, 8
 
     def __init__(self, scanner):
-        if getattr(scanner, "strict_libyaml", False):
-            raise ValueError("strict_libyaml is for the loaders in C, such as CSafeLoader")
         self.scanner, self.library, self.marks = scanner, Library.get(), Marks()
         self.directives = Directives(self.library)
         self.max_depth = bound_of(scanner, "max_depth", sys.maxsize)
