@@ -21,15 +21,15 @@
 #     pyyaml_ext         PyYAML's own tests of its C form, over the extension of bindings/python
 #     cloaders           the C loaders of bindings/python and PyYAML's over YAML files of this machine, PyYAML's test data, the
 #                        test suite and broken texts, with all fields
-#     strict_c           strict parsing, preloaded, over 20,000 drawn texts: libyaml's events, nodes and errors, unless it loses
-#                        a token; and over YAML files of this machine; SEED is another draw
-#     strict_python      the same of the C loaders of bindings/python, and of PyYAML's
+#     exact_c            preloaded, over 20,000 drawn texts: libyaml's events, nodes and errors, and with the mends others; and over
+#                        YAML files of this machine; SEED is another draw
+#     exact_python       the same of the C loaders of bindings/python, and of PyYAML's
 #     bounds             bounds on depth, on nodes and on nodes with aliases written out, over 2,000 drawn texts: preloaded, by the crate,
 #                        by the C loaders of bindings/python and by those in Python each refuses the same token or event, in the same
 #                        words; SEED is another draw
 #     hostile_texts      texts that cost more than their length, and broken ones, at each door with its bounds and without, as
 #                        hostile_texts.py says; docs/BOUNDS.md has its figures
-#     crate              the tests of bindings/rust, and with its feature `strict` over the same texts
+#     crate              the tests of bindings/rust, over those texts, and with its feature `mends`
 #     loads_rust         nodes, memory over 7 MB and instructions of loads by that crate and by the original; of one large
 #                        document, small documents and anchors they are at most 1.11, 1.07 and .3 of the original's
 #     pipe_rust          events before a slow pipe's end, by that crate
@@ -224,42 +224,42 @@ preload() {
 # ---- Strict parsing ----
 
 # Draws 20,000 texts.
-strict_texts() {
-    [ -e "$work/strict_names" ] && return
-    mkdir -p "$work/strict"
-    python3 "$lists/strict.py" write "$work/strict" 20000 "${SEED:-1}" > "$work/strict_names"
+exact_texts() {
+    [ -e "$work/exact_names" ] && return
+    mkdir -p "$work/exact"
+    python3 "$lists/exact.py" write "$work/exact" 20000 "${SEED:-1}" > "$work/exact_names"
 }
 
-# compare_strict: of $work/plain, $work/loose and $work/strict_read; that the check sees a parser that isn't strict, too.
-compare_strict() {
-    if python3 "$lists/strict.py" compare "$work/plain" "$work/loose" "$work/loose" > "$work/turned"; then
-        echo "a parser that isn't strict passes"
+# compare_exact: of $work/plain, $work/mends and $work/exact_read; that the check sees a parser with the mends, too.
+compare_exact() {
+    if python3 "$lists/exact.py" compare "$work/plain" "$work/mends" "$work/mends" > "$work/turned"; then
+        echo "a parser with the mends passes"
         return 1
     fi
-    python3 "$lists/strict.py" compare "$work/plain" "$work/strict_read" "$work/loose"
+    python3 "$lists/exact.py" compare "$work/plain" "$work/exact_read" "$work/mends"
 }
 
-strict_c() {
-    strict_texts || return 1
+exact_c() {
+    exact_texts || return 1
     for what in files nodes; do
-        "$work/events" $what < "$work/strict_names" > "$work/plain" &&
-            LD_PRELOAD=$preloaded "$work/events" $what < "$work/strict_names" > "$work/loose" &&
-            POKHVIZI_STRICT=1 LD_PRELOAD=$preloaded "$work/events" $what < "$work/strict_names" > "$work/strict_read" || return 1
-        drawn=$(compare_strict) || { echo "$drawn"; return 1; }
+        "$work/events" $what < "$work/exact_names" > "$work/plain" &&
+            POKHVIZI_MENDS=1 LD_PRELOAD=$preloaded "$work/events" $what < "$work/exact_names" > "$work/mends" &&
+            LD_PRELOAD=$preloaded "$work/events" $what < "$work/exact_names" > "$work/exact_read" || return 1
+        drawn=$(compare_exact) || { echo "$drawn"; return 1; }
     done
     name_files > "$work/files"
     "$work/events" files < "$work/files" > "$work/plain" 2> "$work/count" &&
-        POKHVIZI_STRICT=1 LD_PRELOAD=$preloaded "$work/events" files < "$work/files" > "$work/strict_read" || return 1
-    found=$(python3 "$lists/strict.py" alike "$work/plain" "$work/strict_read") || { echo "$found"; return 1; }
+        LD_PRELOAD=$preloaded "$work/events" files < "$work/files" > "$work/exact_read" || return 1
+    found=$(python3 "$lists/exact.py" alike "$work/plain" "$work/exact_read") || { echo "$found"; return 1; }
     echo "$drawn; $found"
 }
 
-strict_python() {
-    strict_texts || return 1
-    for how in plain loose strict_read; do
-        PYTHONPATH="$work/python" "$python" "$lists/strict.py" ${how%_read} < "$work/strict_names" > "$work/$how" || return 1
+exact_python() {
+    exact_texts || return 1
+    for how in plain mends exact_read; do
+        PYTHONPATH="$work/python" "$python" "$lists/exact.py" ${how%_read} < "$work/exact_names" > "$work/$how" || return 1
     done
-    compare_strict
+    compare_exact
 }
 
 # ---- Bounds ----
@@ -326,7 +326,7 @@ bounds() {
 }
 
 hostile_texts() {
-    build_bounds bounds '' && build_bounds bounds_strict '"strict"' || return 1
+    build_bounds bounds '"mends"' && build_bounds bounds_strict '' || return 1
     if "$python" scripts/doors/hostile_texts.py --turned "yaml=$dir/yaml" > "$work/turned"; then
         echo "what is turned passes"
         return 1
@@ -525,8 +525,8 @@ uses_patch() {
 
 crate() {
     prepare_cargo
-    strict_texts || return 1
-    (cd "$work/unsafe_libyaml" && cargo test -q -j 1 && POKHVIZI_TEXTS="$work/strict" cargo test -q -j 1 --features strict) || return 1
+    exact_texts || return 1
+    (cd "$work/unsafe_libyaml" && POKHVIZI_TEXTS="$work/exact" cargo test -q -j 1 && cargo test -q -j 1 --features mends) || return 1
     (cd "$work/unsafe_libyaml" && POKHVIZI_DIR=/nowhere cargo build -q -j 1) > "$work/missing" 2>&1 && return 1
     grep -q "POKHVIZI_DIR may name the folder of libpokhvizi.a" "$work/missing" || { cat "$work/missing"; return 1; }
     echo "$(cat bindings/rust/tests/*.rs | grep -c '^#\[test\]') tests"
@@ -609,7 +609,7 @@ serde_yaml() {
 
 wanted=$*
 for word in $wanted; do
-    case " preload events pipe_c pyyaml_c psych pyyaml_pure loaders pipe_python pyyaml_ext cloaders strict_c strict_python bounds hostile_texts crate loads_rust pipe_rust yaml_test_suite serde_yaml " in
+    case " preload events pipe_c pyyaml_c psych pyyaml_pure loaders pipe_python pyyaml_ext cloaders exact_c exact_python bounds hostile_texts crate loads_rust pipe_rust yaml_test_suite serde_yaml " in
     *" $word "*) ;;
     *) echo "no check has the name $word" >&2; exit 2 ;;
     esac
@@ -626,8 +626,8 @@ check loaders PyYAML pyyaml libyaml-pp-perl -- loaders
 check pipe_python PyYAML -- pipe_python
 check pyyaml_ext PyYAML cc yaml.h pyyaml _yaml.abi3.so -- pyyaml_ext
 check cloaders PyYAML cc yaml.h pyyaml libyaml-pp-perl _yaml.abi3.so -- cloaders
-check strict_c cc yaml.h libyaml_preload.so events -- strict_c
-check strict_python PyYAML _yaml.abi3.so -- strict_python
+check exact_c cc yaml.h libyaml_preload.so events -- exact_c
+check exact_python PyYAML _yaml.abi3.so -- exact_python
 check bounds PyYAML cc cargo yaml.h libyaml_preload.so events _yaml.abi3.so unsafe-libyaml -- bounds
 check hostile_texts PyYAML cc cargo /usr/bin/time yaml.h libyaml_preload.so events _yaml.abi3.so unsafe-libyaml crates/yamltokens/out/yamltokens -- hostile_texts
 check crate cargo unsafe-libyaml -- crate

@@ -10,7 +10,7 @@ The doors, of which those are tried that have a path:
     preload=LIBRARY           libyaml_preload.so, under a program over libyaml, which `events=PROGRAM` names (clients/events.c)
     c_loader=FOLDER           CSafeLoader of the package in that folder
     loader=FOLDER             SafeLoader of that package
-    rust=PROGRAM              clients/bounds.rs over bindings/rust; `rust_strict=PROGRAM` is the same with its feature `strict`
+    rust=PROGRAM              clients/bounds.rs over bindings/rust; with its feature `mends`; `rust_strict=PROGRAM` is the same without it
     yamltokens=PROGRAM        by examples/yaml_lines.py and PyYAML's scanner; its bound on tokens can't be set
 
 Prints each case with its time and the peak of its memory, which no check looks at; with --table also those of loads, in the lines of
@@ -123,7 +123,7 @@ class Counts(Door):
 class Preload(Counts):
     def run(self, what, file, bounds, strict):
         names = "POKHVIZI_MAX_DEPTH", "POKHVIZI_MAX_NODES", "POKHVIZI_MAX_EXPANDED"
-        words = dict(zip(names, map(str, bounds)), POKHVIZI_STRICT="1" if strict else "0", LD_PRELOAD=self.path)
+        words = dict(zip(names, map(str, bounds)), POKHVIZI_MENDS="0" if strict else "1", LD_PRELOAD=self.path)
         words = ["%s=%s" % pair for pair in words.items()]
         return ["env", *words, self.paths["events"], {"events": "memory", "nodes": "loads"}[what]], {}, file
 
@@ -169,8 +169,8 @@ def read(kind, what, file, strict, *bounds):
         max_depth, max_nodes, max_expanded = (int(bound) if bound else None for bound in bounds)
         nodes = 0
 
-    if strict == "1":
-        Bounded.strict_libyaml = True
+    if kind == "CSafeLoader":
+        Bounded.mends = strict != "1"
     with open(file, "rb") as opened:
         text = opened.read()
     try:
