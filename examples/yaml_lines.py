@@ -4,7 +4,7 @@ import sys
 
 USAGE = """\
 usage: yaml_lines.py tokens FILE
-       yaml_lines.py events|nodes|strict-events|strict-nodes FILE [--program PATH]
+       yaml_lines.py events|nodes FILE [--program PATH]
 
 Reads a YAML text through PyYAML's scanner (Debian: python3-yaml), libyaml's where PyYAML has its C part.
 FILE - is standard input.
@@ -12,8 +12,6 @@ FILE - is standard input.
   tokens   writes the scanner's tokens, as lines that `yamltokens` reads
   events   writes the events
   nodes    writes each document, and then its nodes
-
-With strict- before it a mode reads libyaml's own language: where libyaml would read something else, there is a fault.
 
 Events and nodes are made by the program yamltokens, and are at most those of 1,000,000 tokens:
 
@@ -388,7 +386,7 @@ def read_words(words):
             raise WrongWords
         else:
             names.append(word)
-    is_run = bool(names) and names[0] in ("events", "nodes", "strict-events", "strict-nodes")
+    is_run = bool(names) and names[0] in ("events", "nodes")
     if len(names) != 2 or len(options) > 1 or None in options.values() or not (is_run or names[0] == "tokens"):
         raise WrongWords
     if not is_run:
@@ -429,7 +427,7 @@ def told(words):
     try:
         status, message = main(words)
     except WrongWords:
-        status, message = 2, "usage: yaml_lines.py tokens|events|nodes|strict-events|strict-nodes FILE [--program PATH]; or --help"
+        status, message = 2, "usage: yaml_lines.py tokens|events|nodes FILE [--program PATH]; or --help"
     except Failure as failure:
         status, message = 3, failure
     except MemoryError:

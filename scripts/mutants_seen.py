@@ -83,7 +83,7 @@ def lists():
     tables = [TOP / "crates/vectors_yaml/data" / name for name in ("productions", "completed", "loads", "libyaml_differs", "suite", "real")]
     for table in [*tables, TOP / "crates/vectors_lines/data/runs"]:
         for tokens in sorted(table.glob("*.tokens")):
-            for kind in ("events", "nodes", "strict-events", "strict-nodes"):
+            for kind in ("events", "nodes"):
                 wanted = tokens.with_suffix("." + kind)
                 if wanted.exists():
                     text = text_of(wanted)

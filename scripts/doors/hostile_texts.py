@@ -96,12 +96,9 @@ class Steps(Lines):
 
 
 class Yamltokens(Lines):
-    strict = True
-
     def run(self, what, file, bounds, strict):
         self.what = what
-        word = "strict-" + what if strict else what
-        return [sys.executable, TOP + "/examples/yaml_lines.py", word, file, "--program", self.path], {}, None
+        return [sys.executable, TOP + "/examples/yaml_lines.py", what, file, "--program", self.path], {}, None
 
 
 class Counts(Door):

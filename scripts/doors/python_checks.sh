@@ -81,10 +81,8 @@ runpy.run_path(sys.argv[0], run_name="__main__")' > older.py
 for mode in events nodes; do
     for name in list compose; do
         [ -f "$examples/$name.$mode" ] || continue
-        for strict in '' strict-; do
-            expect 0 '' "python3 $front $strict$mode $examples/$name.yaml --program $program"
-            same "$examples/$name.$mode"
-        done
+        expect 0 '' "python3 $front $mode $examples/$name.yaml --program $program"
+        same "$examples/$name.$mode"
     done
 done
 for name in list compose; do
@@ -121,8 +119,7 @@ expect 1 'yaml_lines.py: parser.yaml: line 1, column 6: *(parser)' "python3 $fro
 expect 1 'yaml_lines.py: composer.yaml: line 1, column 3: *(composer)' "python3 $front nodes composer.yaml --program $program"
 for mode in events nodes; do
     expect 0 '' "python3 $front $mode bare.yaml --program $program"
-    expect 1 'yaml_lines.py: bare.yaml: line 3, column 1: did not find expected <document start> (scanner)' \
-        "python3 $front strict-$mode bare.yaml --program $program"
+    expect 2 'yaml_lines.py: usage: *' "python3 $front strict-$mode bare.yaml --program $program"
 done
 for name in surrogate beyond version; do
     expect 1 "yaml_lines.py: $name.yaml: line *(scanner)" "python3 $front tokens $name.yaml"
@@ -139,7 +136,7 @@ expect 0 '' "PYTHONPATH=$examples:$examples/../bindings/python/src python3 -B -c
 
 # ---- Wrong words: status 2 ----
 
-usage='yaml_lines.py: usage: yaml_lines.py tokens|events|nodes|strict-events|strict-nodes FILE *'
+usage='yaml_lines.py: usage: yaml_lines.py tokens|events|nodes FILE *'
 for words in '' tokens 'tokens a b' 'words ok.yaml' '--wrong' 'events ok.yaml --program' 'tokens ok.yaml --program x' \
     '-x ok.yaml'; do
     expect 2 "$usage" "python3 $front $words"
@@ -169,7 +166,6 @@ expect 3 'yaml_lines.py: out of memory' "python3 $front events --program ./refus
 expect 3 'yaml_lines.py: ./failing failed, with status 9' "python3 $front events --program ./failing ok.yaml"
 for mode in events nodes; do
     expect 3 "yaml_lines.py: ./silent ended without writing its $mode" "python3 $front $mode --program ./silent ok.yaml"
-    expect 3 "yaml_lines.py: ./silent ended without writing its strict-$mode" "python3 $front strict-$mode --program ./silent ok.yaml"
     expect 3 'yaml_lines.py: ok.yaml: too many tokens, after 5 tokens: a limit *' "python3 $front $mode --program ./limited ok.yaml"
     expect 3 'yaml_lines.py: wide.yaml: line too long, after 1 token: a limit *' "python3 $front $mode --program $program wide.yaml"
     [ "$(tail -n 1 out)" = 'FAULT reader 1:1:0 line too long' ] || complain "$(tail -n 1 out)"

@@ -49,21 +49,19 @@ is 1 bad output nodes; says 1 0
 is 0 unknown output events; says 5 0
 is 1 unknown output nodes; says 1 0
 is 1 /dev/null output events; says 1 0
-is 0 whole output strict-events; says 5 0
-is 0 whole output strict-nodes; says 2 0
 is 0 bare output events; says 8 0
-is 1 bare output strict-events; says 5 0
 is 0 bare output nodes; says 4 0
-is 1 bare output strict-nodes; says 3 0
 is 2 whole output; says 0 1
 is 2 whole output Events; says 0 1
 is 2 whole output events nodes; says 0 1
+is 2 whole output strict-events; says 0 1
+is 2 whole output strict-nodes; says 0 1
 is 2 whole output "$(printf 'events\377')"; says 0 1
 if [ -w /dev/full ]; then
     is 3 whole /dev/full events
     is 3 whole /dev/full nodes
     is 3 cut /dev/full events
-    is 3 bare /dev/full strict-nodes
+    is 3 bare /dev/full nodes
 else
     echo "no /dev/full: status 3 is not tried"; wrong=1
 fi

@@ -19,11 +19,7 @@ struct WordRun {
     lines: &'static str,
 }
 
-/// The lines of a block mapping that begins with VALUE.
-const VALUE_FIRST: &[u8] =
-    b"STREAM-START 0:0:0 0:0:0 utf8\nBLOCK-MAPPING-START 2:0:2 3:0:3\nVALUE 4:0:4 5:0:5\n";
-
-const ASKED: [WordRun; 6] = [
+const ASKED: [WordRun; 4] = [
     WordRun {
         vector: "events",
         word: "events",
@@ -35,23 +31,6 @@ const ASKED: [WordRun; 6] = [
         word: "nodes",
         input: LINE,
         lines: "FAULT reader 1:1:0 no more tokens\n",
-    },
-    WordRun {
-        vector: "strict-events",
-        word: "strict-events",
-        input: VALUE_FIRST,
-        lines: "STREAM-START 0:0:0 0:0:0 utf8\n\
-            DOCUMENT-START 2:0:2 2:0:2 1 - 0\n\
-            MAPPING-START 2:0:2 3:0:3 - - 1 block\n\
-            FAULT scanner 4:0:4 did not find expected key\n\
-            CONTEXT 2:0:2 while parsing a block mapping\n",
-    },
-    WordRun {
-        vector: "strict-nodes",
-        word: "strict-nodes",
-        input: VALUE_FIRST,
-        lines: "FAULT scanner 4:0:4 did not find expected key\n\
-            CONTEXT 2:0:2 while parsing a block mapping\n",
     },
     WordRun {
         vector: "events of nothing",
@@ -78,8 +57,8 @@ const REFUSED: [&[&str]; 7] = [
     &["Events"],
     &["nodes", "events"],
     &["events "],
-    &["strict"],
-    &["strict-events", "strict-nodes"],
+    &["strict-events"],
+    &["strict-nodes"],
 ];
 
 fn refused() -> &'static [&'static [&'static str]] {
@@ -108,8 +87,7 @@ fn are_refused(alloc: Global, words: &[&str]) -> Result<bool, AllocError> {
             run_words(alloc, words, &mut reader, &mut output, &mut full) == 2,
             reader == LINE,
             output.is_empty(),
-            errors.as_slice()
-                == b"usage: yamltokens events|nodes|strict-events|strict-nodes\n".as_slice(),
+            errors.as_slice() == b"usage: yamltokens events|nodes\n".as_slice(),
         ] == [true; 5],
     )
 }
@@ -167,7 +145,7 @@ impl Refusal {
 
     fn line(self) -> &'static str {
         match self {
-            Refusal::Words => "usage: yamltokens events|nodes|strict-events|strict-nodes\n",
+            Refusal::Words => "usage: yamltokens events|nodes\n",
             Refusal::NoMemory => "yamltokens: no memory\n",
         }
     }

@@ -1,6 +1,5 @@
 //! `yamltokens events` and `yamltokens nodes`: token lines on standard input, the lines of events or of
-//! documents on standard output. `yamltokens strict-events` and `yamltokens strict-nodes` do the same of
-//! libyaml's own language alone.
+//! documents on standard output.
 #![tactic(auto)]
 
 use std::process::ExitCode;

@@ -4,16 +4,13 @@ use Rattle.token_lines.specs.declared.run.Outcome.{Outcome}
 use Rattle.token_lines.specs.declared.run.Outcome.TheVariants.{Ended, Faulted, OutputFailed}
 use Rattle.token_lines.specs.events.LastCall.{RunsOver}
 use Rattle.token_lines.specs.nodes.LastLoad.{NodesOver}
-use Rattle.token_lines.specs.within.WithinLimits.{DocumentsWithin, EventsWithin}
 use Rattle.yamltokens_program.specs.declared.words.Run.{Run}
-use Rattle.yamltokens_program.specs.declared.words.Run.TheVariants.{Events, Nodes, StrictEvents, StrictNodes}
+use Rattle.yamltokens_program.specs.declared.words.Run.TheVariants.{Events, Nodes}
 
 -- the run that one word asks for
 abbrev pub run_of : List ℕ → Option Run
 run_of word = if bytes_eq word (codes "events") then Some Events else
-    (if bytes_eq word (codes "nodes") then Some Nodes else
-    (if bytes_eq word (codes "strict-events") then Some StrictEvents else
-    (if bytes_eq word (codes "strict-nodes") then Some StrictNodes else None)))
+    (if bytes_eq word (codes "nodes") then Some Nodes else None)
 
 -- the run that the words ask for: there is exactly one word
 abbrev pub asked_run : List (List ℕ) → Option Run
@@ -25,16 +22,12 @@ exit_status_of Ended = 0
 exit_status_of Faulted = 1
 exit_status_of OutputFailed = 3
 
--- the run was over a reader's lines, and wrote what it writes; a strict one of libyaml's own language, nested as deep as can be
+-- the run was over a reader's lines, and wrote what it writes
 abbrev pub WasOver : {R W : Type 0} → Run → (remaining : R → Option (List ℕ)) → (contents : W → Option (List ℕ)) → R
     → Outcome
     → (before after : Option (List ℕ)) → Type 0
 WasOver Events remaining contents reader outcome before after = RunsOver remaining contents reader outcome before after
 WasOver Nodes remaining contents reader outcome before after = NodesOver remaining contents reader outcome before after
-WasOver StrictEvents remaining contents reader outcome before after
-    = EventsWithin (record { strict = true; max_depth = None }) remaining contents reader outcome before after
-WasOver StrictNodes remaining contents reader outcome before after
-    = DocumentsWithin (record { strict = true; max_depth = None }) remaining contents reader outcome before after
 
 -- such a run, and this status says how it ended
 pub record RunsWith {R W : Type 0} (run : Run) (remaining : R → Option (List ℕ)) (contents : W

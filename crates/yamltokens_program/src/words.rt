@@ -4,9 +4,7 @@ ghost use Rattle.yamltokens_program.specs.Arguments.{run_of, asked_run, RunsWith
 
 use std::alloc::Global;
 use std::io::{BufRead, Write};
-use token_lines::{
-    Outcome, run_events, run_events_within, run_nodes, run_nodes_within, yaml_limits_t,
-};
+use token_lines::{Outcome, run_events, run_nodes};
 
 /// The exit status of words that ask for nothing, or that can't be read.
 const WRONG_WORDS: u8 = 2;
@@ -21,10 +19,6 @@ pub enum Run {
     Events,
     /// The texts of documents.
     Nodes,
-    /// The lines of events, if the tokens are of libyaml's own language.
-    StrictEvents,
-    /// The texts of documents, likewise.
-    StrictNodes,
 }
 
 /// Runs what the words after the program's name ask for, from `reader` to `output`, and returns the
@@ -65,15 +59,9 @@ fn run_asked<R: BufRead + Drop, W: Write>(
     ensures { WasOver run R.remaining W.contents reader result (W.contents output.old)
         (W.contents output.new) }
 {
-    let strict = yaml_limits_t {
-        strict: true,
-        max_depth: None,
-    };
     match run {
         Run::Events => run_events(alloc, reader, output),
         Run::Nodes => run_nodes(alloc, reader, output),
-        Run::StrictEvents => run_events_within(alloc, reader, strict, output),
-        Run::StrictNodes => run_nodes_within(alloc, reader, strict, output),
     }
 }
 
@@ -94,8 +82,6 @@ fn run_of(word: &str) -> Option<Run>
     match word {
         "events" => Some(Run::Events),
         "nodes" => Some(Run::Nodes),
-        "strict-events" => Some(Run::StrictEvents),
-        "strict-nodes" => Some(Run::StrictNodes),
         _ => None,
     }
 }
@@ -104,11 +90,7 @@ fn run_of(word: &str) -> Option<Run>
 pub fn refuse_words<E: Write>(errors: &mut E) -> u8
     ensures { result ≡ 2 }
 {
-    refuse(
-        WRONG_WORDS,
-        "usage: yamltokens events|nodes|strict-events|strict-nodes\n",
-        errors,
-    )
+    refuse(WRONG_WORDS, "usage: yamltokens events|nodes\n", errors)
 }
 
 /// Writes that no memory was found for a buffer.
