@@ -4,4 +4,3 @@ pub mod ReadsBackLemmas
 pub mod OneOutputs
 pub mod WholeRuns
 pub mod OneWritings
-pub mod SomeRuns

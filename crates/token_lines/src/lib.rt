@@ -9,11 +9,7 @@ mod run;
 
 pub use line_reading::{MAX_LINE, laws as reading_laws, yaml_line_source_t};
 pub use line_writing::{line_refusal_t, write_document, write_event, write_fault};
-pub use run::{
-    Outcome, run_end_t, run_events, run_events_within, run_nodes, run_nodes_within, write_events,
-    write_nodes,
-};
-pub use token_limits::yaml_limits_t;
+pub use run::{Outcome, run_end_t, run_events, run_nodes, write_events, write_nodes};
 
 /// A run reads at most this many tokens.
 pub const MAX_TOKENS: u64 = 1_000_000;

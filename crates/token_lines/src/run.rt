@@ -6,7 +6,6 @@ ghost use Rattle.token_lines.specs.lines.LineRun.{WroteFault, outcome_of};
 
 mod events;
 mod nodes;
-mod within;
 
 pub use events::{run_events, write_events};
 use libyaml_events::{yaml_parser_t, yaml_parser_t_prefix, yaml_token_source_t};
@@ -14,7 +13,6 @@ use line_writing::write_fault;
 pub use nodes::{run_nodes, write_nodes};
 use std::io;
 use std::io::Write;
-pub use within::{run_events_within, run_nodes_within};
 
 /// How a run ended.
 #[derive(Copy, Clone, PartialEq, Eq, Debug)]

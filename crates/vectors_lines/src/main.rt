@@ -2,8 +2,7 @@
 //! and writers that fail.
 //!
 //! The program makes each check of `Check` for each run that the file `names` names, and for each line of
-//! `good_lines` and `bad_lines`; those of `STRICT`, and with allocations that fail, for each run of
-//! `strict_names`; it counts the test vectors of each table and names those that differ. It also runs over
+//! `good_lines` and `bad_lines`; it counts the test vectors of each table and names those that differ. It also runs over
 //! more lines than are read. `vectors_lines TABLE` makes the checks of one table, `vectors_lines TABLE
 //! VECTOR` those of one test vector, and `vectors_lines failing` those of `failing`, for
 //! `scripts/gate/allocation_failures.sh`.
@@ -66,13 +65,11 @@ impl Check {
     }
 }
 
-/// Whose lines a test vector of `names` or `strict_names` has, and how its run ends.
+/// Whose lines a test vector of `names` has, and how its run ends.
 fn ending_of(of: &str, outcome: &str) -> Option<(LinesOf, Outcome)> {
     let of = match of {
         "events" => LinesOf::Events,
         "nodes" => LinesOf::Documents,
-        "strict-events" => LinesOf::StrictEvents,
-        "strict-nodes" => LinesOf::StrictDocuments,
         _ => return None,
     };
     match outcome {
@@ -82,7 +79,7 @@ fn ending_of(of: &str, outcome: &str) -> Option<(LinesOf, Outcome)> {
     }
 }
 
-/// Makes a check of the run that a test vector of `names` or `strict_names` names.
+/// Makes a check of the run that a test vector of `names` names.
 fn is_vector_right(
     rt: &(impl Files + Print + AllocGlobal),
     vector: &str,
@@ -111,21 +108,10 @@ fn show_runs(
     name: &'static str,
     check: Check,
 ) -> Result<()> {
-    show_runs_of(rt, tables, name, "names", check)
-}
-
-/// Makes a check of each run that this file names.
-fn show_runs_of(
-    rt: &(impl Files + Print + AllocGlobal),
-    tables: &mut Tables<'_>,
-    name: &'static str,
-    names: &str,
-    check: Check,
-) -> Result<()> {
     let Some(mut table) = tables.begin(name) else {
         return Ok(());
     };
-    let names = read_text(rt, names)?;
+    let names = read_text(rt, "names")?;
     for vector in names.lines() {
         if table.has(vector) {
             table.count(rt, vector, is_vector_right(rt, vector, check)?)?;
@@ -198,21 +184,6 @@ fn show_lines(
     Ok(())
 }
 
-/// What is checked of strict runs.
-const STRICT: [(&str, Check); 4] = [
-    ("strict runs in pieces", Check::Pieces),
-    ("strict runs, reads that fail", Check::Reads),
-    ("strict runs, writes that fail", Check::Writes),
-    ("strict runs, flushes", Check::Flushes),
-];
-
-fn show_strict(rt: &(impl Files + Print + AllocGlobal), tables: &mut Tables<'_>) -> Result<()> {
-    for (name, check) in STRICT {
-        show_runs_of(rt, tables, name, "strict_names", check)?;
-    }
-    Ok(())
-}
-
 fn show_failing_tables(
     rt: &(impl Files + Print + AllocGlobal),
     tables: &mut Tables<'_>,
@@ -222,9 +193,7 @@ fn show_failing_tables(
     let runs = "runs, allocations that fail";
     show_runs(rt, tables, runs, Check::Allocations)?;
     let parts = "events and documents, allocations that fail";
-    show_runs(rt, tables, parts, Check::Parts)?;
-    let strict = "strict runs, allocations that fail";
-    show_runs_of(rt, tables, strict, "strict_names", Check::Allocations)
+    show_runs(rt, tables, parts, Check::Parts)
 }
 
 fn show_tables(rt: &(impl Files + Print + AllocGlobal), tables: &mut Tables<'_>) -> Result<()> {
@@ -234,7 +203,6 @@ fn show_tables(rt: &(impl Files + Print + AllocGlobal), tables: &mut Tables<'_>)
     show_runs(rt, tables, "runs, flushes", Check::Flushes)?;
     show_runs(rt, tables, "runs in memory", Check::Memory)?;
     show_runs(rt, tables, "runs in memory, bounds", Check::Bounds)?;
-    show_strict(rt, tables)?;
     show_lines(
         rt,
         tables,

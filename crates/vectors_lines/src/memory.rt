@@ -24,8 +24,6 @@ fn run_in_memory(alloc: Global, run: Run<'_>, out: &mut [u8], max_tokens: u64) -
     match run.of {
         LinesOf::Events => events_in_memory(alloc, run.tokens, out, max_tokens),
         LinesOf::Documents => nodes_in_memory(alloc, run.tokens, out, max_tokens),
-        // there are none in memory
-        LinesOf::StrictEvents | LinesOf::StrictDocuments => OUT_OF_MEMORY,
     }
 }
 

@@ -3,9 +3,7 @@
 use std::alloc::Global;
 use std::io;
 use std::io::{BufRead, Write};
-use token_lines::{
-    Outcome, run_events, run_events_within, run_nodes, run_nodes_within, yaml_limits_t,
-};
+use token_lines::{Outcome, run_events, run_nodes};
 use vectors_common::{EVERY_CALL, PieceReader, PieceWriter, show_difference};
 
 /// Whose lines a run writes.
@@ -13,9 +11,6 @@ use vectors_common::{EVERY_CALL, PieceReader, PieceWriter, show_difference};
 pub enum LinesOf {
     Events,
     Documents,
-    /// Of libyaml's own language.
-    StrictEvents,
-    StrictDocuments,
 }
 
 /// A run over the lines of a reader.
@@ -25,12 +20,9 @@ pub fn run_lines<R: BufRead + Drop, W: Write>(
     reader: R,
     writer: &mut W,
 ) -> Outcome {
-    let strict = yaml_limits_t::strict();
     match of {
         LinesOf::Events => run_events(alloc, reader, writer),
         LinesOf::Documents => run_nodes(alloc, reader, writer),
-        LinesOf::StrictEvents => run_events_within(alloc, reader, strict, writer),
-        LinesOf::StrictDocuments => run_nodes_within(alloc, reader, strict, writer),
     }
 }
 

@@ -16,9 +16,6 @@ ghost use Rattle.token_lines.specs.lines.OneInMemory.{OneInMemory};
 ghost use Rattle.token_lines.specs.lines.OneOutput.{OneOutput};
 ghost use Rattle.token_lines.specs.lines.OneWriting.{BreaksOffByNone, writing_results_of, results_of_nodes};
 ghost use Rattle.token_lines.specs.nodes.LastLoad.{LastLoad, NodesOver};
-ghost use Rattle.token_lines.specs.within.WithinLimits.{DocumentsWithin, EventsWithin};
-ghost use Rattle.token_limits.specs.Limited.{MayBreakBy};
-ghost use Rattle.token_limits.specs.declared.limits.yaml_limits_t.{yaml_limits_t};
 
 use libyaml_events::yaml_token_source_t;
 use std::io::{BufRead, Write};
@@ -40,24 +37,6 @@ pub fn one_output<R: BufRead, W: Write>()
         → (b : NodesOver R.remaining W.contents other second (Some written) later)
         → OneOutput (BreaksOff a.last.source) (BreaksOff b.last.source) first second (Some written)
         after later }
-{}
-
-/// Likewise two runs within the same limits.
-pub fn one_output_within<R: BufRead, W: Write>()
-    ensures events { (m : yaml_limits_t) (one other : R) (first second : Outcome) (bytes written : List ℕ)
-        (after later : Option (List ℕ))
-        → R.remaining one ≡ Some bytes → R.remaining other ≡ Some bytes
-        → (a : EventsWithin m R.remaining W.contents one first (Some written) after)
-        → (b : EventsWithin m R.remaining W.contents other second (Some written) later)
-        → OneOutput (MayBreakBy (BreaksOff a.last.source.source))
-        (MayBreakBy (BreaksOff b.last.source.source)) first second (Some written) after later }
-    ensures nodes { (m : yaml_limits_t) (one other : R) (first second : Outcome) (bytes written : List ℕ)
-        (after later : Option (List ℕ))
-        → R.remaining one ≡ Some bytes → R.remaining other ≡ Some bytes
-        → (a : DocumentsWithin m R.remaining W.contents one first (Some written) after)
-        → (b : DocumentsWithin m R.remaining W.contents other second (Some written) later)
-        → OneOutput (MayBreakBy (BreaksOff a.last.source.source))
-        (MayBreakBy (BreaksOff b.last.source.source)) first second (Some written) after later }
 {}
 
 /// Two outcomes of one `write_events`, both of which its contract allows, with a writer that has written the

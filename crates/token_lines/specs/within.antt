@@ -1,2 +1,0 @@
-pub mod SourceRun
-pub mod WithinLimits
