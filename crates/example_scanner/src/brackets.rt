@@ -3,8 +3,8 @@
 use anyhow::{Result, bail};
 use std::alloc::Global;
 use unsafe_libyaml::{
-    YAML_PLAIN_SCALAR_STYLE, YAML_UTF8_ENCODING, unnamed_yaml_token_t_data, yaml_event_t,
-    yaml_mark_t, yaml_push_parser_t, yaml_token_t,
+    TokenTypes, YAML_PLAIN_SCALAR_STYLE, YAML_UTF8_ENCODING, unnamed_yaml_token_t_data,
+    yaml_event_t, yaml_mark_t, yaml_push_parser_t, yaml_token_t, yaml_token_type_t,
 };
 
 /// Returns the mark of a column of the one line.
@@ -40,7 +40,27 @@ fn push(rt: &HostRuntime, parser: &mut yaml_push_parser_t, token: yaml_token_t) 
     Ok(pushed?)
 }
 
-/// Pushes the tokens of a text, and prints the type and the place of each event.
+/// Prints what may come next, in place of the text's end.
+fn print_expected(rt: &HostRuntime, expected: TokenTypes) -> Result<()> {
+    use yaml_token_type_t::{
+        YAML_FLOW_ENTRY_TOKEN, YAML_FLOW_SEQUENCE_END_TOKEN, YAML_FLOW_SEQUENCE_START_TOKEN,
+        YAML_SCALAR_TOKEN,
+    };
+    for (kind, word) in [
+        (YAML_FLOW_SEQUENCE_START_TOKEN, "["),
+        (YAML_FLOW_SEQUENCE_END_TOKEN, "]"),
+        (YAML_FLOW_ENTRY_TOKEN, ","),
+        (YAML_SCALAR_TOKEN, "a letter"),
+    ] {
+        if expected.contains(kind) {
+            println!(rt; "expected {word}")?;
+        }
+    }
+    Ok(())
+}
+
+/// Pushes the tokens of a text, and prints the type and the place of each event. If it can't end there, prints
+/// what may come next.
 ///
 /// # Errors
 ///
@@ -58,6 +78,10 @@ pub fn push_text(rt: &HostRuntime, text: &str) -> Result<()> {
     for character in text.bytes() {
         push(rt, &mut parser, token(alloc, character, mark(column))?)?;
         column = column.saturating_add(1);
+    }
+    let expected = parser.expected();
+    if !expected.contains(yaml_token_type_t::YAML_STREAM_END_TOKEN) {
+        return print_expected(rt, expected);
     }
     let end = mark(column);
     push(

@@ -1,6 +1,7 @@
 //! The events of token records, by steps.
 
 use crate::deeds::Documents;
+use crate::expected;
 use crate::tokens::{ABSENT, Tokens, mark_record_t, range_record_t, token_record_t};
 use anyhow::{Context, Result, bail};
 use libyaml_types::{
@@ -38,7 +39,7 @@ const FAILED: u32 = 5;
 
 const BAD: u32 = 6;
 
-const NO_EVENT: step_event_t = step_event_t {
+pub(crate) const NO_EVENT: step_event_t = step_event_t {
     kind: 0,
     has_anchor: 0,
     has_tag: 0,
@@ -49,7 +50,7 @@ const NO_EVENT: step_event_t = step_event_t {
     end_mark: ZERO_MARK,
 };
 
-const NO_FAULT: step_fault_t = step_fault_t {
+pub(crate) const NO_FAULT: step_fault_t = step_fault_t {
     problem: 0,
     context_mark: ZERO_MARK,
     problem_mark: ZERO_MARK,
@@ -122,6 +123,15 @@ impl Parser {
 
     /// Takes a token, and writes the lines of the events that it settles. Returns whether there was no fault.
     fn take(&mut self, alloc: Global, token: &token_record_t, texts: &[u8]) -> Result<bool> {
+        if !expected::is_right(
+            alloc,
+            &self.steps,
+            self.states.as_slice(),
+            self.marks.as_slice(),
+        )? {
+            self.lines
+                .extend_from_slice(b"types of token are expected, and others taken\n")?;
+        }
         for _ in 0..STEPS {
             match self.step(alloc, token, texts)? {
                 WANTS | GAVE => return Ok(true),

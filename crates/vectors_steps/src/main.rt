@@ -10,6 +10,7 @@
 
 mod deeds;
 mod events;
+mod expected;
 mod sizes;
 mod tokens;
 
