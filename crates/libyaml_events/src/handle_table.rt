@@ -1,5 +1,5 @@
 //! The tag handles that a document declares.
-ghost use Rattle.std.specs.Prelude.{◌≡◌, None, IfOk, OnOk, OnErr, is_some, string_bytes};
+ghost use Rattle.std.specs.Prelude.{◌≡◌, None, OnOk, OnErr, string_bytes};
 ghost use Rattle.std.specs.Option.{option_copied};
 ghost use Rattle.std.specs.FinMap as map;
 ghost use Rattle.libyaml_events.specs.machine.Config.{no_handles};
@@ -81,28 +81,25 @@ impl HandleTable {
         }
     }
 
-    /// Puts a handle and its prefix into the table, and returns whether the handle was there.
+    /// Puts a handle that the table doesn't have, and its prefix, into the table.
     ///
     /// # Errors
     ///
     /// An allocation failed.
-    pub(crate) fn insert(&mut self, handle: String, prefix: String) -> Result<bool, AllocError>
-        ensures before { IfOk result (λ was_there. was_there
-            ≡ is_some (map.get self.old (string_bytes handle))) }
+    pub(crate) fn insert(&mut self, handle: String, prefix: String) -> Result<(), AllocError>
+        requires { map.get self.old (string_bytes handle) ≡ None }
         ensures ok { OnOk result (self.new
             ≡ map.insert self.old (string_bytes handle) (string_bytes prefix)) }
         ensures err { OnErr result (self.new ≡ self.old) }
     {
-        let was_there = self.get(&handle).is_some();
-        if !was_there && self.first.len() >= MOST_IN_LIST {
-            self.insert_in_map(handle, prefix)?;
-            return Ok(false);
+        if self.first.len() >= MOST_IN_LIST {
+            return self.insert_in_map(handle, prefix);
         }
         self.first.insert(0, (handle, prefix))?;
-        Ok(was_there)
+        Ok(())
     }
 
-    /// Puts a handle that the table doesn't have into the map.
+    /// Puts such a handle into the map.
     fn insert_in_map(&mut self, handle: String, prefix: String) -> Result<(), AllocError>
         requires { map.get self.old (string_bytes handle) ≡ None }
         ensures ok { OnOk result (self.new

@@ -1,5 +1,5 @@
 -- What the automaton's step says of the parser's, in the stream and its documents.
-use Rattle.std.proofs.Common.{◌≡◌, true, subst, arith}
+use Rattle.std.proofs.Common.{◌≡◌, false, true, subst, arith}
 use Rattle.libyaml_types.specs.Fault.{Fault}
 use Rattle.libyaml_types.specs.Types.{token_type}
 use Rattle.libyaml_types.specs.declared.enums.yaml_token_type_t.{yaml_token_type_t}
@@ -21,7 +21,7 @@ use Rattle.libyaml_events.specs.declared.pending.Pending.{Pending}
 use Rattle.libyaml_events.specs.machine.Outcomes.{directive_texts, wanted}
 use Rattle.libyaml_events.specs.machine.Config.{Machine, Handles, config_with}
 use Rattle.libyaml_events.specs.machine.Growth.{grows_for, may_grow}
-use Rattle.libyaml_events.specs.machine.Machine.{step}
+use Rattle.libyaml_events.specs.machine.Machine.{step, was_declared}
 use Rattle.libyaml_events.specs.machine.Want.{Texts}
 use Rattle.libyaml_events.specs.automaton.AutomatonResults.{FollowsAutomatonInDocuments}
 use Rattle.libyaml_events.specs.automaton.View.{Ready}
@@ -52,5 +52,5 @@ pub handle_grows : (hs : Handles) (f : Fault) (a b : automaton_config.Stacks) (c
     → stack_part_of (next_of q.reading.next) ≡ Documents
     → IsOutcome (automaton.step (purposes.purpose_of q.reading) a (kind_and_marks k t.start_mark t.end_mark) k)
     (outcome x (automaton.no_properties (kind_and_marks k t.start_mark t.end_mark)) (kind_and_marks k t.start_mark t.end_mark) r' b)
-    → x ≡ action.AsksHandle → may_grow (wanted q) c t.content ≡ true
-handle_grows hs f a b c t q r' x k ec y ek fits d s i = grind arith
+    → x ≡ action.AsksHandle → was_declared hs t.content ≡ false → may_grow (wanted q) c t.content ≡ true
+handle_grows hs f a b c t q r' x k ec y ek fits d s i n = grind arith

@@ -12,9 +12,9 @@ ghost use Rattle.libyaml_automaton.specs.Numbers.{next_of};
 ghost use Rattle.libyaml_automaton.specs.Fits.{FitsDocument, Documents};
 ghost use Rattle.libyaml_automaton.specs.Growth.{stack_part_of};
 ghost use Rattle.libyaml_events.specs.machine.Config.{with_fault};
-ghost use Rattle.libyaml_events.specs.machine.Machine.{declared_by, document_end, document_start, fault_with};
+ghost use Rattle.libyaml_events.specs.machine.Machine.{document_end, document_start, fault_with};
 ghost use Rattle.libyaml_events.specs.machine.Machine.{is_accepted_in, step, was_declared};
-ghost use Rattle.libyaml_events.specs.machine.Steps.{Steps};
+ghost use Rattle.libyaml_events.specs.machine.Steps.{Steps, declared_unless};
 ghost use Rattle.libyaml_events.specs.machine.Outcomes.{directive_texts, result_of, wanted};
 ghost use Rattle.libyaml_events.specs.machine.Growth.{may_grow};
 ghost use Rattle.libyaml_events.specs.automaton.AutomatonResults.{IsPutDocument, FollowsAutomatonInDocuments};
@@ -238,6 +238,7 @@ impl TokenParser {
         ensures grows { result ≡ Action.FullStates
             → may_grow (wanted pending.old) self.old token.now.content ≡ true }
         ensures handle { result ≡ Action.AsksHandle
+            → was_declared self.new.handles token.now.content ≡ false
             → may_grow (wanted pending.old) self.old token.now.content ≡ true }
     {
         self.automaton.automaton.document_step(
@@ -263,7 +264,7 @@ impl TokenParser {
         ensures puts { PutsDocument led token.old pending.old self.old result token.new pending.new out.new
             self.new }
         ensures grows { result ≡ Step.Failed → self.new.fault.error ≡ yaml_error_type_t.YAML_MEMORY_ERROR
-            → led ≡ Action.AsksHandle }
+            → (led ≡ Action.AsksHandle) × (was_declared self.old.handles token.old.content ≡ false) }
     {
         match led {
             Action::Wants => Step::Wants,
@@ -369,6 +370,8 @@ impl TokenParser {
         requires directive { token_type token.old.content ≡ yaml_token_type_t.YAML_TAG_DIRECTIVE_TOKEN }
         ensures puts { (out : yaml_event_t) → PutsDocument Action.AsksHandle token.old pending.old
             self.old result token.new pending.new out self.new }
+        ensures grows { result ≡ Step.Failed → self.new.fault.error ≡ yaml_error_type_t.YAML_MEMORY_ERROR
+            → was_declared self.old.handles token.old.content ≡ false }
     {
         let was_declared = match self.declare_handle(token) {
             Ok(was_declared) => was_declared,
@@ -383,14 +386,15 @@ impl TokenParser {
         }
     }
 
-    /// Declares the handle of a TAG-DIRECTIVE, and returns whether it was declared before.
+    /// Declares the handle of a TAG-DIRECTIVE, unless it is declared already, and returns whether it was.
     fn declare_handle(&mut self, token: &yaml_token_t) -> Result<bool, yaml_error_type_t>
         ensures before { IfOk result (λ b. b ≡ was_declared self.old.handles token.now.content) }
-        ensures ok { OnOk result (self.new ≡ record self.old {
-          handles = declared_by self.old.handles token.now.content;
+        ensures ok { IfOk result (λ b. self.new ≡ record self.old {
+          handles = declared_unless b self.old.handles token.now.content;
         }) }
         ensures err { OnErr result ((result ≡ Err yaml_error_type_t.YAML_MEMORY_ERROR)
             × (self.new ≡ with_fault self.old memory_fault)) }
+        ensures grows { OnErr result (was_declared self.old.handles token.now.content ≡ false) }
     {
         match &token.content {
             unnamed_yaml_token_t_data::TagDirective(directive) => {

@@ -8,5 +8,6 @@ returns-in_default c =
       steps = again _ _ _ _ c.args.token.now _ _ c.forget_directives.ensures.wanted c.forget_directives.ensures.same y.0;
       ready = y.1;
       grows = λ f m. grows_again _ _ _ _ c.args.token.now.content c.forget_directives.ensures.wanted
-          c.forget_directives.ensures.same (c.step_automaton_in_documents.ensures.handle (c.put_document.ensures.grows f m));
+          c.forget_directives.ensures.same (let g = c.put_document.ensures.grows f m in
+          c.step_automaton_in_documents.ensures.handle g.0 g.1);
     }
