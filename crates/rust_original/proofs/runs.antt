@@ -1,4 +1,5 @@
 pub mod UpToDifferences
+pub mod Apart
 pub mod MachineCalls
 pub mod Ended
 pub mod RunExists

@@ -20,7 +20,8 @@ ghost use Rattle.rust_original.specs.loader.LoadsThere.{LoadsCompare, LoadsThere
 ghost use Rattle.rust_original.specs.parser.Differences.{Compares, Differs, call_here, call_there};
 ghost use Rattle.rust_original.specs.parser.ExactCalls.{BetweenExact, ForExactFailed, RunThere};
 ghost use Rattle.rust_original.specs.parser.Passed.{FailsBefore, IsTagFault, PassedRun, passed};
-ghost use Rattle.rust_original.specs.parser.Parser.{Mends, OK, OriginalParser, yaml_parser_parse};
+ghost use Rattle.rust_original.specs.parser.Parser.{Mends, OK, OriginalParser, ParserResult};
+ghost use Rattle.rust_original.specs.parser.Parser.{yaml_parser_parse};
 ghost use Rattle.rust_original.specs.parser.Runs.{Runs, RunsThere, as_here, as_there, call};
 ghost use Rattle.rust_original.specs.parser.Runs.{new_original_parser, run_within};
 ghost use Rattle.rust_original.specs.parser.Strict.{Over, Stopped, StopsAt, StrictEnding};
@@ -51,11 +52,13 @@ pub fn runs_here()
         → IsNested e → x ≡ Ends }
 {}
 
-/// A call of any parser does the same with the mends and without, but at three places; what it does there.
-/// After the stream's end, and after an error, it returns the empty event and changes nothing.
+/// A call of any parser does the same with the mends and without, but at three places; what it does there,
+/// which is never the same. After the stream's end, and after an error, it returns the empty event and
+/// changes nothing.
 pub fn calls()
     ensures places { (p : OriginalParser) → (call_there p ≡ call_here p) ⊎ Differs p (call_there p)
         (call_here p) }
+    ensures apart { (p : OriginalParser) (a b : ParserResult) → Differs p a b → a ≡ b → ⊥ }
     ensures after_the_end { (m : Mends) (kept : Fault) (p : OriginalParser) → p.stream_end_produced ≡ true
         → yaml_parser_parse m kept p ≡ OK empty_event p }
     ensures after_a_fault { (m : Mends) (kept : Fault) (p : OriginalParser) → is_fault kept.error ≡ true
