@@ -17,8 +17,8 @@ use crate::token_name::{NameRead, read_name};
 use libyaml_types::{
     unnamed_yaml_token_t_data, unnamed_yaml_token_t_data_alias, unnamed_yaml_token_t_data_anchor,
     unnamed_yaml_token_t_data_scalar, unnamed_yaml_token_t_data_stream_start,
-    unnamed_yaml_token_t_data_tag, unnamed_yaml_token_t_data_tag_directive, yaml_token_t,
-    yaml_scalar_style_t, yaml_token_type_t,
+    unnamed_yaml_token_t_data_tag, unnamed_yaml_token_t_data_tag_directive, yaml_scalar_style_t,
+    yaml_token_t, yaml_token_type_t,
 };
 use percent_encoding::ascii_str;
 use std::alloc::Global;

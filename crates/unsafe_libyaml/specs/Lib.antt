@@ -33,6 +33,7 @@ pub use Rattle.libyaml_grammar.specs.grammar.Order
 pub use Rattle.libyaml_grammar.specs.grammar.ValidLists
 pub use Rattle.libyaml_grammar.specs.grammar.Tokens
 pub use Rattle.libyaml_grammar.specs.grammar.Trees
+pub use Rattle.libyaml_automaton.specs.Acceptable as AutomatonAcceptable
 pub use Rattle.libyaml_automaton.specs.Automaton
 pub use Rattle.libyaml_automaton.specs.Config as AutomatonConfig
 pub use Rattle.libyaml_automaton.specs.Fits as AutomatonFits
@@ -54,6 +55,7 @@ pub use Rattle.libyaml_events.specs.parsers.OutsideEvents
 pub use Rattle.libyaml_events.specs.parsers.Pops
 pub use Rattle.libyaml_events.specs.parsers.Stages
 pub use Rattle.libyaml_events.specs.vectors.StackVectors
+pub use Rattle.libyaml_events.specs.sources.Acceptable
 pub use Rattle.libyaml_events.specs.sources.Calls
 pub use Rattle.libyaml_events.specs.sources.CallsInTurn
 pub use Rattle.libyaml_events.specs.sources.Determined

@@ -16,10 +16,10 @@ pub use libyaml_documents::{
     yaml_node_item_t, yaml_node_items_t, yaml_node_pair_t, yaml_node_pairs_t, yaml_node_t,
 };
 pub use libyaml_events::{
-    MEMORY_FAULT, NO_FAULT, TokenTypes, yaml_list_source_t, yaml_parser_between_documents, yaml_parser_delete,
-    yaml_parser_initialize, yaml_parser_parse, yaml_parser_parse_into, yaml_parser_set_max_entries,
-    yaml_parser_t, yaml_parser_t_prefix, yaml_push_parser_t, yaml_source_fault_t,
-    yaml_token_source_t,
+    MEMORY_FAULT, NO_FAULT, TokenTypes, yaml_list_source_t, yaml_parser_between_documents,
+    yaml_parser_delete, yaml_parser_initialize, yaml_parser_parse, yaml_parser_parse_into,
+    yaml_parser_set_max_entries, yaml_parser_t, yaml_parser_t_prefix, yaml_push_parser_t,
+    yaml_source_fault_t, yaml_token_source_t,
 };
 pub use libyaml_graphs::laws as graph_laws;
 pub use libyaml_loader::{

@@ -148,7 +148,7 @@ uint8_t pokhvizi_differs(const pokhvizi_steps_t *steps, uint8_t kind);
 
 /* Which tokens may come next: bit N is set if a token of kind N may be handed in and be no error, with some fact. It is exact: no
  * stream goes on from the tokens so far with a token of another kind. Ask before a token is handed in for the first time, and keep
- * the answer until it is taken: at POKHVIZI_FAULT it says what was expected in the token's place, in words pokhvizi_expected_words. */
+ * the result until it is taken: at POKHVIZI_FAULT it says what was expected in the token's place, in words pokhvizi_expected_words. */
 uint32_t pokhvizi_expected(const pokhvizi_steps_t *steps, const uint8_t *states, size_t states_room);
 
 /* ---- Directives and tags ---- */
