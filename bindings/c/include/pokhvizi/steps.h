@@ -56,10 +56,10 @@
  *     any other               ignored
  *
  * Texts of an event. An ALIAS (kind 5) has the text of its token. A SCALAR (6) has the text and style of the token in hand if
- * that is a SCALAR (21) and is taken; else its text is empty and it is plain. A node with `has_anchor` or `has_tag` has the texts of the ANCHOR
- * and TAG tokens since the last event. A DOCUMENT-START (3) has the directives since the last event, and their handles last
- * until the document's DOCUMENT-END (4). So between two events only the document's handles are held, and you may give up a
- * parse at any time. Keep the token in hand until you have used its event.
+ * that is a SCALAR (21) and is taken; else its text is empty and it is plain. A node with `has_anchor` or `has_tag` has the
+ * texts of the ANCHOR and TAG tokens since the last event. A DOCUMENT-START (3) has the directives since the last event, and
+ * their handles last until the document's DOCUMENT-END (4). So between two events only the document's handles are held, and
+ * you may give up a parse at any time. Keep the token in hand until you have used its event.
  *
  * The structs may hold any bytes, and `kind` and `fact` may be any numbers: then the events are wrong, and nothing else
  * happens. What the library does is proved. It relies on these rules, which nothing checks: no pointer is null, even if its
@@ -101,8 +101,8 @@ typedef struct {
     pokhvizi_mark_t start_mark, end_mark;
 } pokhvizi_event_t;
 
-/* Why the tokens are no YAML stream: `problem` is 1 to 12, and `context_mark` is 0 if it has no context. The number after these is
- * what you refuse yourself: a depth beyond your own bound. */
+/* Why the tokens are no YAML stream: `problem` is 1 to 12, and `context_mark` is 0 if it has no context. The number after these
+ * is what you refuse yourself: a depth beyond your own bound. */
 typedef struct {
     uint8_t problem;
     pokhvizi_mark_t context_mark, problem_mark;
@@ -142,13 +142,14 @@ uint32_t pokhvizi_step_exact(pokhvizi_steps_t *steps, uint8_t *states, size_t st
                              size_t marks_room, uint8_t kind, uint8_t fact, const pokhvizi_span_t *at,
                              pokhvizi_event_t *event, pokhvizi_fault_t *fault);
 
-/* Where pokhvizi_step does something else than libyaml with a token of this kind, if it is handed in next: one of the four numbers
- * above. */
+/* Where pokhvizi_step does something else than libyaml with a token of this kind, if it is handed in next: one of the four
+ * numbers above. */
 uint8_t pokhvizi_differs(const pokhvizi_steps_t *steps, uint8_t kind);
 
 /* Which tokens may come next: bit N is set if a token of kind N may be handed in and be no error, with some fact. It is exact: no
- * stream goes on from the tokens so far with a token of another kind. Ask before a token is handed in for the first time, and keep
- * the result until it is taken: at POKHVIZI_FAULT it says what was expected in the token's place, in words pokhvizi_expected_words. */
+ * stream goes on from the tokens so far with a token of another kind. Ask before a token is handed in for the first time, and
+ * keep the result until it is taken: at POKHVIZI_FAULT it says what was expected in the token's place, in words
+ * pokhvizi_expected_words. */
 uint32_t pokhvizi_expected(const pokhvizi_steps_t *steps, const uint8_t *states, size_t states_room);
 
 /* ---- Directives and tags ---- */
