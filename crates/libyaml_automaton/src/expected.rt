@@ -174,7 +174,7 @@ impl Slot {
     }
 }
 
-/// Returns what a state takes, but for that of a sequence without tokens of its own.
+/// Returns what a state takes, except that of a sequence without tokens of its own.
 fn expected_in(state: yaml_parser_state_t, behind_document_end: bool) -> TokenTypes
     ensures { (k : yaml_token_type_t) → has result k ≡ in_state state behind_document_end k }
 {

@@ -6,7 +6,8 @@ use Rattle.std.proofs.lemmas.Slice.Eq.{bytes_eq-Decides}
 use Rattle.libyaml_types.specs.Types.{token_type}
 use Rattle.libyaml_types.specs.declared.enums.yaml_token_type_t.{yaml_token_type_t}
 use Rattle.libyaml_types.specs.declared.enums.yaml_token_type_t.TheVariants as kinds
-use Rattle.libyaml_grammar.specs.grammar.Tokens.{Alias, Anchor, BlockEnd, BlockEntry, BlockMappingStart, BlockSequenceStart, Content, DocumentEnd, DocumentStart, FlowEntry, FlowMappingEnd, FlowMappingStart, FlowSequenceEnd, FlowSequenceStart, Key, NoToken, Scalar, StreamEnd, StreamStart, Tag, TagDirective, Token, Value, VersionDirective, empty_plain, marks_of, tok, zero_marks}
+use Rattle.libyaml_grammar.specs.grammar.Tokens.{Alias, Anchor, BlockEnd, BlockEntry, BlockMappingStart, BlockSequenceStart, Content, DocumentEnd, DocumentStart, FlowEntry, FlowMappingEnd, FlowMappingStart, FlowSequenceEnd, FlowSequenceStart, Key, NoToken, Scalar, StreamEnd, StreamStart, Tag}
+use Rattle.libyaml_grammar.specs.grammar.Tokens.{TagDirective, Token, Value, VersionDirective, empty_plain, marks_of, tok, zero_marks}
 use Rattle.libyaml_grammar.specs.grammar.Trees.{Directives, directive, no_directives, tag_directive, version}
 use Rattle.libyaml_grammar.specs.grammar.Order.{declares}
 use Rattle.libyaml_grammar.specs.partial.Rest.{any_encoding}

@@ -3,8 +3,8 @@ use Rattle.std.specs.Prelude.{◌&&◌, not, is_some}
 use Rattle.std.proofs.Common.{◌≡◌, Option, Some, None, refl, Bool, true, false}
 use Rattle.libyaml_types.specs.Types.{token_type}
 use Rattle.libyaml_grammar.specs.grammar.Tokens.{Anchor, AnchorName, BlockEnd, BlockEntry, BlockMappingStart, BlockSequenceStart, Content, DocumentEnd, DocumentStart, FlowMappingStart, FlowSequenceStart, Marks, Scalar, StreamEnd, StreamStart, Tag, TagName, VersionDirective}
-use Rattle.libyaml_grammar.specs.grammar.Trees.{Before, BlockItems, BlockSlot, Directive, Directives, Documents, FlowMember, FlowNode, FlowSlot, Free, Parts, Properties, Stream, alone, anchor, anchor_tag, directive, ended, following, free, key, mapping, no_directives, no_parts, no_value, opened, pair, part, sequence, single, tag}
-use Rattle.libyaml_grammar.specs.grammar.Trees.{tag_anchor, tag_directive, value, version, whole, with_value}
+use Rattle.libyaml_grammar.specs.grammar.Trees.{Before, BlockItems, BlockSlot, Directive, Directives, Documents, FlowMember, FlowNode, FlowSlot, Free, Parts, Properties, Stream, alone, anchor, anchor_tag, directive, ended, following, free, key, mapping, no_directives, no_parts, no_value, opened}
+use Rattle.libyaml_grammar.specs.grammar.Trees.{pair, part, sequence, single, tag, tag_anchor, tag_directive, value, version, whole, with_value}
 use Rattle.libyaml_grammar.specs.grammar.Events.{version_of}
 use Rattle.libyaml_grammar.specs.grammar.Order.{no_version}
 use Rattle.libyaml_grammar.specs.partial.PartialTrees.{BlockPlace, Open, PartPlace, Place, block, entry, explicit_root, flow_entry, flow_key, flow_value, implicit_root, indentless_entry, open_collection, part_place, root, slot}

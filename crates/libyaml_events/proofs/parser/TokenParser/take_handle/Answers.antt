@@ -59,7 +59,7 @@ returns-in_default-clause-puts c = λ e out h l.
     c.tag_directive.new.self c.tag_directive.ensures.fits c.in_default.not-Wants l.1
     (rw (c.in-Ok.ensures.before, ap config_of c.self.view_is, ap config_of c.in-Ok.ensures.ok) at s) in
     rw c.set_document_problem.ensures.failed (
-        fails_as out c.set_document_problem.new.self _ c.set_document_problem.ensures.error
-            (ap (λ (d : Machine). d.fault) c.set_document_problem.ensures.kept) o,
-        λ i. absurd cc,
+      fails_as out c.set_document_problem.new.self _ c.set_document_problem.ensures.error
+          (ap (λ (d : Machine). d.fault) c.set_document_problem.ensures.kept) o,
+      λ i. absurd cc,
     )
