@@ -81,7 +81,7 @@ module _ {R : Type 0} (remaining : R → Option (List ℕ)) where
       → KnownAnswer bytes s.given answer (remaining t.reader) → Leaves bytes s.given answer (remaining t.reader)
   leaves s t bytes answer known running o k = record {
     token = after_token s bytes answer (remaining t.reader) k;
-    bad_line = λ e. known_after (remaining s.reader) (remaining t.reader) bytes known (o.bad_line cause running e);
+    bad_line = λ e. known_after (remaining s.reader) (remaining t.reader) bytes known (o.bad_line running e);
     too_long = λ e. known_within (longest_line + 1) (remaining s.reader) (remaining t.reader) bytes known
         (o.too_long running e);
     none = λ e. consumed_none (remaining t.reader) o.takes.0

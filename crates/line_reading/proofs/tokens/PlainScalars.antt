@@ -4,7 +4,7 @@ use Rattle.std.proofs.lemmas.List.{take-append-drop, append-nil}
 use Rattle.std.proofs.lemmas.List.Elements.{All-cons, All-weaker}
 use Rattle.std.specs.List.{slice_split}
 use Rattle.line_reading.specs.Clean.{IsClean}
-use Rattle.line_reading.specs.tokens.Prefixes.{before_byte, after_byte}
+use Rattle.line_reading.specs.tokens.Prefixes.{before_byte}
 use Rattle.line_reading.proofs.tokens.Split.{split_first, before-append, behind-append}
 
 no_space : (text : List ℕ) → All IsClean text → All (λ x. x ≢ 32) (61 ∷ text)

@@ -1,4 +1,4 @@
-use Rattle.std.proofs.Common.{◌≡◌, ◌-◌, suc, length, drop, ap, ◌∙◌, arith}
+use Rattle.std.proofs.Common.{◌≡◌, ◌-◌, suc, length, arith}
 use Rattle.line_reading.proofs.tokens.PlainScalars.{plain_fields}
 use Rattle.line_reading.proofs.token_line.plain_text.Goals as goal
 
