@@ -1,6 +1,6 @@
 #!/usr/bin/env python3
-"""Hostile texts through each door, with its bounds and without, plainly and with strict parsing: each ends in a result or in a named
-error, and in none other than hostile_texts.txt says.
+"""Hostile texts through each door, with its bounds and without, with this project's own grammar and strictly with libyaml's: each
+ends in a result or in a named error, and in none other than hostile_texts.txt says.
 
     hostile_texts.py [--all] [--table] [--turned] DOOR=PATH..
 
