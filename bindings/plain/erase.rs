@@ -1,0 +1,441 @@
+//! Makes plain Rust of a file with contracts: each line of the result is the same line of the file, without what only the prover
+//! reads.
+//!
+//! What is left out: `ghost use ..;` and `ghost output = ..;`, the clauses `requires { .. }` and `ensures { .. }` of a function's
+//! head, and the attributes `#[tactic(..)]`. What is written otherwise: paths that begin at a crate begin at its module, `std` is
+//! `core`, a `Display` has no type parameter for its writer, and a function for C is one for Rust. Everything else is left as it
+//! is. Whatever this doesn't know ends the build, with its line.
+
+/// What is made of a crate.
+pub struct Crate<'a> {
+    /// Its name, which is that of its module.
+    pub name: &'a str,
+    /// The names of all crates.
+    pub all: &'a [&'a str],
+    /// Whether a module of it is taken.
+    pub takes: fn(&str) -> bool,
+}
+
+/// Plain Rust, and the modules of other files that it declares.
+pub struct Plain {
+    pub text: String,
+    pub modules: Vec<String>,
+}
+
+/// What isn't known, and the number of its line.
+#[derive(Debug, PartialEq)]
+pub struct Unknown {
+    pub line: usize,
+    pub what: String,
+}
+
+const ATTRIBUTES: [&str; 4] = ["cold", "derive", "inline", "repr"];
+const DERIVES: [&str; 9] = [
+    "Clone", "Copy", "Debug", "Default", "Eq", "Hash", "Ord", "PartialEq", "PartialOrd",
+];
+const MACROS: [&str; 2] = ["matches", "write"];
+/// Words of the prover's, and Rust's that need a look first.
+const RESERVED: [&str; 12] = [
+    "asm", "assume", "decreases", "ghost", "ensures", "exists", "forall", "invariant", "measure", "prove", "requires", "unsafe",
+];
+
+#[derive(Clone, Copy, PartialEq)]
+enum Kind {
+    /// White space or a comment.
+    Space,
+    Word,
+    /// A number, a string, a character or a lifetime.
+    Value,
+    /// One other character.
+    Mark,
+}
+
+#[derive(Clone, Copy)]
+struct Piece<'a> {
+    kind: Kind,
+    text: &'a str,
+    line: usize,
+}
+
+fn unknown<T>(line: usize, what: &str) -> Result<T, Unknown> {
+    Err(Unknown { line, what: what.to_string() })
+}
+
+/// How many bytes a comment has that `text` begins with, or nothing if it has no end.
+fn comment(text: &str) -> Option<usize> {
+    if text.starts_with("//") {
+        return Some(text.find('\n').unwrap_or(text.len()));
+    }
+    let (mut depth, mut place) = (0, 0);
+    loop {
+        let rest = &text[place..];
+        if rest.starts_with("/*") {
+            (depth, place) = (depth + 1, place + 2);
+        } else if rest.starts_with("*/") {
+            (depth, place) = (depth - 1, place + 2);
+        } else {
+            place += rest.chars().next()?.len_utf8();
+        }
+        if depth == 0 {
+            return Some(place);
+        }
+    }
+}
+
+/// How many bytes a string or a character has that `text` begins with, from its quote on, or nothing if it has no end.
+fn quoted(text: &str, quote: char) -> Option<usize> {
+    let mut is_escaped = false;
+    for (place, c) in text.char_indices().skip(1) {
+        match c {
+            _ if is_escaped => is_escaped = false,
+            '\\' => is_escaped = true,
+            c if c == quote => return Some(place + 1),
+            _ => {}
+        }
+    }
+    None
+}
+
+fn is_of_word(c: char) -> bool {
+    c.is_alphanumeric() || c == '_'
+}
+
+/// Splits Rust into pieces. A raw string is none that this knows.
+fn pieces(text: &str) -> Result<Vec<Piece<'_>>, Unknown> {
+    let (mut pieces, mut place, mut line) = (Vec::new(), 0, 1);
+    while let Some(c) = text[place..].chars().next() {
+        let rest = &text[place..];
+        let word = rest.find(|c| !is_of_word(c)).unwrap_or(rest.len());
+        let (kind, length) = if rest.starts_with("//") || rest.starts_with("/*") {
+            (Kind::Space, comment(rest))
+        } else if c.is_whitespace() {
+            (Kind::Space, Some(rest.find(|c: char| !c.is_whitespace()).unwrap_or(rest.len())))
+        } else if rest.starts_with("r\"") || rest.starts_with("r#") || rest.starts_with("br\"") || rest.starts_with("br#") {
+            return unknown(line, "a raw string or name");
+        } else if c == '"' || rest.starts_with("b\"") || rest.starts_with("c\"") {
+            let before = usize::from(c != '"');
+            (Kind::Value, quoted(&rest[before..], '"').map(|length| length + before))
+        } else if c == '\'' {
+            let named = rest[1..].find(|c| !is_of_word(c)).unwrap_or(rest.len() - 1);
+            match named > 0 && !rest[1 + named..].starts_with('\'') {
+                true => (Kind::Value, Some(1 + named)),
+                false => (Kind::Value, quoted(rest, '\'')),
+            }
+        } else if rest.starts_with("b'") {
+            (Kind::Value, quoted(&rest[1..], '\'').map(|length| length + 1))
+        } else if c.is_ascii_digit() {
+            (Kind::Value, Some(word))
+        } else if is_of_word(c) {
+            (Kind::Word, Some(word))
+        } else if c.is_ascii_punctuation() {
+            (Kind::Mark, Some(1))
+        } else {
+            return unknown(line, &format!("the character {c:?} outside of a clause"));
+        };
+        let Some(length) = length else {
+            return unknown(line, "a comment or a quote without an end");
+        };
+        pieces.push(Piece { kind, text: &rest[..length], line });
+        line += rest[..length].matches('\n').count();
+        place += length;
+    }
+    Ok(pieces)
+}
+
+/// Writes over what only the prover reads: `ghost` items, clauses and `tactic` attributes. Lines stay where they are. These are
+/// found before Rust is split into pieces, since the prover's text has another form.
+fn without_ghosts(text: &str) -> Result<String, Unknown> {
+    let mut out = String::with_capacity(text.len());
+    let (mut place, mut line) = (0, 1);
+    // Within a function's head, and whether something stands on the line yet.
+    let (mut is_head, mut is_start) = (false, true);
+    let mut depth = 0usize;
+    while let Some(c) = text[place..].chars().next() {
+        let rest = &text[place..];
+        let word = rest.find(|c| !is_of_word(c)).unwrap_or(rest.len());
+        let (length, is_kept) = match &rest[..word] {
+            _ if rest.starts_with("//") || rest.starts_with("/*") => (comment(rest), true),
+            _ if c == '"' => (quoted(rest, '"'), true),
+            "ghost" => {
+                let is_item = is_start && (rest.starts_with("ghost use ") || rest.starts_with("ghost output = {"));
+                if !is_item || is_head {
+                    return unknown(line, "a ghost item that is neither `ghost use` nor `ghost output`");
+                }
+                (ghost_end(rest), false)
+            }
+            "requires" | "ensures" => {
+                if !is_head || !is_start || depth != 0 {
+                    return unknown(line, "a clause that isn't on a line of its own in a function's head");
+                }
+                (clause_end(rest), false)
+            }
+            _ if is_start && (rest.starts_with("#[tactic(") || rest.starts_with("#![tactic(")) => {
+                let (open, close) = (rest.find('('), rest.find(")]"));
+                let end = open.and(close).map(|end| end + 2);
+                (end.filter(|&end| !rest[..end].contains('\n') && is_balanced(&rest[..end])), false)
+            }
+            "fn" => {
+                (is_head, depth) = (true, 0);
+                (Some(word), true)
+            }
+            _ if word > 0 => (Some(word), true),
+            _ => {
+                match c {
+                    '(' | '[' if is_head => depth += 1,
+                    ')' | ']' if is_head => depth = depth.saturating_sub(1),
+                    '{' | ';' if depth == 0 => is_head = false,
+                    _ => {}
+                }
+                (Some(c.len_utf8()), true)
+            }
+        };
+        let Some(length) = length else {
+            return unknown(line, "a ghost item, a clause or an attribute of another form");
+        };
+        if !is_kept {
+            out.truncate(out.trim_end_matches([' ', '\t']).len());
+        }
+        for c in rest[..length].chars() {
+            if is_kept || c == '\n' {
+                out.push(c);
+            }
+            match c {
+                '\n' => (line, is_start) = (line + 1, true),
+                c if !c.is_whitespace() => is_start = false,
+                _ => {}
+            }
+        }
+        if !is_kept && !rest[length..].starts_with('\n') {
+            return unknown(line, "something after a ghost item, a clause or an attribute");
+        }
+        place += length;
+    }
+    Ok(out)
+}
+
+fn is_balanced(text: &str) -> bool {
+    text.matches('(').count() == text.matches(')').count() && text.matches('[').count() == text.matches(']').count()
+}
+
+/// How many bytes a block has that `text` begins with. It has no comments and no quotes.
+fn block_end(text: &str) -> Option<usize> {
+    let mut depth = 0usize;
+    for (place, c) in text.char_indices() {
+        match c {
+            '{' => depth += 1,
+            '}' => depth -= 1,
+            '"' | '\'' => return None,
+            '/' if text[place..].starts_with("//") || text[place..].starts_with("/*") => return None,
+            _ => {}
+        }
+        if depth == 0 {
+            return (c == '}').then_some(place + 1);
+        }
+    }
+    None
+}
+
+/// How many bytes a clause has: its word, a name or none, and its block.
+fn clause_end(text: &str) -> Option<usize> {
+    let open = text.find('{')?;
+    let head: Vec<&str> = text[..open].split_whitespace().collect();
+    let is_name = |name: &str| name.chars().all(|c| c.is_ascii_alphanumeric() || c == '_');
+    match head[..] {
+        [_] => {}
+        [_, name] if is_name(name) => {}
+        _ => return None,
+    }
+    block_end(&text[open..]).map(|length| open + length)
+}
+
+/// How many bytes a ghost item has, with its semicolon.
+fn ghost_end(text: &str) -> Option<usize> {
+    let end = text.find(';')? + 1;
+    let item = &text[..end];
+    let is_whole = item.matches('{').count() == item.matches('}').count();
+    (is_whole && !item.contains(['"', '\'', '\n']) && !item.contains("//")).then_some(end)
+}
+
+/// What is written of Rust's pieces.
+struct Writer<'a, 'b> {
+    of: &'b Crate<'a>,
+    pieces: &'b [Piece<'b>],
+    place: usize,
+    out: String,
+    modules: Vec<String>,
+}
+
+impl<'b> Writer<'_, 'b> {
+    /// The `n`th piece from here on that is neither white space nor a comment.
+    fn ahead(&self, n: usize) -> &'b str {
+        let rest = self.pieces[self.place..].iter();
+        rest.filter(|piece| piece.kind != Kind::Space).nth(n).map_or("", |piece| piece.text)
+    }
+
+    /// Whether these pieces come next.
+    fn is_next(&self, words: &[&str]) -> bool {
+        words.iter().enumerate().all(|(n, word)| self.ahead(n) == *word)
+    }
+
+    /// The last piece before here that is neither white space nor a comment.
+    fn before(&self) -> &'b str {
+        let earlier = self.pieces[..self.place].iter().rev();
+        earlier.clone().find(|piece| piece.kind != Kind::Space).map_or("", |piece| piece.text)
+    }
+
+    fn line(&self) -> usize {
+        self.pieces.get(self.place).map_or(0, |piece| piece.line)
+    }
+
+    /// Writes so many pieces, beside white space and comments, or leaves them out but for line ends.
+    fn take(&mut self, count: usize, is_kept: bool) {
+        let mut left = count;
+        while left > 0 {
+            let piece = self.pieces[self.place];
+            self.place += 1;
+            left -= usize::from(piece.kind != Kind::Space);
+            match is_kept {
+                true => self.out.push_str(piece.text),
+                false => self.out.extend(piece.text.chars().filter(|&c| c == '\n')),
+            }
+        }
+    }
+
+    /// How many pieces there are up to one, with it.
+    fn up_to(&self, end: &str) -> Result<usize, Unknown> {
+        let mut n = 0;
+        while self.ahead(n) != end {
+            if self.ahead(n).is_empty() {
+                return unknown(self.line(), &format!("an item without its `{end}`"));
+            }
+            n += 1;
+        }
+        Ok(n + 1)
+    }
+
+    /// Whether the word here is a macro's: its `!` stands right after it.
+    fn is_macro(&self) -> bool {
+        self.pieces.get(self.place + 1).map_or(false, |piece| piece.text == "!") && self.ahead(2) != "="
+    }
+
+    /// An attribute that is known.
+    fn attribute(&mut self) -> Result<(), Unknown> {
+        let line = self.line();
+        if self.is_next(&["#", "[", "unsafe", "(", "no_mangle", ")", "]"]) {
+            self.take(7, false);
+            return Ok(());
+        }
+        let name = self.ahead(2);
+        if self.ahead(1) != "[" || !ATTRIBUTES.contains(&name) {
+            return unknown(line, &format!("the attribute `{}{}{name}`", self.ahead(0), self.ahead(1)));
+        }
+        let count = self.up_to("]")?;
+        if name == "derive" {
+            for n in (4..count - 2).step_by(2) {
+                if !DERIVES.contains(&self.ahead(n)) {
+                    return unknown(line, &format!("a derived `{}`", self.ahead(n)));
+                }
+            }
+        }
+        self.take(count, true);
+        Ok(())
+    }
+
+    /// A module of another file, or a `pub use` of one that isn't taken.
+    fn module(&mut self) -> Result<bool, Unknown> {
+        let shift = usize::from(self.ahead(0) == "pub");
+        let (word, name) = (self.ahead(shift), self.ahead(shift + 1));
+        if word == "mod" {
+            if self.ahead(shift + 2) != ";" {
+                return unknown(self.line(), "a module that isn't a file's");
+            }
+            let is_taken = (self.of.takes)(name);
+            if is_taken {
+                self.modules.push(name.to_string());
+            }
+            self.take(shift + 3, is_taken);
+            return Ok(true);
+        }
+        let is_own = !["crate", "super", "self", "core", "std"].contains(&name) && !self.of.all.contains(&name);
+        if shift == 1 && word == "use" && is_own && !(self.of.takes)(name) {
+            let count = self.up_to(";")?;
+            self.take(count, false);
+            return Ok(true);
+        }
+        Ok(false)
+    }
+
+    fn piece(&mut self) -> Result<(), Unknown> {
+        let piece = self.pieces[self.place];
+        let (before, is_path) = (self.before(), self.ahead(1) == ":" && self.ahead(2) == ":");
+        match piece.kind {
+            Kind::Mark if piece.text == "#" => return self.attribute(),
+            Kind::Word => {}
+            _ => {
+                self.out.push_str(piece.text);
+                self.place += 1;
+                return Ok(());
+            }
+        }
+        match piece.text {
+            "mod" | "use" | "pub" if ["", ";", "}", "]"].contains(&before) && self.module()? => return Ok(()),
+            "crate" if is_path => {
+                self.take(3, true);
+                self.out.push_str(self.of.name);
+                self.out.push_str("::");
+                return Ok(());
+            }
+            "std" if is_path && before != ":" => {
+                self.take(1, false);
+                self.out.push_str("core");
+                return Ok(());
+            }
+            name if is_path && before != ":" && before != "." && self.of.all.contains(&name) => self.out.push_str("crate::"),
+            "extern" => {
+                if !self.is_next(&["extern", "\"C\"", "fn"]) {
+                    return unknown(piece.line, "`extern` of another form");
+                }
+                self.take(2, false);
+                while self.pieces[self.place].kind == Kind::Space {
+                    self.place += 1;
+                }
+                return Ok(());
+            }
+            "fmt" if before == "fn" => {
+                let head = ["fmt", "<", "W", ":", "fmt", ":", ":", "Write", ">"];
+                let rest = ["(", "&", "self", ",", "f", ":", "&", "mut", "fmt", ":", ":", "Formatter", "<", "W", ">", ")"];
+                if !self.is_next(&[&head[..], &rest[..]].concat()) {
+                    return unknown(piece.line, "`fmt` of another form");
+                }
+                self.take(1, true);
+                self.take(8, false);
+                self.take(13, true);
+                self.take(1, false);
+                self.out.push_str("'_");
+                return Ok(());
+            }
+            word if RESERVED.contains(&word) => return unknown(piece.line, &format!("`{word}`")),
+            word if self.is_macro() && !MACROS.contains(&word) => {
+                return unknown(piece.line, &format!("the macro `{word}!`"));
+            }
+            _ => {}
+        }
+        self.take(1, true);
+        Ok(())
+    }
+}
+
+/// Returns the plain Rust of a file of a crate.
+///
+/// # Errors
+///
+/// What is in the file and isn't known.
+pub fn erase(of: &Crate<'_>, text: &str) -> Result<Plain, Unknown> {
+    let plain = without_ghosts(text)?;
+    let pieces = pieces(&plain)?;
+    let mut writer = Writer { of, pieces: &pieces, place: 0, out: String::new(), modules: Vec::new() };
+    while writer.place < pieces.len() {
+        writer.piece()?;
+    }
+    Ok(Plain { text: writer.out, modules: writer.modules })
+}

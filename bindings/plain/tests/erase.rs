@@ -1,0 +1,76 @@
+//! What the build takes of a file with contracts, and what ends it.
+
+#[path = "../erase.rs"]
+mod erase;
+
+use erase::{erase, Crate};
+
+const OF: Crate<'static> = Crate { name: "upper", all: &["lower", "upper"], takes: |module| module != "laws" };
+
+fn plain(text: &str) -> String {
+    erase(&OF, text).unwrap().text
+}
+
+/// Wants the line of what isn't known.
+fn refused(line: usize, text: &str) {
+    match erase(&OF, text) {
+        Err(unknown) => assert_eq!(unknown.line, line, "{text}: {}", unknown.what),
+        Ok(plain) => panic!("{text} gives {}", plain.text),
+    }
+}
+
+#[test]
+fn contracts_are_left_out() {
+    let text = "//! A module.\nghost use A.B.{◌≡◌, c};\n\nuse lower::x;\n\n/// Adds { one.\n#[inline]\n\
+        #[tactic(auto, using(crate::proofs::A::b))]\npub fn f(a: &[u8], b: u8) -> u8\n    requires some { a ≡ { b } }\n    \
+        ensures { (λ d.\n        d) }\n{\n    crate::g('{', \"}\\\"\", b'\\'') // ensures { }\n}\n";
+    let wanted = "//! A module.\n\n\nuse crate::lower::x;\n\n/// Adds { one.\n#[inline]\n\npub fn f(a: &[u8], b: u8) -> u8\n\n\n\n{\n    \
+        crate::upper::g('{', \"}\\\"\", b'\\'') // ensures { }\n}\n";
+    assert_eq!(plain(text), wanted);
+}
+
+#[test]
+fn modules_are_taken_or_left_out() {
+    let made = erase(&OF, "mod a;\npub mod laws;\npub use laws::{b,\n    c};\npub use a::d;\n").unwrap();
+    assert_eq!(made.text, "mod a;\n\n\n\npub use a::d;\n");
+    assert_eq!(made.modules, ["a"]);
+}
+
+#[test]
+fn functions_for_c_and_displays_are_written_otherwise() {
+    assert_eq!(plain("#[unsafe(no_mangle)]\npub extern \"C\" fn f() {}\n"), "\npub fn f() {}\n");
+    let text = "fn fmt<W: fmt::Write>(&self, f: &mut fmt::Formatter<W>) -> fmt::Result {}\n";
+    assert_eq!(plain(text), "fn fmt(&self, f: &mut fmt::Formatter<'_>) -> fmt::Result {}\n");
+    assert_eq!(plain("use std::fmt;\nlet x = a::std::b;\n"), "use core::fmt;\nlet x = a::std::b;\n");
+}
+
+#[test]
+fn lifetimes_and_comments_are_none_of_a_quote() {
+    let text = "fn f<'a>(a: &'a [u8]) -> &'static str /* { /* \" */ */\n{\n    'x: loop { break 'x; }\n    let _ = '\\u{7B}';\n}\n";
+    assert_eq!(plain(text), text);
+}
+
+#[test]
+fn what_is_unknown_ends_the_build() {
+    refused(2, "fn f() {\n    ghost let x = 1;\n}\n");
+    refused(1, "ghost fn f() {}\n");
+    refused(2, "fn f() {\n    requires { a }\n}\n");
+    refused(3, "fn f() {\n    while a\n        invariant { b }\n    {}\n}\n");
+    refused(2, "fn f()\n    measure { a }\n{}\n");
+    refused(2, "fn f()\n    ensures { \"}\" }\n{}\n");
+    refused(2, "fn f()\n    ensures { a -- b }\n    ensures { // c }\n{}\n".replace("a -- b", "'").as_str());
+    refused(2, "fn f()\n    ensures two names { a }\n{}\n");
+    refused(2, "fn f()\n    ensures { a } {\n}\n");
+    refused(2, "fn f()\n    ensures { a\n{}\n");
+    refused(2, "fn f() {\n    prove!(a);\n}\n");
+    refused(2, "fn f() {\n    unsafe { a() }\n}\n");
+    refused(1, "#[model]\nfn f() {}\n");
+    refused(1, "#[derive(Copy, Drop)]\nstruct S;\n");
+    refused(1, "mod a { }\n");
+    refused(1, "extern \"C\" { }\n");
+    refused(1, "const A: &str = r\"a\";\n");
+    refused(2, "\nconst A: &str = \"a;\n");
+    refused(2, "\n/* a\n");
+    refused(2, "fn f(\n    a: λ) {}\n".replace('λ', "≡").as_str());
+    refused(1, "fn fmt<W: Write>(&self) {}\n");
+}
