@@ -9,7 +9,7 @@
 #     NAME_module.o        the objects that the prover's compiler wrote, of which NAME.o is made
 #     yaml                 examples/yaml.c over libpokhvizi.a; CFLAGS are taken from the environment
 #
-# They run on any x86-64 processor. With the word `aarch64` the libraries are made for that machine, over what was proved for the
+# build_plain.sh makes the libraries and yaml without the kit. These run on any x86-64 processor. With the word `aarch64` the libraries are made for that machine, over what was proved for the
 # first, with Debian's gcc-aarch64-linux-gnu; `yaml` is not.
 #
 # Needs the kit, a C compiler, binutils, and Debian's libyaml-dev. The first run proves the crates below, which takes many
@@ -33,9 +33,7 @@ command -v rt > /dev/null || { echo "build_c.sh: the kit's rt is not in the path
 mkdir -p "$dir"
 dir=$(cd "$dir" && pwd)
 cd "$(dirname "$0")/.."
-top=$PWD
 kit=$(dirname "$(rt doc)")
-abi=$(cat bindings/c/ABI_VERSION)
 case $machine in
 x86_64) cc=${CC:-cc} tools='' for_machine='--cpu x86-64' ;;
 aarch64) cc=aarch64-linux-gnu-gcc tools=aarch64-linux-gnu- for_machine='--target aarch64-unknown-linux-gnu' ;;
@@ -75,13 +73,8 @@ build_door() {
     [ "$made" = "$wanted" ] || { printf 'other names are exported:\n%s\n' "$made" >&2; exit 1; }
 }
 
-# The names that a header declares.
-names_of() {
-    sed -n 's/^[a-z].*\b\(pokhvizi_[a-z_]*\)(.*/\1/p' "bindings/c/include/pokhvizi/$1.h" | grep -v -x -e pokhvizi_problem -e pokhvizi_refusal | sort -u
-}
-
-build_door steps token_steps_c $(names_of steps)
-build_door compose document_steps_c $(names_of compose)
+build_door steps token_steps_c $(sh scripts/parts/header_names.sh steps)
+build_door compose document_steps_c $(sh scripts/parts/header_names.sh compose)
 for door in steps compose; do
     if "${tools}nm" -u "$dir/$door.o" | grep -v -w -E 'U (memcmp|memcpy|memmove|memset)' | grep .; then
         echo "$door.o needs more than memory in place" >&2
@@ -89,17 +82,4 @@ for door in steps compose; do
     fi
 done
 
-cd "$dir"
-rm -f libpokhvizi.a libpokhvizi.so*
-"${tools}ar" rcsD libpokhvizi.a steps.o compose.o
-names=$(cd "$top" && for door in steps compose; do names_of $door; done | sort)
-{ echo "POKHVIZI_$abi {"; echo "global:"; printf '%s;\n' $names; echo "local: *; };"; } > pokhvizi.map
-"$cc" -shared -nostartfiles -Wl,-soname,"libpokhvizi.so.$abi" -Wl,--version-script,pokhvizi.map -Wl,-z,relro,-z,now,-z,noexecstack \
-    -Wl,--gc-sections -Wl,--build-id=sha1 -Wl,-z,defs -o "libpokhvizi.so.$abi" steps.o compose.o
-"${tools}strip" --strip-unneeded "libpokhvizi.so.$abi"
-ln -s "libpokhvizi.so.$abi" libpokhvizi.so
-shared=$("${tools}nm" -D --defined-only libpokhvizi.so | awk 'NF == 3 && $2 == "T" { sub(/@.*/, "", $3); print $3 }' | sort)
-[ "$shared" = "$names" ] || { printf 'other names are exported:\n%s\n' "$shared" >&2; exit 1; }
-
-cd "$top"
-[ $machine != x86_64 ] || "$cc" ${CFLAGS:--O2 -Wall -Wextra} -Ibindings/c/include examples/yaml.c "$dir/libpokhvizi.a" -lyaml -o "$dir/yaml"
+CC=$cc sh scripts/parts/link_c.sh "$dir" "$tools" steps.o compose.o

@@ -3,7 +3,7 @@
 #
 #     sh scripts/doors/door_checks.sh steps|compose|yaml [DIR]
 #
-# DIR has the libraries that build_c.sh made there; without it, that is run first.
+# DIR has the libraries that build_c.sh, or build_plain.sh, made there; without it, the first is run.
 #
 #     steps, compose   the structs of the header against those of the crates; the header in C of 1989 and in C++; the shared
 #                      library; events, or documents, beside libyaml's own over samples, test vectors and broken texts; calls that are
@@ -77,7 +77,9 @@ check_library() {
     readelf -d "$work/header" | grep -q 'NEEDED.*\[libpokhvizi\.so\.[0-9]*\]' || complain "the shared library has no name of its own"
     $cc -O2 $strict -nodefaultlibs -r -o "$work/header_static" "$work/header.c" "$library" || complain "the header cannot be linked"
     nm "$work/header_static" | grep -E ' (T|t|U) (malloc|realloc|free|calloc)(@|$)' && complain "a program over the header allocates"
-    nm -u "$built/$door.o" | grep ' U ' | grep -v -E ' U (memcmp|memcpy|memmove|memset)(@|$)' && complain "$door.o needs more than it says"
+    object=$door.o needs='memcmp|memcpy|memmove|memset'
+    [ -e "$built/$object" ] || object=pokhvizi.o needs="abort|bcmp|$needs"  # of build_plain.sh
+    nm -u "$built/$object" | grep ' U ' | grep -v -E " U ($needs)(@|\$)" && complain "$object needs more than it says"
 }
 
 build_driver() {
