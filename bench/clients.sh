@@ -35,6 +35,7 @@ printf '[source.crates-io]\nreplace-with = "debian"\n[source.debian]\ndirectory 
 cp -R bindings/rust "$work/unsafe_libyaml"
 rm -rf "$work/unsafe_libyaml/original"
 ln -s "$crates/unsafe-libyaml-0.2.11" "$work/unsafe_libyaml/original"
+sh scripts/parts/rust_manifest.sh original "$PWD" > "$work/unsafe_libyaml/Cargo.toml"
 for how in plain proved; do
     mkdir -p "$work/$how"
     cp -R "$crates/unsafe-libyaml-0.2.11/src/bin" "$work/$how/src"

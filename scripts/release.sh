@@ -6,8 +6,8 @@
 #     pokhvizi-VERSION-MACHINE-linux.tar.gz      for C and C++: headers, static and shared library, pkg-config, the preload
 #                                                library with its starter, samples, pages, PROOF
 #     pokhvizi-VERSION-cp38-abi3-MACHINE.whl     for Python; py3-none if it has no extension
-#     pokhvizi-unsafe-libyaml-VERSION.tar.gz     for Rust, to be named by [patch.crates-io]; it has the library for both machines
-#                                                and the original crate, which ORIGINAL names
+#     pokhvizi-unsafe-libyaml-VERSION.tar.gz     for Rust, to be named by [patch.crates-io]; it has the library for both machines,
+#                                                for all others the crate `pokhvizi`, and the original crate, which ORIGINAL names
 #     pokhvizi-VERSION-llvm.tar.gz               the LLVM modules, to be compiled
 #     SHA256SUMS
 #
@@ -159,6 +159,12 @@ crate() {
     git ls-files bindings/rust | while read -r file; do
         mkdir -p "$tree/$(dirname "${file#bindings/rust/}")"
         cp "$file" "$tree/${file#bindings/rust/}"
+    done
+    sh scripts/parts/rust_manifest.sh original plain > "$tree/Cargo.toml"
+    # For other machines the crate `pokhvizi`, without the lists of its test.
+    sed -n 's#^    "/\(.*\)",$#\1#p' Cargo.toml | grep -v vectors_steps | xargs git ls-files Cargo.toml -- | while read -r file; do
+        mkdir -p "$tree/plain/$(dirname "$file")"
+        cp "$file" "$tree/plain/$file"
     done
     for machine in $machines; do
         mkdir -p "$tree/lib/$machine-unknown-linux"

@@ -3,7 +3,7 @@
 #
 #     sh scripts/doors/clients.sh DIR [CHECK..]
 #
-# DIR has the libraries that build_c.sh made there. Each check compares the two; what differs is listed by name, with its
+# DIR has the libraries that build_c.sh, or build_plain.sh, made there. Each check compares the two; what differs is listed by name, with its
 # reason, in a file of scripts/doors/clients/, and anything else fails, as does a name that is listed and doesn't differ. The
 # checks, of which all are run if none is named:
 #
@@ -29,7 +29,8 @@
 #                        words; SEED is another draw
 #     hostile_texts      texts that cost more than their length, and broken ones, at each door with its bounds and without, as
 #                        hostile_texts.py says; docs/BOUNDS.md has its figures
-#     crate              the tests of bindings/rust, over those texts, and with its feature `mends`
+#     crate              the tests of bindings/rust, over those texts, and with its feature `mends`; and over the crate `pokhvizi` in
+#                        place of the library
 #     loads_rust         nodes, memory over 7 MB and instructions of loads by that crate and by the original; of one large
 #                        document, small documents and anchors they are at most 1.11, 1.07 and .3 of the original's
 #     pipe_rust          events before a slow pipe's end, by that crate
@@ -48,7 +49,7 @@
 # Run by hand after bindings changed, and by check_programs.sh with `all`.
 set -u
 [ $# -ge 1 ] && dir=$(realpath "$1") && [ -f "$dir/libpokhvizi.so" ] && [ -f "$dir/libpokhvizi.a" ] || {
-    echo "usage: sh scripts/doors/clients.sh DIR [CHECK..], where build_c.sh made DIR" >&2
+    echo "usage: sh scripts/doors/clients.sh DIR [CHECK..], where build_c.sh or build_plain.sh made DIR" >&2
     exit 2
 }
 shift
@@ -490,6 +491,7 @@ prepare_cargo() {
         cp -R bindings/rust "$work/unsafe_libyaml"
         rm -rf "$work/unsafe_libyaml/original"
         ln -s "$(realpath "$crates"/unsafe-libyaml-0.2.11)" "$work/unsafe_libyaml/original"
+        sh scripts/parts/rust_manifest.sh original "$top" > "$work/unsafe_libyaml/Cargo.toml"
     fi
     mkdir -p "$CARGO_HOME"
     printf '[source.crates-io]\nreplace-with = "debian"\n[source.debian]\ndirectory = "%s"\n[net]\noffline = true\n' \
@@ -527,6 +529,7 @@ crate() {
     prepare_cargo
     exact_texts || return 1
     (cd "$work/unsafe_libyaml" && POKHVIZI_TEXTS="$work/exact" cargo test -q -j 1 && cargo test -q -j 1 --features mends) || return 1
+    (cd "$work/unsafe_libyaml" && POKHVIZI_DIR='' cargo test -q -j 1) || return 1
     (cd "$work/unsafe_libyaml" && POKHVIZI_DIR=/nowhere cargo build -q -j 1) > "$work/missing" 2>&1 && return 1
     grep -q "POKHVIZI_DIR may name the folder of libpokhvizi.a" "$work/missing" || { cat "$work/missing"; return 1; }
     echo "$(cat bindings/rust/tests/*.rs | grep -c '^#\[test\]') tests"

@@ -1,42 +1,28 @@
 //! The composer of `pokhvizi/compose.h`: an event in, and what is to be done to the document out.
 
 use crate::bounds;
+use crate::door::{self, composer_t, open_t, place_t};
 use crate::expansion::Expansion;
 use crate::fault::Fault;
 use crate::memory::Text;
 use std::collections::HashMap;
 
-/// What is kept between two events: plain numbers, which nobody reads here.
-#[repr(C)]
-struct Record([u64; 3]);
+pub type Place = place_t;
 
-/// A collection that is open, which nobody reads here.
-#[derive(Clone, Copy)]
-#[repr(C)]
-struct Open([u32; 4]);
+/// A place of nothing.
+pub const NO_PLACE: Place = place_t {
+    node: 0,
+    child: 0,
+    parent: 0,
+    key: 0,
+};
 
-/// Where a node or an alias goes.
-#[derive(Clone, Copy, Default)]
-#[repr(C)]
-pub struct Place {
-    pub node: i32,
-    pub child: i32,
-    pub parent: i32,
-    pub key: i32,
-}
-
-extern "C" {
-    fn pokhvizi_composer_new(composer: *mut Record, max_entries: u32);
-
-    fn pokhvizi_compose(
-        composer: *mut Record,
-        stack: *mut Open,
-        stack_room: usize,
-        kind: u8,
-        fact: i32,
-        place: *mut Place,
-    ) -> u32;
-}
+const NO_COLLECTION: open_t = open_t {
+    node: 0,
+    key: 0,
+    children: 0,
+    is_mapping: 0,
+};
 
 // What a call returns.
 const PASSES: u32 = 0;
@@ -97,8 +83,8 @@ pub enum Refusal {
 
 /// The open collections of a document, and its anchors.
 pub struct Composer {
-    record: Record,
-    stack: Vec<Open>,
+    record: composer_t,
+    stack: Vec<open_t>,
     anchors: HashMap<Text, i32>,
     expansion: Option<Expansion>,
     /// The bounds as the parser began.
@@ -111,7 +97,7 @@ impl Composer {
 
     pub fn new() -> Composer {
         Composer {
-            record: Record([0; 3]),
+            record: door::composer_new(0),
             stack: Vec::new(),
             anchors: HashMap::new(),
             expansion: None,
@@ -122,8 +108,7 @@ impl Composer {
 
     /// Begins a document.
     pub fn begin(&mut self) {
-        // SAFETY: the record is the caller's.
-        unsafe { pokhvizi_composer_new(&mut self.record, self.max_nodes) };
+        self.record = door::composer_new(self.max_nodes);
         self.expansion = self.max_expanded.map(Expansion::new);
     }
 
@@ -144,9 +129,7 @@ impl Composer {
     #[inline]
     pub fn compose(&mut self, kind: u8, fact: i32, place: &mut Place) -> Result<Deed, Refusal> {
         loop {
-            let (stack, room) = (self.stack.as_mut_ptr(), self.stack.len());
-            // SAFETY: the pointers are to as many entries as are said.
-            let mut deed = unsafe { pokhvizi_compose(&mut self.record, stack, room, kind, fact, place) };
+            let mut deed = door::compose(&mut self.record, &mut self.stack, kind, fact, place);
             if let Some(expansion) = &mut self.expansion {
                 deed = expansion.count(deed, kind, place)?;
             }
@@ -177,7 +160,7 @@ impl Composer {
         self.stack
             .try_reserve_exact(more)
             .map_err(|_| Refusal::Fault(Fault::memory()))?;
-        self.stack.resize(self.stack.len() + more, Open([0; 4]));
+        self.stack.resize(self.stack.len() + more, NO_COLLECTION);
         Ok(())
     }
 }

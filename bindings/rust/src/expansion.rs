@@ -1,18 +1,8 @@
 //! The count of `pokhvizi/compose.h`: how large a document is with its aliases written out.
 
 use crate::composer::{Place, Refusal};
+use crate::door::{self, sizes_t};
 use crate::fault::Fault;
-
-/// The nodes of a document so far, and how many it may have: plain numbers, which nobody reads here.
-#[repr(C)]
-struct Record([u64; 2]);
-
-extern "C" {
-    fn pokhvizi_size_new(size: *mut Record, max: u64);
-
-    fn pokhvizi_count(size: *mut Record, sizes: *mut u64, room: usize, deed: u32, kind: u8, place: *const Place)
-        -> u32;
-}
 
 // What a call returns.
 const COUNTED: u32 = 0;
@@ -20,7 +10,7 @@ const FULL_SIZES: u32 = 16;
 
 /// The count of a document, with an entry for each of its nodes.
 pub struct Expansion {
-    record: Record,
+    record: sizes_t,
     sizes: Vec<u64>,
 }
 
@@ -29,11 +19,8 @@ impl Expansion {
 
     /// Begins a document of at most so many nodes.
     pub fn new(max: u64) -> Expansion {
-        let mut record = Record([0; 2]);
-        // SAFETY: the record is the caller's.
-        unsafe { pokhvizi_size_new(&mut record, max) };
         Expansion {
-            record,
+            record: door::size_new(max),
             sizes: Vec::new(),
         }
     }
@@ -45,9 +32,7 @@ impl Expansion {
     /// No memory.
     pub fn count(&mut self, deed: u32, kind: u8, place: &Place) -> Result<u32, Refusal> {
         loop {
-            let (sizes, room) = (self.sizes.as_mut_ptr(), self.sizes.len());
-            // SAFETY: the pointers are to as many entries as are said.
-            match unsafe { pokhvizi_count(&mut self.record, sizes, room, deed, kind, place) } {
+            match door::count(&mut self.record, &mut self.sizes, deed, kind, place) {
                 COUNTED => return Ok(deed),
                 FULL_SIZES => self.grow()?,
                 stops => return Ok(stops),

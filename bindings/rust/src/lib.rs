@@ -31,6 +31,7 @@
 pub mod bounds;
 mod composer;
 mod documents;
+mod door;
 mod events;
 mod expansion;
 mod fault;

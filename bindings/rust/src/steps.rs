@@ -1,112 +1,17 @@
 //! The steps of `pokhvizi/steps.h`: a token in, at most one event out.
 
 use crate::bounds;
+use crate::door::{self, handle_t, step_event_t, step_fault_t, step_span_t, steps_t, text_t, Mark, ZERO_MARK};
 use crate::fault::Fault;
 use crate::memory::{self, bytes, Text};
 use crate::tokens::Token;
 use original::*;
 use std::collections::HashMap;
-use std::mem::{size_of, MaybeUninit};
-use std::{iter, ptr};
+use std::mem::size_of;
+use std::{iter, ptr, slice};
 
-/// What is kept between two steps: plain numbers, which nobody reads here.
-#[repr(C)]
-struct Record([u64; 17]);
-
-/// An event without its texts; flags are 1 or 0, and the number of its kind is the original's.
-#[derive(Clone, Copy)]
-#[repr(C)]
-pub struct Shape {
-    pub kind: u8,
-    pub has_anchor: u8,
-    pub has_tag: u8,
-    pub implicit: u8,
-    pub quoted_implicit: u8,
-    pub is_flow: u8,
-    pub start_mark: yaml_mark_t,
-    pub end_mark: yaml_mark_t,
-}
-
-/// A fault, by its number.
-#[derive(Clone, Copy)]
-#[repr(C)]
-pub struct Problem {
-    pub number: u8,
-    pub context_mark: yaml_mark_t,
-    pub problem_mark: yaml_mark_t,
-}
-
-#[derive(Clone, Copy)]
-#[repr(C)]
-struct Range {
-    place: u64,
-    length: u64,
-}
-
-/// A tag directive, whose texts are ranges of a buffer.
-#[derive(Clone, Copy)]
-#[repr(C)]
-struct Handle {
-    handle: Range,
-    prefix: Range,
-}
-
-// A mark is three numbers, laid out as C lays them out; the original may add to them.
-#[allow(improper_ctypes)]
-extern "C" {
-    fn pokhvizi_steps_new(steps: *mut Record);
-
-    fn pokhvizi_step(
-        steps: *mut Record,
-        states: *mut u8,
-        states_room: usize,
-        marks: *mut yaml_mark_t,
-        marks_room: usize,
-        kind: u8,
-        fact: u8,
-        at: *const [yaml_mark_t; 2],
-        event: *mut Shape,
-        fault: *mut Problem,
-    ) -> u32;
-
-    fn pokhvizi_step_exact(
-        steps: *mut Record,
-        states: *mut u8,
-        states_room: usize,
-        marks: *mut yaml_mark_t,
-        marks_room: usize,
-        kind: u8,
-        fact: u8,
-        at: *const [yaml_mark_t; 2],
-        event: *mut Shape,
-        fault: *mut Problem,
-    ) -> u32;
-
-    fn pokhvizi_version_fact(major: i32, minor: i32) -> u8;
-
-    fn pokhvizi_directive_fact(
-        handles: *const Handle,
-        count: usize,
-        texts: *const u8,
-        length: usize,
-        handle: *const u8,
-        handle_length: usize,
-    ) -> u8;
-
-    fn pokhvizi_tag(
-        handles: *const Handle,
-        count: usize,
-        texts: *const u8,
-        length: usize,
-        handle: *const u8,
-        handle_length: usize,
-        suffix: *const u8,
-        suffix_length: usize,
-        out: *mut u8,
-        room: usize,
-        size: *mut usize,
-    ) -> u8;
-}
+pub type Shape = step_event_t;
+pub type Problem = step_fault_t;
 
 // What a step returns, and the number of a problem that none has.
 const WANTS: u32 = 0;
@@ -117,10 +22,28 @@ const FULL_MARKS: u32 = 4;
 const FAULT: u32 = 5;
 pub const TOO_DEEP: usize = 13;
 
+const NO_PROBLEM: Problem = step_fault_t {
+    problem: 0,
+    context_mark: ZERO_MARK,
+    problem_mark: ZERO_MARK,
+};
+
+/// An event of no kind.
+pub const BLANK: Shape = step_event_t {
+    kind: 0,
+    has_anchor: 0,
+    has_tag: 0,
+    implicit: 0,
+    quoted_implicit: 0,
+    is_flow: 0,
+    start_mark: ZERO_MARK,
+    end_mark: ZERO_MARK,
+};
+
 /// The tag directives of a document.
 #[derive(Default)]
 pub struct TagDirectives {
-    handles: Vec<Handle>,
+    handles: Vec<handle_t>,
     texts: Vec<u8>,
     /// Where each stands among the handles: the calls below look at each that they are shown, so they are shown one.
     places: HashMap<Vec<u8>, usize>,
@@ -129,7 +52,7 @@ pub struct TagDirectives {
 impl TagDirectives {
     /// Appends a directive.
     pub fn declare(&mut self, handle: &[u8], prefix: &[u8]) {
-        let made = Handle {
+        let made = handle_t {
             handle: self.put(handle),
             prefix: self.put(prefix),
         };
@@ -144,7 +67,7 @@ impl TagDirectives {
     }
 
     /// Returns the handle of a text alone where the document has declared it.
-    fn find(&self, handle: &[u8]) -> &[Handle] {
+    fn find(&self, handle: &[u8]) -> &[handle_t] {
         match self.places.get(handle) {
             Some(&place) => &self.handles[place..=place],
             None => &[],
@@ -166,52 +89,29 @@ impl TagDirectives {
         (start, start.add(count))
     }
 
-    fn put(&mut self, text: &[u8]) -> Range {
+    fn put(&mut self, text: &[u8]) -> text_t {
         let place = self.texts.len() as u64;
         self.texts.extend_from_slice(text);
-        Range {
+        text_t {
             place,
             length: text.len() as u64,
         }
     }
 
-    fn text(&self, range: Range) -> &[u8] {
+    fn text(&self, range: text_t) -> &[u8] {
         &self.texts[range.place as usize..][..range.length as usize]
     }
 
     /// Returns the fact of a tag and its length in full; puts it there if there is room.
-    unsafe fn put_tag(&self, handle: &[u8], suffix: &[u8], out: *mut u8, room: usize) -> (u8, usize) {
-        let (found, mut length) = (self.find(handle), 0);
-        let fact = pokhvizi_tag(
-            found.as_ptr(),
-            found.len(),
-            self.texts.as_ptr(),
-            self.texts.len(),
-            handle.as_ptr(),
-            handle.len(),
-            suffix.as_ptr(),
-            suffix.len(),
-            out,
-            room,
-            &mut length,
-        );
+    fn put_tag(&self, handle: &[u8], suffix: &[u8], out: &mut [u8]) -> (u8, usize) {
+        let mut length = 0;
+        let fact = door::tag(self.find(handle), &self.texts, handle, suffix, out, &mut length);
         (fact, length)
     }
 
     /// Returns the fact of a TAG-DIRECTIVE.
     fn fact(&self, handle: &[u8]) -> u8 {
-        let found = self.find(handle);
-        // SAFETY: each pointer is to as many entries as are said.
-        unsafe {
-            pokhvizi_directive_fact(
-                found.as_ptr(),
-                found.len(),
-                self.texts.as_ptr(),
-                self.texts.len(),
-                handle.as_ptr(),
-                handle.len(),
-            )
-        }
+        door::directive_fact(self.find(handle), &self.texts, handle)
     }
 }
 
@@ -228,21 +128,17 @@ pub enum Did {
 
 /// The parser's states, its stacks, and the tag directives of its document.
 pub struct Steps {
-    record: Record,
+    record: steps_t,
     states: Vec<u8>,
-    marks: Vec<yaml_mark_t>,
+    marks: Vec<Mark>,
+    /// Where a step puts why it fails.
+    problem: Problem,
     /// How long the stack of marks may get.
     max_depth: usize,
     /// The tag of the last TAG token in full, if it is short, and its length.
     tag: [u8; Steps::SHORT],
     tag_length: usize,
     pub directives: TagDirectives,
-}
-
-/// Returns the mark of the first character.
-pub fn no_mark() -> yaml_mark_t {
-    // SAFETY: a mark is three numbers.
-    unsafe { std::mem::zeroed() }
 }
 
 /// Doubles the room of a stack.
@@ -260,13 +156,12 @@ impl Steps {
     const SHORT: usize = 64;
 
     pub fn new() -> Steps {
-        let (mut record, max_depth) = (Record([0; 17]), bounds::max_depth());
-        // SAFETY: the record is the caller's.
-        unsafe { pokhvizi_steps_new(&mut record) };
+        let max_depth = bounds::max_depth();
         Steps {
-            record,
+            record: door::steps_new(),
             states: vec![0; Steps::ROOM],
-            marks: vec![no_mark(); Steps::ROOM.min(max_depth)],
+            marks: vec![ZERO_MARK; Steps::ROOM.min(max_depth)],
+            problem: NO_PROBLEM,
             max_depth,
             tag: [0; Steps::SHORT],
             tag_length: 0,
@@ -280,30 +175,19 @@ impl Steps {
     ///
     /// The parser's error, or no memory for a stack.
     #[inline]
-    pub unsafe fn step(&mut self, token: &Token, fact: u8, shape: &mut Shape) -> Result<Did, Fault> {
+    pub fn step(&mut self, token: &Token, fact: u8, shape: &mut Shape) -> Result<Did, Fault> {
         let kind = token.type_ as u8;
-        let step = if cfg!(feature = "mends") { pokhvizi_step } else { pokhvizi_step_exact };
-        // The two marks of a token are neighbours.
-        let at = ptr::addr_of!(token.start_mark).cast();
+        // SAFETY: the two marks of a token are neighbours, and laid out like a span's.
+        let at = unsafe { &*ptr::addr_of!(token.start_mark).cast::<step_span_t>() };
+        let step = if cfg!(feature = "mends") { door::step } else { door::step_exact };
         loop {
-            let mut problem = MaybeUninit::uninit();
-            let did = step(
-                &mut self.record,
-                self.states.as_mut_ptr(),
-                self.states.len(),
-                self.marks.as_mut_ptr(),
-                self.marks.len(),
-                kind,
-                fact,
-                at,
-                shape,
-                problem.as_mut_ptr(),
-            );
+            let (states, marks) = (&mut self.states, &mut self.marks);
+            let did = step(&mut self.record, states, marks, kind, fact, at, shape, &mut self.problem);
             match did {
                 WANTS => return Ok(Did::Wants),
                 GAVE => return Ok(Did::Gave),
                 STAYS => return Ok(Did::Stays),
-                other => self.follow(other, token.start_mark, problem.as_ptr())?,
+                other => self.follow(other, at.start_mark)?,
             }
         }
     }
@@ -314,13 +198,13 @@ impl Steps {
     ///
     /// The step's problem; no memory.
     #[cold]
-    unsafe fn follow(&mut self, did: u32, at: yaml_mark_t, problem: *const Problem) -> Result<(), Fault> {
+    fn follow(&mut self, did: u32, at: Mark) -> Result<(), Fault> {
         match did {
-            FAULT => Err(Fault::of_problem(&*problem)),
+            FAULT => Err(Fault::of_problem(&self.problem)),
             FULL_STATES => grow(&mut self.states, 0),
             FULL_MARKS if self.marks.len() == self.max_depth => Err(Fault::too_deep(at)),
             FULL_MARKS => {
-                grow(&mut self.marks, no_mark())?;
+                grow(&mut self.marks, ZERO_MARK)?;
                 self.marks.truncate(self.max_depth);
                 Ok(())
             }
@@ -342,14 +226,12 @@ impl Steps {
         let data = &token.data;
         match token.type_ {
             YAML_VERSION_DIRECTIVE_TOKEN => {
-                pokhvizi_version_fact(data.version_directive.major, data.version_directive.minor)
+                door::version_fact(data.version_directive.major, data.version_directive.minor)
             }
             YAML_TAG_DIRECTIVE_TOKEN => self.directives.fact(bytes(data.tag_directive.handle)),
             YAML_TAG_TOKEN => {
                 let (handle, suffix) = (bytes(data.tag.handle), bytes(data.tag.suffix));
-                let (fact, length) = self
-                    .directives
-                    .put_tag(handle, suffix, self.tag.as_mut_ptr(), Steps::SHORT);
+                let (fact, length) = self.directives.put_tag(handle, suffix, &mut self.tag);
                 self.tag_length = length;
                 fact
             }
@@ -364,15 +246,10 @@ impl Steps {
             Some(tag) => Some(Text::copy(tag)),
             None if length == usize::MAX => None,
             None => Some(Text::of_length(length, |made| {
-                self.directives.put_tag(handle, suffix, made, length);
+                made.write_bytes(0, length);
+                let out = slice::from_raw_parts_mut(made, length);
+                self.directives.put_tag(handle, suffix, out);
             })),
         }
-    }
-}
-
-impl Shape {
-    pub fn blank() -> Shape {
-        // SAFETY: a shape is numbers.
-        unsafe { std::mem::zeroed() }
     }
 }
