@@ -11,8 +11,8 @@
 # Every check is run. One that lacks a tool, a library or a program is skipped and names it; it doesn't count as passed. A check
 # that doesn't end within half an hour fails. The last line is `N passed, M failed`, and `, K skipped` if some were; the exit
 # status is 1 if one failed. Tools: a C and a C++ compiler, binutils, python3 with PyYAML and Python's header, libyaml's header,
-# valgrind, GNU time, qemu-x86_64 (Debian: build-essential python3-yaml python3-dev libyaml-dev valgrind time qemu-user), and
-# `rt`.
+# valgrind, GNU time, qemu-x86_64 (Debian: build-essential python3-yaml python3-dev libyaml-dev valgrind time qemu-user), cargo
+# with rustc, and `rt`.
 #
 # Run by hand after a build, and by .ci/run.
 set -u
@@ -111,6 +111,7 @@ done
 check flat_memory /usr/bin/time crates/vectors_hostile/out/vectors_hostile -- sh scripts/gate/flat_memory.sh
 check differential python3 cc yaml.h $yamltokens -- env JOBS=4 sh scripts/differential/run.sh $lists
 
+check plain_rust cargo cc ld objcopy ar nm yaml.h -- sh scripts/gate/plain_rust.sh
 check libraries_for_c rt cc ld objcopy ar nm yaml.h -- sh scripts/build_c.sh "$libraries" $ci
 check faults_of_yaml.c PyYAML "$yaml" -- python3 scripts/gate/compare_errors.py "$yaml"
 check fronts PyYAML $yamltokens "$yaml" -- python3 scripts/gate/compare_fronts.py "$yaml"
