@@ -1,11 +1,12 @@
 #!/bin/sh
-# Builds libyaml_preload.c as a shared library, DIR/libyaml_preload.so, over DIR/libpokhvizi.a, which scripts/build_c.sh made there:
+# Builds libyaml_preload.c as a shared library, DIR/libyaml_preload.so, over DIR/libpokhvizi.a, which scripts/build_c.sh or
+# build_plain.sh made there:
 #
 #     sh bindings/c/build_preload.sh DIR
 #
 # Needs gcc, binutils and Debian's libyaml-dev. CC and STRIP name the tools for another machine.
 set -eu
-usage='usage: sh bindings/c/build_preload.sh DIR, where build_c.sh made DIR'
+usage='usage: sh bindings/c/build_preload.sh DIR, where build_c.sh or build_plain.sh made DIR'
 case ${1-} in '' | -*) echo "$usage" >&2; exit 2 ;; esac
 [ $# -eq 1 ] && [ -f "$1/libpokhvizi.a" ] || { echo "$usage" >&2; exit 2; }
 dir=$(cd "$1" && pwd)

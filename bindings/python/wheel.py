@@ -61,12 +61,14 @@ def main(library, extension, pages, version, tag, out):
     record = "".join(f"{name},{checksum(data)},{len(data)}\n" for name, data in sorted(files.items()))
     files[f"{info}/RECORD"] = (record + f"{info}/RECORD,,\n").encode()
     date = time.gmtime(int(os.environ["SOURCE_DATE_EPOCH"]))[:6]
-    with zipfile.ZipFile(Path(out) / f"pokhvizi-{version}-{python}-{tag}.whl", "w", zipfile.ZIP_DEFLATED) as wheel:
+    made = f"pokhvizi-{version}-{python}-{tag}.whl"
+    with zipfile.ZipFile(Path(out) / made, "w", zipfile.ZIP_DEFLATED) as wheel:
         for name, data in sorted(files.items(), key=lambda item: (info in item[0], item[0])):
             entry = zipfile.ZipInfo(name, date)
             entry.compress_type, entry.create_system = zipfile.ZIP_DEFLATED, 3
             entry.external_attr = (0o100755 if name.endswith(".so") else 0o100644) << 16
             wheel.writestr(entry, data)
+    return made
 
 
 if __name__ == "__main__":

@@ -4,8 +4,8 @@
     python3 scripts/doors/abi.py [--write]
 
 bindings/c/abi.txt has that number, the layout of each struct as layout.py writes it, and each function that a header declares.
-What the bindings in Python and Rust have of the headers by hand is compared too: sizes and places in structs, numbers of results,
-words of errors. The exit status is 1 if one of them is another. With --write the file is written, which needs a higher number in
+What the bindings in Python and Rust have of the headers by hand is compared too: sizes and places in structs, the parameters of
+functions, numbers of results, words of errors. The exit status is 1 if one of them is another. With --write the file is written, which needs a higher number in
 bindings/c/ABI_VERSION if a struct or function that was there has changed or is gone.
 
 Run by check.sh.
@@ -39,13 +39,11 @@ BINDINGS = C.parent
 ENUM = re.compile(r"^enum \{\n(.*?)\}", re.M | re.S)
 WORDS = re.compile(r"words\[\d+\]\[2\] = \{\n(.*?)\n    \};", re.S)
 PAIR = re.compile(r'\(\s*b"(.*?)\\0",\s*(?:None|Some\(b"(.*?)\\0"\)),?\s*\)', re.S)
-REPR = re.compile(r"#\[repr\(C\)\]\n(?:pub )?struct (\w+) \{\n(.*?)^\}", re.M | re.S)
+RUST_FUNCTION = re.compile(r'\bfn (pokhvizi_\w+)\((.*?)\)(?: -> (\w+))?(?: \{|;)', re.S)
+# the files that declare the headers' functions in Rust
+RUST_DOORS = ("c/door.rs", "rust/src/door.rs")
 FORMAT = re.compile(r"(\d*)([xBQ])")
 SIZES = {"x": 1, "B": 1, "Q": 8}
-# Rust: the file, its struct and that of the header
-RUST = (("steps.rs", "Shape", "pokhvizi_event_t"), ("steps.rs", "Problem", "pokhvizi_fault_t"), ("steps.rs", "Range", "pokhvizi_text_t"),
-        ("steps.rs", "Handle", "pokhvizi_handle_t"), ("composer.rs", "Place", "pokhvizi_place_t"))
-BLOCKS = (("steps.rs", "Record", "pokhvizi_steps_t"), ("composer.rs", "Record", "pokhvizi_composer_t"), ("composer.rs", "Open", "pokhvizi_open_t"))
 # Python: the name of a format and the fields that it reads
 FORMATS = (("HANDLE", "pokhvizi_handle_t", "handle.place handle.length prefix.place prefix.length"),
            ("EVENT", "pokhvizi_event_t", "kind has_anchor has_tag implicit quoted_implicit is_flow start_mark.index end_mark.index"),
@@ -79,7 +77,7 @@ def one(pattern, text, name):
 
 
 def differing_structs(structs):
-    """What is another in Python's and Rust's structs, in words."""
+    """What is another in Python's structs, in words."""
     python = (BINDINGS / "python/src/pokhvizi/__init__.py").read_text()
     size, counts = one(r'RECORD, COUNTS = (\d+), struct\.Struct\("=(.*?)"\)', python, "__init__.py")
     steps = structs["pokhvizi_steps_t"]
@@ -90,19 +88,34 @@ def differing_structs(structs):
         wanted = [there[field] for field in fields.split()], structs[struct].size
         if read_by(one(rf'{name} = struct\.Struct\("=(.*?)"\)', python, "__init__.py")) != wanted:
             yield f"__init__.py: {name}"
-    for file, name, struct in BLOCKS:
-        kind, count = one(rf"struct {name}\(\[(u\d+); (\d+)\]\);", (BINDINGS / "rust/src" / file).read_text(), file)
-        width = int(kind[1:]) // 8
-        if (structs[struct].size, structs[struct].alignment) != (width * int(count), width):
-            yield f"{file}: {name}"
-    types = {name: layout.Layout(name, size, size) for name, (_, size) in layout.NUMBERS.items()}
-    types["yaml_mark_t"] = structs["pokhvizi_mark_t"]
-    for file in ("steps.rs", "composer.rs"):
-        for name, body in REPR.findall((BINDINGS / "rust/src" / file).read_text()):
-            types[name] = layout.struct(name, re.sub(r"^    (?=\w+:)", "    pub ", body, flags=re.M), types)
-    for file, name, struct in RUST:
-        if [place for _, place in places(types[name].fields)] != [place for _, place in places(structs[struct].fields)]:
-            yield f"{file}: {name}"
+
+
+def c_type(rust):
+    """C's type for a parameter's or a result's in Rust."""
+    names = {"Mark": "pokhvizi_mark_t", "": "void", **{name: c for name, (c, _) in layout.NUMBERS.items()}}
+    for _, _, structs, _ in layout.HEADERS:
+        names.update(structs)
+    found = re.fullmatch(r"(&|&mut |\*const |\*mut )?(\w*)", rust)
+    before = {"&": "const ", "*const ": "const "}.get(found[1], "")
+    return before + names[found[2]] + (" *" if found[1] else "")
+
+
+def differing_functions():
+    """What is another in Rust's declarations of the headers' functions, in words."""
+    declared = {}
+    for header in ("steps", "compose"):
+        for found in FUNCTION.findall((C / "include/pokhvizi" / f"{header}.h").read_text()):
+            result, name, words = re.fullmatch(r"(\w+) (\w+)\((.*)\);", " ".join(found.split())).groups()
+            declared[name] = [result, *(re.fullmatch(r"(.*?)(\w+)", word).groups() for word in words.split(", "))]
+    for file in RUST_DOORS:
+        there = {}
+        for name, words, result in RUST_FUNCTION.findall((BINDINGS / file).read_text()):
+            pairs = [word.strip().split(": ") for word in words.split(",") if word.strip()]
+            there[name] = [c_type(result), *((re.sub(r"(\w)$", r"\1 ", c_type(kind)), parameter) for parameter, kind in pairs)]
+        wanted = dict(declared)
+        if file.startswith("rust"):
+            wanted.pop("pokhvizi_carrier")  # it has a hash table in its place
+        yield from (f"{file}: {name}" for name in sorted(set(wanted) | set(there)) if wanted.get(name) != there.get(name))
 
 
 def names_of(header):
@@ -134,6 +147,7 @@ def differing():
     headers = {name: (C / "include/pokhvizi" / f"{name}.h").read_text() for name in ("steps", "compose")}
     rust = {name: (BINDINGS / "rust/src" / f"{name}.rs").read_text() for name in ("steps", "composer", "fault")}
     yield from differing_structs({struct.name: struct for struct in layout.structs()})
+    yield from differing_functions()
     python = one(r"^    (WANTS, [A-Z_, ]+) = range\(\d+\)$".replace("^", "(?m:^)").replace("$", "(?m:$)"),
                  (BINDINGS / "python/src/pokhvizi/__init__.py").read_text(), "__init__.py")
     yield from differing_numbers(headers["steps"], rust["steps"], python)
