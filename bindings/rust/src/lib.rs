@@ -7,8 +7,8 @@
 //! unsafe-libyaml = { path = "PATH" }
 //! ```
 //!
-//! PATH is the unpacked archive of a release, which contains the library and the original crate; README.md says how to build from
-//! the repository. `cargo tree -i unsafe-libyaml@0.2.12` shows which packages use the patch: if cargo leaves it out, it only warns
+//! PATH is `bindings/rust` of a clone of the repository, or the unpacked archive of a release; README.md says what compiles the proved
+//! code in each. `cargo tree -i unsafe-libyaml@0.2.12` shows which packages use the patch: if cargo leaves it out, it only warns
 //! and builds with the original.
 //!
 //! [`yaml_parser_parse`], [`yaml_parser_load`] and [`yaml_parser_delete`] are replaced. A parse takes as many tokens of the
