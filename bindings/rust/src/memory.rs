@@ -12,7 +12,8 @@ use std::mem::{align_of, size_of, ManuallyDrop};
 use std::ptr::{self, NonNull};
 
 const ALIGN: usize = align_of::<yaml_mark_t>();
-const HEADER: usize = size_of::<u64>();
+/// A size, in as many bytes as keep what is after it aligned.
+const HEADER: usize = (size_of::<usize>() + ALIGN - 1) / ALIGN * ALIGN;
 
 /// Returns the layout of a block with so many bytes to use.
 #[inline]
