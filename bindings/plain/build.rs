@@ -6,7 +6,7 @@ use erase::{erase, Crate};
 use std::path::{Path, PathBuf};
 use std::{env, fs, process};
 
-/// The crates, lowest first: what C's library is made of.
+/// The crates, lowest first: what C's library is made of, and with the feature `alloc` the parser with texts, documents and the loader.
 const CRATES: [&str; 8] = [
     "libyaml_types",
     "libyaml_automaton",
@@ -17,13 +17,21 @@ const CRATES: [&str; 8] = [
     "token_steps_c",
     "document_steps_c",
 ];
+const WITH_TEXTS: [&str; 6] = [
+    "libyaml_documents",
+    "libyaml_events",
+    "libyaml_loader",
+    "unsafe_libyaml",
+    "yaml_path",
+    "yaml_expansion",
+];
 
 fn fail(file: &Path, line: usize, what: &str) -> ! {
     eprintln!("{}:{line}: {what}", file.display());
     process::exit(1);
 }
 
-/// Of the types only those without texts are taken. `laws` has no code.
+/// Without `alloc` only the types without texts are taken. `laws` has no code.
 fn takes_of_types(module: &str) -> bool {
     ["enums", "mark"].contains(&module)
 }
@@ -47,11 +55,14 @@ fn write(of: &Crate<'_>, from: &Path, to: &Path, below: (&Path, &Path)) {
 
 fn main() {
     let [top, out] = ["CARGO_MANIFEST_DIR", "OUT_DIR"].map(|name| PathBuf::from(env::var_os(name).expect(name)));
-    let mut modules = String::new();
-    for name in CRATES {
-        let takes = if name == "libyaml_types" { takes_of_types } else { takes };
+    let has_alloc = env::var_os("CARGO_FEATURE_ALLOC").is_some();
+    let (with_texts, mut modules) = (if has_alloc { &WITH_TEXTS[..] } else { &[] }, String::new());
+    let all = [&CRATES, with_texts].concat();
+    for name in all.iter().copied() {
+        let takes = if name == "libyaml_types" && !has_alloc { takes_of_types } else { takes };
+        let has_kit = has_alloc && (name == "libyaml_types" || with_texts.contains(&name));
         let (from, to) = (top.join("crates").join(name).join("src"), out.join(name));
-        let of = Crate { name, all: &CRATES, takes };
+        let of = Crate { name, all: &all, takes, has_kit };
         write(&of, &from.join("lib.rt"), &to.join("mod.rs"), (&from, &to));
         modules += &format!("#[path = {:?}]\npub mod {name};\n", to.join("mod.rs"));
     }

@@ -1,10 +1,11 @@
 //! Makes plain Rust of a file with contracts: each line of the result is the same line of the file, without what only the prover
 //! reads.
 //!
-//! What is left out: `ghost use ..;` and `ghost output = ..;`, the clauses `requires { .. }` and `ensures { .. }` of a function's
-//! head, and the attributes `#[tactic(..)]`. What is written otherwise: paths that begin at a crate begin at its module, `std` is
-//! `core`, a `Display` has no type parameter for its writer, and a function for C is one for Rust. Everything else is left as it
-//! is. Whatever this doesn't know ends the build, with its line.
+//! What is left out: `ghost` items, the clauses `requires { .. }` and `ensures { .. }` of a function's head, the attributes
+//! `#[tactic(..)]`, the mark `Drop` of types whose values may be let go, and modules of laws. What is written otherwise: paths that
+//! begin at a crate begin at its module, `std` is `core` or this crate's `kit`, a `Display` has no type parameter for its writer, an
+//! error has its `Display` without `thiserror`, `drop` takes a reference, and a function for C is one for Rust. Everything else is left
+//! as it is. Whatever this doesn't know ends the build, with its line.
 
 /// What is made of a crate.
 pub struct Crate<'a> {
@@ -14,6 +15,8 @@ pub struct Crate<'a> {
     pub all: &'a [&'a str],
     /// Whether a module of it is taken.
     pub takes: fn(&str) -> bool,
+    /// Whether texts and lists are those of the module `kit`.
+    pub has_kit: bool,
 }
 
 /// Plain Rust, and the modules of other files that it declares.
@@ -33,11 +36,13 @@ const ATTRIBUTES: [&str; 4] = ["cold", "derive", "inline", "repr"];
 const DERIVES: [&str; 9] = [
     "Clone", "Copy", "Debug", "Default", "Eq", "Hash", "Ord", "PartialEq", "PartialOrd",
 ];
-const MACROS: [&str; 2] = ["matches", "write"];
+/// Derived by the prover's compiler alone.
+const OWN_DERIVES: [&str; 2] = ["Drop", "Error"];
+const MACROS: [&str; 3] = ["matches", "unreachable", "write"];
+/// The modules of `std` whose items are those of `kit`.
+const KIT: [&str; 4] = ["alloc", "collections", "marker", "vec"];
 /// Words of the prover's, and Rust's that need a look first.
-const RESERVED: [&str; 12] = [
-    "asm", "assume", "decreases", "ghost", "ensures", "exists", "forall", "invariant", "measure", "prove", "requires", "unsafe",
-];
+const RESERVED: [&str; 7] = ["asm", "assume", "ghost", "ensures", "prove", "requires", "unsafe"];
 
 #[derive(Clone, Copy, PartialEq)]
 enum Kind {
@@ -153,13 +158,20 @@ fn without_ghosts(text: &str) -> Result<String, Unknown> {
     while let Some(c) = text[place..].chars().next() {
         let rest = &text[place..];
         let word = rest.find(|c| !is_of_word(c)).unwrap_or(rest.len());
+        // A trait's function may have no body, and then no semicolon either.
+        if is_head && is_start && depth == 0 && ["}", "///", "fn ", "#["].iter().any(|next| rest.starts_with(next)) {
+            out.insert(out.trim_end().len(), ';');
+            is_head = false;
+        }
         let (length, is_kept) = match &rest[..word] {
             _ if rest.starts_with("//") || rest.starts_with("/*") => (comment(rest), true),
             _ if c == '"' => (quoted(rest, '"'), true),
             "ghost" => {
-                let is_item = is_start && (rest.starts_with("ghost use ") || rest.starts_with("ghost output = {"));
-                if !is_item || is_head {
-                    return unknown(line, "a ghost item that is neither `ghost use` nor `ghost output`");
+                if !is_start || is_head {
+                    return unknown(line, "a ghost item that isn't on a line of its own");
+                }
+                if !rest.starts_with("ghost use ") {
+                    leave_out_comment(&mut out);
                 }
                 (ghost_end(rest), false)
             }
@@ -205,7 +217,8 @@ fn without_ghosts(text: &str) -> Result<String, Unknown> {
                 _ => {}
             }
         }
-        if !is_kept && !rest[length..].starts_with('\n') {
+        // The semicolon of a trait's function may follow.
+        if !is_kept && !rest[length..].starts_with(['\n', ';']) {
             return unknown(line, "something after a ghost item, a clause or an attribute");
         }
         place += length;
@@ -248,12 +261,37 @@ fn clause_end(text: &str) -> Option<usize> {
     block_end(&text[open..]).map(|length| open + length)
 }
 
-/// How many bytes a ghost item has, with its semicolon.
+/// How many bytes a ghost item has, with the semicolon or the comma after it.
 fn ghost_end(text: &str) -> Option<usize> {
-    let end = text.find(';')? + 1;
-    let item = &text[..end];
-    let is_whole = item.matches('{').count() == item.matches('}').count();
-    (is_whole && !item.contains(['"', '\'', '\n']) && !item.contains("//")).then_some(end)
+    if text.starts_with("ghost use ") {
+        let end = text.find(';')? + 1;
+        let item = &text[..end];
+        let is_whole = item.matches('{').count() == item.matches('}').count();
+        return (is_whole && !item.contains(['"', '\'', '\n']) && !item.contains("//")).then_some(end);
+    }
+    let mut place = "ghost ".len() + text.strip_prefix("ghost ")?.find(|c| !is_of_word(c))?;
+    loop {
+        let rest = text[place..].trim_start().strip_prefix([':', '='])?.trim_start();
+        place = text.len() - rest.len() + block_end(rest)?;
+        match text[place..].chars().next()? {
+            ';' | ',' => return Some(place + 1),
+            ' ' => {}
+            _ => return None,
+        }
+    }
+}
+
+/// Leaves out the comment of an item that is left out, which stands on the last lines.
+fn leave_out_comment(out: &mut String) {
+    let mut end = out.trim_end_matches([' ', '\t']).len();
+    while out[..end].ends_with('\n') {
+        let start = out[..end - 1].rfind('\n').map_or(0, |before| before + 1);
+        if !out[start..end].trim_start().starts_with("///") {
+            break;
+        }
+        out.replace_range(start..end - 1, "");
+        end = start;
+    }
 }
 
 /// What is written of Rust's pieces.
@@ -263,6 +301,10 @@ struct Writer<'a, 'b> {
     place: usize,
     out: String,
     modules: Vec<String>,
+    /// An enum of errors, and its variants, each with its words and whether it has a field.
+    error: Option<(&'b str, Vec<(&'b str, &'b str, bool)>)>,
+    is_error: bool,
+    is_drop: bool,
 }
 
 impl<'b> Writer<'_, 'b> {
@@ -325,16 +367,28 @@ impl<'b> Writer<'_, 'b> {
             self.take(7, false);
             return Ok(());
         }
+        if let ([true, true], Some((_, variants))) = ([self.is_next(&["#", "[", "error", "("]), self.ahead(5) == ")"], &mut self.error) {
+            let rest: Vec<&str> = self.pieces[self.place..].iter().filter(|piece| piece.kind != Kind::Space).take(9).map(|piece| piece.text).collect();
+            variants.push((rest[7], rest[4], rest[8] == "("));
+            self.take(7, false);
+            return Ok(());
+        }
         let name = self.ahead(2);
         if self.ahead(1) != "[" || !ATTRIBUTES.contains(&name) {
             return unknown(line, &format!("the attribute `{}{}{name}`", self.ahead(0), self.ahead(1)));
         }
         let count = self.up_to("]")?;
         if name == "derive" {
-            for n in (4..count - 2).step_by(2) {
-                if !DERIVES.contains(&self.ahead(n)) {
-                    return unknown(line, &format!("a derived `{}`", self.ahead(n)));
-                }
+            let derived: Vec<&str> = (4..count - 2).step_by(2).map(|n| self.ahead(n)).collect();
+            if let Some(other) = derived.iter().find(|name| !DERIVES.contains(name) && !OWN_DERIVES.contains(name)) {
+                return unknown(line, &format!("a derived `{other}`"));
+            }
+            self.is_error = derived.contains(&"Error");
+            if derived.iter().any(|name| OWN_DERIVES.contains(name)) {
+                self.take(count, false);
+                let kept: Vec<&str> = derived.into_iter().filter(|name| DERIVES.contains(name)).collect();
+                self.out += &format!("#[derive({})]", kept.join(", "));
+                return Ok(());
             }
         }
         self.take(count, true);
@@ -356,6 +410,11 @@ impl<'b> Writer<'_, 'b> {
             self.take(shift + 3, is_taken);
             return Ok(true);
         }
+        if word == "use" && ((shift == 1 && self.ahead(shift + 4) == "laws") || name == "thiserror") {
+            let count = self.up_to(";")?;
+            self.take(count, false);
+            return Ok(true);
+        }
         let is_own = !["crate", "super", "self", "core", "std"].contains(&name) && !self.of.all.contains(&name);
         if shift == 1 && word == "use" && is_own && !(self.of.takes)(name) {
             let count = self.up_to(";")?;
@@ -370,6 +429,10 @@ impl<'b> Writer<'_, 'b> {
         let (before, is_path) = (self.before(), self.ahead(1) == ":" && self.ahead(2) == ":");
         match piece.kind {
             Kind::Mark if piece.text == "#" => return self.attribute(),
+            Kind::Mark if piece.text == "+" && self.ahead(1) == "Drop" => {
+                self.take(2, false);
+                return Ok(());
+            }
             Kind::Word => {}
             _ => {
                 self.out.push_str(piece.text);
@@ -383,6 +446,34 @@ impl<'b> Writer<'_, 'b> {
                 self.take(3, true);
                 self.out.push_str(self.of.name);
                 self.out.push_str("::");
+                return Ok(());
+            }
+            "enum" if self.is_error => self.error = Some((self.ahead(1), Vec::new())),
+            "laws" if self.ahead(1) == "as" && ["{", ","].contains(&before) && self.ahead(3) == "," => {
+                self.take(4, false);
+                return Ok(());
+            }
+            "drop" if before == "fn" => {
+                if !self.is_next(&["drop", "(", "self", ")"]) {
+                    return unknown(piece.line, "`drop` of another form");
+                }
+                self.take(2, true);
+                self.out.push_str("&mut ");
+                self.is_drop = true;
+                return Ok(());
+            }
+            "mut" if self.is_drop && ["{", ","].contains(&before) => {
+                self.take(1, false);
+                return Ok(());
+            }
+            "simdutf8" if self.is_next(&["simdutf8", ":", ":", "compat", ":", ":", "from_utf8"]) => {
+                self.take(4, false);
+                self.out.push_str("core::str");
+                return Ok(());
+            }
+            "std" if is_path && before != ":" && KIT.contains(&self.ahead(3)) => {
+                self.take(4, false);
+                self.out.push_str("crate::kit");
                 return Ok(());
             }
             "std" if is_path && before != ":" => {
@@ -414,6 +505,9 @@ impl<'b> Writer<'_, 'b> {
                 self.out.push_str("'_");
                 return Ok(());
             }
+            "decreases" | "invariant" | "measure" if self.ahead(1) == "{" || self.ahead(2) == "{" => {
+                return unknown(piece.line, &format!("`{}` of a loop or a function", piece.text));
+            }
             word if RESERVED.contains(&word) => return unknown(piece.line, &format!("`{word}`")),
             word if self.is_macro() && !MACROS.contains(&word) => {
                 return unknown(piece.line, &format!("the macro `{word}!`"));
@@ -433,9 +527,22 @@ impl<'b> Writer<'_, 'b> {
 pub fn erase(of: &Crate<'_>, text: &str) -> Result<Plain, Unknown> {
     let plain = without_ghosts(text)?;
     let pieces = pieces(&plain)?;
-    let mut writer = Writer { of, pieces: &pieces, place: 0, out: String::new(), modules: Vec::new() };
+    let (out, modules) = (String::new(), Vec::new());
+    let mut writer = Writer { of, pieces: &pieces, place: 0, out, modules, error: None, is_error: false, is_drop: false };
     while writer.place < pieces.len() {
         writer.piece()?;
+    }
+    if of.has_kit {
+        writer.out.push_str("#[allow(unused_imports)] use crate::kit::{String, Vec};\n");
+    }
+    if let Some((name, variants)) = &writer.error {
+        let arms = variants.iter().map(|(variant, words, has_field)| match has_field {
+            true => format!("Self::{variant}(field) => write!(f, {words}, field),"),
+            false => format!("Self::{variant} => f.write_str({words}),"),
+        });
+        let arms: String = arms.collect();
+        writer.out += &format!("impl core::fmt::Display for {name} {{ fn fmt(&self, f: &mut core::fmt::Formatter<'_>) -> core::fmt::Result {{ match self {{ {arms} }} }} }}\n");
+        writer.out += &format!("impl core::error::Error for {name} {{}}\n");
     }
     Ok(Plain { text: writer.out, modules: writer.modules })
 }

@@ -3,8 +3,8 @@
 #
 #     sh scripts/gate/plain_rust.sh
 #
-# Runs its tests: the lists of vectors_steps, which give the lines that stand there; what the build leaves out, and what ends it;
-# the program of its README. Makes its package, which has each source as it stands here, and builds that alone. A line of a list that
+# Runs its tests, without features and with `alloc`: the lists of vectors_steps and vectors_yaml, which give the lines that stand
+# there; what the build leaves out, and what ends it; the program of its README. Makes its package, which has each source as it stands here, and builds that alone. A line of a list that
 # is changed there must fail the test, and a construct that isn't known must end the build with its file and line. Last it builds
 # C's library by build_plain.sh, and runs the samples of yaml.c over it.
 #
@@ -24,10 +24,10 @@ complain() {
     wrong=$((wrong + 1))
 }
 
-tests=$(cargo test 2> "$work/said") || { cat "$work/said"; echo "$tests"; complain "a test"; }
+tests=$(cargo test 2> "$work/said" && cargo test --features alloc 2>> "$work/said") || { cat "$work/said"; echo "$tests"; complain "a test"; }
 grep -A 5 '^warning' "$work/said" && complain "a warning"
 passed=$(echo "$tests" | sed -n 's/^test result: ok. \([0-9]*\) passed.*/\1/p' | awk '{ n += $1 } END { print n + 0 }')
-[ "$passed" -ge 7 ] || complain "only $passed tests"
+[ "$passed" -ge 17 ] || complain "only $passed tests"
 
 # ---- The package ----
 
@@ -38,7 +38,7 @@ sources=$(cd "$package" && find crates bindings -type f)
 for source in $sources; do
     cmp -s "$source" "$package/$source" || complain "$source differs in the package"
 done
-[ "$(echo "$sources" | grep -c '\.rt$')" -ge 40 ] || complain "the package lacks sources"
+[ "$(echo "$sources" | grep -c '\.rt$')" -ge 100 ] || complain "the package lacks sources"
 
 # ---- What must fail ----
 

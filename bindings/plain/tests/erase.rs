@@ -5,7 +5,7 @@ mod erase;
 
 use erase::{erase, Crate};
 
-const OF: Crate<'static> = Crate { name: "upper", all: &["lower", "upper"], takes: |module| module != "laws" };
+const OF: Crate<'static> = Crate { name: "upper", all: &["lower", "upper"], takes: |module| module != "laws", has_kit: false };
 
 fn plain(text: &str) -> String {
     erase(&OF, text).unwrap().text
@@ -51,6 +51,23 @@ fn lifetimes_and_comments_are_none_of_a_quote() {
 }
 
 #[test]
+fn types_traits_and_errors_are_those_of_rust() {
+    let text = "use std::alloc::Global;\nuse thiserror::Error;\n#[derive(Debug, Drop, Error)]\npub enum E {\n    #[error(\"a {0}\")]\n    A(i32),\n    \
+        #[error(\"b\")]\n    B,\n}\nimpl Model for E {\n    ghost Value = { ℕ };\n}\n";
+    let wanted = "use crate::kit::Global;\n\n#[derive(Debug)]\npub enum E {\n    \n    A(i32),\n    \n    B,\n}\nimpl Model for E {\n\n}\n\
+        impl core::fmt::Display for E { fn fmt(&self, f: &mut core::fmt::Formatter<'_>) -> core::fmt::Result { match self { \
+        Self::A(field) => write!(f, \"a {0}\", field),Self::B => f.write_str(\"b\"), } } }\nimpl core::error::Error for E {}\n";
+    assert_eq!(plain(text), wanted);
+    let text = "pub trait T {\n    /// A bound.\n    ghost bound: { Self → ℕ };\n\n    /// A call.\n    fn f(&self) -> u8\n        ensures { a }\n\n    \
+        fn g<S: T + Drop>(&self)\n        ensures { b };\n}\n";
+    let wanted = "pub trait T {\n\n\n\n    /// A call.\n    fn f(&self) -> u8;\n\n\n    fn g<S: T >(&self)\n;\n}\n";
+    assert_eq!(plain(text), wanted);
+    let text = "impl Drop for S {\n    fn drop(self) {\n        let S { mut a, b: _ } = self;\n    }\n}\n";
+    assert_eq!(plain(text), text.replace("(self)", "(&mut self)").replace("mut a", " a"));
+    assert_eq!(plain("pub use lower::{\n    laws as lower_laws, a,\n};\npub use other::laws as b;\n"), "pub use crate::lower::{\n     a,\n};\n\n");
+}
+
+#[test]
 fn what_is_unknown_ends_the_build() {
     refused(2, "fn f() {\n    ghost let x = 1;\n}\n");
     refused(1, "ghost fn f() {}\n");
@@ -65,7 +82,9 @@ fn what_is_unknown_ends_the_build() {
     refused(2, "fn f() {\n    prove!(a);\n}\n");
     refused(2, "fn f() {\n    unsafe { a() }\n}\n");
     refused(1, "#[model]\nfn f() {}\n");
-    refused(1, "#[derive(Copy, Drop)]\nstruct S;\n");
+    refused(1, "#[derive(Copy, Model)]\nstruct S;\n");
+    refused(2, "impl A for B {\n    ghost view = { a } b;\n}\n");
+    refused(1, "impl Drop for B { fn drop(mut self) {} }\n");
     refused(1, "mod a { }\n");
     refused(1, "extern \"C\" { }\n");
     refused(1, "const A: &str = r\"a\";\n");
