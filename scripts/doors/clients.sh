@@ -33,7 +33,8 @@
 #     crate              the tests of bindings/rust, over those texts, and with its feature `mends`; and over the crate `pokhvizi` in
 #                        place of the library
 #     loads_rust         nodes, memory over 7 MB and instructions of loads by that crate and by the original; of one large
-#                        document, small documents and anchors they are at most 1.11, 1.07 and .3 of the original's
+#                        document, small documents and anchors they are at most 1.11, 1.07 and .3 of the original's, or 1.13 and
+#                        1.09 if build_plain.sh made the library
 #     pipe_rust          events before a slow pipe's end, by that crate
 #     yaml_test_suite    the parser of unsafe-libyaml's own tests over the YAML test suite
 #     serde_yaml         serde_yaml's own tests
@@ -555,7 +556,9 @@ loads_rust() {
     set -- "$@" $("$1" "$work/text.yaml") $("$2" "$work/text.yaml")
     [ "$3" -gt 400000 ] && [ "$3" = "$5" ] && [ "$6" -le $(($4 + 1000)) ] || { echo "$3 nodes in $4 KB, $5 in $6"; return 1; }
     write_texts
-    for text in plain:1.11 small:1.07 anchors:0.3; do
+    set -- "$@" plain:1.11 small:1.07 anchors:0.3
+    [ ! -e "$dir/pokhvizi.o" ] || set -- "$1" "$2" "$3" "$4" "$5" "$6" plain:1.13 small:1.09 anchors:0.3  # of rustc, as above
+    for text in "$7" "$8" "$9"; do
         compare_instructions ${text%:*} ${text#*:} "$(instructions "$1" "$work/${text%:*}.yaml")" \
             "$(instructions "$2" "$work/${text%:*}.yaml")" || return 1
     done
