@@ -73,6 +73,28 @@ pub unsafe extern "C" fn pokhvizi_step(
 }
 
 #[no_mangle]
+pub unsafe extern "C" fn pokhvizi_step_exact(
+    steps: &mut steps_t,
+    states: *mut u8,
+    states_room: usize,
+    marks: *mut yaml_mark_t,
+    marks_room: usize,
+    kind: u8,
+    fact: u8,
+    at: &step_span_t,
+    event: &mut step_event_t,
+    fault: &mut step_fault_t,
+) -> u32 {
+    let (states, marks) = (slice_of_mut(states, states_room), slice_of_mut(marks, marks_room));
+    token_steps_c::pokhvizi_step_exact(steps, states, marks, kind, fact, at, event, fault)
+}
+
+#[no_mangle]
+pub unsafe extern "C" fn pokhvizi_expected(steps: &steps_t, states: *const u8, states_room: usize) -> u32 {
+    token_steps_c::pokhvizi_expected(steps, slice_of(states, states_room))
+}
+
+#[no_mangle]
 pub unsafe extern "C" fn pokhvizi_version_fact(major: i32, minor: i32) -> u8 {
     token_steps_c::pokhvizi_version_fact(major, minor)
 }
