@@ -48,7 +48,10 @@ fn write(of: &Crate<'_>, from: &Path, to: &Path, below: (&Path, &Path)) {
     let made = fs::create_dir_all(below.1).and_then(|()| fs::write(to, plain.text));
     made.unwrap_or_else(|error| fail(to, 0, &error.to_string()));
     for module in plain.modules {
-        let (from, to) = (below.0.join(format!("{module}.rt")), below.1.join(format!("{module}.rs")));
+        let (from, to) = (
+            below.0.join(format!("{module}.rt")),
+            below.1.join(format!("{module}.rs")),
+        );
         write(of, &from, &to, (&below.0.join(&module), &below.1.join(&module)));
     }
 }
@@ -59,10 +62,19 @@ fn main() {
     let (with_texts, mut modules) = (if has_alloc { &WITH_TEXTS[..] } else { &[] }, String::new());
     let all = [&CRATES, with_texts].concat();
     for name in all.iter().copied() {
-        let takes = if name == "libyaml_types" && !has_alloc { takes_of_types } else { takes };
+        let takes = if name == "libyaml_types" && !has_alloc {
+            takes_of_types
+        } else {
+            takes
+        };
         let has_kit = has_alloc && (name == "libyaml_types" || with_texts.contains(&name));
         let (from, to) = (top.join("crates").join(name).join("src"), out.join(name));
-        let of = Crate { name, all: &all, takes, has_kit };
+        let of = Crate {
+            name,
+            all: &all,
+            takes,
+            has_kit,
+        };
         write(&of, &from.join("lib.rt"), &to.join("mod.rs"), (&from, &to));
         modules += &format!("#[path = {:?}]\npub mod {name};\n", to.join("mod.rs"));
     }

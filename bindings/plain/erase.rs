@@ -34,7 +34,15 @@ pub struct Unknown {
 
 const ATTRIBUTES: [&str; 4] = ["cold", "derive", "inline", "repr"];
 const DERIVES: [&str; 9] = [
-    "Clone", "Copy", "Debug", "Default", "Eq", "Hash", "Ord", "PartialEq", "PartialOrd",
+    "Clone",
+    "Copy",
+    "Debug",
+    "Default",
+    "Eq",
+    "Hash",
+    "Ord",
+    "PartialEq",
+    "PartialOrd",
 ];
 /// Derived by the prover's compiler alone.
 const OWN_DERIVES: [&str; 2] = ["Drop", "Error"];
@@ -63,7 +71,10 @@ struct Piece<'a> {
 }
 
 fn unknown<T>(line: usize, what: &str) -> Result<T, Unknown> {
-    Err(Unknown { line, what: what.to_string() })
+    Err(Unknown {
+        line,
+        what: what.to_string(),
+    })
 }
 
 /// How many bytes a comment has that `text` begins with, or nothing if it has no end.
@@ -114,8 +125,15 @@ fn pieces(text: &str) -> Result<Vec<Piece<'_>>, Unknown> {
         let (kind, length) = if rest.starts_with("//") || rest.starts_with("/*") {
             (Kind::Space, comment(rest))
         } else if c.is_whitespace() {
-            (Kind::Space, Some(rest.find(|c: char| !c.is_whitespace()).unwrap_or(rest.len())))
-        } else if rest.starts_with("r\"") || rest.starts_with("r#") || rest.starts_with("br\"") || rest.starts_with("br#") {
+            (
+                Kind::Space,
+                Some(rest.find(|c: char| !c.is_whitespace()).unwrap_or(rest.len())),
+            )
+        } else if rest.starts_with("r\"")
+            || rest.starts_with("r#")
+            || rest.starts_with("br\"")
+            || rest.starts_with("br#")
+        {
             return unknown(line, "a raw string or name");
         } else if c == '"' || rest.starts_with("b\"") || rest.starts_with("c\"") {
             let before = usize::from(c != '"');
@@ -140,7 +158,11 @@ fn pieces(text: &str) -> Result<Vec<Piece<'_>>, Unknown> {
         let Some(length) = length else {
             return unknown(line, "a comment or a quote without an end");
         };
-        pieces.push(Piece { kind, text: &rest[..length], line });
+        pieces.push(Piece {
+            kind,
+            text: &rest[..length],
+            line,
+        });
         line += rest[..length].matches('\n').count();
         place += length;
     }
@@ -184,7 +206,10 @@ fn without_ghosts(text: &str) -> Result<String, Unknown> {
             _ if is_start && (rest.starts_with("#[tactic(") || rest.starts_with("#![tactic(")) => {
                 let (open, close) = (rest.find('('), rest.find(")]"));
                 let end = open.and(close).map(|end| end + 2);
-                (end.filter(|&end| !rest[..end].contains('\n') && is_balanced(&rest[..end])), false)
+                (
+                    end.filter(|&end| !rest[..end].contains('\n') && is_balanced(&rest[..end])),
+                    false,
+                )
             }
             "fn" => {
                 (is_head, depth) = (true, 0);
@@ -311,7 +336,9 @@ impl<'b> Writer<'_, 'b> {
     /// The `n`th piece from here on that is neither white space nor a comment.
     fn ahead(&self, n: usize) -> &'b str {
         let rest = self.pieces[self.place..].iter();
-        rest.filter(|piece| piece.kind != Kind::Space).nth(n).map_or("", |piece| piece.text)
+        rest.filter(|piece| piece.kind != Kind::Space)
+            .nth(n)
+            .map_or("", |piece| piece.text)
     }
 
     /// Whether these pieces come next.
@@ -322,7 +349,10 @@ impl<'b> Writer<'_, 'b> {
     /// The last piece before here that is neither white space nor a comment.
     fn before(&self) -> &'b str {
         let earlier = self.pieces[..self.place].iter().rev();
-        earlier.clone().find(|piece| piece.kind != Kind::Space).map_or("", |piece| piece.text)
+        earlier
+            .clone()
+            .find(|piece| piece.kind != Kind::Space)
+            .map_or("", |piece| piece.text)
     }
 
     fn line(&self) -> usize {
@@ -367,20 +397,34 @@ impl<'b> Writer<'_, 'b> {
             self.take(7, false);
             return Ok(());
         }
-        if let ([true, true], Some((_, variants))) = ([self.is_next(&["#", "[", "error", "("]), self.ahead(5) == ")"], &mut self.error) {
-            let rest: Vec<&str> = self.pieces[self.place..].iter().filter(|piece| piece.kind != Kind::Space).take(9).map(|piece| piece.text).collect();
+        if let ([true, true], Some((_, variants))) = (
+            [self.is_next(&["#", "[", "error", "("]), self.ahead(5) == ")"],
+            &mut self.error,
+        ) {
+            let rest: Vec<&str> = self.pieces[self.place..]
+                .iter()
+                .filter(|piece| piece.kind != Kind::Space)
+                .take(9)
+                .map(|piece| piece.text)
+                .collect();
             variants.push((rest[7], rest[4], rest[8] == "("));
             self.take(7, false);
             return Ok(());
         }
         let name = self.ahead(2);
         if self.ahead(1) != "[" || !ATTRIBUTES.contains(&name) {
-            return unknown(line, &format!("the attribute `{}{}{name}`", self.ahead(0), self.ahead(1)));
+            return unknown(
+                line,
+                &format!("the attribute `{}{}{name}`", self.ahead(0), self.ahead(1)),
+            );
         }
         let count = self.up_to("]")?;
         if name == "derive" {
             let derived: Vec<&str> = (4..count - 2).step_by(2).map(|n| self.ahead(n)).collect();
-            if let Some(other) = derived.iter().find(|name| !DERIVES.contains(name) && !OWN_DERIVES.contains(name)) {
+            if let Some(other) = derived
+                .iter()
+                .find(|name| !DERIVES.contains(name) && !OWN_DERIVES.contains(name))
+            {
                 return unknown(line, &format!("a derived `{other}`"));
             }
             self.is_error = derived.contains(&"Error");
@@ -481,7 +525,9 @@ impl<'b> Writer<'_, 'b> {
                 self.out.push_str("core");
                 return Ok(());
             }
-            name if is_path && before != ":" && before != "." && self.of.all.contains(&name) => self.out.push_str("crate::"),
+            name if is_path && before != ":" && before != "." && self.of.all.contains(&name) => {
+                self.out.push_str("crate::")
+            }
             "extern" => {
                 if !self.is_next(&["extern", "\"C\"", "fn"]) {
                     return unknown(piece.line, "`extern` of another form");
@@ -494,7 +540,24 @@ impl<'b> Writer<'_, 'b> {
             }
             "fmt" if before == "fn" => {
                 let head = ["fmt", "<", "W", ":", "fmt", ":", ":", "Write", ">"];
-                let rest = ["(", "&", "self", ",", "f", ":", "&", "mut", "fmt", ":", ":", "Formatter", "<", "W", ">", ")"];
+                let rest = [
+                    "(",
+                    "&",
+                    "self",
+                    ",",
+                    "f",
+                    ":",
+                    "&",
+                    "mut",
+                    "fmt",
+                    ":",
+                    ":",
+                    "Formatter",
+                    "<",
+                    "W",
+                    ">",
+                    ")",
+                ];
                 if !self.is_next(&[&head[..], &rest[..]].concat()) {
                     return unknown(piece.line, "`fmt` of another form");
                 }
@@ -528,12 +591,23 @@ pub fn erase(of: &Crate<'_>, text: &str) -> Result<Plain, Unknown> {
     let plain = without_ghosts(text)?;
     let pieces = pieces(&plain)?;
     let (out, modules) = (String::new(), Vec::new());
-    let mut writer = Writer { of, pieces: &pieces, place: 0, out, modules, error: None, is_error: false, is_drop: false };
+    let mut writer = Writer {
+        of,
+        pieces: &pieces,
+        place: 0,
+        out,
+        modules,
+        error: None,
+        is_error: false,
+        is_drop: false,
+    };
     while writer.place < pieces.len() {
         writer.piece()?;
     }
     if of.has_kit {
-        writer.out.push_str("#[allow(unused_imports)] use crate::kit::{String, Vec};\n");
+        writer
+            .out
+            .push_str("#[allow(unused_imports)] use crate::kit::{String, Vec};\n");
     }
     if let Some((name, variants)) = &writer.error {
         let arms = variants.iter().map(|(variant, words, has_field)| match has_field {
@@ -544,5 +618,8 @@ pub fn erase(of: &Crate<'_>, text: &str) -> Result<Plain, Unknown> {
         writer.out += &format!("impl core::fmt::Display for {name} {{ fn fmt(&self, f: &mut core::fmt::Formatter<'_>) -> core::fmt::Result {{ match self {{ {arms} }} }} }}\n");
         writer.out += &format!("impl core::error::Error for {name} {{}}\n");
     }
-    Ok(Plain { text: writer.out, modules: writer.modules })
+    Ok(Plain {
+        text: writer.out,
+        modules: writer.modules,
+    })
 }

@@ -5,7 +5,12 @@ mod erase;
 
 use erase::{erase, Crate};
 
-const OF: Crate<'static> = Crate { name: "upper", all: &["lower", "upper"], takes: |module| module != "laws", has_kit: false };
+const OF: Crate<'static> = Crate {
+    name: "upper",
+    all: &["lower", "upper"],
+    takes: |module| module != "laws",
+    has_kit: false,
+};
 
 fn plain(text: &str) -> String {
     erase(&OF, text).unwrap().text
@@ -31,17 +36,30 @@ fn contracts_are_left_out() {
 
 #[test]
 fn modules_are_taken_or_left_out() {
-    let made = erase(&OF, "mod a;\npub mod laws;\npub use laws::{b,\n    c};\npub use a::d;\n").unwrap();
+    let made = erase(
+        &OF,
+        "mod a;\npub mod laws;\npub use laws::{b,\n    c};\npub use a::d;\n",
+    )
+    .unwrap();
     assert_eq!(made.text, "mod a;\n\n\n\npub use a::d;\n");
     assert_eq!(made.modules, ["a"]);
 }
 
 #[test]
 fn functions_for_c_and_displays_are_written_otherwise() {
-    assert_eq!(plain("#[unsafe(no_mangle)]\npub extern \"C\" fn f() {}\n"), "\npub fn f() {}\n");
+    assert_eq!(
+        plain("#[unsafe(no_mangle)]\npub extern \"C\" fn f() {}\n"),
+        "\npub fn f() {}\n"
+    );
     let text = "fn fmt<W: fmt::Write>(&self, f: &mut fmt::Formatter<W>) -> fmt::Result {}\n";
-    assert_eq!(plain(text), "fn fmt(&self, f: &mut fmt::Formatter<'_>) -> fmt::Result {}\n");
-    assert_eq!(plain("use std::fmt;\nlet x = a::std::b;\n"), "use core::fmt;\nlet x = a::std::b;\n");
+    assert_eq!(
+        plain(text),
+        "fn fmt(&self, f: &mut fmt::Formatter<'_>) -> fmt::Result {}\n"
+    );
+    assert_eq!(
+        plain("use std::fmt;\nlet x = a::std::b;\n"),
+        "use core::fmt;\nlet x = a::std::b;\n"
+    );
 }
 
 #[test]
@@ -63,8 +81,14 @@ fn types_traits_and_errors_are_those_of_rust() {
     let wanted = "pub trait T {\n\n\n\n    /// A call.\n    fn f(&self) -> u8;\n\n\n    fn g<S: T >(&self)\n;\n}\n";
     assert_eq!(plain(text), wanted);
     let text = "impl Drop for S {\n    fn drop(self) {\n        let S { mut a, b: _ } = self;\n    }\n}\n";
-    assert_eq!(plain(text), text.replace("(self)", "(&mut self)").replace("mut a", " a"));
-    assert_eq!(plain("pub use lower::{\n    laws as lower_laws, a,\n};\npub use other::laws as b;\n"), "pub use crate::lower::{\n     a,\n};\n\n");
+    assert_eq!(
+        plain(text),
+        text.replace("(self)", "(&mut self)").replace("mut a", " a")
+    );
+    assert_eq!(
+        plain("pub use lower::{\n    laws as lower_laws, a,\n};\npub use other::laws as b;\n"),
+        "pub use crate::lower::{\n     a,\n};\n\n"
+    );
 }
 
 #[test]
@@ -75,7 +99,12 @@ fn what_is_unknown_ends_the_build() {
     refused(3, "fn f() {\n    while a\n        invariant { b }\n    {}\n}\n");
     refused(2, "fn f()\n    measure { a }\n{}\n");
     refused(2, "fn f()\n    ensures { \"}\" }\n{}\n");
-    refused(2, "fn f()\n    ensures { a -- b }\n    ensures { // c }\n{}\n".replace("a -- b", "'").as_str());
+    refused(
+        2,
+        "fn f()\n    ensures { a -- b }\n    ensures { // c }\n{}\n"
+            .replace("a -- b", "'")
+            .as_str(),
+    );
     refused(2, "fn f()\n    ensures two names { a }\n{}\n");
     refused(2, "fn f()\n    ensures { a } {\n}\n");
     refused(2, "fn f()\n    ensures { a\n{}\n");

@@ -10,13 +10,19 @@ use std::path::{Path, PathBuf};
 const ENCODINGS: [&str; 4] = ["any", "utf8", "utf16le", "utf16be"];
 const SCALARS: [&str; 6] = ["any", "plain", "single", "double", "literal", "folded"];
 const COLLECTIONS: [&str; 3] = ["any", "block", "flow"];
-const ERRORS: [&str; 8] = ["none", "memory", "reader", "scanner", "parser", "composer", "writer", "emitter"];
+const ERRORS: [&str; 8] = [
+    "none", "memory", "reader", "scanner", "parser", "composer", "writer", "emitter",
+];
 
 // ---- Tokens of lines ----
 
 fn mark_of(field: &str) -> yaml_mark_t {
     let numbers: Vec<u64> = field.split(':').map(|number| number.parse().unwrap()).collect();
-    yaml_mark_t { index: numbers[0], line: numbers[1], column: numbers[2] }
+    yaml_mark_t {
+        index: numbers[0],
+        line: numbers[1],
+        column: numbers[2],
+    }
 }
 
 /// The bytes of a text field, which is escaped after its `=`.
@@ -24,7 +30,9 @@ fn text_of(field: &str) -> Vec<u8> {
     let (bytes, mut text, mut place) = (field.as_bytes(), Vec::new(), 1);
     assert_eq!(bytes[0], b'=');
     while place < bytes.len() {
-        let digits = bytes.get(place + 1..place + 3).and_then(|two| std::str::from_utf8(two).ok());
+        let digits = bytes
+            .get(place + 1..place + 3)
+            .and_then(|two| std::str::from_utf8(two).ok());
         match digits.and_then(|two| u8::from_str_radix(two, 16).ok()) {
             Some(byte) if bytes[place] == b'%' => {
                 text.push(byte);
@@ -41,7 +49,12 @@ fn text_of(field: &str) -> Vec<u8> {
 
 fn encoding_of(word: &str) -> yaml_encoding_t {
     use yaml_encoding_t::*;
-    let all = [YAML_ANY_ENCODING, YAML_UTF8_ENCODING, YAML_UTF16LE_ENCODING, YAML_UTF16BE_ENCODING];
+    let all = [
+        YAML_ANY_ENCODING,
+        YAML_UTF8_ENCODING,
+        YAML_UTF16LE_ENCODING,
+        YAML_UTF16BE_ENCODING,
+    ];
     all[ENCODINGS.iter().position(|&name| name == word).unwrap()]
 }
 
@@ -99,7 +112,11 @@ fn source_of(lines: &str) -> yaml_list_source_t {
         tokens.push(token_of(line)).unwrap();
     }
     let count = tokens.len() as u64;
-    let mark = yaml_mark_t { index: count, line: count, column: 0 };
+    let mark = yaml_mark_t {
+        index: count,
+        line: count,
+        column: 0,
+    };
     let error = yaml_error_type_t::YAML_READER_ERROR;
     let fault = yaml_source_fault_t::new(error, Some("no more tokens"), count, -1, mark, None, ZERO_MARK);
     yaml_list_source_t::new(tokens, fault)
@@ -128,7 +145,9 @@ fn optional(text: &Option<Text>) -> String {
 }
 
 fn directives(version: Option<yaml_version_directive_t>, tags: &[yaml_tag_directive_t]) -> String {
-    let mut fields = version.map_or("-".to_string(), |version| format!("{}.{}", version.major, version.minor));
+    let mut fields = version.map_or("-".to_string(), |version| {
+        format!("{}.{}", version.major, version.minor)
+    });
     write!(fields, " {}", tags.len()).unwrap();
     for tag in tags {
         write!(fields, " {} {}", field_of(&tag.handle), field_of(&tag.prefix)).unwrap();
@@ -141,11 +160,20 @@ fn event_line(event: &yaml_event_t) -> String {
     let marks = format!("{} {}", mark_text(&event.start_mark), mark_text(&event.end_mark));
     let flag = u8::from;
     let collection = |anchor, tag, implicit: bool, style: u32| {
-        format!("{} {} {} {}", optional(anchor), optional(tag), flag(implicit), COLLECTIONS[style as usize])
+        format!(
+            "{} {} {} {}",
+            optional(anchor),
+            optional(tag),
+            flag(implicit),
+            COLLECTIONS[style as usize]
+        )
     };
     let (name, fields) = match &event.content {
         NoEvent => ("NO-EVENT", None),
-        StreamStart(start) => ("STREAM-START", Some(ENCODINGS[start.encoding.number() as usize].to_string())),
+        StreamStart(start) => (
+            "STREAM-START",
+            Some(ENCODINGS[start.encoding.number() as usize].to_string()),
+        ),
         StreamEnd => ("STREAM-END", None),
         DocumentStart(start) => {
             let rest = directives(start.version_directive, &start.tag_directives);
@@ -154,20 +182,46 @@ fn event_line(event: &yaml_event_t) -> String {
         DocumentEnd(end) => ("DOCUMENT-END", Some(flag(end.implicit).to_string())),
         Alias(alias) => ("ALIAS", Some(field_of(&alias.anchor))),
         Scalar(scalar) => {
-            let text = format!("{} {} {}", optional(&scalar.anchor), optional(&scalar.tag), field_of(&scalar.value));
+            let text = format!(
+                "{} {} {}",
+                optional(&scalar.anchor),
+                optional(&scalar.tag),
+                field_of(&scalar.value)
+            );
             let style = SCALARS[scalar.style.number() as usize];
-            ("SCALAR", Some(format!("{text} {} {} {style}", flag(scalar.plain_implicit), flag(scalar.quoted_implicit))))
+            (
+                "SCALAR",
+                Some(format!(
+                    "{text} {} {} {style}",
+                    flag(scalar.plain_implicit),
+                    flag(scalar.quoted_implicit)
+                )),
+            )
         }
-        SequenceStart(start) => {
-            ("SEQUENCE-START", Some(collection(&start.anchor, &start.tag, start.implicit, start.style.number())))
-        }
+        SequenceStart(start) => (
+            "SEQUENCE-START",
+            Some(collection(
+                &start.anchor,
+                &start.tag,
+                start.implicit,
+                start.style.number(),
+            )),
+        ),
         SequenceEnd => ("SEQUENCE-END", None),
-        MappingStart(start) => {
-            ("MAPPING-START", Some(collection(&start.anchor, &start.tag, start.implicit, start.style.number())))
-        }
+        MappingStart(start) => (
+            "MAPPING-START",
+            Some(collection(
+                &start.anchor,
+                &start.tag,
+                start.implicit,
+                start.style.number(),
+            )),
+        ),
         MappingEnd => ("MAPPING-END", None),
     };
-    fields.map_or(format!("{name} {marks}\n"), |fields| format!("{name} {marks} {fields}\n"))
+    fields.map_or(format!("{name} {marks}\n"), |fields| {
+        format!("{name} {marks} {fields}\n")
+    })
 }
 
 fn fault_lines(fault: &yaml_parser_t_prefix) -> String {
@@ -198,8 +252,16 @@ fn nodes(tokens: &str) -> String {
             Ok(document) => document,
             Err(fault) => return lines + &fault_lines(&fault),
         };
-        let marks = format!("{} {}", mark_text(&document.start_mark()), mark_text(&document.end_mark()));
-        let flags = format!("{} {}", u8::from(document.start_implicit()), u8::from(document.end_implicit()));
+        let marks = format!(
+            "{} {}",
+            mark_text(&document.start_mark()),
+            mark_text(&document.end_mark())
+        );
+        let flags = format!(
+            "{} {}",
+            u8::from(document.start_implicit()),
+            u8::from(document.end_implicit())
+        );
         let rest = directives(document.version_directive(), document.tag_directives());
         writeln!(lines, "DOCUMENT {marks} {flags} {rest}").unwrap();
         for (place, node) in document.nodes().iter().enumerate() {
@@ -233,9 +295,14 @@ fn nodes(tokens: &str) -> String {
 
 fn token_files() -> Vec<PathBuf> {
     let data = Path::new(env!("CARGO_MANIFEST_DIR")).join("crates/vectors_yaml/data");
-    let tables = fs::read_dir(data).unwrap().map(|entry| entry.unwrap().path()).filter(|path| path.is_dir());
+    let tables = fs::read_dir(data)
+        .unwrap()
+        .map(|entry| entry.unwrap().path())
+        .filter(|path| path.is_dir());
     let files = tables.flat_map(|table| fs::read_dir(table).unwrap().map(|entry| entry.unwrap().path()));
-    files.filter(|path| path.extension().map_or(false, |ending| ending == "tokens")).collect()
+    files
+        .filter(|path| path.extension().map_or(false, |ending| ending == "tokens"))
+        .collect()
 }
 
 #[test]

@@ -65,7 +65,11 @@ struct Token<'a> {
 
 fn mark_of(field: &str) -> yaml_mark_t {
     let numbers: Vec<u64> = field.split(':').map(|number| number.parse().unwrap()).collect();
-    yaml_mark_t { index: numbers[0], line: numbers[1], column: numbers[2] }
+    yaml_mark_t {
+        index: numbers[0],
+        line: numbers[1],
+        column: numbers[2],
+    }
 }
 
 fn mark_text(mark: &yaml_mark_t) -> String {
@@ -75,8 +79,15 @@ fn mark_text(mark: &yaml_mark_t) -> String {
 fn token_of(line: &str) -> Token<'_> {
     let fields: Vec<&str> = line.split(' ').collect();
     let kind = TOKENS.iter().position(|&name| name == fields[0]).unwrap() as u8;
-    let at = step_span_t { start_mark: mark_of(fields[1]), end_mark: mark_of(fields[2]) };
-    Token { kind, at, fields: fields[3..].to_vec() }
+    let at = step_span_t {
+        start_mark: mark_of(fields[1]),
+        end_mark: mark_of(fields[2]),
+    };
+    Token {
+        kind,
+        at,
+        fields: fields[3..].to_vec(),
+    }
 }
 
 /// The bytes of a text field, which is escaped after its `=`.
@@ -84,7 +95,9 @@ fn text_of(field: &str) -> Vec<u8> {
     let (bytes, mut text, mut place) = (field.as_bytes(), Vec::new(), 1);
     assert_eq!(bytes[0], b'=');
     while place < bytes.len() {
-        let digits = bytes.get(place + 1..place + 3).and_then(|two| std::str::from_utf8(two).ok());
+        let digits = bytes
+            .get(place + 1..place + 3)
+            .and_then(|two| std::str::from_utf8(two).ok());
         match digits.and_then(|two| u8::from_str_radix(two, 16).ok()) {
             Some(byte) if bytes[place] == b'%' => {
                 text.push(byte);
@@ -119,7 +132,10 @@ impl Texts {
     fn put(&mut self, text: &[u8]) -> text_t {
         let place = self.0.len() as u64;
         self.0.extend_from_slice(text);
-        text_t { place, length: text.len() as u64 }
+        text_t {
+            place,
+            length: text.len() as u64,
+        }
     }
 
     fn at(&self, range: &text_t) -> &[u8] {
@@ -149,7 +165,10 @@ impl Count {
 
     fn count(&mut self, deed: u32, kind: u8, place: &place_t) -> u32 {
         let deed = deed_of(deed);
-        let said = self.sizes.count(&mut self.numbers, deed, event_kind(kind), place).number();
+        let said = self
+            .sizes
+            .count(&mut self.numbers, deed, event_kind(kind), place)
+            .number();
         writeln!(self.lines, "{} {said} {}", deed.number(), self.sizes.total).unwrap();
         said
     }
@@ -169,19 +188,41 @@ struct Documents {
 impl Documents {
     fn take(&mut self, kind: u8, anchor: Option<&[u8]>) {
         if !self.is_over && self.compose(kind, anchor) == 8 {
-            self.stack.push(open_t { node: 0, key: 0, children: 0, is_mapping: 0 });
+            self.stack.push(open_t {
+                node: 0,
+                key: 0,
+                children: 0,
+                is_mapping: 0,
+            });
             self.compose(kind, anchor);
         }
     }
 
     fn compose(&mut self, kind: u8, anchor: Option<&[u8]>) -> u32 {
         let fact = anchor.map_or(0, |anchor| carrier(&self.anchors, &self.texts.0, anchor));
-        let mut place = place_t { node: 0, child: 0, parent: 0, key: 0 };
-        let deed = self.composer.compose(&mut self.stack, event_kind(kind), fact, &mut place).number();
-        writeln!(self.lines, "{deed} {} {} {} {}", place.node, place.child, place.parent, place.key).unwrap();
+        let mut place = place_t {
+            node: 0,
+            child: 0,
+            parent: 0,
+            key: 0,
+        };
+        let deed = self
+            .composer
+            .compose(&mut self.stack, event_kind(kind), fact, &mut place)
+            .number();
+        writeln!(
+            self.lines,
+            "{deed} {} {} {} {}",
+            place.node, place.child, place.parent, place.key
+        )
+        .unwrap();
         if let (Some(anchor), true) = (anchor, place.node != 0) {
             let text_t { place: at, length } = self.texts.put(anchor);
-            self.anchors.push(anchor_t { place: at, length, node: place.node });
+            self.anchors.push(anchor_t {
+                place: at,
+                length,
+                node: place.node,
+            });
         }
         if deed == 1 {
             self.anchors.clear();
@@ -233,7 +274,12 @@ impl Parser {
                 texts: Texts::default(),
                 is_over: false,
                 lines: String::new(),
-                count: Count { sizes: sizes_t::new(max), numbers: Vec::new(), is_over: false, lines: String::new() },
+                count: Count {
+                    sizes: sizes_t::new(max),
+                    numbers: Vec::new(),
+                    is_over: false,
+                    lines: String::new(),
+                },
             },
         }
     }
@@ -261,7 +307,17 @@ impl Parser {
     fn step_within(&mut self, token: &Token<'_>, fact: u8, states: usize, marks: usize) -> u32 {
         let mut steps = self.steps;
         let (states, marks) = (&mut self.states[..states], &mut self.marks[..marks]);
-        steps.step(states, marks, token_kind(token.kind), fact, &token.at, &mut no_event(), &mut no_fault()).number()
+        steps
+            .step(
+                states,
+                marks,
+                token_kind(token.kind),
+                fact,
+                &token.at,
+                &mut no_event(),
+                &mut no_fault(),
+            )
+            .number()
     }
 
     fn step(&mut self, token: &Token<'_>) -> u32 {
@@ -273,7 +329,10 @@ impl Parser {
         let kind = token_kind(token.kind);
         let differs = self.steps.differs(kind).number();
         let (states, marks) = (&mut self.states, &mut self.marks);
-        let did = self.steps.step(states, marks, kind, fact, &token.at, &mut event, &mut fault).number();
+        let did = self
+            .steps
+            .step(states, marks, kind, fact, &token.at, &mut event, &mut fault)
+            .number();
         if differs != 0 && did != 3 && did != 4 {
             writeln!(self.lines, "DIFFERS {differs} {}", mark_text(&token.at.start_mark)).unwrap();
         }
@@ -340,7 +399,13 @@ impl Parser {
         let properties = format!("{} {}", optional(anchor.as_deref()), optional(tag));
         let (name, implicit) = (EVENTS[event.kind as usize], event.implicit);
         let collection = if event.is_flow == 1 { "flow" } else { "block" };
-        write!(self.lines, "{name} {} {}", mark_text(&event.start_mark), mark_text(&event.end_mark)).unwrap();
+        write!(
+            self.lines,
+            "{name} {} {}",
+            mark_text(&event.start_mark),
+            mark_text(&event.end_mark)
+        )
+        .unwrap();
         match event.kind {
             1 => write!(self.lines, " {}", field(0).unwrap()).unwrap(),
             3 => {
@@ -355,7 +420,12 @@ impl Parser {
             5 => write!(self.lines, " {}", optional(anchor.as_deref())).unwrap(),
             6 => {
                 let (value, style) = (field(0).unwrap_or("="), field(1).unwrap_or("plain"));
-                write!(self.lines, " {properties} {value} {implicit} {} {style}", event.quoted_implicit).unwrap();
+                write!(
+                    self.lines,
+                    " {properties} {value} {implicit} {} {style}",
+                    event.quoted_implicit
+                )
+                .unwrap();
             }
             7 | 9 => write!(self.lines, " {properties} {implicit} {collection}").unwrap(),
             _ => {}
@@ -390,7 +460,11 @@ fn no_event() -> step_event_t {
 }
 
 fn no_fault() -> step_fault_t {
-    step_fault_t { problem: 0, context_mark: ZERO_MARK, problem_mark: ZERO_MARK }
+    step_fault_t {
+        problem: 0,
+        context_mark: ZERO_MARK,
+        problem_mark: ZERO_MARK,
+    }
 }
 
 #[test]
@@ -408,7 +482,11 @@ fn lists_give_their_lines() {
         let (wanted, mut sizes) = (read(name, "sizes"), String::new());
         for bound in wanted.lines().filter_map(|line| line.strip_prefix("bound ")) {
             writeln!(sizes, "bound {bound}").unwrap();
-            sizes += &Parser::new(bound.parse().unwrap()).take_all(&tokens).documents.count.lines;
+            sizes += &Parser::new(bound.parse().unwrap())
+                .take_all(&tokens)
+                .documents
+                .count
+                .lines;
         }
         assert_eq!(sizes, wanted, "{name}.sizes");
     }

@@ -141,7 +141,20 @@ mod archive {
     ) -> u32 {
         let (states, states_room) = (states.as_mut_ptr(), states.len());
         let (marks, marks_room) = (marks.as_mut_ptr(), marks.len());
-        unsafe { pokhvizi_step(steps, states, states_room, marks, marks_room, kind, fact, at, event, fault) }
+        unsafe {
+            pokhvizi_step(
+                steps,
+                states,
+                states_room,
+                marks,
+                marks_room,
+                kind,
+                fact,
+                at,
+                event,
+                fault,
+            )
+        }
     }
 
     #[inline]
@@ -166,7 +179,16 @@ mod archive {
 
     pub fn directive_fact(handles: &[handle_t], texts: &[u8], handle: &[u8]) -> u8 {
         let (handles, count) = (handles.as_ptr(), handles.len());
-        unsafe { pokhvizi_directive_fact(handles, count, texts.as_ptr(), texts.len(), handle.as_ptr(), handle.len()) }
+        unsafe {
+            pokhvizi_directive_fact(
+                handles,
+                count,
+                texts.as_ptr(),
+                texts.len(),
+                handle.as_ptr(),
+                handle.len(),
+            )
+        }
     }
 
     pub fn tag(
