@@ -49,8 +49,12 @@ struct kept {
     uint8_t states[];
 };
 
-/* How many tag directives there is room for at first. */
-enum { FEW = 8 };
+/* How many entries a stack or a table has room for at first, and how much more room texts get than they need. A test makes it one,
+ * so that short lists of tokens make all of them larger. A table has a power of two, and that of anchors two at least. */
+#ifndef FIRST_ROOM
+#define FIRST_ROOM(usual) (usual)
+#endif
+enum { FEW = FIRST_ROOM(8) };  /* tag directives */
 
 /* The tag directives of a document, in the place of `parser->tag_directives`. After the handles that there is room for, which is
  * a power of two, stand two numbers for each: a table, which has the numbers of handles, from 1, each where its hash says, and
@@ -271,7 +275,7 @@ static int declare(yaml_parser_t *parser, const yaml_token_t *token)
 
     if (all == NULL || count == all->room || first + second > all->texts_room - length)
         all = grow_directives(parser, all == NULL ? FEW : count == all->room ? 2 * count : all->room,
-                              2 * (length + first + second));
+                              FIRST_ROOM(2) * (length + first + second));
     if (all == NULL)
         return 0;
     uint8_t *texts = (uint8_t *)texts_of(all);
@@ -559,10 +563,10 @@ static int begin(yaml_parser_t *parser)
 {
     if (!is_read)
         read_environment();
-    if (!grow_states(parser, 64))
+    if (!grow_states(parser, FIRST_ROOM(64)))
         return 0;
     pokhvizi_steps_new(&kept_of(parser)->steps);
-    kept_of(parser)->marks_room = least((size_t)(parser->marks.end - parser->marks.start), bounds.depth);
+    kept_of(parser)->marks_room = least(FIRST_ROOM((size_t)(parser->marks.end - parser->marks.start)), bounds.depth);
     kept_of(parser)->key = 0;
     free(parser->tag_directives.start);
     memset(&parser->tag_directives, 0, sizeof parser->tag_directives);
@@ -713,13 +717,13 @@ struct carrier {
  * many anchors as there are, and a power of two, or none. */
 struct loading {
     pokhvizi_composer_t composer;
-    pokhvizi_open_t first[24];
+    pokhvizi_open_t first[FIRST_ROOM(24)];
     pokhvizi_open_t *stack;
     size_t stack_room;
     struct carrier *carriers;
     size_t carriers_count, carriers_room;
     pokhvizi_size_t size;
-    uint64_t first_sizes[24];
+    uint64_t first_sizes[FIRST_ROOM(24)];
     uint64_t *sizes;
     size_t sizes_room;
 };
@@ -777,7 +781,7 @@ APART int32_t anchored_node_of(yaml_parser_t *parser, const struct loading *load
 
 static int grow_carriers(struct loading *loading)
 {
-    size_t room = loading->carriers_room == 0 ? 16 : 2 * loading->carriers_room;
+    size_t room = loading->carriers_room == 0 ? 2 * FIRST_ROOM(8) : 2 * loading->carriers_room;
     struct carrier *made = calloc(room, sizeof *made);
 
     if (made == NULL)
@@ -842,7 +846,7 @@ static int more_room(void *start, void *top, void *end, size_t size)
     memcpy(&from, start, sizeof from);
     memcpy(&to, top, sizeof to);
     used = to - from;
-    room = used == 0 ? 16 * size : 2 * used;
+    room = used == 0 ? FIRST_ROOM(16) * size : 2 * used;
     if ((made = realloc(from, room)) == NULL)
         return 0;
     to = made + used;
@@ -992,10 +996,7 @@ SELDOM int follow_event(yaml_parser_t *parser, uint32_t deed, int32_t fact, cons
 {
     switch (deed) {
     case POKHVIZI_BEGINS:
-        if (!begin_document(parser, made, held, document))
-            return out_of_memory(parser);
-        held->has_version = 0;
-        return 1;
+        return begin_document(parser, made, held, document) || out_of_memory(parser);
     case POKHVIZI_ENDS:
         document->end_implicit = made->implicit;
         memcpy(&document->end_mark, &made->end_mark, sizeof document->end_mark);
