@@ -11,6 +11,8 @@
 #                        moved, used after a fault and by threads; bounds; libyaml's memory over 7 MB, for events and for documents; and
 #                        if valgrind is there, the instructions of loads, which are at most libyaml's, or 1.03 of them if
 #                        build_plain.sh made the library
+#     all_lists          each list of up to five tokens, through the preload's source and libyaml's own parser: events, documents
+#                        and errors, each allocation failed in turn, bounds, parses and loads and scans in each order, under sanitizers
 #     events             libyaml's events and nodes of YAML files of this machine, broken texts and the YAML test suite,
 #                        preloaded, with all fields
 #     pipe_c             events before a slow pipe's end, preloaded
@@ -224,6 +226,25 @@ preload() {
     within 20 30 40 || return 1
     said=$(LD_PRELOAD=$preloaded "$work/preload_calls") || { echo "$said"; return 1; }
     echo "$said$memory"
+}
+
+# Each short list of tokens, through the preload's source and libyaml's own parser. A library that frees no anchor is seen.
+all_lists() {
+    words='-O1 -g -D_GNU_SOURCE -Wall -Wextra -Werror -Ibindings/c/include -fsanitize=address,undefined -fno-sanitize-recover=all'
+    mkdir -p "$work/turned/scripts/doors/clients" "$work/turned/bindings/c"
+    cp scripts/doors/clients/all_lists.c "$work/turned/scripts/doors/clients"
+    sed 's/^        free(held->anchor);$//' bindings/c/libyaml_preload.c > "$work/turned/bindings/c/libyaml_preload.c"
+    ! cmp -s bindings/c/libyaml_preload.c "$work/turned/bindings/c/libyaml_preload.c" || { echo "nothing is turned"; return 1; }
+    cc $words -o "$work/all_lists" scripts/doors/clients/all_lists.c "$dir/libpokhvizi.a" -lyaml -ldl &&
+        cc $words -o "$work/all_lists_turned" "$work/turned/scripts/doors/clients/all_lists.c" "$dir/libpokhvizi.a" -lyaml -ldl || return 1
+    if ASAN_OPTIONS=detect_leaks=0 "$work/all_lists_turned" 3 2 1 > "$work/calls" 2>&1; then
+        echo "a library that frees no anchor should be seen"
+        return 1
+    fi
+    ASAN_OPTIONS=detect_leaks=0 "$work/all_lists" 5 4 3 > "$work/calls" 2>&1
+    set -- $?
+    tail -n 40 "$work/calls"
+    return "$1"
 }
 
 # ---- Strict parsing ----
@@ -618,7 +639,7 @@ serde_yaml() {
 
 wanted=$*
 for word in $wanted; do
-    case " preload events pipe_c pyyaml_c psych pyyaml_pure loaders pipe_python pyyaml_ext cloaders exact_c exact_python bounds hostile_texts crate loads_rust pipe_rust yaml_test_suite serde_yaml " in
+    case " preload all_lists events pipe_c pyyaml_c psych pyyaml_pure loaders pipe_python pyyaml_ext cloaders exact_c exact_python bounds hostile_texts crate loads_rust pipe_rust yaml_test_suite serde_yaml " in
     *" $word "*) ;;
     *) echo "no check has the name $word" >&2; exit 2 ;;
     esac
@@ -626,6 +647,7 @@ done
 mkdir -p "$work/python"
 cp -R bindings/python/src/pokhvizi "$work/python"
 check preload cc yaml.h libyaml_preload.so events -- preload
+check all_lists cc yaml.h -- all_lists
 check events cc yaml.h libyaml_preload.so events libyaml-pp-perl -- events
 check pipe_c cc yaml.h libyaml_preload.so events -- pipe_c
 check pyyaml_c PyYAML cc yaml.h libyaml_preload.so pyyaml -- pyyaml_c

@@ -1,0 +1,478 @@
+/* Gives each list of up to N tokens to bindings/c/libyaml_preload.c and to libyaml's own parser, in the place of a scanner:
+ *
+ *     all_lists N REFUSED ODD
+ *
+ * Events, documents and errors must be libyaml's, with all marks and texts, if parsing is strict; without that they may only differ
+ * after a token that a strict parser refuses. In lists of up to REFUSED tokens each allocation fails in turn, with and without
+ * bounds; for those of up to ODD, parses, loads and scans follow one another in each order, and the parser is deleted twice. After each
+ * run no byte may be left. Lists that begin with an error aren't made longer. The list's tokens have fifteen texts, among which
+ * are two anchors, a declared and an undeclared handle, and a tag of one byte.
+ *
+ * It contains the preload's source, built so that each stack and table has room for one entry at first, and is linked with the address
+ * sanitizer, which counts bytes. clients.sh runs it. */
+#include <stdarg.h>
+#include <stdio.h>
+#include <stdlib.h>
+#include <string.h>
+#include <yaml.h>
+#include <dlfcn.h>
+
+/* The address sanitizer's, whose header a compiler may lack. */
+size_t __sanitizer_get_current_allocated_bytes(void);
+
+/* ---- Allocations of the preload's source and of the scanner, of which one may fail ---- */
+
+static long refused_at;
+
+static int refuse(void)
+{
+    return refused_at > 0 && --refused_at == 0;
+}
+
+static void *make(void *block, size_t size)
+{
+    return refuse() ? NULL : realloc(block, size);
+}
+
+static void *make_zeros(size_t count, size_t size)
+{
+    return refuse() ? NULL : calloc(count, size);
+}
+
+#define malloc(size) make(NULL, size)
+#define realloc make
+#define calloc make_zeros
+#define FIRST_ROOM(usual) 1
+#define yaml_parser_parse proved_parse
+#define yaml_parser_load proved_load
+#include "../../../bindings/c/libyaml_preload.c"
+#undef yaml_parser_parse
+#undef yaml_parser_load
+
+typedef int parses(yaml_parser_t *parser, yaml_event_t *event);
+typedef int loads(yaml_parser_t *parser, yaml_document_t *document);
+static parses *libyaml_parse;
+static loads *libyaml_load;
+
+/* ---- The scanner ---- */
+
+static const struct token {
+    yaml_token_type_t type;
+    const char *first, *second;
+    int number, other;  /* an encoding or a style; a version */
+} TOKENS[] = {
+    {YAML_STREAM_START_TOKEN, NULL, NULL, YAML_UTF8_ENCODING, 0},
+    {YAML_STREAM_END_TOKEN, NULL, NULL, 0, 0},
+    {YAML_VERSION_DIRECTIVE_TOKEN, NULL, NULL, 1, 1},
+    {YAML_VERSION_DIRECTIVE_TOKEN, NULL, NULL, 2, 0},
+    {YAML_TAG_DIRECTIVE_TOKEN, "!a!", "tag:a,", 0, 0},
+    {YAML_TAG_DIRECTIVE_TOKEN, "!!", "tag:b,", 0, 0},
+    {YAML_DOCUMENT_START_TOKEN, NULL, NULL, 0, 0},
+    {YAML_DOCUMENT_END_TOKEN, NULL, NULL, 0, 0},
+    {YAML_BLOCK_SEQUENCE_START_TOKEN, NULL, NULL, 0, 0},
+    {YAML_BLOCK_MAPPING_START_TOKEN, NULL, NULL, 0, 0},
+    {YAML_BLOCK_END_TOKEN, NULL, NULL, 0, 0},
+    {YAML_FLOW_SEQUENCE_START_TOKEN, NULL, NULL, 0, 0},
+    {YAML_FLOW_SEQUENCE_END_TOKEN, NULL, NULL, 0, 0},
+    {YAML_FLOW_MAPPING_START_TOKEN, NULL, NULL, 0, 0},
+    {YAML_FLOW_MAPPING_END_TOKEN, NULL, NULL, 0, 0},
+    {YAML_BLOCK_ENTRY_TOKEN, NULL, NULL, 0, 0},
+    {YAML_FLOW_ENTRY_TOKEN, NULL, NULL, 0, 0},
+    {YAML_KEY_TOKEN, NULL, NULL, 0, 0},
+    {YAML_VALUE_TOKEN, NULL, NULL, 0, 0},
+    {YAML_ALIAS_TOKEN, "x", NULL, 0, 0},
+    {YAML_ANCHOR_TOKEN, "x", NULL, 0, 0},
+    {YAML_ANCHOR_TOKEN, "y", NULL, 0, 0},
+    {YAML_TAG_TOKEN, "", "verbatim", 0, 0},
+    {YAML_TAG_TOKEN, "!", "", 0, 0},
+    {YAML_TAG_TOKEN, "!a!", "s", 0, 0},
+    {YAML_TAG_TOKEN, "!!", "a tag in full that is too long for the room that there is for a short one", 0, 0},
+    {YAML_TAG_TOKEN, "", "", 0, 0},
+    {YAML_SCALAR_TOKEN, "plain", NULL, YAML_PLAIN_SCALAR_STYLE, 0},
+    {YAML_SCALAR_TOKEN, "", NULL, YAML_DOUBLE_QUOTED_SCALAR_STYLE, 0},
+};
+enum { KINDS = sizeof TOKENS / sizeof *TOKENS, MOST = 12 };
+static int list[MOST], length, given, wants_more;
+
+static yaml_char_t *text_of(const char *from)
+{
+    yaml_char_t *made = from == NULL ? NULL : malloc(strlen(from) + 1);
+
+    return made == NULL ? NULL : memcpy(made, from, strlen(from) + 1);
+}
+
+/* In the place of libyaml's function of this name, for both parsers. */
+int yaml_parser_fetch_more_tokens(yaml_parser_t *parser)
+{
+    const struct token *next = &TOKENS[list[given]];
+    yaml_token_t token = {.type = next->type};
+    yaml_char_t *first, *second;
+
+    parser->token_available = parser->tokens.head != parser->tokens.tail;
+    if (parser->token_available)
+        return 1;
+    if (given == length) {
+        wants_more = 1;
+        parser->error = YAML_SCANNER_ERROR;
+        return 0;
+    }
+    first = text_of(next->first);
+    second = text_of(next->second);
+    if ((first == NULL) != (next->first == NULL) || (second == NULL) != (next->second == NULL)) {
+        free(first);
+        free(second);
+        parser->error = YAML_MEMORY_ERROR;
+        return 0;
+    }
+    token.start_mark = (yaml_mark_t){10 * given + 1, given + 1, 3 * given + 2};
+    token.end_mark = (yaml_mark_t){10 * given + 5, given + 1, 3 * given + 7};
+    switch (next->type) {
+    case YAML_STREAM_START_TOKEN:
+        token.data.stream_start.encoding = next->number;
+        parser->stream_start_produced = 1;
+        break;
+    case YAML_VERSION_DIRECTIVE_TOKEN:
+        token.data.version_directive.major = next->number;
+        token.data.version_directive.minor = next->other;
+        break;
+    case YAML_SCALAR_TOKEN:
+        token.data.scalar.value = first;
+        token.data.scalar.length = strlen(next->first);
+        token.data.scalar.style = next->number;
+        break;
+    default:  /* one or two texts, or none */
+        token.data.tag.handle = first;
+        token.data.tag.suffix = second;
+    }
+    given++;
+    *parser->tokens.tail++ = token;
+    return parser->token_available = 1;
+}
+
+static int begin_list(yaml_parser_t *parser)
+{
+    given = wants_more = 0;
+    return yaml_parser_initialize(parser);
+}
+
+/* ---- What a run told ---- */
+
+struct told {
+    char text[6000];
+    size_t length;
+};
+
+static void tell(struct told *told, const char *form, ...)
+{
+    va_list words;
+
+    va_start(words, form);
+    told->length += (size_t)vsnprintf(told->text + told->length, sizeof told->text - told->length, form, words);
+    va_end(words);
+    if (told->length >= sizeof told->text)
+        abort();
+}
+
+#define NUMBERS(mark) (mark).index, (mark).line, (mark).column
+#define MARKS(of) NUMBERS((of)->start_mark), NUMBERS((of)->end_mark)
+#define TEXT(text) (text) == NULL ? "-" : (const char *)(text)
+
+static void tell_directives(struct told *told, const yaml_version_directive_t *version, const yaml_tag_directive_t *tag,
+                            const yaml_tag_directive_t *end)
+{
+    if (version != NULL)
+        tell(told, " %d.%d", version->major, version->minor);
+    for (; tag != end; tag++)
+        tell(told, " %s=%s", tag->handle, tag->prefix);
+}
+
+static void tell_event(struct told *told, const yaml_event_t *event)
+{
+    tell(told, "%d %zu:%zu:%zu %zu:%zu:%zu", event->type, MARKS(event));
+    switch (event->type) {
+    case YAML_STREAM_START_EVENT:
+        tell(told, " %d", event->data.stream_start.encoding);
+        break;
+    case YAML_DOCUMENT_START_EVENT:
+        tell(told, " %d", event->data.document_start.implicit);
+        tell_directives(told, event->data.document_start.version_directive, event->data.document_start.tag_directives.start,
+                        event->data.document_start.tag_directives.end);
+        break;
+    case YAML_DOCUMENT_END_EVENT:
+        tell(told, " %d", event->data.document_end.implicit);
+        break;
+    case YAML_ALIAS_EVENT:
+        tell(told, " %s", event->data.alias.anchor);
+        break;
+    case YAML_SCALAR_EVENT:
+        tell(told, " %s %s %zu %s %d %d %d", TEXT(event->data.scalar.anchor), TEXT(event->data.scalar.tag), event->data.scalar.length,
+             event->data.scalar.value, event->data.scalar.plain_implicit, event->data.scalar.quoted_implicit, event->data.scalar.style);
+        break;
+    case YAML_SEQUENCE_START_EVENT:
+    case YAML_MAPPING_START_EVENT:  /* whose fields stand at the same places */
+        tell(told, " %s %s %d %d", TEXT(event->data.sequence_start.anchor), TEXT(event->data.sequence_start.tag),
+             event->data.sequence_start.implicit, event->data.sequence_start.style);
+        break;
+    default:
+        break;
+    }
+    tell(told, "\n");
+}
+
+static void tell_document(struct told *told, const yaml_document_t *document)
+{
+    tell(told, "document %zu:%zu:%zu %zu:%zu:%zu %d %d", MARKS(document), document->start_implicit, document->end_implicit);
+    tell_directives(told, document->version_directive, document->tag_directives.start, document->tag_directives.end);
+    for (const yaml_node_t *node = document->nodes.start; node != document->nodes.top; node++) {
+        tell(told, "\n%d %zu:%zu:%zu %zu:%zu:%zu %s", node->type, MARKS(node), node->tag);
+        if (node->type == YAML_SCALAR_NODE)
+            tell(told, " %zu %s %d", node->data.scalar.length, node->data.scalar.value, node->data.scalar.style);
+        if (node->type == YAML_SEQUENCE_NODE) {
+            tell(told, " %d", node->data.sequence.style);
+            for (const int *item = node->data.sequence.items.start; item != node->data.sequence.items.top; item++)
+                tell(told, " %d", *item);
+        }
+        if (node->type == YAML_MAPPING_NODE) {
+            tell(told, " %d", node->data.mapping.style);
+            for (const yaml_node_pair_t *pair = node->data.mapping.pairs.start; pair != node->data.mapping.pairs.top; pair++)
+                tell(told, " %d:%d", pair->key, pair->value);
+        }
+    }
+    tell(told, "\n");
+}
+
+static void tell_error(struct told *told, const yaml_parser_t *parser)
+{
+    tell(told, "error %d %s", parser->error, TEXT(parser->problem));
+    if (parser->error == YAML_PARSER_ERROR || parser->error == YAML_COMPOSER_ERROR)
+        tell(told, " %zu:%zu:%zu %s", NUMBERS(parser->problem_mark), TEXT(parser->context));
+    if (parser->context != NULL)
+        tell(told, " %zu:%zu:%zu", NUMBERS(parser->context_mark));
+    tell(told, "\n");
+}
+
+/* Where an error stands in what was told, or its end. */
+static size_t before_error(const struct told *told)
+{
+    const char *at = strstr(told->text, "error");
+
+    return at == NULL ? told->length : (size_t)(at - told->text);
+}
+
+/* ---- Runs ---- */
+
+static long lists, refusals, calls, wrong;
+
+static void expect(int is, const char *what, const struct told *one, const struct told *other)
+{
+    if (is || ++wrong > 20)
+        return;
+    printf("wrong: %s:", what);
+    for (int i = 0; i < length; i++)
+        printf(" %d=%s", TOKENS[list[i]].type, TEXT(TOKENS[list[i]].first));
+    printf("\n%s%s%s", one->text, other == NULL ? "" : "and not\n", other == NULL ? "" : other->text);
+}
+
+static int is_zeros(const void *bytes, size_t size)
+{
+    for (size_t i = 0; i < size; i++)
+        if (((const char *)bytes)[i] != 0)
+            return 0;
+    return 1;
+}
+
+static void parse_list(struct told *told, parses *next)
+{
+    yaml_parser_t parser;
+    yaml_event_t event;
+    int more = begin_list(&parser);
+
+    told->length = 0;
+    tell(told, "");
+    while (more) {
+        memset(&event, 0xAA, sizeof event);
+        more = next(&parser, &event);
+        if (!more)
+            tell_error(told, &parser);
+        expect(more || is_zeros(&event, sizeof event), "an event after an error", told, NULL);
+        if (more && event.type == YAML_NO_EVENT)
+            break;
+        if (more)
+            tell_event(told, &event);
+        yaml_event_delete(&event);
+    }
+    memset(&event, 0xAA, sizeof event);
+    expect(next(&parser, &event) == 1 && is_zeros(&event, sizeof event), "a parse after the end", told, NULL);
+    yaml_parser_delete(&parser);
+}
+
+static void load_list(struct told *told, loads *next)
+{
+    yaml_parser_t parser;
+    yaml_document_t document;
+    int more = begin_list(&parser);
+
+    told->length = 0;
+    tell(told, "");
+    while (more) {
+        memset(&document, 0xAA, sizeof document);
+        more = next(&parser, &document);
+        if (!more)
+            tell_error(told, &parser);
+        expect(more || is_zeros(&document, sizeof document), "a document after an error", told, NULL);
+        if (more && document.nodes.top != document.nodes.start)
+            tell_document(told, &document);
+        else
+            more = 0;
+        yaml_document_delete(&document);
+    }
+    if (next == proved_load) {  /* once more: libyaml's asserts that there was no error */
+        long left = refused_at;
+        refused_at = 0;
+        expect(next(&parser, &document) == (parser.error == YAML_NO_ERROR) && document.nodes.top == document.nodes.start, "a load after the end",
+               told, NULL);
+        yaml_document_delete(&document);
+        refused_at = left;
+    }
+    yaml_parser_delete(&parser);
+}
+
+/* A run of the proved parser, which leaves nothing. */
+static void run(struct told *told, int wants_documents)
+{
+    size_t before = __sanitizer_get_current_allocated_bytes();
+
+    if (wants_documents)
+        load_list(told, proved_load);
+    else
+        parse_list(told, proved_parse);
+    expect(__sanitizer_get_current_allocated_bytes() == before, "bytes are left", told, NULL);
+}
+
+/* Each allocation fails in turn: what is told before the error is what is told without it. */
+static void refuse_in_turn(int wants_documents)
+{
+    static struct told whole, told;
+    int is_refused = 1;
+
+    run(&whole, wants_documents);
+    for (long at = 1; is_refused; at++) {
+        refused_at = at;
+        run(&told, wants_documents);
+        is_refused = refused_at == 0;
+        refused_at = 0;
+        refusals += is_refused;
+        expect(!is_refused || (strstr(told.text, "error 1 ") != NULL && memcmp(told.text, whole.text, before_error(&told)) == 0),
+               "an allocation failed", &told, &whole);
+    }
+}
+
+/* Within bounds a run is one without them, up to an error. */
+static void bound_all(void)
+{
+    static struct told whole, told;
+
+    for (int wants_documents = 0; wants_documents < 2; wants_documents++) {
+        run(&whole, wants_documents);
+        for (size_t bound = 0; bound < 3; bound++) {
+            bounds.depth = bounds.nodes = bounds.expanded = bound;
+            run(&told, wants_documents);
+            expect(strcmp(told.text, whole.text) == 0 || strstr(told.text, "found too many") != NULL ||
+                       strstr(told.text, "found an alias within") != NULL,
+                   "within bounds", &told, &whole);
+            expect(memcmp(told.text, whole.text, before_error(&told)) == 0, "before a bound", &told, &whole);
+            refuse_in_turn(wants_documents);
+            bounds.depth = PTRDIFF_MAX / sizeof(yaml_mark_t);
+            bounds.nodes = INT32_MAX;
+            bounds.expanded = UNCOUNTED;
+        }
+    }
+}
+
+/* Five calls, which are parses, loads or scans, in each order. */
+static void call_in_each_order(void)
+{
+    static struct told told;
+    yaml_parser_t parser;
+    yaml_event_t event;
+    yaml_document_t document;
+    yaml_token_t token;
+
+    for (int order = 0; order < 3 * 3 * 3 * 3 * 3; order++) {
+        size_t before = __sanitizer_get_current_allocated_bytes();
+        told.length = 0;
+        tell(&told, "calls %d\n", order);
+        begin_list(&parser);
+        for (int call = 0, left = order; call < 5; call++, left /= 3, calls++) {
+            if (left % 3 == 0 && proved_parse(&parser, &event))
+                yaml_event_delete(&event);
+            if (left % 3 == 1 && proved_load(&parser, &document))
+                yaml_document_delete(&document);
+            if (left % 3 == 2 && yaml_parser_scan(&parser, &token))
+                yaml_token_delete(&token);
+        }
+        yaml_parser_delete(&parser);
+        yaml_parser_delete(&parser);
+        expect(__sanitizer_get_current_allocated_bytes() == before, "bytes are left", &told, NULL);
+    }
+}
+
+/* Tries the list; returns whether a longer one that begins so says more. */
+static int try_list(int refused, int odd)
+{
+    static struct told plain, strict, loose, documents;
+    int is_longer_of_use;
+
+    lists++;
+    parse_list(&plain, libyaml_parse);
+    is_strict = 1;
+    run(&strict, 0);
+    is_strict = 0;
+    run(&loose, 0);
+    is_longer_of_use = wants_more;
+    expect(strstr(strict.text, "that libyaml loses") != NULL || strcmp(plain.text, strict.text) == 0, "a strict parse", &strict,
+           &plain);
+    expect(memcmp(strict.text, loose.text, before_error(&strict)) == 0, "a parse", &loose, &strict);
+    if (strcmp(strict.text, loose.text) == 0) {
+        load_list(&plain, libyaml_load);
+        run(&documents, 1);
+        expect(strcmp(plain.text, documents.text) == 0, "a load", &documents, &plain);
+    }
+    if (length <= refused) {
+        refuse_in_turn(0);
+        refuse_in_turn(1);
+        bound_all();
+    }
+    if (length <= odd)
+        call_in_each_order();
+    return is_longer_of_use;
+}
+
+static void try_longer(int most, int refused, int odd)
+{
+    if (!try_list(refused, odd) || length == most)
+        return;
+    length++;
+    for (int kind = 0; kind < KINDS; kind++) {
+        list[length - 1] = kind;
+        try_longer(most, refused, odd);
+    }
+    length--;
+}
+
+int main(int count, char **words)
+{
+    int most = count == 4 ? atoi(words[1]) : 0;
+
+    if (most < 1 || most >= MOST) {
+        fputs("usage: all_lists N REFUSED ODD\n", stderr);
+        return 2;
+    }
+    *(void **)&libyaml_parse = dlsym(RTLD_NEXT, "yaml_parser_parse");
+    *(void **)&libyaml_load = dlsym(RTLD_NEXT, "yaml_parser_load");
+    read_environment();
+    try_longer(most, atoi(words[2]), atoi(words[3]));
+    printf("%ld lists of up to %d tokens, %ld failed allocations, %ld calls in each order%s\n", lists, most, refusals, calls,
+           wrong == 0 ? "" : ": wrong");
+    return wrong != 0;
+}
