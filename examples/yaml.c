@@ -481,6 +481,11 @@ static void put_node(struct run *run, const pokhvizi_event_t *event, const yaml_
     }
 }
 
+static struct node *node_of(const struct run *run, int32_t id)
+{
+    return ENTRIES(struct node, run->nodes) + (id - 1);
+}
+
 static void put_child(struct node *parent, int32_t child)
 {
     put(&parent->children, &child, sizeof child);
@@ -543,7 +548,7 @@ static int composer_fault(struct run *run, const pokhvizi_event_t *event, uint32
     if (deed != POKHVIZI_UNDEFINED_ALIAS && deed != POKHVIZI_REPEATED_ANCHOR)
         return FAILED;
     put_fault(&run->out, "FAULT composer", start, problem,
-              deed == POKHVIZI_REPEATED_ANCHOR ? ENTRIES(struct node, run->nodes)[fact - 1].start : start, context);
+              deed == POKHVIZI_REPEATED_ANCHOR ? node_of(run, fact)->start : start, context);
     return FAULTED;
 }
 
@@ -589,13 +594,12 @@ static int compose(struct run *run, const pokhvizi_event_t *event, const yaml_to
         put_node(run, event, token, stays, place.node);
     if (run->nodes.failed || run->anchors.failed || run->texts.failed || run->start.failed)
         return FAILED;
-    struct node *parent = ENTRIES(struct node, run->nodes) + (place.parent - 1);
     if (deed == POKHVIZI_VALUE)
-        put_child(parent, place.key);
+        put_child(node_of(run, place.parent), place.key);
     if (deed == POKHVIZI_VALUE || deed == POKHVIZI_ITEM)
-        put_child(parent, place.child);
+        put_child(node_of(run, place.parent), place.child);
     if (deed == POKHVIZI_CLOSES)
-        parent->end = mark_of(event->end_mark);
+        node_of(run, place.parent)->end = mark_of(event->end_mark);
     return ENDED;
 }
 
