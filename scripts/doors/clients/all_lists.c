@@ -121,7 +121,8 @@ int yaml_parser_fetch_more_tokens(yaml_parser_t *parser)
     if ((first == NULL) != (next->first == NULL) || (second == NULL) != (next->second == NULL)) {
         free(first);
         free(second);
-        parser->error = YAML_MEMORY_ERROR;
+        if (next->type != YAML_TAG_TOKEN)  /* of whose texts libyaml's scanner doesn't say so */
+            parser->error = YAML_MEMORY_ERROR;
         return 0;
     }
     token.start_mark = (yaml_mark_t){10 * given + 1, given + 1, 3 * given + 2};
