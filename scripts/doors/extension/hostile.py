@@ -14,6 +14,7 @@ import gc
 import os
 import pickle
 import random
+import signal
 import struct
 import subprocess
 import sys
@@ -317,6 +318,40 @@ def finalizers():
     loader.__init__(Last(loader))
     said(lambda: loader.__init__("outer"))
     expect("a stream's __del__ that begins another", [log, said(loader.get_data)], [[None], "from __del__"])
+
+
+# ---- Interrupts and threads, while a document is composed ----
+
+def interrupts():
+    """For the text, of which no document ends, the scanner alone takes seconds."""
+    class Interrupt(Exception):
+        pass
+
+    def interrupt(*_):
+        raise Interrupt
+
+    old = signal.signal(signal.SIGPROF, interrupt)
+    begun = time.process_time()
+    signal.setitimer(signal.ITIMER_PROF, .2)
+    expect("an interrupt", said(lambda: yaml.compose("[" * 20000, pokhvizi.CSafeLoader)), "Interrupt: ")
+    signal.setitimer(signal.ITIMER_PROF, 0)
+    signal.signal(signal.SIGPROF, old)
+    expect("the time until it", time.process_time() - begun < 1, True)
+
+
+def other_threads():
+    turns, over = [], threading.Event()
+
+    def run():
+        while not over.wait(.001):
+            turns.append(True)
+
+    thread = threading.Thread(target=run)
+    thread.start()
+    said(lambda: yaml.compose("[" * 10000, pokhvizi.CSafeLoader))
+    expect("turns of another thread", len(turns) > 5, True)
+    over.set()
+    thread.join()
 
 
 # ---- Errors ----
@@ -623,8 +658,8 @@ def leaks():
     expect("KB after them, beside %d" % before, max(resident() - before, 500), 500)
 
 
-for part in (deep, bounds, expanded, within_itself, within_read, failures, by_threads, finalizers, errors, again_and_again,
-             mixed, drawn_directives, second_interpreter, no_extension, hooks, marks, leaks):
+for part in (deep, bounds, expanded, within_itself, within_read, failures, by_threads, finalizers, interrupts, other_threads, errors,
+             again_and_again, mixed, drawn_directives, second_interpreter, no_extension, hooks, marks, leaks):
     part()
 print("%d cases, %d levels, %d wrong" % (cases, LEVELS, wrong))
 sys.exit(wrong != 0)

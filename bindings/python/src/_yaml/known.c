@@ -1,21 +1,9 @@
-/* Functions of PyYAML's that need not be called: those that have the code below, name by name and step by
- * step. If somebody puts another in the place of one, that is called. */
+/* A function of PyYAML's that need not be called: the one that has the code below, name by name and step by
+ * step. If somebody puts another in its place, that is called. */
 #include "loader.h"
 
 static const char source[] =
     "class Known:\n"
-    "    def scalar_init(self, tag, value, start_mark=None, end_mark=None, style=None):\n"
-    "        self.tag = tag\n"
-    "        self.value = value\n"
-    "        self.start_mark = start_mark\n"
-    "        self.end_mark = end_mark\n"
-    "        self.style = style\n"
-    "    def collection_init(self, tag, value, start_mark=None, end_mark=None, flow_style=None):\n"
-    "        self.tag = tag\n"
-    "        self.value = value\n"
-    "        self.start_mark = start_mark\n"
-    "        self.end_mark = end_mark\n"
-    "        self.flow_style = flow_style\n"
     "    def resolve(self, kind, value, implicit):\n"
     "        if kind is ScalarNode and implicit[0]:\n"
     "            if value == '':\n"
@@ -40,9 +28,9 @@ static const char source[] =
     "        elif kind is MappingNode:\n"
     "            return self.DEFAULT_MAPPING_TAG\n";
 
-/* ---- Which are known ---- */
+/* ---- Which is known ---- */
 
-/* The class that has the functions above. */
+/* The class that has the function above. */
 static PyObject *known_class(void)
 {
     PyObject *code = Py_CompileString(source, "<pokhvizi>", Py_file_input), *names = PyDict_New();
@@ -146,17 +134,6 @@ static int check_names(struct known *resolve)
     return 0;
 }
 
-/* Nodes are made without a call of `__init__`, unless Python would then look at none of them before the document
- * ends: to look at all at once takes longer than the calls. */
-static int find_inits(PyObject *like)
-{
-    if (its.has_late_collector)
-        return 0;
-    if (find_function(its.scalar_node, "__init__", like, "scalar_init", &its.known_scalar_init) < 0)
-        return -1;
-    return find_function(its.sequence_node, "__init__", like, "collection_init", &its.known_collection_init);
-}
-
 int find_known(void)
 {
     PyObject *like = known_class();
@@ -164,18 +141,14 @@ int find_known(void)
 
     if (like == NULL)
         return -1;
-    its.plain_new = (newfunc)PyType_GetSlot((PyTypeObject *)like, Py_tp_new);
-    its.plain_setattr = (setattrofunc)PyType_GetSlot((PyTypeObject *)like, Py_tp_setattro);
     done = find_function(its.resolver, "resolve", like, "resolve", &its.known_resolve);
     if (done == 0)
         done = check_names(&its.known_resolve);
-    if (done == 0)
-        done = find_inits(like);
     Py_DECREF(like);
     return done;
 }
 
-/* ---- Whether they still stand ---- */
+/* ---- Whether it still stands ---- */
 
 int is_known(const struct known *known, PyObject *function)
 {
@@ -188,37 +161,4 @@ int is_known(const struct known *known, PyObject *function)
         PyErr_Clear(); /* an audit hook may refuse it: then the function is called */
     Py_XDECREF(code);
     return code == known->code;
-}
-
-int is_plain_class(PyObject *class, const struct known *known)
-{
-    PyTypeObject *type = (PyTypeObject *)class;
-    PyObject *init;
-
-    if (Py_TYPE(class) != &PyType_Type || (newfunc)PyType_GetSlot(type, Py_tp_new) != its.plain_new ||
-        (setattrofunc)PyType_GetSlot(type, Py_tp_setattro) != its.plain_setattr)
-        return 0;
-    init = PyObject_GetAttr(class, its.names.init);
-    if (init == NULL)
-        PyErr_Clear(); /* a call of the class says what is wrong */
-    Py_XDECREF(init);
-    return init != NULL && init == known->function;
-}
-
-PyObject *make_plain(PyObject *class, size_t count, PyObject *const *names, PyObject *const *values)
-{
-    PyObject *made = NULL;
-    int all = 1;
-    size_t i;
-
-    for (i = 0; i < count; i++)
-        all = all && values[i] != NULL;
-    if (all)
-        made = its.plain_new((PyTypeObject *)class, its.no_arguments, NULL);
-    for (i = 0; i < count; i++) {
-        if (made != NULL && its.plain_setattr(made, names[i], values[i]) < 0)
-            Py_CLEAR(made);
-        Py_XDECREF(values[i]);
-    }
-    return made;
 }

@@ -9,7 +9,7 @@
  *     documents.c  events composed to a document
  *     nodes.c      PyYAML's nodes
  *     tags.c       their tags, where a text has none
- *     known.c      functions of PyYAML's that the two files above need not call
+ *     known.c      a function of PyYAML's that tags.c need not call
  *     marks.c      the type Mark
  *     faults.c     PyYAML's errors
  *     objects.c    what the C API of Python takes more than a line for
@@ -39,8 +39,7 @@
 enum {
     TOKENS = YAML_SCALAR_TOKEN + 1,
     EVENTS = YAML_MAPPING_END_EVENT + 1,
-    STYLES = YAML_FOLDED_SCALAR_STYLE + 1,
-    NODE_FIELDS = 5
+    STYLES = YAML_FOLDED_SCALAR_STYLE + 1
 };
 
 /* A function of PyYAML's that does what is known of it, and its code; NULL if PyYAML has another. */
@@ -55,22 +54,17 @@ struct kept {
     PyObject *scalar_node, *sequence_node, *mapping_node;
     PyObject *tokens[TOKENS], *events[EVENTS]; /* classes, by libyaml's numbers */
     PyObject *resolver, *resolve, *descend_resolver, *ascend_resolver; /* BaseResolver, and its own */
-    struct known known_resolve, known_scalar_init, known_collection_init;
-    newfunc plain_new; /* those of a class that has no such methods of its own */
-    setattrofunc plain_setattr;
+    struct known known_resolve;
     PyObject *pattern, *method; /* re.Pattern, types.MethodType */
-    PyObject *no_arguments;
     PyObject *styles[STYLES]; /* texts, by yaml_scalar_style_t */
     PyObject *implicits[2][2]; /* pairs of truth values: plain, quoted */
     /* Names of attributes, made once, since Python's cache of attributes goes by their addresses. */
     struct {
         PyObject *read, *name, *resolve, *descend_resolver, *ascend_resolver, *yaml_path_resolvers, *function,
-            *self, *start_mark, *end_mark, *max_depth, *max_nodes, *max_expanded, *mends, *init, *code,
+            *self, *start_mark, *end_mark, *max_depth, *max_nodes, *max_expanded, *mends, *code,
             *match, *yaml_implicit_resolvers, *default_scalar_tag, *default_sequence_tag, *default_mapping_tag;
     } names;
-    PyObject *scalar_names[NODE_FIELDS], *collection_names[NODE_FIELDS]; /* of what nodes have, in order */
     int is_new; /* Python is 3.9 or later */
-    int has_late_collector; /* Python is 3.12 or later: it collects garbage between steps of its own code alone */
 };
 
 extern struct kept its;
@@ -119,20 +113,13 @@ PyObject *give_none(PyObject *object, PyObject *nothing);
  * or NULL. */
 int grow(void *array, void *first, size_t *room, size_t least, size_t size);
 
-/* ---- Known functions ---- */
+/* ---- The known function ---- */
 
-/* Finds which of PyYAML's functions are those that are known. */
+/* Finds whether PyYAML's function is the one that is known. */
 int find_known(void);
 
 /* Whether a function is a known one, as it was found. */
 int is_known(const struct known *known, PyObject *function);
-
-/* Whether an object of a class may be made of its attributes: a call of the class does `known`, and no more. */
-int is_plain_class(PyObject *class, const struct known *known);
-
-/* Makes an object of such a class, with `count` attributes, which it takes. One that is NULL is an error that
- * is set. */
-PyObject *make_plain(PyObject *class, size_t count, PyObject *const *names, PyObject *const *values);
 
 /* ---- The parser ---- */
 
@@ -294,7 +281,6 @@ struct entry {
 struct hooks {
     PyObject *resolve;
     PyObject *descend, *ascend; /* NULL where they have nothing to do */
-    int scalars_are_plain, collections_are_plain; /* their `__init__` need not be called */
     PyObject *rules; /* a dict of `resolve`'s rules; NULL if that has to be called */
     PyObject *tags[EVENTS]; /* of nodes to which no rule applies, by kinds of events; NULL before the first */
 };

@@ -114,7 +114,6 @@ static int make_names(void)
         {"max_nodes", &its.names.max_nodes},
         {"max_expanded", &its.names.max_expanded},
         {"mends", &its.names.mends},
-        {"__init__", &its.names.init},
         {"__code__", &its.names.code},
         {"match", &its.names.match},
         {"yaml_implicit_resolvers", &its.names.yaml_implicit_resolvers},
@@ -126,19 +125,6 @@ static int make_names(void)
 
     for (i = 0; i < LENGTH(all); i++)
         if (put(all[i].place, PyUnicode_InternFromString(all[i].name)) < 0)
-            return -1;
-    return 0;
-}
-
-static int make_field_names(void)
-{
-    static const char *const scalar[NODE_FIELDS] = {"tag", "value", "start_mark", "end_mark", "style"};
-    static const char *const collection[NODE_FIELDS] = {"tag", "value", "start_mark", "end_mark", "flow_style"};
-    int i;
-
-    for (i = 0; i < NODE_FIELDS; i++)
-        if (put(&its.scalar_names[i], PyUnicode_InternFromString(scalar[i])) < 0 ||
-            put(&its.collection_names[i], PyUnicode_InternFromString(collection[i])) < 0)
             return -1;
     return 0;
 }
@@ -172,7 +158,6 @@ static int find_version(void)
     long number = version == NULL ? 0 : PyLong_AsLong(version);
 
     its.is_new = number >= 0x03090000;
-    its.has_late_collector = number >= 0x030c0000;
     return number == -1 && PyErr_Occurred() ? -1 : 0;
 }
 
@@ -216,8 +201,7 @@ static int fill(PyObject *module)
     if (import_others() < 0 || import_tokens() < 0 || import_events() < 0)
         return -1;
     if (find_version() < 0 || make_styles() < 0 || make_implicits() < 0 || make_names() < 0 ||
-        make_field_names() < 0 || put(&its.no_arguments, PyTuple_New(0)) < 0 || make_mark_type() < 0 ||
-        find_known() < 0)
+        make_mark_type() < 0 || find_known() < 0)
         return -1;
     if (add(module, "Mark", shared((PyObject *)its.mark)) < 0 || add_parser_type(module) < 0)
         return -1;

@@ -72,8 +72,6 @@ int find_hooks(struct document *document)
         find_hook(parser, its.names.descend_resolver, its.descend_resolver, !any, &hooks->descend) < 0 ||
         find_hook(parser, its.names.ascend_resolver, its.ascend_resolver, !any, &hooks->ascend) < 0)
         return -1;
-    hooks->scalars_are_plain = is_known(&its.known_scalar_init, its.known_scalar_init.function);
-    hooks->collections_are_plain = is_known(&its.known_collection_init, its.known_collection_init.function);
     return any ? 0 : find_rules(parser, hooks);
 }
 
