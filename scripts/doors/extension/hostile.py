@@ -534,7 +534,7 @@ def second_interpreter():
 def no_extension():
     with tempfile.TemporaryDirectory() as folder:
         os.mkdir(folder + "/pokhvizi")
-        for name in ("__init__.py", "cyaml.py"):
+        for name in ("__init__.py", "cyaml.py", "_known.py"):
             os.symlink(os.path.join(os.path.dirname(pokhvizi.__file__), name), "%s/pokhvizi/%s" % (folder, name))
         path = os.pathsep.join([folder, os.environ.get("PYTHONPATH", "")])
         run = subprocess.run([sys.executable, "-c", ALL_READ + "print(loaded, words)"], env=dict(os.environ, PYTHONPATH=path),

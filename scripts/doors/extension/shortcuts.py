@@ -170,8 +170,7 @@ def changed(name, place, what, thing):
 
     alike(name, before)
     alike(name + ", between documents", between)
-    if what != "__code__":  # which is looked at where a document begins
-        alike(name + ", while a document is read", amid)
+    alike(name + ", while a document is read", amid)
 
 
 def created():
@@ -325,7 +324,6 @@ def rules():
     alike("rules that go while others are looked up", gone)
     own = resolver.BaseResolver
     alike("PyYAML's resolve", lambda mine: with_resolve(mine, own, "resolve", other_resolve))
-    alike("its code", lambda mine: with_resolve(mine, own.resolve, "__code__", other_resolve.__code__))
 
 
 def referring(mine):

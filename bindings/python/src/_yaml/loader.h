@@ -9,7 +9,6 @@
  *     documents.c  events composed to a document
  *     nodes.c      PyYAML's nodes
  *     tags.c       their tags, where a text has none
- *     known.c      a function of PyYAML's that tags.c need not call
  *     marks.c      the type Mark
  *     faults.c     PyYAML's errors
  *     objects.c    what the C API of Python takes more than a line for
@@ -42,27 +41,21 @@ enum {
     STYLES = YAML_FOLDED_SCALAR_STYLE + 1
 };
 
-/* A function of PyYAML's that does what is known of it, and its code; NULL if PyYAML has another. */
-struct known {
-    PyObject *function, *code;
-};
-
 /* What is of PyYAML, and what is made once. Nothing of it is let go. */
 struct kept {
     PyTypeObject *mark;
     PyObject *yaml_error, *reader_error, *scanner_error, *parser_error, *composer_error;
     PyObject *scalar_node, *sequence_node, *mapping_node;
     PyObject *tokens[TOKENS], *events[EVENTS]; /* classes, by libyaml's numbers */
-    PyObject *resolver, *resolve, *descend_resolver, *ascend_resolver; /* BaseResolver, and its own */
-    struct known known_resolve;
+    PyObject *resolve, *descend_resolver, *ascend_resolver; /* BaseResolver's; the first as _known.py has it, or None */
     PyObject *pattern, *method; /* re.Pattern, types.MethodType */
     PyObject *styles[STYLES]; /* texts, by yaml_scalar_style_t */
     PyObject *implicits[2][2]; /* pairs of truth values: plain, quoted */
     /* Names of attributes, made once, since Python's cache of attributes goes by their addresses. */
     struct {
         PyObject *read, *name, *resolve, *descend_resolver, *ascend_resolver, *yaml_path_resolvers, *function,
-            *self, *start_mark, *end_mark, *max_depth, *max_nodes, *max_expanded, *mends, *code,
-            *match, *yaml_implicit_resolvers, *default_scalar_tag, *default_sequence_tag, *default_mapping_tag;
+            *self, *start_mark, *end_mark, *max_depth, *max_nodes, *max_expanded, *mends, *match,
+            *yaml_implicit_resolvers;
     } names;
     int is_new; /* Python is 3.9 or later */
 };
@@ -98,6 +91,13 @@ static inline PyObject *text_of_bytes(const void *bytes, size_t length)
     return PyUnicode_DecodeUTF8(bytes, (Py_ssize_t)length, "strict");
 }
 
+/* Lets go of what is there; NULL. */
+static inline PyObject *dropped(PyObject *object)
+{
+    Py_XDECREF(object);
+    return NULL;
+}
+
 /* Calls with these arguments, which it takes. One that is NULL is an error that is set. */
 PyObject *call(PyObject *callable, Py_ssize_t count, PyObject *const *arguments);
 
@@ -112,14 +112,6 @@ PyObject *give_none(PyObject *object, PyObject *nothing);
 /* Makes an array twice as large, and as large as `least`. It is PyMem's, or `first`, within another object,
  * or NULL. */
 int grow(void *array, void *first, size_t *room, size_t least, size_t size);
-
-/* ---- The known function ---- */
-
-/* Finds whether PyYAML's function is the one that is known. */
-int find_known(void);
-
-/* Whether a function is a known one, as it was found. */
-int is_known(const struct known *known, PyObject *function);
 
 /* ---- The parser ---- */
 
@@ -149,15 +141,6 @@ struct directives {
     size_t count, room, length, texts_room;
 };
 
-/* A plain scalar, and the tag that the loader resolves for it by these rules. */
-struct resolved {
-    PyObject *value;  /* NULL where there is none */
-    PyObject *tag;    /* NULL: that of each scalar to which no rule applies */
-    PyObject *rules;  /* a tuple of those for its first character, or NULL if there are none */
-    size_t length;
-    char text[24];
-};
-
 /* Whether a call may begin: no stream yet; yes; another call is at work; one has failed. */
 enum standing { UNBORN, READY, BUSY, BROKEN };
 
@@ -180,7 +163,6 @@ typedef struct {
     size_t states_room, marks_room;
     size_t max_depth, max_nodes; /* what may be open at once; what each list of a document may have */
     size_t max_expanded; /* how many nodes a document may have with its aliases written out */
-    struct resolved *resolved; /* scalars, each at the place that its text says; NULL before the first */
 } parser_object;
 
 extern PyType_Spec parser_spec;
@@ -315,16 +297,7 @@ int find_hooks(struct document *document);
 /* Lets them go. */
 void forget_hooks(struct hooks *hooks);
 
-/* The tag of the collection at hand, of this class. */
-PyObject *collection_tag(struct document *document, PyObject *class);
-
-/* Puts the tag and the value of the scalar at hand. */
-int find_scalar(struct document *document, PyObject **tag, PyObject **value);
-
-/* Visits what the parser has kept of tags and may refer to others: a regular expression may have any text. */
-int visit_resolved(const parser_object *parser, visitproc visit, void *arg);
-
-/* Gives back what the parser has kept of tags. */
-void forget_resolved(parser_object *parser);
+/* The tag of the node at hand, of this class and value. */
+PyObject *tag_of_node(struct document *document, PyObject *class, PyObject *value);
 
 #endif

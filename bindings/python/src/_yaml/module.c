@@ -77,8 +77,6 @@ static int import_others(void)
         {"yaml.nodes", NULL, "ScalarNode", &its.scalar_node},
         {"yaml.nodes", NULL, "SequenceNode", &its.sequence_node},
         {"yaml.nodes", NULL, "MappingNode", &its.mapping_node},
-        {"yaml.resolver", NULL, "BaseResolver", &its.resolver},
-        {"yaml.resolver", "BaseResolver", "resolve", &its.resolve},
         {"yaml.resolver", "BaseResolver", "descend_resolver", &its.descend_resolver},
         {"yaml.resolver", "BaseResolver", "ascend_resolver", &its.ascend_resolver},
         {"re", NULL, "Pattern", &its.pattern},
@@ -114,12 +112,8 @@ static int make_names(void)
         {"max_nodes", &its.names.max_nodes},
         {"max_expanded", &its.names.max_expanded},
         {"mends", &its.names.mends},
-        {"__code__", &its.names.code},
         {"match", &its.names.match},
         {"yaml_implicit_resolvers", &its.names.yaml_implicit_resolvers},
-        {"DEFAULT_SCALAR_TAG", &its.names.default_scalar_tag},
-        {"DEFAULT_SEQUENCE_TAG", &its.names.default_sequence_tag},
-        {"DEFAULT_MAPPING_TAG", &its.names.default_mapping_tag},
     };
     size_t i;
 
@@ -198,15 +192,28 @@ static int add_parser_type(PyObject *module)
 
 static int fill(PyObject *module)
 {
-    if (import_others() < 0 || import_tokens() < 0 || import_events() < 0)
+    if (put(&its.resolve, shared(Py_None)) < 0 || import_others() < 0 || import_tokens() < 0 || import_events() < 0)
         return -1;
     if (find_version() < 0 || make_styles() < 0 || make_implicits() < 0 || make_names() < 0 ||
-        make_mark_type() < 0 || find_known() < 0)
+        make_mark_type() < 0)
         return -1;
     if (add(module, "Mark", shared((PyObject *)its.mark)) < 0 || add_parser_type(module) < 0)
         return -1;
     return add(module, "libyaml_version", PyUnicode_FromString(yaml_get_version_string()));
 }
+
+/* Takes PyYAML's `resolve`, if it does what tags.c does in its place, or None. */
+static PyObject *know(PyObject *module, PyObject *resolve)
+{
+    (void)module;
+    put(&its.resolve, shared(resolve));
+    return shared(Py_None);
+}
+
+static PyMethodDef functions[] = {
+    {"know", know, METH_O, "Takes PyYAML's `resolve`, which is then done in C, or None."},
+    {NULL, NULL, 0, NULL},
+};
 
 static int is_filled;
 static PyObject *the_module, *its_modules; /* borrowed: the module, and its interpreter's dict of modules */
@@ -222,6 +229,7 @@ static PyModuleDef definition = {
     PyModuleDef_HEAD_INIT,
     .m_name = "pokhvizi._yaml",
     .m_doc = "PyYAML's CParser with a proved parser and composer.",
+    .m_methods = functions,
     .m_free = let_go,
 };
 

@@ -5,25 +5,24 @@
 static PyObject *make_scalar(struct document *document)
 {
     const parser_object *parser = document->parser;
-    PyObject *tag, *value;
+    PyObject *value = value_of(parser);
+    PyObject *tag = value == NULL ? NULL : tag_of_node(document, its.scalar_node, value);
 
-    if (find_scalar(document, &tag, &value) < 0)
-        return NULL;
+    if (tag == NULL)
+        return dropped(value);
     return CALL(its.scalar_node, tag, value, start_of(parser), end_of(parser), style_of(parser));
 }
 
 static PyObject *make_collection(struct document *document, PyObject *class, PyObject **children)
 {
     const parser_object *parser = document->parser;
-    PyObject *tag = collection_tag(document, class);
+    PyObject *tag = tag_of_node(document, class, Py_None);
 
     if (tag == NULL)
         return NULL;
     *children = PyList_New(0);
-    if (*children == NULL) {
-        Py_DECREF(tag);
-        return NULL;
-    }
+    if (*children == NULL)
+        return dropped(tag);
     return CALL(class, tag, shared(*children), start_of(parser), shared(Py_None),
                 PyBool_FromLong(parser->event.is_flow));
 }

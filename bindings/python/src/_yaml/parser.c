@@ -201,7 +201,6 @@ static int parser_clear(PyObject *object)
         parser->standing = UNBORN;
         free_memory(parser);
     }
-    forget_resolved(parser);
     for (i = 0; i < LENGTH(objects); i++)
         Py_XDECREF(objects[i]);
     return 0;
@@ -217,7 +216,7 @@ static int parser_traverse(PyObject *object, visitproc visit, void *arg)
     Py_VISIT(parser->stream.name);
     Py_VISIT(parser->current_token);
     Py_VISIT(parser->current_event);
-    return visit_resolved(parser, visit, arg); /* the others are texts, and a dict of texts and numbers */
+    return 0; /* the others are texts, and a dict of texts and numbers */
 }
 
 static void parser_dealloc(PyObject *object)

@@ -11,9 +11,12 @@ A loader reads exactly what libyaml reads, unless its class has `mends = True`.
 from yaml.constructor import BaseConstructor, Constructor, FullConstructor, SafeConstructor, UnsafeConstructor
 from yaml.resolver import BaseResolver, Resolver
 
-from ._yaml import CParser
+from ._known import resolve
+from ._yaml import CParser, know
 
 __all__ = ["CBaseLoader", "CFullLoader", "CLoader", "CParser", "CSafeLoader", "CUnsafeLoader"]
+
+know(resolve)
 
 
 class CBaseLoader(CParser, BaseConstructor, BaseResolver):
