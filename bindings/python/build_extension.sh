@@ -19,7 +19,7 @@ echo '{ global: PyInit__yaml; local: *; };' > "$dir/_yaml.map"
 set --
 for source in bindings/python/src/_yaml/*.c; do
     object=$dir/_yaml_$(basename "$source" .c).o
-    "$cc" -std=c11 -O2 -Wall -Wextra -Werror -fPIC -fvisibility=hidden -I"$python" -Ibindings/c/include -c -o "$object" "$source"
+    "$cc" -std=gnu11 -O2 -Wall -Wextra -Werror -fPIC -fvisibility=hidden -I"$python" -Ibindings/c -Ibindings/c/include -c -o "$object" "$source"
     set -- "$@" "$object"
 done
 "$cc" -shared -Wl,--version-script,"$dir/_yaml.map" -Wl,-z,relro,-z,now,-z,noexecstack -Wl,--gc-sections -Wl,--build-id=sha1 \

@@ -233,8 +233,9 @@ all_lists() {
     words='-O1 -g -D_GNU_SOURCE -Wall -Wextra -Werror -Ibindings/c/include -fsanitize=address,undefined -fno-sanitize-recover=all'
     mkdir -p "$work/turned/scripts/doors/clients" "$work/turned/bindings/c"
     cp scripts/doors/clients/all_lists.c "$work/turned/scripts/doors/clients"
-    sed 's/^        free(held->anchor);$//' bindings/c/libyaml_preload.c > "$work/turned/bindings/c/libyaml_preload.c"
-    ! cmp -s bindings/c/libyaml_preload.c "$work/turned/bindings/c/libyaml_preload.c" || { echo "nothing is turned"; return 1; }
+    cp bindings/c/libyaml_preload.c "$work/turned/bindings/c"
+    sed 's/^        free(held->anchor);$//' bindings/c/libyaml_events.h > "$work/turned/bindings/c/libyaml_events.h"
+    ! cmp -s bindings/c/libyaml_events.h "$work/turned/bindings/c/libyaml_events.h" || { echo "nothing is turned"; return 1; }
     cc $words -o "$work/all_lists" scripts/doors/clients/all_lists.c "$dir/libpokhvizi.a" -lyaml -ldl &&
         cc $words -o "$work/all_lists_turned" "$work/turned/scripts/doors/clients/all_lists.c" "$dir/libpokhvizi.a" -lyaml -ldl || return 1
     if ASAN_OPTIONS=detect_leaks=0 "$work/all_lists_turned" 3 2 1 > "$work/calls" 2>&1; then

@@ -53,13 +53,14 @@ static int ascend(const struct document *document)
 /* Has the anchor at hand name a node. */
 static int carry(struct document *document, int32_t id)
 {
-    PyObject *number = PyLong_FromLong(id);
+    PyObject *anchor = text_of(anchor_of(&document->parser->event)), *number = PyLong_FromLong(id);
     int done = -1;
 
-    if (number != NULL && document->anchors == NULL)
+    if (document->anchors == NULL)
         document->anchors = PyDict_New();
-    if (number != NULL && document->anchors != NULL)
-        done = PyDict_SetItem(document->anchors, document->parser->held.anchor, number);
+    if (anchor != NULL && number != NULL && document->anchors != NULL)
+        done = PyDict_SetItem(document->anchors, anchor, number);
+    Py_XDECREF(anchor);
     Py_XDECREF(number);
     return done;
 }
@@ -67,14 +68,13 @@ static int carry(struct document *document, int32_t id)
 /* The id of the node that has the anchor of the event at hand, or 0. */
 static int find_anchored_node(const struct document *document, int32_t *fact)
 {
-    const parser_object *parser = document->parser;
-    int is_alias = parser->event.kind == YAML_ALIAS_EVENT;
+    const yaml_char_t *text = document->anchors == NULL ? NULL : anchor_of(&document->parser->event);
     PyObject *anchor, *number;
 
     *fact = 0;
-    if (document->anchors == NULL || (!is_alias && !parser->event.has_anchor))
+    if (text == NULL)
         return 0;
-    anchor = is_alias ? text_of(parser->token.data.alias.value) : shared(parser->held.anchor);
+    anchor = text_of(text);
     if (anchor == NULL)
         return -1;
     number = PyDict_GetItemWithError(document->anchors, anchor); /* borrowed */
@@ -104,7 +104,7 @@ static int put_node(struct document *document, int deed, const pokhvizi_place_t 
         return -1;
     }
     document->entries[document->count++] = (struct entry){node, children};
-    if (document->parser->event.has_anchor && carry(document, place->node) < 0)
+    if (anchor_of(&document->parser->event) != NULL && carry(document, place->node) < 0)
         return -1;
     return children == NULL ? ascend(document) : 0;
 }
@@ -153,12 +153,9 @@ static int close_node(const struct document *document, int32_t id)
 /* Says why the event at hand can't be composed. */
 static int refuse(const struct document *document, int deed, int32_t fact)
 {
-    parser_object *parser = document->parser;
     const char *context, *problem = pokhvizi_refusal((uint32_t)deed, &context);
 
-    if (deed == POKHVIZI_REPEATED_ANCHOR)
-        return give_second(parser, entry_of(document, fact)->node, context, problem);
-    return give_fault(parser, YAML_COMPOSER_ERROR, context, NULL, problem, &parser->event.start_mark);
+    return refuse_event(document->parser, context == NULL ? NULL : entry_of(document, fact)->node, context, problem);
 }
 
 /* Does to the document what the composer says. */
@@ -186,7 +183,7 @@ static int follow(struct document *document, int deed, int32_t fact, const pokhv
 static int ask(struct document *document, int32_t fact, pokhvizi_place_t *place)
 {
     return (int)pokhvizi_compose(&document->composer, document->stack, document->stack_room,
-                                 document->parser->event.kind, fact, place);
+                                 (uint8_t)document->parser->event.type, fact, place);
 }
 
 static int grow_stack(struct document *document)
@@ -202,7 +199,7 @@ static int count(struct document *document, int deed, const pokhvizi_place_t *pl
     if (document->parser->max_expanded == PY_SSIZE_T_MAX)
         return deed;
     while ((counted = pokhvizi_count(&document->size, document->sizes, document->sizes_room, (uint32_t)deed,
-                                     document->parser->event.kind, place)) == POKHVIZI_FULL_SIZES)
+                                     (uint8_t)document->parser->event.type, place)) == POKHVIZI_FULL_SIZES)
         if (grow(&document->sizes, document->first_sizes, &document->sizes_room, 0, sizeof *document->sizes) < 0)
             return -1;
     return counted == POKHVIZI_COUNTED ? deed : (int)counted;
@@ -262,8 +259,12 @@ static PyObject *compose_events(struct document *document)
 
     if (find_hooks(document) < 0)
         return NULL;
-    while (deed != POKHVIZI_ENDS && !parser->has_ended) {
-        if (take_event(parser) < 0 || (deed = compose_event(document)) < 0)
+    while (deed != POKHVIZI_ENDS) {
+        if (take_event(parser) < 0)
+            return NULL;
+        if (parser->event.type == YAML_NO_EVENT)
+            break;
+        if ((deed = compose_event(document)) < 0)
             return NULL;
         leave_event(parser);
     }

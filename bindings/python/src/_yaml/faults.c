@@ -1,14 +1,14 @@
 /* PyYAML's errors, of what stands in the scanner's record. */
 #include "loader.h"
-#include <assert.h>
-
-static_assert(sizeof(yaml_mark_t) == sizeof(pokhvizi_mark_t), "a mark is libyaml's");
 
 static PyObject *mark_or_none(const parser_object *parser, const yaml_mark_t *mark, int is_there)
 {
-    if (!is_there)
-        return shared(Py_None);
-    return make_mark(parser->stream.name, &(pokhvizi_mark_t){mark->index, mark->line, mark->column});
+    return is_there ? make_mark(parser->stream.name, mark) : shared(Py_None);
+}
+
+static PyObject *message(const char *text)
+{
+    return text_or_none((const yaml_char_t *)text);
 }
 
 static PyObject *reader_error(const parser_object *parser)
@@ -16,15 +16,15 @@ static PyObject *reader_error(const parser_object *parser)
     const yaml_parser_t *at = &parser->scanner;
 
     return CALL(its.reader_error, shared(parser->stream.name), PyLong_FromSize_t(at->problem_offset),
-                PyLong_FromLong(at->problem_value), PyUnicode_FromString("?"), text_or_none(at->problem));
+                PyLong_FromLong(at->problem_value), PyUnicode_FromString("?"), message(at->problem));
 }
 
 static PyObject *marked_error(const parser_object *parser, PyObject *class)
 {
     const yaml_parser_t *at = &parser->scanner;
 
-    return CALL(class, text_or_none(at->context),
-                mark_or_none(parser, &at->context_mark, at->context != NULL), text_or_none(at->problem),
+    return CALL(class, message(at->context),
+                mark_or_none(parser, &at->context_mark, at->context != NULL), message(at->problem),
                 mark_or_none(parser, &at->problem_mark, at->problem != NULL));
 }
 
@@ -55,29 +55,30 @@ int raise_fault(const parser_object *parser)
     }
 }
 
-int give_fault(parser_object *parser, yaml_error_type_t kind, const char *context,
-               const pokhvizi_mark_t *context_mark, const char *problem, const pokhvizi_mark_t *problem_mark)
+int raise_failure(parser_object *parser)
 {
-    yaml_parser_t *at = &parser->scanner;
-
-    at->error = kind;
-    at->context = context;
-    at->problem = problem;
-    if (context != NULL)
-        memcpy(&at->context_mark, context_mark, sizeof at->context_mark);
-    memcpy(&at->problem_mark, problem_mark, sizeof at->problem_mark);
+    if (PyErr_Occurred()) { /* in the stream's `read` */
+        parser->scanner.error = YAML_NO_ERROR;
+        return -1;
+    }
+    /* libyaml doesn't say of each refused allocation that it was one. */
+    if (parser->scanner.error == YAML_NO_ERROR)
+        parser->scanner.error = YAML_MEMORY_ERROR;
     return raise_fault(parser);
 }
 
-int give_second(parser_object *parser, PyObject *first, const char *context, const char *problem)
+int refuse_event(parser_object *parser, PyObject *first, const char *context, const char *problem)
 {
-    PyObject *mark = attribute_if_any(first, its.names.start_mark);
-    pokhvizi_mark_t at = {0, 0, 0};
+    yaml_parser_t *at = &parser->scanner;
+    PyObject *mark = first == NULL ? NULL : attribute_if_any(first, its.names.start_mark);
 
     if (mark == NULL && PyErr_Occurred())
         return -1;
-    if (mark != NULL)
-        at = place_of_mark(mark);
+    at->error = YAML_COMPOSER_ERROR;
+    at->context = context;
+    at->problem = problem;
+    at->context_mark = mark == NULL ? (yaml_mark_t){0, 0, 0} : place_of_mark(mark);
+    at->problem_mark = parser->event.start_mark;
     Py_XDECREF(mark);
-    return give_fault(parser, YAML_COMPOSER_ERROR, context, &at, problem, &parser->event.start_mark);
+    return raise_fault(parser);
 }

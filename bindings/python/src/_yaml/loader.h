@@ -4,8 +4,8 @@
  *     module.c     the module, and what it takes from PyYAML
  *     parser.c     the type CParser: its methods, its life
  *     streams.c    texts, bytes and files, for libyaml's reader
- *     tokens.c     libyaml's tokens: their facts, what is held of them, PyYAML's objects
- *     events.c     steps from tokens to events, and PyYAML's objects
+ *     tokens.c     PyYAML's objects of libyaml's tokens
+ *     events.c     events by the steps that bindings/c has over libyaml's scanner, and PyYAML's objects
  *     documents.c  events composed to a document
  *     nodes.c      PyYAML's nodes
  *     tags.c       their tags, where a text has none
@@ -13,9 +13,8 @@
  *     faults.c     PyYAML's errors
  *     objects.c    what the C API of Python takes more than a line for
  *
- * CPython's limited API of 3.8, so that one library serves each later version. A token is in hand until its
- * event has been used, an event is at hand until something is made of it; what a document takes while it is
- * composed is there for one call alone. Events, nodes and errors are PyYAML's own classes, and tags are the
+ * CPython's limited API of 3.8, so that one library serves each later version. An event is at
+ * hand until something is made of it; what a document takes while it is composed is there for one call alone. Events, nodes and errors are PyYAML's own classes, and tags are the
  * loader's own `resolve`, as with PyYAML. No function calls itself, however deep a text nests.
  *
  * A function that returns a PyObject * or an int has set Python's error where it returns NULL or -1, unless
@@ -26,7 +25,6 @@
 #define Py_LIMITED_API 0x03080000
 #include <Python.h>
 #include <pokhvizi/compose.h>
-#include <pokhvizi/steps.h>
 #include <stddef.h>
 #include <string.h>
 #include <yaml.h>
@@ -42,7 +40,7 @@ enum {
 };
 
 /* What is of PyYAML, and what is made once. Nothing of it is let go. */
-struct kept {
+struct pyyaml {
     PyTypeObject *mark;
     PyObject *yaml_error, *reader_error, *scanner_error, *parser_error, *composer_error;
     PyObject *scalar_node, *sequence_node, *mapping_node;
@@ -54,13 +52,13 @@ struct kept {
     /* Names of attributes, made once, since Python's cache of attributes goes by their addresses. */
     struct {
         PyObject *read, *name, *resolve, *descend_resolver, *ascend_resolver, *yaml_path_resolvers, *function,
-            *self, *start_mark, *end_mark, *max_depth, *max_nodes, *max_expanded, *mends, *match,
-            *yaml_implicit_resolvers;
+            *self, *start_mark, *end_mark, *max_depth, *max_nodes, *max_expanded, *mends,
+            *match, *yaml_implicit_resolvers;
     } names;
     int is_new; /* Python is 3.9 or later */
 };
 
-extern struct kept its;
+extern struct pyyaml its;
 
 /* ---- Objects ---- */
 
@@ -81,9 +79,9 @@ static inline PyObject *text_of(const yaml_char_t *text)
     return PyUnicode_FromString((const char *)text);
 }
 
-static inline PyObject *text_or_none(const char *text)
+static inline PyObject *text_or_none(const yaml_char_t *text)
 {
-    return text == NULL ? shared(Py_None) : PyUnicode_FromString(text);
+    return text == NULL ? shared(Py_None) : text_of(text);
 }
 
 static inline PyObject *text_of_bytes(const void *bytes, size_t length)
@@ -123,44 +121,17 @@ struct stream {
     int is_text;
 };
 
-/* What tokens had for an event to come. */
-struct held {
-    PyObject *anchor; /* or NULL */
-    uint8_t *tag, first_tag[64]; /* in full */
-    size_t tag_length, tag_room;
-    size_t next_length; /* that of the tag in hand; SIZE_MAX if its handle isn't declared */
-    yaml_version_directive_t version;
-    int has_version;
-};
-
-/* The tag directives of a document. */
-struct directives {
-    pokhvizi_handle_t *handles;
-    uint8_t *texts;
-    PyObject *places; /* of handles, by texts, or NULL before the first */
-    size_t count, room, length, texts_room;
-};
-
 /* Whether a call may begin: no stream yet; yes; another call is at work; one has failed. */
 enum standing { UNBORN, READY, BUSY, BROKEN };
 
 typedef struct {
     PyObject_HEAD
     enum standing standing;
-    int has_ended;
     struct stream stream;
     PyObject *current_token, *current_event; /* what was peeked at, or NULL */
-    yaml_parser_t scanner; /* its reader and scanner alone, and the last error */
-    yaml_token_t token; /* in hand, unless it is of no type */
-    pokhvizi_event_t event; /* at hand, unless its kind is 0 */
-    int stays; /* the token in hand isn't the event's */
-    struct held held;
-    struct directives directives;
-    pokhvizi_steps_t steps;
+    yaml_parser_t scanner; /* whose events are those of the steps */
+    yaml_event_t event; /* at hand, unless it is of no type */
     int has_mends; /* events are of this project's own grammar, not libyaml's */
-    uint8_t *states, first_states[64];
-    pokhvizi_mark_t *marks, first_marks[32];
-    size_t states_room, marks_room;
     size_t max_depth, max_nodes; /* what may be open at once; what each list of a document may have */
     size_t max_expanded; /* how many nodes a document may have with its aliases written out */
 } parser_object;
@@ -172,13 +143,13 @@ extern PyType_Spec parser_spec;
 extern PyType_Spec mark_spec;
 
 /* A mark of a name that is `name_of` another. */
-PyObject *make_mark(PyObject *name, const pokhvizi_mark_t *at);
+PyObject *make_mark(PyObject *name, const yaml_mark_t *at);
 
 /* A name as marks have it: itself if it is a text or a number and refers to nothing, else a text of it. */
 PyObject *name_of(PyObject *given);
 
 /* The place of a mark, or zeros where it is none of these. */
-pokhvizi_mark_t place_of_mark(PyObject *mark);
+yaml_mark_t place_of_mark(PyObject *mark);
 
 static inline PyObject *start_of(const parser_object *parser)
 {
@@ -195,12 +166,11 @@ static inline PyObject *end_of(const parser_object *parser)
 /* Raises the error that stands in the scanner's record, each time anew. */
 int raise_fault(const parser_object *parser);
 
-/* The same, and puts it there before. `context` and its mark are NULL where there is none. */
-int give_fault(parser_object *parser, yaml_error_type_t kind, const char *context,
-               const pokhvizi_mark_t *context_mark, const char *problem, const pokhvizi_mark_t *problem_mark);
+/* The event at hand can't be composed. `first` is the node that the context is about, or NULL. */
+int refuse_event(parser_object *parser, PyObject *first, const char *context, const char *problem);
 
-/* The event at hand can't stand after a node, by the composer's rules. */
-int give_second(parser_object *parser, PyObject *first, const char *context, const char *problem);
+/* Raises what a call of libyaml's failed by. */
+int raise_failure(parser_object *parser);
 
 /* ---- Streams ---- */
 
@@ -208,49 +178,34 @@ int take_stream(parser_object *parser, PyObject *source);
 
 /* ---- Tokens ---- */
 
-/* The marks of the token in hand. */
-static inline const pokhvizi_span_t *span_of(const parser_object *parser)
-{
-    return (const pokhvizi_span_t *)(const void *)&parser->token.start_mark;
-}
+/* The next token, as PyYAML has it, or None. */
+PyObject *take_token(parser_object *parser);
 
-/* Has a token in hand. */
-int take_token(parser_object *parser);
-
-/* The fact that a step takes with the token in hand. */
-int fact_of(parser_object *parser);
-
-/* Takes what the token in hand has for an event that comes later. */
-int hold(parser_object *parser);
-
-/* The tag that is held. Where that is no text, the error comes as its event is used, as with PyYAML. */
-PyObject *held_tag(const parser_object *parser);
-
-/* Forgets the tag directives of a document. */
-void forget_directives(struct directives *all);
-
-/* The token in hand, as PyYAML has it, or None. */
-PyObject *token_object(const parser_object *parser);
-
-/* Of the token in hand: the name of the stream's encoding; a scalar's value and style, which is empty and
- * plain where the token isn't the event's. */
-PyObject *encoding_of(const parser_object *parser);
-PyObject *value_of(const parser_object *parser);
-PyObject *style_of(const parser_object *parser);
+/* The name of a stream's encoding, or None. */
+PyObject *encoding_of(const parser_object *parser, yaml_encoding_t encoding);
 
 /* ---- Events ---- */
 
-/* Has an event at hand, unless the stream has ended: then its kind is 0. */
+/* Begins the events of a stream. */
+int begin_events(parser_object *parser);
+
+/* Has an event at hand, unless the stream has ended: then it is of no type. */
 int take_event(parser_object *parser);
 
-/* Lets the event go that is at hand, and its token. */
+/* Lets the event go that is at hand. */
 void leave_event(parser_object *parser);
 
 /* The event that is at hand, as PyYAML has it, or None. */
 PyObject *event_object(const parser_object *parser);
 
-/* Whether a scalar's tag is left out where it is plain, and where it is quoted. Of `its`. */
-PyObject *implicits_of(const parser_object *parser);
+/* Of the event at hand: the anchor or the tag of a node, or NULL; whether a scalar's tag is left out where it is plain,
+ * and where it is quoted (of `its`); a scalar's value; whether a collection is in flow style, and whether its tag is left out. */
+const yaml_char_t *anchor_of(const yaml_event_t *event);
+const yaml_char_t *tag_of(const yaml_event_t *event);
+PyObject *implicits_of(const yaml_event_t *event);
+PyObject *value_of(const yaml_event_t *event);
+int is_flow(const yaml_event_t *event);
+int is_implicit(const yaml_event_t *event);
 
 /* ---- Documents ---- */
 

@@ -6,10 +6,10 @@
 typedef struct {
     PyObject_HEAD
     PyObject *name;
-    pokhvizi_mark_t at;
+    yaml_mark_t at;
 } mark_object;
 
-PyObject *make_mark(PyObject *name, const pokhvizi_mark_t *at)
+PyObject *make_mark(PyObject *name, const yaml_mark_t *at)
 {
     mark_object *mark = PyObject_New(mark_object, its.mark);
 
@@ -20,9 +20,9 @@ PyObject *make_mark(PyObject *name, const pokhvizi_mark_t *at)
     return (PyObject *)mark;
 }
 
-pokhvizi_mark_t place_of_mark(PyObject *mark)
+yaml_mark_t place_of_mark(PyObject *mark)
 {
-    return Py_TYPE(mark) == its.mark ? ((mark_object *)mark)->at : (pokhvizi_mark_t){0, 0, 0};
+    return Py_TYPE(mark) == its.mark ? ((mark_object *)mark)->at : (yaml_mark_t){0, 0, 0};
 }
 
 PyObject *name_of(PyObject *given)
@@ -54,7 +54,7 @@ static PyObject *mark_new(PyTypeObject *type, PyObject *arguments, PyObject *key
 {
     static char *names[] = {"name", "index", "line", "column", "buffer", "pointer", NULL};
     PyObject *given, *buffer = NULL, *pointer = NULL, *name, *mark;
-    pokhvizi_mark_t at;
+    yaml_mark_t at;
 
     (void)type; /* it has no subclass */
     if (!PyArg_ParseTupleAndKeywords(arguments, keywords, "OO&O&O&|OO:Mark", names, &given, take_number,

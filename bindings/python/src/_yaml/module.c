@@ -1,7 +1,7 @@
 /* The module, and what it takes from PyYAML. Where an import fails, another one begins anew. */
 #include "loader.h"
 
-struct kept its;
+struct pyyaml its;
 
 /* Puts an object where there may be an earlier one; -1 where it is NULL, which is an error that is set. */
 static int put(PyObject **place, PyObject *object)
@@ -194,8 +194,7 @@ static int fill(PyObject *module)
 {
     if (put(&its.resolve, shared(Py_None)) < 0 || import_others() < 0 || import_tokens() < 0 || import_events() < 0)
         return -1;
-    if (find_version() < 0 || make_styles() < 0 || make_implicits() < 0 || make_names() < 0 ||
-        make_mark_type() < 0)
+    if (find_version() < 0 || make_styles() < 0 || make_implicits() < 0 || make_names() < 0 || make_mark_type() < 0)
         return -1;
     if (add(module, "Mark", shared((PyObject *)its.mark)) < 0 || add_parser_type(module) < 0)
         return -1;

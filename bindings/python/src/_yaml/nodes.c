@@ -5,12 +5,12 @@
 static PyObject *make_scalar(struct document *document)
 {
     const parser_object *parser = document->parser;
-    PyObject *value = value_of(parser);
+    PyObject *value = value_of(&parser->event);
     PyObject *tag = value == NULL ? NULL : tag_of_node(document, its.scalar_node, value);
 
-    if (tag == NULL)
-        return dropped(value);
-    return CALL(its.scalar_node, tag, value, start_of(parser), end_of(parser), style_of(parser));
+    return tag == NULL ? dropped(value)
+                       : CALL(its.scalar_node, tag, value, start_of(parser), end_of(parser),
+                              shared(its.styles[parser->event.data.scalar.style]));
 }
 
 static PyObject *make_collection(struct document *document, PyObject *class, PyObject **children)
@@ -24,13 +24,13 @@ static PyObject *make_collection(struct document *document, PyObject *class, PyO
     if (*children == NULL)
         return dropped(tag);
     return CALL(class, tag, shared(*children), start_of(parser), shared(Py_None),
-                PyBool_FromLong(parser->event.is_flow));
+                PyBool_FromLong(is_flow(&parser->event)));
 }
 
 PyObject *make_node(struct document *document, PyObject **children)
 {
     *children = NULL;
-    switch (document->parser->event.kind) {
+    switch (document->parser->event.type) {
     case YAML_SCALAR_EVENT:
         return make_scalar(document);
     case YAML_SEQUENCE_START_EVENT:

@@ -60,15 +60,11 @@ static PyObject *next_token(parser_object *parser)
     parser->current_token = NULL;
     if (token != NULL)
         return token;
-    if (parser->event.kind != 0) { /* a document was asked for: the token in hand is its event's */
+    if (parser->event.type != YAML_NO_EVENT) { /* a document was asked for */
         PyErr_SetString(PyExc_RuntimeError, "a token is asked for where a document comes next");
         return NULL;
     }
-    if (take_token(parser) < 0)
-        return NULL;
-    token = token_object(parser);
-    yaml_token_delete(&parser->token);
-    return token;
+    return take_token(parser);
 }
 
 static PyObject *peeked_token(parser_object *parser)
@@ -85,8 +81,7 @@ static PyObject *next_event(parser_object *parser)
     if (event != NULL || take_event(parser) < 0)
         return event;
     event = event_object(parser);
-    if (parser->event.kind != 0)
-        leave_event(parser);
+    leave_event(parser);
     return event;
 }
 
@@ -103,12 +98,12 @@ static int has_document(parser_object *parser)
 {
     if (take_event(parser) < 0)
         return -1;
-    if (parser->event.kind == YAML_STREAM_START_EVENT) {
+    if (parser->event.type == YAML_STREAM_START_EVENT) {
         leave_event(parser);
         if (take_event(parser) < 0)
             return -1;
     }
-    return !parser->has_ended && parser->event.kind != YAML_STREAM_END_EVENT;
+    return parser->event.type != YAML_NO_EVENT && parser->event.type != YAML_STREAM_END_EVENT;
 }
 
 static PyObject *checked_node(parser_object *parser)
@@ -133,7 +128,7 @@ static PyObject *single_node(parser_object *parser)
     int comes = root == NULL ? -1 : has_document(parser);
 
     if (comes > 0)
-        give_second(parser, root, "expected a single document in the stream", "but found another document");
+        refuse_event(parser, root, "expected a single document in the stream", "but found another document");
     if (comes != 0)
         Py_CLEAR(root);
     return root;
@@ -168,21 +163,6 @@ METHOD(get_single_node, single_node)
 
 /* ---- Life ---- */
 
-/* Gives back memory that isn't Python's objects. */
-static void free_memory(parser_object *parser)
-{
-    yaml_token_delete(&parser->token);
-    yaml_parser_delete(&parser->scanner);
-    if (parser->states != parser->first_states)
-        PyMem_Free(parser->states);
-    if (parser->marks != parser->first_marks)
-        PyMem_Free(parser->marks);
-    if (parser->held.tag != parser->held.first_tag)
-        PyMem_Free(parser->held.tag);
-    PyMem_Free(parser->directives.handles);
-    PyMem_Free(parser->directives.texts);
-}
-
 /* Gives back what the stream takes. What others wrote may run as the last lets its objects go, so all is in
  * order by then. */
 static int parser_clear(PyObject *object)
@@ -190,16 +170,16 @@ static int parser_clear(PyObject *object)
     parser_object *parser = (parser_object *)object;
     PyObject *objects[] = {
         parser->stream.source, parser->stream.name, parser->stream.rest, parser->current_token,
-        parser->current_event, parser->held.anchor, parser->directives.places,
+        parser->current_event,
     };
     size_t i;
 
     parser->stream.source = parser->stream.name = parser->stream.rest = NULL;
-    parser->current_token = parser->current_event = parser->held.anchor = NULL;
-    parser->directives.places = NULL;
+    parser->current_token = parser->current_event = NULL;
     if (parser->standing != UNBORN) {
         parser->standing = UNBORN;
-        free_memory(parser);
+        yaml_event_delete(&parser->event);
+        yaml_parser_delete(&parser->scanner);
     }
     for (i = 0; i < LENGTH(objects); i++)
         Py_XDECREF(objects[i]);
@@ -230,16 +210,6 @@ static void parser_dealloc(PyObject *object)
         Py_DECREF(type);
 }
 
-/* Makes room for a document's directives. No pointer is null, as steps.h wants it. */
-static int begin_directives(struct directives *directives)
-{
-    *directives = (struct directives){.handles = PyMem_Malloc(1), .texts = PyMem_Malloc(1)};
-    if (directives->handles != NULL && directives->texts != NULL)
-        return 0;
-    PyErr_NoMemory();
-    return -1;
-}
-
 /* Puts the loader's bound of this name; `most` if it is None or a larger number. */
 static int find_bound(parser_object *parser, PyObject *name, size_t most, size_t *bound)
 {
@@ -265,30 +235,7 @@ static int find_bounds(parser_object *parser)
         find_bound(parser, its.names.max_nodes, INT32_MAX, &parser->max_nodes) < 0 ||
         find_bound(parser, its.names.max_expanded, PY_SSIZE_T_MAX, &parser->max_expanded) < 0)
         return -1;
-    if (parser->marks_room > parser->max_depth)
-        parser->marks_room = parser->max_depth;
     return 0;
-}
-
-/* Begins a stream, of which nothing is there yet. */
-static int begin(parser_object *parser)
-{
-    if (!yaml_parser_initialize(&parser->scanner)) {
-        PyErr_NoMemory();
-        return -1;
-    }
-    parser->standing = BUSY;
-    parser->stream.rest_place = 0;
-    parser->stream.is_text = parser->has_ended = parser->stays = parser->held.has_version = 0;
-    parser->event.kind = 0;
-    pokhvizi_steps_new(&parser->steps);
-    parser->states = parser->first_states;
-    parser->states_room = LENGTH(parser->first_states);
-    parser->marks = parser->first_marks;
-    parser->marks_room = LENGTH(parser->first_marks);
-    parser->held.tag = parser->held.first_tag;
-    parser->held.tag_room = LENGTH(parser->held.first_tag);
-    return begin_directives(&parser->directives) < 0 ? -1 : find_bounds(parser);
 }
 
 /* Whether the loader's attribute `mends` is there and true. */
@@ -301,6 +248,20 @@ static int find_mends(parser_object *parser)
     parser->has_mends = mends == NULL ? 0 : PyObject_IsTrue(mends);
     Py_XDECREF(mends);
     return parser->has_mends < 0 ? -1 : 0;
+}
+
+/* Begins a stream, of which nothing is there yet. */
+static int begin(parser_object *parser)
+{
+    if (!yaml_parser_initialize(&parser->scanner)) {
+        PyErr_NoMemory();
+        return -1;
+    }
+    parser->standing = BUSY;
+    parser->stream.rest_place = 0;
+    parser->stream.is_text = 0;
+    memset(&parser->event, 0, sizeof parser->event);
+    return find_bounds(parser) < 0 || find_mends(parser) < 0 ? -1 : begin_events(parser);
 }
 
 static int parser_init(PyObject *object, PyObject *arguments, PyObject *keywords)
@@ -317,7 +278,7 @@ static int parser_init(PyObject *object, PyObject *arguments, PyObject *keywords
         PyErr_SetString(PyExc_RuntimeError, "the loader is in use");
         return -1;
     }
-    if (begin(parser) == 0 && find_mends(parser) == 0 && take_stream(parser, stream) == 0) {
+    if (begin(parser) == 0 && take_stream(parser, stream) == 0) {
         parser->standing = READY;
         return 0;
     }

@@ -143,7 +143,7 @@ static PyObject *resolve(const struct hooks *hooks, PyObject *class, PyObject *v
 }
 
 /* What PyYAML's `resolve` says of a node to which no rule applies: its kind decides. */
-static PyObject *default_tag(struct hooks *hooks, int kind, PyObject *class, PyObject *value)
+static PyObject *default_tag(struct hooks *hooks, yaml_event_type_t kind, PyObject *class, PyObject *value)
 {
     if (hooks->tags[kind] == NULL)
         hooks->tags[kind] = resolve(hooks, class, value, its.implicits[0][0]);
@@ -165,17 +165,17 @@ static PyObject *plain_tag(struct hooks *hooks, PyObject *value, PyObject *impli
 
 PyObject *tag_of_node(struct document *document, PyObject *class, PyObject *value)
 {
-    const parser_object *parser = document->parser;
-    const pokhvizi_event_t *event = &parser->event;
+    const yaml_event_t *event = &document->parser->event;
+    const yaml_char_t *tag = tag_of(event);
     struct hooks *hooks = &document->hooks;
-    int is_scalar = event->kind == YAML_SCALAR_EVENT;
+    int is_scalar = event->type == YAML_SCALAR_EVENT;
 
-    if (event->has_tag && (parser->held.tag_length != 1 || *parser->held.tag != '!'))
-        return held_tag(parser);
+    if (tag != NULL && (tag[0] != '!' || tag[1] != '\0'))
+        return text_of(tag);
     if (hooks->rules == NULL)
         return resolve(hooks, class, value,
-                       is_scalar ? implicits_of(parser) : event->implicit ? Py_True : Py_False);
-    if (is_scalar && event->implicit)
-        return plain_tag(hooks, value, implicits_of(parser));
-    return default_tag(hooks, event->kind, class, value);
+                       is_scalar ? implicits_of(event) : is_implicit(event) ? Py_True : Py_False);
+    if (is_scalar && event->data.scalar.plain_implicit)
+        return plain_tag(hooks, value, implicits_of(event));
+    return default_tag(hooks, event->type, class, value);
 }

@@ -1,0 +1,607 @@
+/* Events of libyaml's tokens by the proved steps, in a yaml_parser_t: what libyaml_preload.c and Python's extension share. Each
+ * includes it once.
+ *
+ * What is kept between two calls stands in the yaml_parser_t, in the place of what libyaml's own parser keeps there: its states,
+ * the marks of open collections, and the tag directives of the document. */
+#include <pokhvizi/steps.h>
+#include <assert.h>
+#include <stdlib.h>
+#include <string.h>
+#include <sys/syscall.h>
+#include <unistd.h>
+#include <yaml.h>
+
+/* libyaml's own, which its shared library exports. */
+int yaml_parser_fetch_more_tokens(yaml_parser_t *parser);
+
+static_assert(sizeof(yaml_mark_t) == sizeof(pokhvizi_mark_t), "a mark is libyaml's");
+static_assert(offsetof(yaml_token_t, end_mark) == offsetof(yaml_token_t, start_mark) + sizeof(yaml_mark_t) &&
+                  offsetof(yaml_event_t, end_mark) == offsetof(yaml_event_t, start_mark) + sizeof(yaml_mark_t) &&
+                  sizeof(pokhvizi_span_t) == 2 * sizeof(yaml_mark_t),
+              "the marks of a token and of an event are neighbours");
+
+/* The steps and their stack of states, in the place of `parser->states`. Their stack of marks is `parser->marks`. */
+struct kept {
+    pokhvizi_steps_t steps;
+    size_t states_room, marks_room, max_depth;
+    uint32_t key;  /* for the hashes of anchors and handles, or 0 */
+    int has_mends;  /* events are of this project's own grammar, and not exactly libyaml's */
+    uint8_t tag[64];  /* the tag in full whose fact was asked for last, if it is so short */
+    uint8_t states[];
+};
+
+/* How many entries a stack or a table has room for at first, and how much more room texts get than they need. A test makes it one,
+ * so that short lists of tokens make all of them larger. A table has a power of two, and that of anchors two at least. */
+#ifndef FIRST_ROOM
+#define FIRST_ROOM(usual) (usual)
+#endif
+enum { FEW = FIRST_ROOM(8) };  /* tag directives */
+
+/* The tag directives of a document, in the place of `parser->tag_directives`. After the handles that there is room for, which is
+ * a power of two, stand two numbers for each: a table, which has the numbers of handles, from 1, each where its hash says, and
+ * else 0. Texts follow, each with a zero byte after it. */
+struct directives {
+    size_t count, room, length, texts_room;
+    pokhvizi_handle_t handles[];
+};
+
+/* What is held within one call: the properties of a node, and the version of a document. */
+struct held {
+    yaml_char_t *anchor, *tag;
+    size_t tag_length;
+    yaml_version_directive_t version;
+    int has_version;
+};
+
+/* What each token or event goes through is inlined, what some need is a function apart, and what few need is out of the way. */
+#define OFTEN static inline __attribute__((always_inline))
+#define APART static __attribute__((noinline))
+#define SELDOM static __attribute__((cold, noinline))
+
+SELDOM int out_of_memory(yaml_parser_t *parser)
+{
+    parser->error = YAML_MEMORY_ERROR;
+    return 0;
+}
+
+static size_t least(size_t one, size_t other)
+{
+    return one < other ? one : other;
+}
+
+/* ---- Stacks ---- */
+
+static struct kept *kept_of(const yaml_parser_t *parser)
+{
+    return (struct kept *)(void *)parser->states.start;
+}
+
+/* Makes room for so many states; 0 where memory is refused, and then all is as it was. */
+static int grow_states(yaml_parser_t *parser, size_t room)
+{
+    struct kept *kept = realloc(parser->states.start, sizeof *kept + room);
+
+    if (kept == NULL)
+        return 0;
+    kept->states_room = room;
+    parser->states.start = parser->states.end = parser->states.top = (yaml_parser_state_t *)(void *)kept;
+    return 1;
+}
+
+static int grow_marks(yaml_parser_t *parser)
+{
+    size_t room = least(2 * kept_of(parser)->marks_room, kept_of(parser)->max_depth);
+    yaml_mark_t *marks = realloc(parser->marks.start, room * sizeof *marks);
+
+    if (marks == NULL)
+        return 0;
+    kept_of(parser)->marks_room = room;
+    parser->marks.start = parser->marks.end = parser->marks.top = marks;
+    return 1;
+}
+
+/* ---- Hashes ---- */
+
+/* A number from 2^28 to 2^29 - 1 that is drawn once a stream. */
+static uint32_t key_of(yaml_parser_t *parser)
+{
+    struct kept *kept = kept_of(parser);
+    uint32_t drawn;
+
+    if (kept->key == 0) {
+        if (syscall(SYS_getrandom, &drawn, sizeof drawn, 0) != sizeof drawn)  /* getentropy needs a C library of 2017 */
+            drawn = (uint32_t)((uintptr_t)kept >> 4);
+        kept->key = 1u << 28 | drawn >> 4;
+    }
+    return kept->key;
+}
+
+/* The polynomial of a name at the key, modulo 2^31 - 1 and then mixed: whoever wrote a text, few of its anchors and handles share
+ * a hash, since the key isn't known. The sum stays below 2^32, so that no product is lost. */
+static uint32_t hash_of(const yaml_char_t *name, uint32_t key)
+{
+    uint64_t hash = 0;
+
+    for (; *name != '\0'; name++) {
+        hash = hash * key + *name;
+        hash = (hash & INT32_MAX) + (hash >> 31);
+    }
+    hash = (uint32_t)hash * UINT32_C(0x9E3779B1);
+    return (uint32_t)(hash ^ hash >> 15);
+}
+
+/* ---- Tag directives ---- */
+
+static const struct directives *directives_of(const yaml_parser_t *parser)
+{
+    static const struct directives NONE;
+
+    return parser->tag_directives.start == NULL ? &NONE : (const void *)parser->tag_directives.start;
+}
+
+static size_t *table_of(const struct directives *directives)
+{
+    return (size_t *)(void *)(directives->handles + directives->room);
+}
+
+static const uint8_t *texts_of(const struct directives *directives)
+{
+    return (const uint8_t *)(table_of(directives) + 2 * directives->room);
+}
+
+/* The place of a handle in the table, or the one that is free for it. */
+static size_t *place_of_handle(const struct directives *all, const yaml_char_t *handle, uint32_t key)
+{
+    size_t *table = table_of(all), last = 2 * all->room - 1, at = hash_of(handle, key) & last;
+
+    while (table[at] != 0 &&
+           strcmp((const char *)texts_of(all) + all->handles[table[at] - 1].handle.place, (const char *)handle) != 0)
+        at = (at + 1) & last;
+    return &table[at];
+}
+
+/* Makes room for so many directives and bytes of texts; NULL where memory is refused, and then all is as it was. */
+static struct directives *grow_directives(yaml_parser_t *parser, size_t room, size_t texts_room)
+{
+    const struct directives *old = directives_of(parser);
+    struct directives *made = malloc(sizeof *made + room * (sizeof *made->handles + 2 * sizeof(size_t)) + texts_room);
+
+    if (made == NULL)
+        return NULL;
+    made->count = old->count;
+    made->room = room;
+    made->length = old->length;
+    made->texts_room = texts_room;
+    memcpy(made->handles, old->handles, old->count * sizeof *old->handles);
+    memset(table_of(made), 0, 2 * room * sizeof(size_t));
+    memcpy((uint8_t *)texts_of(made), texts_of(old), old->length);
+    for (size_t i = 0; i < made->count; i++)
+        *place_of_handle(made, texts_of(made) + made->handles[i].handle.place, key_of(parser)) = i + 1;
+    free(parser->tag_directives.start);
+    parser->tag_directives.start = (yaml_tag_directive_t *)(void *)made;
+    parser->tag_directives.end = parser->tag_directives.top = parser->tag_directives.start;
+    return made;
+}
+
+/* Adds a directive; 0 where memory is refused. Its texts are still the token's. */
+static int declare(yaml_parser_t *parser, const yaml_token_t *token)
+{
+    const yaml_char_t *handle = token->data.tag_directive.handle, *prefix = token->data.tag_directive.prefix;
+    struct directives *all = (struct directives *)(void *)parser->tag_directives.start;
+    size_t first = strlen((const char *)handle) + 1, second = strlen((const char *)prefix) + 1;
+    size_t count = directives_of(parser)->count, length = directives_of(parser)->length;
+
+    if (all == NULL || count == all->room || first + second > all->texts_room - length)
+        all = grow_directives(parser, all == NULL ? FEW : count == all->room ? 2 * count : all->room,
+                              FIRST_ROOM(2) * (length + first + second));
+    if (all == NULL)
+        return 0;
+    uint8_t *texts = (uint8_t *)texts_of(all);
+    memcpy(texts + length, handle, first);
+    memcpy(texts + length + first, prefix, second);
+    all->handles[all->count++] = (pokhvizi_handle_t){{length, first - 1}, {length + first, second - 1}};
+    all->length = length + first + second;
+    *place_of_handle(all, handle, key_of(parser)) = all->count;
+    return 1;
+}
+
+static void forget_directives(yaml_parser_t *parser)
+{
+    struct directives *all = (struct directives *)(void *)parser->tag_directives.start;
+
+    if (all != NULL && all->room > FEW) {  /* another document would take time for all of its table */
+        free(all);
+        memset(&parser->tag_directives, 0, sizeof parser->tag_directives);
+    } else if (all != NULL && all->count > 0) {
+        all->count = all->length = 0;
+        memset(table_of(all), 0, 2 * all->room * sizeof(size_t));
+    }
+}
+
+/* ---- Tokens ---- */
+
+/* The kinds of tokens that have texts or numbers, a bit for each. Most tokens have none. */
+enum {
+    WITH_TEXT = 1 << YAML_VERSION_DIRECTIVE_TOKEN | 1 << YAML_TAG_DIRECTIVE_TOKEN | 1 << YAML_ALIAS_TOKEN |
+                1 << YAML_ANCHOR_TOKEN | 1 << YAML_TAG_TOKEN | 1 << YAML_SCALAR_TOKEN
+};
+
+/* The scanner has an error. */
+SELDOM uint32_t no_token(yaml_parser_t *parser)
+{
+    if (parser->error == YAML_NO_ERROR)  /* libyaml doesn't say of each refused allocation that it was one */
+        parser->error = YAML_MEMORY_ERROR;
+    return 0;
+}
+
+/* Where a token stands. */
+static const pokhvizi_span_t *span_of(const yaml_token_t *token)
+{
+    return (const pokhvizi_span_t *)(const void *)&token->start_mark;
+}
+
+/* The next token if the scanner has given it, or NULL. */
+static yaml_token_t *at_hand(const yaml_parser_t *parser)
+{
+    return parser->token_available ? parser->tokens.head : NULL;
+}
+
+/* Takes the next token, whose texts have another owner now. */
+OFTEN void skip(yaml_parser_t *parser)
+{
+    parser->token_available = 0;
+    parser->tokens_parsed++;
+    parser->tokens.head++;
+}
+
+/* Where the document has declared a handle, that one handle; puts how many it is, 1 or 0. */
+static const pokhvizi_handle_t *find_handle(yaml_parser_t *parser, const yaml_char_t *handle, size_t *count)
+{
+    const struct directives *all = directives_of(parser);
+    size_t at = all->count == 0 ? 0 : *place_of_handle(all, handle, key_of(parser));
+
+    *count = at != 0;
+    return at == 0 ? all->handles : all->handles + at - 1;
+}
+
+/* Puts the tag of a token in full where there is room for it, and its length; returns its fact. */
+static uint8_t put_tag(yaml_parser_t *parser, const yaml_token_t *token, uint8_t *out, size_t room, size_t *length)
+{
+    const struct directives *all = directives_of(parser);
+    const yaml_char_t *handle = token->data.tag.handle, *suffix = token->data.tag.suffix;
+    size_t count;
+    const pokhvizi_handle_t *found = find_handle(parser, handle, &count);
+
+    return pokhvizi_tag(found, count, texts_of(all), all->length, handle, strlen((const char *)handle), suffix,
+                        strlen((const char *)suffix), out, room, length);
+}
+
+static uint8_t directive_fact(yaml_parser_t *parser, const yaml_char_t *handle)
+{
+    const struct directives *all = directives_of(parser);
+    size_t count;
+    const pokhvizi_handle_t *found = find_handle(parser, handle, &count);
+
+    return pokhvizi_directive_fact(found, count, texts_of(all), all->length, handle, strlen((const char *)handle));
+}
+
+/* The fact that a step takes with a token. */
+APART uint8_t fact_of(yaml_parser_t *parser, const yaml_token_t *token, struct held *held)
+{
+    struct kept *kept = kept_of(parser);
+
+    switch (token->type) {
+    case YAML_SCALAR_TOKEN:
+        return token->data.scalar.style == YAML_PLAIN_SCALAR_STYLE;
+    case YAML_VERSION_DIRECTIVE_TOKEN:
+        return pokhvizi_version_fact(token->data.version_directive.major, token->data.version_directive.minor);
+    case YAML_TAG_DIRECTIVE_TOKEN:
+        return directive_fact(parser, token->data.tag_directive.handle);
+    case YAML_TAG_TOKEN:
+        return put_tag(parser, token, kept->tag, sizeof kept->tag, &held->tag_length);
+    default:
+        return 0;
+    }
+}
+
+/* Holds a tag in full, of which the fact was asked for; 0 where memory is refused, and then its texts are the token's. */
+static int hold_tag(yaml_parser_t *parser, const yaml_token_t *token, struct held *held)
+{
+    if (*token->data.tag.handle == '\0') {
+        held->tag = token->data.tag.suffix;
+        free(token->data.tag.handle);
+        return 1;
+    }
+    if (held->tag_length != SIZE_MAX) {  /* the handle is declared */
+        held->tag = malloc(held->tag_length + 1);
+        if (held->tag == NULL)
+            return 0;
+        if (held->tag_length <= sizeof kept_of(parser)->tag)
+            memcpy(held->tag, kept_of(parser)->tag, held->tag_length);
+        else
+            put_tag(parser, token, held->tag, held->tag_length, &held->tag_length);
+        held->tag[held->tag_length] = '\0';
+    }
+    free(token->data.tag.handle);
+    free(token->data.tag.suffix);
+    return 1;
+}
+
+/* Takes what a token has for an event that comes later; 0 where memory is refused, and then its texts are the token's. */
+APART int hold(yaml_parser_t *parser, const yaml_token_t *token, struct held *held)
+{
+    switch (token->type) {
+    case YAML_ANCHOR_TOKEN:
+        held->anchor = token->data.anchor.value;
+        return 1;
+    case YAML_TAG_TOKEN:
+        return hold_tag(parser, token, held);
+    case YAML_VERSION_DIRECTIVE_TOKEN:
+        held->version.major = token->data.version_directive.major;
+        held->version.minor = token->data.version_directive.minor;
+        held->has_version = 1;
+        return 1;
+    case YAML_TAG_DIRECTIVE_TOKEN:
+        if (!declare(parser, token))
+            return 0;
+        free(token->data.tag_directive.handle);
+        free(token->data.tag_directive.prefix);
+        return 1;
+    default:
+        return 1;
+    }
+}
+
+/* ---- Events ---- */
+
+/* Copies a text and the zero byte after it; 0 where memory is refused. */
+static int copy(const struct directives *directives, pokhvizi_text_t text, yaml_char_t **to)
+{
+    if ((*to = malloc(text.length + 1)) == NULL)
+        return 0;
+    memcpy(*to, texts_of(directives) + text.place, text.length + 1);
+    return 1;
+}
+
+static int document_start(const yaml_parser_t *parser, const struct held *held, yaml_event_t *event)
+{
+    const struct directives *all = directives_of(parser);
+    yaml_version_directive_t *version;
+    yaml_tag_directive_t *tags;
+
+    if (held->has_version) {
+        if ((version = malloc(sizeof *version)) == NULL)
+            return 0;
+        *version = held->version;
+        event->data.document_start.version_directive = version;
+    }
+    if (all->count == 0)
+        return 1;
+    if ((tags = calloc(all->count, sizeof *tags)) == NULL)
+        return 0;
+    event->data.document_start.tag_directives.start = tags;
+    event->data.document_start.tag_directives.end = tags + all->count;
+    for (size_t i = 0; i < all->count; i++)
+        if (!copy(all, all->handles[i].handle, &tags[i].handle) || !copy(all, all->handles[i].prefix, &tags[i].prefix))
+            return 0;
+    return 1;
+}
+
+/* Moves the properties of a node into its event. */
+static void properties(const pokhvizi_event_t *made, struct held *held, yaml_char_t **anchor, yaml_char_t **tag)
+{
+    if (made->has_anchor) {
+        *anchor = held->anchor;
+        held->anchor = NULL;
+    }
+    if (made->has_tag) {
+        *tag = held->tag;
+        held->tag = NULL;
+    }
+}
+
+/* A scalar has the value and style of its token, or is empty where the token isn't its own: it stays, or libyaml loses it. */
+static int scalar(const pokhvizi_event_t *made, const yaml_token_t *token, struct held *held, yaml_event_t *event)
+{
+    event->data.scalar.plain_implicit = made->implicit;
+    event->data.scalar.quoted_implicit = made->quoted_implicit;
+    properties(made, held, &event->data.scalar.anchor, &event->data.scalar.tag);
+    if (token == NULL || token->type != YAML_SCALAR_TOKEN) {
+        event->data.scalar.style = YAML_PLAIN_SCALAR_STYLE;
+        return (event->data.scalar.value = calloc(1, 1)) != NULL;
+    }
+    event->data.scalar.value = token->data.scalar.value;
+    event->data.scalar.length = token->data.scalar.length;
+    event->data.scalar.style = token->data.scalar.style;
+    return 1;
+}
+
+/* Makes an event, of the token that ends with it where there is one; 0 where memory is refused, and then the event has what
+ * was made of it. */
+static int make_event(yaml_parser_t *parser, const pokhvizi_event_t *made, const yaml_token_t *token, struct held *held,
+                      yaml_event_t *event)
+{
+    memset(event, 0, offsetof(yaml_event_t, start_mark));
+    event->type = (yaml_event_type_t)made->kind;
+    memcpy(&event->start_mark, &made->start_mark, sizeof(pokhvizi_span_t));
+    switch (event->type) {
+    case YAML_STREAM_START_EVENT:
+        event->data.stream_start.encoding = token->data.stream_start.encoding;
+        return 1;
+    case YAML_DOCUMENT_START_EVENT:
+        event->data.document_start.implicit = made->implicit;
+        return document_start(parser, held, event);
+    case YAML_DOCUMENT_END_EVENT:
+        event->data.document_end.implicit = made->implicit;
+        forget_directives(parser);
+        return 1;
+    case YAML_ALIAS_EVENT:
+        event->data.alias.anchor = token->data.alias.value;
+        return 1;
+    case YAML_SCALAR_EVENT:
+        return scalar(made, token, held, event);
+    case YAML_SEQUENCE_START_EVENT:
+        event->data.sequence_start.implicit = made->implicit;
+        event->data.sequence_start.style = made->is_flow ? YAML_FLOW_SEQUENCE_STYLE : YAML_BLOCK_SEQUENCE_STYLE;
+        properties(made, held, &event->data.sequence_start.anchor, &event->data.sequence_start.tag);
+        return 1;
+    case YAML_MAPPING_START_EVENT:
+        event->data.mapping_start.implicit = made->implicit;
+        event->data.mapping_start.style = made->is_flow ? YAML_FLOW_MAPPING_STYLE : YAML_BLOCK_MAPPING_STYLE;
+        properties(made, held, &event->data.mapping_start.anchor, &event->data.mapping_start.tag);
+        return 1;
+    default:
+        return 1;
+    }
+}
+
+/* ---- The parser ---- */
+
+static int give_fault(yaml_parser_t *parser, const pokhvizi_fault_t *fault)
+{
+    parser->error = YAML_PARSER_ERROR;
+    parser->problem = pokhvizi_problem(fault->problem, &parser->context);
+    memcpy(&parser->problem_mark, &fault->problem_mark, sizeof parser->problem_mark);
+    if (parser->context != NULL)
+        memcpy(&parser->context_mark, &fault->context_mark, sizeof parser->context_mark);
+    return 0;
+}
+
+/* The next token opens one collection more than may be open. */
+static int give_too_deep(yaml_parser_t *parser)
+{
+    pokhvizi_fault_t fault = {.problem = POKHVIZI_TOO_DEEP};
+
+    memcpy(&fault.problem_mark, &parser->tokens.head->start_mark, sizeof fault.problem_mark);
+    return give_fault(parser, &fault);
+}
+
+/* Begins a stream, in which so many collections may be open at once; 0 where memory is refused. */
+static int begin(yaml_parser_t *parser, size_t max_depth, int has_mends)
+{
+    struct kept *kept;
+
+    if (!grow_states(parser, FIRST_ROOM(64)))
+        return 0;
+    kept = kept_of(parser);
+    pokhvizi_steps_new(&kept->steps);
+    kept->marks_room = least(FIRST_ROOM((size_t)(parser->marks.end - parser->marks.start)), max_depth);
+    kept->max_depth = max_depth;
+    kept->key = 0;
+    kept->has_mends = has_mends;
+    free(parser->tag_directives.start);
+    memset(&parser->tag_directives, 0, sizeof parser->tag_directives);
+    parser->state = YAML_PARSE_DOCUMENT_CONTENT_STATE;
+    return 1;
+}
+
+static void end_stream(yaml_parser_t *parser)
+{
+    parser->state = YAML_PARSE_END_STATE;
+    parser->stream_end_produced = 1;
+}
+
+/* Makes the event that a step gave, and takes its token if there is one. */
+static int give_event(yaml_parser_t *parser, const pokhvizi_event_t *made, const yaml_token_t *token, struct held *held,
+                      yaml_event_t *event)
+{
+    if (!make_event(parser, made, token, held, event)) {
+        yaml_event_delete(event);
+        return out_of_memory(parser);
+    }
+    if (token != NULL)
+        skip(parser);
+    if (event->type == YAML_STREAM_END_EVENT)
+        end_stream(parser);
+    return 1;
+}
+
+OFTEN uint32_t step(yaml_parser_t *parser, const yaml_token_t *token, struct held *held, pokhvizi_event_t *made,
+                    pokhvizi_fault_t *fault)
+{
+    struct kept *kept = kept_of(parser);
+    pokhvizi_mark_t *marks = (pokhvizi_mark_t *)(void *)parser->marks.start;
+    uint8_t fact = 0;
+
+    if (__builtin_expect(WITH_TEXT >> token->type & 1, 0))
+        fact = token->type == YAML_SCALAR_TOKEN ? token->data.scalar.style == YAML_PLAIN_SCALAR_STYLE
+                                                : fact_of(parser, token, held);
+    if (__builtin_expect(kept->has_mends, 0))
+        return pokhvizi_step(&kept->steps, kept->states, kept->states_room, marks, kept->marks_room, token->type, fact,
+                             span_of(token), made, fault);
+    return pokhvizi_step_exact(&kept->steps, kept->states, kept->states_room, marks, kept->marks_room, token->type, fact,
+                               span_of(token), made, fault);
+}
+
+/* Does what a step asks for that gave no event, and wants no other token; 0 where there is an error. */
+SELDOM int follow(yaml_parser_t *parser, uint32_t did, const pokhvizi_fault_t *fault)
+{
+    switch (did) {
+    case POKHVIZI_FULL_STATES:
+        return grow_states(parser, 2 * kept_of(parser)->states_room) || out_of_memory(parser);
+    case POKHVIZI_FULL_MARKS:
+        if (kept_of(parser)->marks_room == kept_of(parser)->max_depth)
+            return give_too_deep(parser);
+        return grow_marks(parser) || out_of_memory(parser);
+    case POKHVIZI_FAULT:
+        return give_fault(parser, fault);
+    default:
+        parser->error = YAML_PARSER_ERROR;
+        parser->problem = "the parser's stacks were overwritten";
+        return 0;
+    }
+}
+
+/* Steps to the next event: POKHVIZI_GAVE with its token, which nobody holds, or POKHVIZI_STAYS; 0 where there is an error. The
+ * token is at hand before, or NULL. */
+OFTEN uint32_t advance(yaml_parser_t *parser, yaml_token_t **token, struct held *held, pokhvizi_event_t *made)
+{
+    pokhvizi_fault_t fault;
+
+    for (;;) {
+        if (*token == NULL) {
+            if (!yaml_parser_fetch_more_tokens(parser))
+                return no_token(parser);
+            *token = parser->tokens.head;
+        }
+        uint32_t did = step(parser, *token, held, made, &fault);
+        if (did == POKHVIZI_WANTS) {
+            if ((WITH_TEXT >> (*token)->type & 1) && !hold(parser, *token, held))
+                return out_of_memory(parser);
+            skip(parser);
+            *token = NULL;
+        } else if (did <= POKHVIZI_STAYS) {
+            return did;
+        } else if (!follow(parser, did, &fault)) {
+            return 0;
+        }
+    }
+}
+
+/* Gives back what neither an event nor a node has taken, after an error. */
+static void forget(struct held *held)
+{
+    if (held->anchor != NULL || held->tag != NULL) {
+        free(held->anchor);
+        free(held->tag);
+        held->anchor = held->tag = NULL;
+    }
+}
+
+/* A parse has ended, or has an error. */
+static int has_stopped(const yaml_parser_t *parser)
+{
+    return parser->error != YAML_NO_ERROR || parser->stream_end_produced || parser->state == YAML_PARSE_END_STATE;
+}
+
+/* Gives the next event of a parser that has begun and hasn't stopped; 0 where there is an error, and then the event owns nothing. */
+OFTEN int parse(yaml_parser_t *parser, struct held *held, yaml_event_t *event)
+{
+    pokhvizi_event_t made;
+    yaml_token_t *token;
+    uint32_t did;
+
+    token = at_hand(parser);
+    did = advance(parser, &token, held, &made);
+    return did != 0 && give_event(parser, &made, did == POKHVIZI_GAVE ? token : NULL, held, event);
+}
