@@ -11,6 +11,7 @@ Run by extension_checks.sh.
 import copy
 import ctypes
 import gc
+import inspect
 import os
 import pickle
 import random
@@ -592,6 +593,11 @@ def marks():
     expect("marks stay", said(lambda: setattr(node.start_mark, "line", 3)), "AttributeError: readonly attribute")
 
 
+def signatures():
+    for name, wanted in ("get_event", "(self, /)"), ("check_event", "(self, /, *choices)"), ("get_single_node", "(self, /)"):
+        expect("what `help` says of " + name, said(lambda: str(inspect.signature(getattr(pokhvizi.CParser, name)))), wanted)
+
+
 # ---- What is left behind ----
 
 class Stream:
@@ -659,7 +665,7 @@ def leaks():
 
 
 for part in (deep, bounds, expanded, within_itself, within_read, failures, by_threads, finalizers, interrupts, other_threads, errors,
-             again_and_again, mixed, drawn_directives, second_interpreter, no_extension, hooks, marks, leaks):
+             again_and_again, mixed, drawn_directives, second_interpreter, no_extension, hooks, marks, signatures, leaks):
     part()
 print("%d cases, %d levels, %d wrong" % (cases, LEVELS, wrong))
 sys.exit(wrong != 0)

@@ -287,26 +287,34 @@ static int parser_init(PyObject *object, PyObject *arguments, PyObject *keywords
 }
 
 static PyMethodDef parser_methods[] = {
-    {"get_token", get_token, METH_NOARGS, "Returns the next token, or None after the last."},
-    {"peek_token", peek_token, METH_NOARGS, "Returns the next token and leaves it, or None after the last."},
+    {"get_token", get_token, METH_NOARGS,
+     "get_token($self, /)\n--\n\nReturns the next token, or None after the last."},
+    {"peek_token", peek_token, METH_NOARGS,
+     "peek_token($self, /)\n--\n\nReturns the next token and leaves it, or None after the last."},
     {"check_token", check_token, METH_VARARGS,
-     "Returns whether there is a next token, of one of these classes where some are named."},
-    {"get_event", get_event, METH_NOARGS, "Returns the next event, or None after the last."},
-    {"peek_event", peek_event, METH_NOARGS, "Returns the next event and leaves it, or None after the last."},
+     "check_token($self, /, *choices)\n--\n\nReturns whether there is a next token, of one of these classes where some are named."},
+    {"get_event", get_event, METH_NOARGS,
+     "get_event($self, /)\n--\n\nReturns the next event, or None after the last."},
+    {"peek_event", peek_event, METH_NOARGS,
+     "peek_event($self, /)\n--\n\nReturns the next event and leaves it, or None after the last."},
     {"check_event", check_event, METH_VARARGS,
-     "Returns whether there is a next event, of one of these classes where some are named."},
-    {"check_node", check_node, METH_NOARGS, "Returns whether there is a next document."},
-    {"get_node", get_node, METH_NOARGS, "Returns the root of the next document, or None after the last."},
+     "check_event($self, /, *choices)\n--\n\nReturns whether there is a next event, of one of these classes where some are named."},
+    {"check_node", check_node, METH_NOARGS,
+     "check_node($self, /)\n--\n\nReturns whether there is a next document."},
+    {"get_node", get_node, METH_NOARGS,
+     "get_node($self, /)\n--\n\nReturns the root of the next document, or None after the last."},
     {"get_single_node", get_single_node, METH_NOARGS,
-     "Returns the root of the stream's only document, or None where it has none."},
-    {"dispose", give_none, METH_NOARGS, "Does nothing: what a loader holds goes with it."},
+     "get_single_node($self, /)\n--\n\nReturns the root of the stream's only document, or None where it has none."},
+    {"dispose", give_none, METH_NOARGS,
+     "dispose($self, /)\n--\n\nDoes nothing: what a loader holds goes with it."},
     {NULL, NULL, 0, NULL},
 };
 
 static PyType_Slot parser_slots[] = {
     {Py_tp_doc,
-     "CParser(stream): tokens, events and documents of a text, of bytes, or of a file, as PyYAML's CParser. "
-     "If its attribute `mends` is true, events are of this project's own grammar."},
+     "CParser(stream)\n--\n\nTokens, events and documents of a text, of bytes, or of a file, as PyYAML's CParser.\n\n"
+     "`max_depth`, `max_nodes` and `max_expanded` of its class bound what it reads. If `mends` is true,\n"
+     "events are of this project's own grammar."},
     {Py_tp_new, PyType_GenericNew},
     {Py_tp_init, parser_init},
     {Py_tp_dealloc, parser_dealloc},
