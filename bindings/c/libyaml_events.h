@@ -5,6 +5,7 @@
  * the marks of open collections, and the tag directives of the document. */
 #include <pokhvizi/steps.h>
 #include <assert.h>
+#include <linux/random.h>
 #include <stdlib.h>
 #include <string.h>
 #include <sys/syscall.h>
@@ -109,7 +110,8 @@ static uint32_t key_of(yaml_parser_t *parser)
     uint32_t drawn;
 
     if (kept->key == 0) {
-        if (syscall(SYS_getrandom, &drawn, sizeof drawn, 0) != sizeof drawn)  /* getentropy needs a C library of 2017 */
+        /* Where the system has none yet it isn't waited for. getentropy needs a C library of 2017. */
+        if (syscall(SYS_getrandom, &drawn, sizeof drawn, GRND_NONBLOCK) != sizeof drawn)
             drawn = (uint32_t)((uintptr_t)kept >> 4);
         kept->key = 1u << 28 | drawn >> 4;
     }
@@ -307,20 +309,21 @@ APART uint8_t fact_of(yaml_parser_t *parser, const yaml_token_t *token, struct h
 /* Holds a tag in full, of which the fact was asked for; 0 where memory is refused, and then its texts are the token's. */
 static int hold_tag(yaml_parser_t *parser, const yaml_token_t *token, struct held *held)
 {
+    size_t length = held->tag_length;
+
     if (*token->data.tag.handle == '\0') {
         held->tag = token->data.tag.suffix;
         free(token->data.tag.handle);
         return 1;
     }
-    if (held->tag_length != SIZE_MAX) {  /* the handle is declared */
-        held->tag = malloc(held->tag_length + 1);
-        if (held->tag == NULL)
+    if (length != SIZE_MAX) {  /* the handle is declared */
+        if ((held->tag = malloc(length + 1)) == NULL)
             return 0;
-        if (held->tag_length <= sizeof kept_of(parser)->tag)
-            memcpy(held->tag, kept_of(parser)->tag, held->tag_length);
+        if (length <= sizeof kept_of(parser)->tag)
+            memcpy(held->tag, kept_of(parser)->tag, length);
         else
-            put_tag(parser, token, held->tag, held->tag_length, &held->tag_length);
-        held->tag[held->tag_length] = '\0';
+            put_tag(parser, token, held->tag, length, &held->tag_length);
+        held->tag[length] = '\0';
     }
     free(token->data.tag.handle);
     free(token->data.tag.suffix);
