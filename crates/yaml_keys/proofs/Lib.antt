@@ -1,0 +1,4 @@
+mod Duplicates
+mod Firsts
+mod SameKeys
+mod Seen

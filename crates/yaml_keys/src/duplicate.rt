@@ -1,0 +1,63 @@
+//! The first duplicate key of a document.
+ghost use Rattle.std.specs.Prelude.{◌<◌, ◌≡◌, pos, suc, IfOk};
+ghost use Rattle.libyaml_documents.specs.Documents.{most_nodes};
+ghost use Rattle.yaml_keys.specs.Keys.{IsFirstDuplicate};
+
+use crate::classes::key_classes;
+use crate::repeat::first_repeat;
+use libyaml_documents::yaml_document_t;
+use std::alloc::{AllocError, Global};
+
+/// Two pairs of one mapping that have the same key.
+#[derive(Copy, Clone, PartialEq, Eq, Debug)]
+pub struct yaml_duplicate_key_t {
+    /// The id of the mapping.
+    pub mapping: i32,
+    /// The index of the first pair of the mapping that has the key, from 0.
+    pub first: usize,
+    /// The index of the second.
+    pub second: usize,
+}
+
+/// Returns the first pair that repeats a key of its mapping, with the first pair of that key; or `None`, if
+/// the document has no duplicate key. The mapping with the smallest id comes first, and in it the pair with
+/// the smallest index.
+///
+/// Two keys are the same if they are the same node, or scalars with the same text, the same tag and both
+/// plain or both not. No schema can tell them apart. A schema may take further keys for the same, such as
+/// `1` and `0x1`.
+///
+/// Each text is compared with as many others as the number of scalars has binary digits, however many
+/// aliases name it.
+///
+/// # Errors
+///
+/// `AllocError` if an allocation failed.
+pub fn duplicate_key(
+    alloc: Global,
+    document: &yaml_document_t,
+) -> Result<Option<yaml_duplicate_key_t>, AllocError>
+    ensures { IfOk result (IsFirstDuplicate document.now.nodes) }
+{
+    let nodes = document.nodes();
+    let classes = key_classes(alloc, nodes)?;
+    for (place, node) in nodes.iter().enumerate() {
+        if let Some((first, second)) = first_repeat(alloc, classes.as_slice(), node.pairs())? {
+            return Ok(Some(duplicate_in(place, first, second)));
+        }
+    }
+    Ok(None)
+}
+
+/// Returns a duplicate of the mapping at this place: ids count from 1, places from 0.
+fn duplicate_in(place: usize, first: usize, second: usize) -> yaml_duplicate_key_t
+    requires { place < most_nodes }
+    ensures mapping { result.mapping ≡ pos (suc place) }
+    ensures pairs { (result.first ≡ first) × (result.second ≡ second) }
+{
+    yaml_duplicate_key_t {
+        mapping: (place + 1) as i32,
+        first,
+        second,
+    }
+}

@@ -1,0 +1,8 @@
+//! Duplicate keys: two keys of one mapping that no YAML schema can tell apart.
+#![tactic(auto)]
+
+mod classes;
+mod duplicate;
+mod repeat;
+
+pub use duplicate::{duplicate_key, yaml_duplicate_key_t};
