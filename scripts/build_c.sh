@@ -9,8 +9,9 @@
 #     NAME_module.o        the objects that the prover's compiler wrote, of which NAME.o is made
 #     yaml                 examples/yaml.c over libpokhvizi.a; CFLAGS are taken from the environment
 #
-# build_plain.sh makes the libraries and yaml without the kit. These run on any x86-64 processor. With the word `aarch64` the libraries are made for that machine, over what was proved for the
-# first, with Debian's gcc-aarch64-linux-gnu; `yaml` is not.
+# build_plain.sh makes the libraries and yaml without the kit. These run on any x86-64 processor. With the word
+# `aarch64` the libraries are made for that machine, over what was proved for the first, with Debian's
+# gcc-aarch64-linux-gnu; `yaml` is not.
 #
 # Needs the kit, a C compiler, binutils, and Debian's libyaml-dev. The first run proves the crates below, which takes many
 # minutes and is told in DIR/rt_lib.log. With the word `ci`, right after `rt ci` in a fresh checkout, the libraries that it

@@ -1,6 +1,6 @@
 #!/bin/sh
-# Builds into DIR, with stock cargo and rustc, what build_c.sh builds with the kit: the libraries for C of the same source text, and
-# the front program over them.
+# Builds into DIR, with stock cargo and rustc, what build_c.sh builds with the kit: the libraries for C of the
+# same source text, and the front program over them.
 #
 #     sh scripts/build_plain.sh DIR [MACHINE]
 #
@@ -8,9 +8,10 @@
 #     libpokhvizi.so       the same as a shared library
 #     yaml                 examples/yaml.c over libpokhvizi.a; CFLAGS are taken from the environment
 #
-# The run proves nothing: the source text is what is proved, and rustc is trusted in the place of the prover's compiler. For Linux;
-# elsewhere `cargo build --release` in bindings/c makes a static and a shared library of the same calls. MACHINE is such as aarch64,
-# for which rustc has to have its core library, with Debian's gcc-MACHINE-linux-gnu; `yaml` is not made then.
+# The run proves nothing: the source text is what is proved, and rustc is trusted in the place of the prover's
+# compiler. For Linux; elsewhere `cargo build --release` in bindings/c makes a static and a shared library of
+# the same calls. MACHINE is such as aarch64, for which rustc has to have its core library, with Debian's
+# gcc-MACHINE-linux-gnu; `yaml` is not made then.
 #
 # Needs cargo and rustc (1.65 or later), a C compiler, binutils, and Debian's libyaml-dev.
 #

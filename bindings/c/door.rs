@@ -1,6 +1,6 @@
-//! The calls of `pokhvizi/steps.h` and `pokhvizi/compose.h` over the crate `pokhvizi`, whose source is proved: this file makes
-//! slices of a caller's pointers and lengths. The headers say which rules a caller keeps. A null pointer with the length 0 is an
-//! empty slice here.
+//! The calls of `pokhvizi/steps.h` and `pokhvizi/compose.h` over the crate `pokhvizi`, whose source is
+//! proved: this file makes slices of a caller's pointers and lengths. The headers say which rules a caller
+//! keeps. A null pointer with the length 0 is an empty slice here.
 
 #![no_std]
 

@@ -6,7 +6,8 @@ use erase::{erase, Crate};
 use std::path::{Path, PathBuf};
 use std::{env, fs, process};
 
-/// The crates, lowest first: what C's library is made of, and with the feature `alloc` the parser with texts, documents and the loader.
+/// The crates, lowest first: what C's library is made of, and with the feature `alloc` the parser with texts,
+/// documents and the loader.
 const CRATES: [&str; 8] = [
     "libyaml_types",
     "libyaml_automaton",
@@ -57,7 +58,8 @@ fn write(of: &Crate<'_>, from: &Path, to: &Path, below: (&Path, &Path)) {
 }
 
 fn main() {
-    let [top, out] = ["CARGO_MANIFEST_DIR", "OUT_DIR"].map(|name| PathBuf::from(env::var_os(name).expect(name)));
+    let [top, out] =
+        ["CARGO_MANIFEST_DIR", "OUT_DIR"].map(|name| PathBuf::from(env::var_os(name).expect(name)));
     let has_alloc = env::var_os("CARGO_FEATURE_ALLOC").is_some();
     let (with_texts, mut modules) = (if has_alloc { &WITH_TEXTS[..] } else { &[] }, String::new());
     let all = [&CRATES, with_texts].concat();

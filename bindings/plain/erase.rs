@@ -1,11 +1,12 @@
-//! Makes plain Rust of a file with contracts: each line of the result is the same line of the file, without what only the prover
-//! reads.
+//! Makes plain Rust of a file with contracts: each line of the result is the same line of the file, without
+//! what only the prover reads.
 //!
-//! What is left out: `ghost` items, the clauses `requires { .. }` and `ensures { .. }` of a function's head, the attributes
-//! `#[tactic(..)]`, the mark `Drop` of types whose values may be let go, and modules of laws. What is written otherwise: paths that
-//! begin at a crate begin at its module, `std` is `core` or this crate's `kit`, a `Display` has no type parameter for its writer, an
-//! error has its `Display` without `thiserror`, `drop` takes a reference, and a function for C is one for Rust. Everything else is left
-//! as it is. Whatever this doesn't know ends the build, with its line.
+//! What is left out: `ghost` items, the clauses `requires { .. }` and `ensures { .. }` of a function's head,
+//! the attributes `#[tactic(..)]`, the mark `Drop` of types whose values may be let go, and modules of laws.
+//! What is written otherwise: paths that begin at a crate begin at its module, `std` is `core` or this
+//! crate's `kit`, a `Display` has no type parameter for its writer, an error has its `Display` without
+//! `thiserror`, `drop` takes a reference, and a function for C is one for Rust. Everything else is left as it
+//! is. Whatever this doesn't know ends the build, with its line.
 
 /// What is made of a crate.
 pub struct Crate<'a> {
@@ -98,7 +99,8 @@ fn comment(text: &str) -> Option<usize> {
     }
 }
 
-/// How many bytes a string or a character has that `text` begins with, from its quote on, or nothing if it has no end.
+/// How many bytes a string or a character has that `text` begins with, from its quote on, or nothing if it
+/// has no end.
 fn quoted(text: &str, quote: char) -> Option<usize> {
     let mut is_escaped = false;
     for (place, c) in text.char_indices().skip(1) {
@@ -137,7 +139,10 @@ fn pieces(text: &str) -> Result<Vec<Piece<'_>>, Unknown> {
             return unknown(line, "a raw string or name");
         } else if c == '"' || rest.starts_with("b\"") || rest.starts_with("c\"") {
             let before = usize::from(c != '"');
-            (Kind::Value, quoted(&rest[before..], '"').map(|length| length + before))
+            (
+                Kind::Value,
+                quoted(&rest[before..], '"').map(|length| length + before),
+            )
         } else if c == '\'' {
             let named = rest[1..].find(|c| !is_of_word(c)).unwrap_or(rest.len() - 1);
             match named > 0 && !rest[1 + named..].starts_with('\'') {
@@ -169,8 +174,8 @@ fn pieces(text: &str) -> Result<Vec<Piece<'_>>, Unknown> {
     Ok(pieces)
 }
 
-/// Writes over what only the prover reads: `ghost` items, clauses and `tactic` attributes. Lines stay where they are. These are
-/// found before Rust is split into pieces, since the prover's text has another form.
+/// Writes over what only the prover reads: `ghost` items, clauses and `tactic` attributes. Lines stay where
+/// they are. These are found before Rust is split into pieces, since the prover's text has another form.
 fn without_ghosts(text: &str) -> Result<String, Unknown> {
     let mut out = String::with_capacity(text.len());
     let (mut place, mut line) = (0, 1);
@@ -181,7 +186,13 @@ fn without_ghosts(text: &str) -> Result<String, Unknown> {
         let rest = &text[place..];
         let word = rest.find(|c| !is_of_word(c)).unwrap_or(rest.len());
         // A trait's function may have no body, and then no semicolon either.
-        if is_head && is_start && depth == 0 && ["}", "///", "fn ", "#["].iter().any(|next| rest.starts_with(next)) {
+        if is_head
+            && is_start
+            && depth == 0
+            && ["}", "///", "fn ", "#["]
+                .iter()
+                .any(|next| rest.starts_with(next))
+        {
             out.insert(out.trim_end().len(), ';');
             is_head = false;
         }
@@ -199,7 +210,10 @@ fn without_ghosts(text: &str) -> Result<String, Unknown> {
             }
             "requires" | "ensures" => {
                 if !is_head || !is_start || depth != 0 {
-                    return unknown(line, "a clause that isn't on a line of its own in a function's head");
+                    return unknown(
+                        line,
+                        "a clause that isn't on a line of its own in a function's head",
+                    );
                 }
                 (clause_end(rest), false)
             }
@@ -252,7 +266,8 @@ fn without_ghosts(text: &str) -> Result<String, Unknown> {
 }
 
 fn is_balanced(text: &str) -> bool {
-    text.matches('(').count() == text.matches(')').count() && text.matches('[').count() == text.matches(']').count()
+    text.matches('(').count() == text.matches(')').count()
+        && text.matches('[').count() == text.matches(']').count()
 }
 
 /// How many bytes a block has that `text` begins with. It has no comments and no quotes.
@@ -387,7 +402,10 @@ impl<'b> Writer<'_, 'b> {
 
     /// Whether the word here is a macro's: its `!` stands right after it.
     fn is_macro(&self) -> bool {
-        self.pieces.get(self.place + 1).map_or(false, |piece| piece.text == "!") && self.ahead(2) != "="
+        self.pieces
+            .get(self.place + 1)
+            .map_or(false, |piece| piece.text == "!")
+            && self.ahead(2) != "="
     }
 
     /// An attribute that is known.
@@ -430,7 +448,10 @@ impl<'b> Writer<'_, 'b> {
             self.is_error = derived.contains(&"Error");
             if derived.iter().any(|name| OWN_DERIVES.contains(name)) {
                 self.take(count, false);
-                let kept: Vec<&str> = derived.into_iter().filter(|name| DERIVES.contains(name)).collect();
+                let kept: Vec<&str> = derived
+                    .into_iter()
+                    .filter(|name| DERIVES.contains(name))
+                    .collect();
                 self.out += &format!("#[derive({})]", kept.join(", "));
                 return Ok(());
             }
@@ -459,7 +480,8 @@ impl<'b> Writer<'_, 'b> {
             self.take(count, false);
             return Ok(true);
         }
-        let is_own = !["crate", "super", "self", "core", "std"].contains(&name) && !self.of.all.contains(&name);
+        let is_own =
+            !["crate", "super", "self", "core", "std"].contains(&name) && !self.of.all.contains(&name);
         if shift == 1 && word == "use" && is_own && !(self.of.takes)(name) {
             let count = self.up_to(";")?;
             self.take(count, false);
@@ -610,12 +632,16 @@ pub fn erase(of: &Crate<'_>, text: &str) -> Result<Plain, Unknown> {
             .push_str("#[allow(unused_imports)] use crate::kit::{String, Vec};\n");
     }
     if let Some((name, variants)) = &writer.error {
-        let arms = variants.iter().map(|(variant, words, has_field)| match has_field {
-            true => format!("Self::{variant}(field) => write!(f, {words}, field),"),
-            false => format!("Self::{variant} => f.write_str({words}),"),
-        });
+        let arms = variants
+            .iter()
+            .map(|(variant, words, has_field)| match has_field {
+                true => format!("Self::{variant}(field) => write!(f, {words}, field),"),
+                false => format!("Self::{variant} => f.write_str({words}),"),
+            });
         let arms: String = arms.collect();
-        writer.out += &format!("impl core::fmt::Display for {name} {{ fn fmt(&self, f: &mut core::fmt::Formatter<'_>) -> core::fmt::Result {{ match self {{ {arms} }} }} }}\n");
+        writer.out += &format!("impl core::fmt::Display for {name} {{ ");
+        writer.out += "fn fmt(&self, f: &mut core::fmt::Formatter<'_>) -> core::fmt::Result { ";
+        writer.out += &format!("match self {{ {arms} }} }} }}\n");
         writer.out += &format!("impl core::error::Error for {name} {{}}\n");
     }
     Ok(Plain {

@@ -1,7 +1,8 @@
 //! What the proved crates use of their standard library, over Rust's own.
 //!
-//! What takes memory gives an [`AllocError`] if there is none, and changes nothing then. Two things end the process instead: a new entry
-//! of a map, as there is no other form of it in Rust, and memory that Rust's own code lacks.
+//! What takes memory gives an [`AllocError`] if there is none, and changes nothing then. Two things end the
+//! process instead: a new entry of a map, as there is no other form of it in Rust, and memory that Rust's own
+//! code lacks.
 
 use alloc::collections::btree_map;
 use alloc::{string, vec};

@@ -1,6 +1,6 @@
-//! Says which form of the proved code is taken: `libpokhvizi.a` of the folder that the environment's POKHVIZI_DIR names, if it is set;
-//! or else the one that comes with this crate for the target, which the prover's compiler made; or else the crate `pokhvizi`, which is
-//! the same source text, compiled by rustc.
+//! Says which form of the proved code is taken: `libpokhvizi.a` of the folder that the environment's
+//! POKHVIZI_DIR names, if it is set; or else the one that comes with this crate for the target, which the
+//! prover's compiler made; or else the crate `pokhvizi`, which is the same source text, compiled by rustc.
 
 use std::{env, path::PathBuf, process};
 

@@ -1,12 +1,14 @@
 #!/bin/sh
-# Builds the crate `pokhvizi`, the proved source text as rustc reads it, with stock cargo as a user does, without network:
+# Builds the crate `pokhvizi`, the proved source text as rustc reads it, with stock cargo as a user does,
+# without network:
 #
 #     sh scripts/gate/plain_rust.sh
 #
-# Runs its tests, without features and with `alloc`: the lists of vectors_steps and vectors_yaml, which give the lines that stand
-# there; what the build leaves out, and what ends it; the program of its README. Makes its package, which has each source as it stands here, and builds that alone. A line of a list that
-# is changed there must fail the test, and a construct that isn't known must end the build with its file and line. Last it builds
-# C's library by build_plain.sh, and runs the samples of yaml.c over it.
+# Runs its tests, without features and with `alloc`: the lists of vectors_steps and vectors_yaml, which give
+# the lines that stand there; what the build leaves out, and what ends it; the program of its README. Makes
+# its package, which has each source as it stands here, and builds that alone. A line of a list that is
+# changed there must fail the test, and a construct that isn't known must end the build with its file and
+# line. Last it builds C's library by build_plain.sh, and runs the samples of yaml.c over it.
 #
 # The status is 0 if all is as it should be. Needs what build_plain.sh needs.
 #

@@ -1,6 +1,6 @@
 #!/bin/sh
-# Writes the names of the functions that these headers of bindings/c/include/pokhvizi declare, sorted; those that they define
-# themselves are left out:
+# Writes the names of the functions that these headers of bindings/c/include/pokhvizi declare, sorted; those
+# that they define themselves are left out:
 #
 #     sh scripts/parts/header_names.sh steps compose
 #

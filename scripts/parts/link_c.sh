@@ -1,11 +1,11 @@
 #!/bin/sh
-# Links objects of C's calls into DIR/libpokhvizi.a and DIR/libpokhvizi.so, whose only names are those of the headers, and for this
-# machine examples/yaml.c over them:
+# Links objects of C's calls into DIR/libpokhvizi.a and DIR/libpokhvizi.so, whose only names are those of the
+# headers, and for this machine examples/yaml.c over them:
 #
 #     sh scripts/parts/link_c.sh DIR TOOLS OBJECT..
 #
-# TOOLS is what the names of binutils begin with, such as aarch64-linux-gnu-, or empty for this machine's. The objects stand in DIR.
-# CC is the compiler; CFLAGS are taken for yaml.
+# TOOLS is what the names of binutils begin with, such as aarch64-linux-gnu-, or empty for this machine's. The
+# objects stand in DIR. CC is the compiler; CFLAGS are taken for yaml.
 #
 # Run by build_c.sh and build_plain.sh.
 set -eu

@@ -1,6 +1,6 @@
 #!/bin/sh
-# Writes the Cargo.toml of bindings/rust for a copy of that folder, which takes the original crate, unsafe-libyaml 0.2.11, and the
-# crate `pokhvizi` from folders, and so needs no network:
+# Writes the Cargo.toml of bindings/rust for a copy of that folder, which takes the original crate,
+# unsafe-libyaml 0.2.11, and the crate `pokhvizi` from folders, and so needs no network:
 #
 #     sh scripts/parts/rust_manifest.sh ORIGINAL PLAIN
 #

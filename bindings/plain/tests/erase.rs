@@ -78,7 +78,8 @@ fn types_traits_and_errors_are_those_of_rust() {
     assert_eq!(plain(text), wanted);
     let text = "pub trait T {\n    /// A bound.\n    ghost bound: { Self → ℕ };\n\n    /// A call.\n    fn f(&self) -> u8\n        ensures { a }\n\n    \
         fn g<S: T + Drop>(&self)\n        ensures { b };\n}\n";
-    let wanted = "pub trait T {\n\n\n\n    /// A call.\n    fn f(&self) -> u8;\n\n\n    fn g<S: T >(&self)\n;\n}\n";
+    let wanted =
+        "pub trait T {\n\n\n\n    /// A call.\n    fn f(&self) -> u8;\n\n\n    fn g<S: T >(&self)\n;\n}\n";
     assert_eq!(plain(text), wanted);
     let text = "impl Drop for S {\n    fn drop(self) {\n        let S { mut a, b: _ } = self;\n    }\n}\n";
     assert_eq!(

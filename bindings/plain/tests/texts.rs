@@ -1,4 +1,5 @@
-//! The lists of `crates/vectors_yaml`, by this crate with the feature `alloc`: each gives the events and the nodes that stand there.
+//! The lists of `crates/vectors_yaml`, by this crate with the feature `alloc`: each gives the events and the
+//! nodes that stand there.
 
 use pokhvizi::kit::{Global, String as Text, Vec as List};
 use pokhvizi::libyaml_types::*;
@@ -79,9 +80,16 @@ fn token_of(line: &str) -> yaml_token_t {
         "STREAM-START" => return yaml_token_t::stream_start(encoding_of(fields[3]), start, end),
         "VERSION-DIRECTIVE" => {
             let (major, minor) = fields[3].split_once('.').unwrap();
-            return yaml_token_t::version_directive(major.parse().unwrap(), minor.parse().unwrap(), start, end);
+            return yaml_token_t::version_directive(
+                major.parse().unwrap(),
+                minor.parse().unwrap(),
+                start,
+                end,
+            );
         }
-        "TAG-DIRECTIVE" => return yaml_token_t::tag_directive(Global, &text(3), &text(4), start, end).unwrap(),
+        "TAG-DIRECTIVE" => {
+            return yaml_token_t::tag_directive(Global, &text(3), &text(4), start, end).unwrap()
+        }
         "ALIAS" => return yaml_token_t::alias(Global, &text(3), start, end).unwrap(),
         "ANCHOR" => return yaml_token_t::anchor(Global, &text(3), start, end).unwrap(),
         "TAG" => return yaml_token_t::tag(Global, &text(3), &text(4), start, end).unwrap(),
@@ -225,7 +233,10 @@ fn event_line(event: &yaml_event_t) -> String {
 }
 
 fn fault_lines(fault: &yaml_parser_t_prefix) -> String {
-    let (error, problem) = (ERRORS[fault.error.number() as usize], fault.problem.unwrap_or("-"));
+    let (error, problem) = (
+        ERRORS[fault.error.number() as usize],
+        fault.problem.unwrap_or("-"),
+    );
     let mut lines = format!("FAULT {error} {} {problem}\n", mark_text(&fault.problem_mark));
     if let Some(context) = fault.context {
         writeln!(lines, "CONTEXT {} {context}", mark_text(&fault.context_mark)).unwrap();
@@ -274,14 +285,24 @@ fn nodes(tokens: &str) -> String {
                 }
                 Sequence(sequence) => {
                     let style = COLLECTIONS[sequence.style.number() as usize];
-                    write!(lines, "{id} SEQUENCE {marks} {tag} {style} {}", sequence.items.len()).unwrap();
+                    write!(
+                        lines,
+                        "{id} SEQUENCE {marks} {tag} {style} {}",
+                        sequence.items.len()
+                    )
+                    .unwrap();
                     for item in sequence.items.iter() {
                         write!(lines, " {item}").unwrap();
                     }
                 }
                 Mapping(mapping) => {
                     let style = COLLECTIONS[mapping.style.number() as usize];
-                    write!(lines, "{id} MAPPING {marks} {tag} {style} {}", mapping.pairs.len()).unwrap();
+                    write!(
+                        lines,
+                        "{id} MAPPING {marks} {tag} {style} {}",
+                        mapping.pairs.len()
+                    )
+                    .unwrap();
                     for pair in mapping.pairs.iter() {
                         write!(lines, " {}:{}", pair.key, pair.value).unwrap();
                     }

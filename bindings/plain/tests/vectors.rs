@@ -1,7 +1,9 @@
-//! The lists of `crates/vectors_steps`, by this crate: each gives the lines that stand there, which the proved program gives too.
+//! The lists of `crates/vectors_steps`, by this crate: each gives the lines that stand there, which the
+//! proved program gives too.
 //!
-//! Tokens come as lines, and steps over them give lines of events, the composer's steps lines of what is done to documents, and the
-//! count of each deed lines of how large these are. `crates/vectors_steps` says the same in the language of the proofs.
+//! Tokens come as lines, and steps over them give lines of events, the composer's steps lines of what is done
+//! to documents, and the count of each deed lines of how large these are. `crates/vectors_steps` says the
+//! same in the language of the proofs.
 
 use pokhvizi::document_sizes::{deed_of, sizes_t};
 use pokhvizi::document_steps::{anchor_t, carrier};
@@ -334,7 +336,12 @@ impl Parser {
             .step(states, marks, kind, fact, &token.at, &mut event, &mut fault)
             .number();
         if differs != 0 && did != 3 && did != 4 {
-            writeln!(self.lines, "DIFFERS {differs} {}", mark_text(&token.at.start_mark)).unwrap();
+            writeln!(
+                self.lines,
+                "DIFFERS {differs} {}",
+                mark_text(&token.at.start_mark)
+            )
+            .unwrap();
         }
         match did {
             0 => self.hold(token),
@@ -364,7 +371,14 @@ impl Parser {
                 let fact = tag(&self.handles, &self.texts.0, &handle, &suffix, &mut [], &mut size);
                 if size != usize::MAX {
                     self.tag = vec![0; size];
-                    tag(&self.handles, &self.texts.0, &handle, &suffix, &mut self.tag, &mut size);
+                    tag(
+                        &self.handles,
+                        &self.texts.0,
+                        &handle,
+                        &suffix,
+                        &mut self.tag,
+                        &mut size,
+                    );
                 }
                 fact
             }
@@ -412,7 +426,8 @@ impl Parser {
                 let version = self.version.as_deref().unwrap_or("-");
                 write!(self.lines, " {implicit} {version} {}", self.handles.len()).unwrap();
                 for made in &self.handles {
-                    let [handle, prefix] = [&made.handle, &made.prefix].map(|range| field_of(self.texts.at(range)));
+                    let [handle, prefix] =
+                        [&made.handle, &made.prefix].map(|range| field_of(self.texts.at(range)));
                     write!(self.lines, " {handle} {prefix}").unwrap();
                 }
             }
@@ -470,7 +485,8 @@ fn no_fault() -> step_fault_t {
 #[test]
 fn lists_give_their_lines() {
     let folder = Path::new(env!("CARGO_MANIFEST_DIR")).join("crates/vectors_steps/data/lists");
-    let read = |name: &str, ending: &str| fs::read_to_string(folder.join(format!("{name}.{ending}"))).unwrap();
+    let read =
+        |name: &str, ending: &str| fs::read_to_string(folder.join(format!("{name}.{ending}"))).unwrap();
     let index = fs::read_to_string(folder.join("index")).unwrap();
     for line in index.lines() {
         let (name, _) = line.split_once(": ").unwrap();
@@ -490,5 +506,8 @@ fn lists_give_their_lines() {
         }
         assert_eq!(sizes, wanted, "{name}.sizes");
     }
-    println!("{} lists, each with its events, deeds and sizes", index.lines().count());
+    println!(
+        "{} lists, each with its events, deeds and sizes",
+        index.lines().count()
+    );
 }

@@ -1,5 +1,6 @@
-//! The proved calls of `pokhvizi/steps.h` and `pokhvizi/compose.h`, by a build as build.rs says: those of the crate `pokhvizi`, which
-//! is their source text without contracts, or those of the archive that the prover's compiler made of that text.
+//! The proved calls of `pokhvizi/steps.h` and `pokhvizi/compose.h`, by a build as build.rs says: those of the
+//! crate `pokhvizi`, which is their source text without contracts, or those of the archive that the prover's
+//! compiler made of that text.
 
 use original::yaml_mark_t;
 
@@ -121,8 +122,8 @@ mod archive {
         unsafe { made.assume_init() }
     }
 
-    // SAFETY, of each call below: the structs are laid out as C lays them out, each pointer is to as many entries as are said, and
-    // no two of those that are written overlap.
+    // SAFETY, of each call below: the structs are laid out as C lays them out, each pointer is to as many
+    // entries as are said, and no two of those that are written overlap.
 
     pub fn steps_new() -> steps_t {
         written(|steps| unsafe { pokhvizi_steps_new(steps) })
