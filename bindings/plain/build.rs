@@ -45,6 +45,8 @@ fn takes(module: &str) -> bool {
 fn write(of: &Crate<'_>, from: &Path, to: &Path, below: (&Path, &Path)) {
     println!("cargo:rerun-if-changed={}", from.display());
     let text = fs::read_to_string(from).unwrap_or_else(|error| fail(from, 0, &error.to_string()));
+    // A checkout on Windows may have other ends of lines.
+    let text = text.replace("\r\n", "\n");
     let plain = erase(of, &text).unwrap_or_else(|unknown| fail(from, unknown.line, &unknown.what));
     let made = fs::create_dir_all(below.1).and_then(|()| fs::write(to, plain.text));
     made.unwrap_or_else(|error| fail(to, 0, &error.to_string()));
