@@ -1,4 +1,4 @@
-//! `example_lint`: the anchors that no alias names, and the keys that stand twice in one mapping, in the token
+//! `example_lint`: the anchors that no alias names, and the first duplicate key of each document, in the token
 //! lines on standard input.
 #![tactic(auto)]
 
@@ -85,6 +85,8 @@ fn print_duplicate_key(rt: &HostRuntime, document: &yaml_document_t) -> Result<(
 
 /// Returns where the key of this pair starts: of an alias, where the node does that it names.
 fn key_mark(document: &yaml_document_t, mapping: i32, index: usize) -> Option<yaml_mark_t> {
-    let pair = yaml_document_get_node(document, mapping)?.pairs().get(index)?;
+    let pair = yaml_document_get_node(document, mapping)?
+        .pairs()
+        .get(index)?;
     Some(yaml_document_get_node(document, pair.key)?.start_mark)
 }
