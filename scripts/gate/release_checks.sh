@@ -124,7 +124,7 @@ for words in 'gcc -std=c89' 'gcc -std=c11' 'gcc -static' 'g++ -x c++' 'clang -st
     want "$words" "$run" ./three
 done
 want 'names that are handed out' \
-    'pokhvizi_carrier pokhvizi_compose pokhvizi_composer_new pokhvizi_count pokhvizi_differs pokhvizi_directive_fact pokhvizi_size_new pokhvizi_step pokhvizi_steps_new pokhvizi_tag pokhvizi_version_fact' \
+    'pokhvizi_carrier pokhvizi_compose pokhvizi_composer_new pokhvizi_count pokhvizi_differs pokhvizi_directive_fact pokhvizi_expected pokhvizi_size_new pokhvizi_step pokhvizi_step_exact pokhvizi_steps_new pokhvizi_tag pokhvizi_version_fact' \
     sh -c "nm -D --defined-only '$installed/lib/libpokhvizi.so' | sed -n 's/.* T \([a-z_]*\).*/\1/p' | sort | tr '\n' ' ' | sed 's/ \$//'"
 want 'what the shared library needs' 'libc.so.6' sh -c "readelf -d '$installed/lib/libpokhvizi.so' | sed -n 's/.*NEEDED.*\[\(.*\)\]/\1/p'"
 for sample in events compose; do

@@ -40,8 +40,8 @@ begins_node p kinds.YAML_ANCHOR_TOKEN = true
 begins_node p kinds.YAML_TAG_TOKEN = true
 begins_node p k = begins_content p k
 
-abbrev pub at_slot : Slot → yaml_token_type_t → Bool
-at_slot s k = is_nothing_before s k || begins_node (slot_place s) k
+abbrev pub taken_at_slot : Slot → yaml_token_type_t → Bool
+taken_at_slot s k = is_nothing_before s k || begins_node (slot_place s) k
 
 -- what begins an explicit document, or ends the stream
 abbrev pub begins_explicit : yaml_token_type_t → Bool
@@ -51,9 +51,9 @@ begins_explicit kinds.YAML_DOCUMENT_START_TOKEN = true
 begins_explicit kinds.YAML_STREAM_END_TOKEN = true
 begins_explicit _ = false
 
-abbrev pub after_document : yaml_token_type_t → Bool
-after_document kinds.YAML_DOCUMENT_END_TOKEN = true
-after_document k = begins_explicit k
+abbrev pub taken_after_document : yaml_token_type_t → Bool
+taken_after_document kinds.YAML_DOCUMENT_END_TOKEN = true
+taken_after_document k = begins_explicit k
 
 abbrev pub before_document : (behind_document_end : Bool) → yaml_token_type_t → Bool
 before_document b kinds.YAML_DOCUMENT_END_TOKEN = b
@@ -92,57 +92,57 @@ at_pair kinds.YAML_FLOW_MAPPING_END_TOKEN = true
 at_pair k = begins_node Flow k
 
 -- in each state but that of a sequence without tokens of its own
-abbrev pub in_state : yaml_parser_state_t → (behind_document_end : Bool) → yaml_token_type_t → Bool
-in_state st.YAML_PARSE_STREAM_START_STATE b k = is_same kinds.YAML_STREAM_START_TOKEN k
-in_state st.YAML_PARSE_IMPLICIT_DOCUMENT_START_STATE b k = before_document b k
-in_state st.YAML_PARSE_DOCUMENT_START_STATE b k = begins_explicit k
-in_state st.YAML_PARSE_DOCUMENT_CONTENT_STATE b k = at_slot slot.Document k
-in_state st.YAML_PARSE_DOCUMENT_END_STATE b k = after_document k
-in_state st.YAML_PARSE_BLOCK_NODE_STATE b k = begins_node Block k
-in_state st.YAML_PARSE_BLOCK_NODE_OR_INDENTLESS_SEQUENCE_STATE b k = begins_node BlockOrIndentlessSequence k
-in_state st.YAML_PARSE_FLOW_NODE_STATE b k = begins_node Flow k
-in_state st.YAML_PARSE_BLOCK_SEQUENCE_ENTRY_STATE b k = after_item k
-in_state st.YAML_PARSE_BLOCK_MAPPING_KEY_STATE b k = after_part k
-in_state st.YAML_PARSE_BLOCK_MAPPING_VALUE_STATE b k = after_part k
-in_state st.YAML_PARSE_FLOW_SEQUENCE_FIRST_ENTRY_STATE b k = at_entry k
-in_state st.YAML_PARSE_FLOW_SEQUENCE_ENTRY_STATE b k = after_entry k
-in_state st.YAML_PARSE_FLOW_SEQUENCE_ENTRY_MAPPING_KEY_STATE b k = at_slot slot.PairKey k
-in_state st.YAML_PARSE_FLOW_SEQUENCE_ENTRY_MAPPING_VALUE_STATE b k = is_same kinds.YAML_VALUE_TOKEN k || after_entry k
-in_state st.YAML_PARSE_FLOW_SEQUENCE_ENTRY_MAPPING_END_STATE b k = after_entry k
-in_state st.YAML_PARSE_FLOW_MAPPING_FIRST_KEY_STATE b k = at_pair k
-in_state st.YAML_PARSE_FLOW_MAPPING_KEY_STATE b k = after_pair k
-in_state st.YAML_PARSE_FLOW_MAPPING_VALUE_STATE b k = is_same kinds.YAML_VALUE_TOKEN k || after_pair k
-in_state st.YAML_PARSE_FLOW_MAPPING_EMPTY_VALUE_STATE b k = after_pair k
-in_state _ b k = false
+abbrev pub taken_in_state : yaml_parser_state_t → (behind_document_end : Bool) → yaml_token_type_t → Bool
+taken_in_state st.YAML_PARSE_STREAM_START_STATE b k = is_same kinds.YAML_STREAM_START_TOKEN k
+taken_in_state st.YAML_PARSE_IMPLICIT_DOCUMENT_START_STATE b k = before_document b k
+taken_in_state st.YAML_PARSE_DOCUMENT_START_STATE b k = begins_explicit k
+taken_in_state st.YAML_PARSE_DOCUMENT_CONTENT_STATE b k = taken_at_slot slot.Document k
+taken_in_state st.YAML_PARSE_DOCUMENT_END_STATE b k = taken_after_document k
+taken_in_state st.YAML_PARSE_BLOCK_NODE_STATE b k = begins_node Block k
+taken_in_state st.YAML_PARSE_BLOCK_NODE_OR_INDENTLESS_SEQUENCE_STATE b k = begins_node BlockOrIndentlessSequence k
+taken_in_state st.YAML_PARSE_FLOW_NODE_STATE b k = begins_node Flow k
+taken_in_state st.YAML_PARSE_BLOCK_SEQUENCE_ENTRY_STATE b k = after_item k
+taken_in_state st.YAML_PARSE_BLOCK_MAPPING_KEY_STATE b k = after_part k
+taken_in_state st.YAML_PARSE_BLOCK_MAPPING_VALUE_STATE b k = after_part k
+taken_in_state st.YAML_PARSE_FLOW_SEQUENCE_FIRST_ENTRY_STATE b k = at_entry k
+taken_in_state st.YAML_PARSE_FLOW_SEQUENCE_ENTRY_STATE b k = after_entry k
+taken_in_state st.YAML_PARSE_FLOW_SEQUENCE_ENTRY_MAPPING_KEY_STATE b k = taken_at_slot slot.PairKey k
+taken_in_state st.YAML_PARSE_FLOW_SEQUENCE_ENTRY_MAPPING_VALUE_STATE b k = is_same kinds.YAML_VALUE_TOKEN k || after_entry k
+taken_in_state st.YAML_PARSE_FLOW_SEQUENCE_ENTRY_MAPPING_END_STATE b k = after_entry k
+taken_in_state st.YAML_PARSE_FLOW_MAPPING_FIRST_KEY_STATE b k = at_pair k
+taken_in_state st.YAML_PARSE_FLOW_MAPPING_KEY_STATE b k = after_pair k
+taken_in_state st.YAML_PARSE_FLOW_MAPPING_VALUE_STATE b k = is_same kinds.YAML_VALUE_TOKEN k || after_pair k
+taken_in_state st.YAML_PARSE_FLOW_MAPPING_EMPTY_VALUE_STATE b k = after_pair k
+taken_in_state _ b k = false
 
 -- such a sequence goes on, or ends before what the state below it takes
-abbrev pub in_stack : yaml_parser_state_t → List yaml_parser_state_t → (behind_document_end : Bool) → yaml_token_type_t → Bool
-in_stack st.YAML_PARSE_INDENTLESS_SEQUENCE_ENTRY_STATE ss b k = is_same kinds.YAML_BLOCK_ENTRY_TOKEN k || in_state (top ss) b k
-in_stack s ss b k = in_state s b k
+abbrev pub taken_in_stack : yaml_parser_state_t → List yaml_parser_state_t → (behind_document_end : Bool) → yaml_token_type_t → Bool
+taken_in_stack st.YAML_PARSE_INDENTLESS_SEQUENCE_ENTRY_STATE ss b k = is_same kinds.YAML_BLOCK_ENTRY_TOKEN k || taken_in_state (top ss) b k
+taken_in_stack s ss b k = taken_in_state s b k
 
 -- after a directive; a second version is none
-abbrev pub after_directive : (has_version : Bool) → yaml_token_type_t → Bool
-after_directive v kinds.YAML_VERSION_DIRECTIVE_TOKEN = not v
-after_directive v kinds.YAML_TAG_DIRECTIVE_TOKEN = true
-after_directive v kinds.YAML_DOCUMENT_START_TOKEN = true
-after_directive v _ = false
+abbrev pub taken_after_directive : (has_version : Bool) → yaml_token_type_t → Bool
+taken_after_directive v kinds.YAML_VERSION_DIRECTIVE_TOKEN = not v
+taken_after_directive v kinds.YAML_TAG_DIRECTIVE_TOKEN = true
+taken_after_directive v kinds.YAML_DOCUMENT_START_TOKEN = true
+taken_after_directive v _ = false
 
 -- after properties: a further one, or the content
-abbrev pub after_properties : NodePlace → (has_anchor has_tag : Bool) → yaml_token_type_t → Bool
-after_properties p a t kinds.YAML_ANCHOR_TOKEN = not a
-after_properties p a t kinds.YAML_TAG_TOKEN = not t
-after_properties p a t k = begins_content p k
+abbrev pub taken_after_properties : NodePlace → (has_anchor has_tag : Bool) → yaml_token_type_t → Bool
+taken_after_properties p a t kinds.YAML_ANCHOR_TOKEN = not a
+taken_after_properties p a t kinds.YAML_TAG_TOKEN = not t
+taken_after_properties p a t k = begins_content p k
 
 -- a token of type k may come next; after properties alone what follows a node may
 abbrev pub acceptable : Purpose → Stacks → yaml_token_type_t → Bool
-acceptable AtState c k = in_stack c.state c.states c.behind_document_end k
-acceptable (AfterDirective start v) c k = after_directive v k
+acceptable AtState c k = taken_in_stack c.state c.states c.behind_document_end k
+acceptable (AfterDirective start v) c k = taken_after_directive v k
 acceptable (AfterProperties p r) c k
-    = after_properties p r.anchor r.tag k || in_stack (top c.states) (below c.states) c.behind_document_end k
-acceptable (AfterBlockEntry end) c k = at_slot slot.BlockEntry k
-acceptable (AfterIndentlessEntry end) c k = at_slot slot.IndentlessEntry k
-acceptable (AfterKey end) c k = at_slot slot.BlockKey k
-acceptable (AfterValue end) c k = at_slot slot.BlockValue k
-acceptable AfterFlowSequenceValue c k = at_slot slot.PairValue k
-acceptable AfterFlowMappingKey c k = at_slot slot.FlowKey k
-acceptable AfterFlowMappingValue c k = at_slot slot.FlowValue k
+    = taken_after_properties p r.anchor r.tag k || taken_in_stack (top c.states) (below c.states) c.behind_document_end k
+acceptable (AfterBlockEntry end) c k = taken_at_slot slot.BlockEntry k
+acceptable (AfterIndentlessEntry end) c k = taken_at_slot slot.IndentlessEntry k
+acceptable (AfterKey end) c k = taken_at_slot slot.BlockKey k
+acceptable (AfterValue end) c k = taken_at_slot slot.BlockValue k
+acceptable AfterFlowSequenceValue c k = taken_at_slot slot.PairValue k
+acceptable AfterFlowMappingKey c k = taken_at_slot slot.FlowKey k
+acceptable AfterFlowMappingValue c k = taken_at_slot slot.FlowValue k

@@ -2,11 +2,11 @@
 ghost use Rattle.std.specs.Prelude.{◌≡◌, ◌≤◌, ◌||◌, ◌-◌, List, length};
 ghost use Rattle.libyaml_types.specs.declared.mark.yaml_mark_t.{yaml_mark_t};
 ghost use Rattle.libyaml_types.specs.declared.enums.yaml_token_type_t.{yaml_token_type_t};
-ghost use Rattle.libyaml_automaton.specs.Acceptable.{acceptable, after_directive, after_document};
+ghost use Rattle.libyaml_automaton.specs.Acceptable.{acceptable, taken_after_directive, taken_after_document};
 ghost use Rattle.libyaml_automaton.specs.Acceptable.{after_entry, after_item, after_pair, after_part};
-ghost use Rattle.libyaml_automaton.specs.Acceptable.{after_properties, at_entry, at_pair, at_slot};
+ghost use Rattle.libyaml_automaton.specs.Acceptable.{taken_after_properties, at_entry, at_pair, taken_at_slot};
 ghost use Rattle.libyaml_automaton.specs.Acceptable.{before_document, begins_content, begins_explicit};
-ghost use Rattle.libyaml_automaton.specs.Acceptable.{begins_node, has, in_stack, in_state};
+ghost use Rattle.libyaml_automaton.specs.Acceptable.{begins_node, has, taken_in_stack, taken_in_state};
 ghost use Rattle.libyaml_automaton.specs.Config.{below, stacks_of, states_of, top};
 ghost use Rattle.libyaml_automaton.specs.Numbers.{flag, place_of, state_of};
 ghost use Rattle.libyaml_automaton.specs.Purposes.{purpose_of};
@@ -126,7 +126,7 @@ fn pair_due() -> TokenTypes
 }
 
 fn directive_done(has_version: bool) -> TokenTypes
-    ensures { (k : yaml_token_type_t) → has result k ≡ after_directive has_version k }
+    ensures { (k : yaml_token_type_t) → has result k ≡ taken_after_directive has_version k }
 {
     let due = TokenTypes::none()
         .with(YAML_TAG_DIRECTIVE_TOKEN)
@@ -138,7 +138,7 @@ fn directive_done(has_version: bool) -> TokenTypes
 }
 
 fn properties_done(place: NodePlace, has_anchor: bool, has_tag: bool) -> TokenTypes
-    ensures { (k : yaml_token_type_t) → has result k ≡ after_properties place has_anchor has_tag k }
+    ensures { (k : yaml_token_type_t) → has result k ≡ taken_after_properties place has_anchor has_tag k }
 {
     let content = place.content();
     match (has_anchor, has_tag) {
@@ -168,7 +168,7 @@ impl Slot {
 
     /// Returns what may stand here, or after a node here that is nothing.
     fn expected(self) -> TokenTypes
-        ensures { (k : yaml_token_type_t) → has result k ≡ at_slot self k }
+        ensures { (k : yaml_token_type_t) → has result k ≡ taken_at_slot self k }
     {
         self.empty().union(self.place().node())
     }
@@ -176,7 +176,7 @@ impl Slot {
 
 /// Returns what a state takes, except that of a sequence without tokens of its own.
 fn expected_in(state: yaml_parser_state_t, behind_document_end: bool) -> TokenTypes
-    ensures { (k : yaml_token_type_t) → has result k ≡ in_state state behind_document_end k }
+    ensures { (k : yaml_token_type_t) → has result k ≡ taken_in_state state behind_document_end k }
 {
     match state {
         YAML_PARSE_STREAM_START_STATE => TokenTypes::none().with(YAML_STREAM_START_TOKEN),
@@ -227,7 +227,7 @@ fn expected_over(
 ) -> TokenTypes
     requires { count ≤ length states.now }
     ensures { (k : yaml_token_type_t) → has result k
-        ≡ in_stack state (states_of count states.now) behind_document_end k }
+        ≡ taken_in_stack state (states_of count states.now) behind_document_end k }
 {
     match state {
         YAML_PARSE_INDENTLESS_SEQUENCE_ENTRY_STATE => {
@@ -267,9 +267,9 @@ impl Automaton {
 
     fn expected_after_properties(&self, read: &Reading, states: &[u8]) -> TokenTypes
         requires { self.now.states_count ≤ length states.now }
-        ensures { (k : yaml_token_type_t) → has result k ≡ (after_properties (place_of read.now.place)
+        ensures { (k : yaml_token_type_t) → has result k ≡ (taken_after_properties (place_of read.now.place)
             (flag read.now.has_anchor) (flag read.now.has_tag) k
-            || in_stack (top (states_of self.now.states_count states.now))
+            || taken_in_stack (top (states_of self.now.states_count states.now))
             (below (states_of self.now.states_count states.now)) (flag self.now.behind_document_end) k) }
     {
         let further = properties_done(

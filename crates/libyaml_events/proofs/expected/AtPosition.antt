@@ -11,7 +11,7 @@ use Rattle.libyaml_grammar.specs.partial.PartialTrees.{BlockPlace, Open, PartPla
 use Rattle.libyaml_grammar.proofs.exported.Positions.{Position, between, done, due, flow_after, flow_due, flow_keyed, headed, in_indentless, in_mapping, in_sequence, unopened}
 use Rattle.libyaml_grammar.proofs.exported.Reading.{Step, after_whole, bad, fill_flow, goes, over, pending, step}
 use Rattle.libyaml_grammar.proofs.exported.StepsMeet.{IsDue, IsEntry, IsMet}
-use Rattle.libyaml_automaton.specs.Acceptable.{acceptable, in_stack}
+use Rattle.libyaml_automaton.specs.Acceptable.{acceptable, taken_in_stack}
 use Rattle.libyaml_automaton.specs.Config.{below, top}
 use Rattle.libyaml_events.specs.machine.Config.{config_of as without_texts}
 use Rattle.libyaml_events.proofs.machine.Link.{config_of, states_place, want_of}
@@ -85,7 +85,7 @@ due_is (flow_value (open_collection p o mapping s is) e x v) _ m w = refl
 
 -- after a whole node
 abbrev Follows : Place → FlowNode → Content → Marks → Type 0
-Follows p x k m = in_stack (top (states_place p)) (below (states_place p)) false (token_type k) ≡ takes (after_whole (fill_flow p x) k m)
+Follows p x k m = taken_in_stack (top (states_place p)) (below (states_place p)) false (token_type k) ≡ takes (after_whole (fill_flow p x) k m)
 
 block_follows : (c : BlockPlace) (x : FlowNode) (k : Content) (m : Marks) → Follows (block c) x k m
 block_follows (root (implicit_root f)) x StreamEnd m = refl
