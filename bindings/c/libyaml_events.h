@@ -3,6 +3,7 @@
  *
  * What is kept between two calls stands in the yaml_parser_t, in the place of what libyaml's own parser keeps there: its states,
  * the marks of open collections, and the tag directives of the document. */
+#include <pokhvizi/compose.h>
 #include <pokhvizi/steps.h>
 #include <assert.h>
 #include <linux/random.h>
@@ -21,10 +22,40 @@ static_assert(offsetof(yaml_token_t, end_mark) == offsetof(yaml_token_t, start_m
                   sizeof(pokhvizi_span_t) == 2 * sizeof(yaml_mark_t),
               "the marks of a token and of an event are neighbours");
 
+/* How many collections may be open, how many entries each list of a document may have, and how many nodes a document may have with
+ * its aliases written out; and what stands for any number. */
+struct bounds {
+    size_t depth, nodes, expanded;
+};
+#define ANY_DEPTH ((size_t)PTRDIFF_MAX / sizeof(yaml_mark_t))
+#define ANY_NODES ((size_t)INT32_MAX)
+#define ANY_EXPANDED ((size_t)PTRDIFF_MAX)
+
+/* An anchor of the document whose events are counted, in a table where it has a place by its hash: where its text stands, and the
+ * node that it names. A place of another document is free. */
+struct name {
+    size_t text, document;
+    uint32_t hash;
+    int32_t node;
+};
+
+/* How much room there is for what `kept` ends with: states; and if nodes are bounded, the sizes of nodes, a table of names, which has
+ * a power of two, open collections, and the texts of names. */
+struct rooms {
+    size_t states, sizes, names, open, texts;
+};
+
 /* The steps and their stack of states, in the place of `parser->states`. Their stack of marks is `parser->marks`. */
 struct kept {
     pokhvizi_steps_t steps;
-    size_t states_room, marks_room, max_depth;
+    struct rooms rooms;
+    size_t marks_room;
+    struct bounds bounds;
+    /* The events of a document are counted, if its nodes are bounded. */
+    pokhvizi_composer_t composer;
+    pokhvizi_size_t size;
+    size_t document, names_count, texts_length;  /* its number, from 1 */
+    uint32_t is_counted;
     uint32_t key;  /* for the hashes of anchors and handles, or 0 */
     int has_mends;  /* events are of this project's own grammar, and not exactly libyaml's */
     uint8_t tag[64];  /* the tag in full whose fact was asked for last, if it is so short */
@@ -77,21 +108,91 @@ static struct kept *kept_of(const yaml_parser_t *parser)
     return (struct kept *)(void *)parser->states.start;
 }
 
-/* Makes room for so many states; 0 where memory is refused, and then all is as it was. */
-static int grow_states(yaml_parser_t *parser, size_t room)
+/* What a block ends with after the states, each part after the one before. */
+static uint64_t *sizes_of(struct kept *kept)
 {
-    struct kept *kept = realloc(parser->states.start, sizeof *kept + room);
+    return (uint64_t *)(void *)(kept->states + (kept->rooms.states + 7) / 8 * 8);
+}
 
-    if (kept == NULL)
-        return 0;
-    kept->states_room = room;
+static struct name *names_of(struct kept *kept)
+{
+    return (struct name *)(void *)(sizes_of(kept) + kept->rooms.sizes);
+}
+
+static pokhvizi_open_t *open_of(struct kept *kept)
+{
+    return (pokhvizi_open_t *)(void *)(names_of(kept) + kept->rooms.names);
+}
+
+static yaml_char_t *texts_of_names(struct kept *kept)
+{
+    return (yaml_char_t *)(open_of(kept) + kept->rooms.open);
+}
+
+/* The place of a name in the table, or the one that is free for it. */
+static struct name *place_of_name(struct kept *kept, const yaml_char_t *text, uint32_t hash)
+{
+    struct name *names = names_of(kept);
+    size_t last = kept->rooms.names - 1, at = hash & last;
+
+    while (names[at].document == kept->document &&
+           (names[at].hash != hash || strcmp((const char *)texts_of_names(kept) + names[at].text, (const char *)text) != 0))
+        at = (at + 1) & last;
+    return &names[at];
+}
+
+/* A block of zeros with so much room, or NULL. */
+static struct kept *make_kept(const struct rooms *rooms)
+{
+    uint64_t size = sizeof(struct kept) + 8 + (uint64_t)rooms->states + (uint64_t)rooms->sizes * sizeof(uint64_t) +
+                    (uint64_t)rooms->names * sizeof(struct name) + (uint64_t)rooms->open * sizeof(pokhvizi_open_t) + rooms->texts;
+    struct kept *made = size > PTRDIFF_MAX ? NULL : calloc(1, (size_t)size);
+
+    if (made != NULL)
+        made->rooms = *rooms;
+    return made;
+}
+
+/* Puts a block in the place of another one. */
+static void keep(yaml_parser_t *parser, struct kept *kept)
+{
+    free(parser->states.start);
     parser->states.start = parser->states.end = parser->states.top = (yaml_parser_state_t *)(void *)kept;
+}
+
+/* Makes so much room, no less than there is; 0 where memory is refused, and then all is as it was. */
+APART int make_room(yaml_parser_t *parser, const struct rooms *rooms)
+{
+    struct kept *old = kept_of(parser), *made = make_kept(rooms);
+
+    if (made == NULL)
+        return 0;
+    memcpy(made, old, offsetof(struct kept, states));
+    made->rooms = *rooms;
+    memcpy(made->states, old->states, old->rooms.states);
+    memcpy(sizes_of(made), sizes_of(old), old->rooms.sizes * sizeof(uint64_t));
+    memcpy(open_of(made), open_of(old), old->rooms.open * sizeof(pokhvizi_open_t));
+    memcpy(texts_of_names(made), texts_of_names(old), old->texts_length);
+    for (size_t i = 0; i < old->rooms.names; i++) {
+        const struct name *name = &names_of(old)[i];
+        if (name->document == old->document)
+            *place_of_name(made, texts_of_names(old) + name->text, name->hash) = *name;
+    }
+    keep(parser, made);
     return 1;
+}
+
+static int grow_states(yaml_parser_t *parser)
+{
+    struct rooms rooms = kept_of(parser)->rooms;
+
+    rooms.states *= 2;
+    return make_room(parser, &rooms);
 }
 
 static int grow_marks(yaml_parser_t *parser)
 {
-    size_t room = least(2 * kept_of(parser)->marks_room, kept_of(parser)->max_depth);
+    size_t room = least(2 * kept_of(parser)->marks_room, kept_of(parser)->bounds.depth);
     yaml_mark_t *marks = realloc(parser->marks.start, room * sizeof *marks);
 
     if (marks == NULL)
@@ -479,24 +580,140 @@ static int give_too_deep(yaml_parser_t *parser)
     return give_fault(parser, &fault);
 }
 
-/* Begins a stream, in which so many collections may be open at once; 0 where memory is refused. */
-static int begin(yaml_parser_t *parser, size_t max_depth, int has_mends)
+/* Begins a stream within bounds; 0 where memory is refused. */
+static int begin(yaml_parser_t *parser, const struct bounds *bounds, int has_mends)
 {
-    struct kept *kept;
+    struct kept *kept = make_kept(&(struct rooms){.states = FIRST_ROOM(64)});
 
-    if (!grow_states(parser, FIRST_ROOM(64)))
+    if (kept == NULL)
         return 0;
-    kept = kept_of(parser);
+    keep(parser, kept);
     pokhvizi_steps_new(&kept->steps);
-    kept->marks_room = least(FIRST_ROOM((size_t)(parser->marks.end - parser->marks.start)), max_depth);
-    kept->max_depth = max_depth;
-    kept->key = 0;
+    kept->marks_room = least(FIRST_ROOM((size_t)(parser->marks.end - parser->marks.start)), bounds->depth);
+    kept->bounds = *bounds;
+    kept->is_counted = bounds->nodes < ANY_NODES || bounds->expanded < ANY_EXPANDED;
     kept->has_mends = has_mends;
     free(parser->tag_directives.start);
     memset(&parser->tag_directives, 0, sizeof parser->tag_directives);
     parser->state = YAML_PARSE_DOCUMENT_CONTENT_STATE;
     return 1;
 }
+
+/* ---- Bounds on nodes ---- */
+
+/* The anchor of an event's node or alias, or NULL. */
+static const yaml_char_t *anchor_of_made(const pokhvizi_event_t *made, const yaml_token_t *token, const struct held *held)
+{
+    return made->has_anchor ? held->anchor : made->kind == YAML_ALIAS_EVENT ? token->data.alias.value : NULL;
+}
+
+/* The node that an anchor names, the last of those that have it, or 0. */
+static int32_t named_node(yaml_parser_t *parser, const yaml_char_t *anchor)
+{
+    struct kept *kept = kept_of(parser);
+    const struct name *name;
+
+    if (kept->names_count == 0)
+        return 0;
+    name = place_of_name(kept, anchor, hash_of(anchor, key_of(parser)));
+    return name->document == kept->document ? name->node : 0;
+}
+
+/* Has an anchor name a node; 0 where memory is refused. */
+static int name_node(yaml_parser_t *parser, const yaml_char_t *anchor, int32_t node)
+{
+    struct kept *kept = kept_of(parser);
+    struct rooms rooms = kept->rooms;
+    size_t length = strlen((const char *)anchor) + 1;
+    uint32_t hash = hash_of(anchor, key_of(parser));
+    struct name *name;
+
+    if (rooms.names == 0)
+        rooms.names = 2 * FIRST_ROOM(8);
+    else if (2 * (kept->names_count + 1) > rooms.names)
+        rooms.names *= 2;
+    if (length > rooms.texts - kept->texts_length)
+        rooms.texts = FIRST_ROOM(2) * (kept->texts_length + length);
+    if (memcmp(&rooms, &kept->rooms, sizeof rooms) != 0 && !make_room(parser, &rooms))
+        return 0;
+    kept = kept_of(parser);
+    name = place_of_name(kept, anchor, hash);
+    if (name->document != kept->document) {
+        memcpy(texts_of_names(kept) + kept->texts_length, anchor, length);
+        *name = (struct name){kept->texts_length, kept->document, hash, 0};
+        kept->texts_length += length;
+        kept->names_count++;
+    }
+    name->node = node;
+    return 1;
+}
+
+/* Composes an event, which counts nodes and the entries of lists; an alias whose anchor names nothing is an entry of its list. */
+static uint32_t compose_event(yaml_parser_t *parser, uint8_t kind, int32_t node, pokhvizi_place_t *place)
+{
+    struct kept *kept = kept_of(parser);
+    struct rooms rooms;
+    uint32_t deed;
+
+    while ((deed = pokhvizi_compose(&kept->composer, open_of(kept), kept->rooms.open, kind, node, place)) == POKHVIZI_FULL_STACK) {
+        rooms = kept->rooms;
+        rooms.open = rooms.open == 0 ? FIRST_ROOM(16) : 2 * rooms.open;
+        if (!make_room(parser, &rooms))
+            break;
+        kept = kept_of(parser);
+    }
+    return deed;
+}
+
+/* Counts what was composed with aliases written out, and returns it; or that the document is too large so, or has no end. */
+static uint32_t count_deed(yaml_parser_t *parser, uint32_t deed, uint8_t kind, const pokhvizi_place_t *place)
+{
+    struct kept *kept = kept_of(parser);
+    struct rooms rooms;
+    uint32_t counted;
+
+    while ((counted = pokhvizi_count(&kept->size, sizes_of(kept), kept->rooms.sizes, deed, kind, place)) == POKHVIZI_FULL_SIZES) {
+        rooms = kept->rooms;
+        rooms.sizes = rooms.sizes == 0 ? FIRST_ROOM(32) : 2 * rooms.sizes;
+        if (!make_room(parser, &rooms))
+            break;
+        kept = kept_of(parser);
+    }
+    return counted == POKHVIZI_COUNTED ? deed : counted;
+}
+
+/* Counts an event whose nodes are bounded, in the words of a load where it is one too many; 0 where there is an error. Other errors of
+ * composers are the caller's: an anchor names the last node that has it, and an alias without one no node. */
+APART int count_event(yaml_parser_t *parser, const pokhvizi_event_t *made, const yaml_token_t *token, const struct held *held)
+{
+    struct kept *kept = kept_of(parser);
+    const yaml_char_t *anchor = anchor_of_made(made, token, held);
+    int32_t node = made->kind == YAML_ALIAS_EVENT ? named_node(parser, anchor) : 0;
+    int is_lost = made->kind == YAML_ALIAS_EVENT && node == 0;
+    pokhvizi_place_t place = {0, 0, 0, 0};
+    uint32_t deed;
+
+    if (made->kind == YAML_DOCUMENT_START_EVENT) {
+        pokhvizi_composer_new(&kept->composer, (uint32_t)kept->bounds.nodes);
+        pokhvizi_size_new(&kept->size, kept->bounds.expanded);
+        kept->document++;
+        kept->names_count = kept->texts_length = 0;
+    }
+    deed = compose_event(parser, made->kind, is_lost ? INT32_MAX : node, &place);
+    if (kept_of(parser)->bounds.expanded < ANY_EXPANDED && !is_lost && deed <= POKHVIZI_CLOSES)
+        deed = count_deed(parser, deed, made->kind, &place);
+    if (deed == POKHVIZI_FULL_STACK || deed == POKHVIZI_FULL_SIZES)
+        return out_of_memory(parser);
+    if (deed > POKHVIZI_CLOSES) {
+        parser->error = YAML_PARSER_ERROR;
+        parser->problem = pokhvizi_refusal(deed, &parser->context);
+        memcpy(&parser->problem_mark, &made->start_mark, sizeof parser->problem_mark);
+        return 0;
+    }
+    return !made->has_anchor || place.node == 0 || name_node(parser, anchor, place.node) || out_of_memory(parser);
+}
+
+/* ---- The next event ---- */
 
 static void end_stream(yaml_parser_t *parser)
 {
@@ -530,9 +747,9 @@ OFTEN uint32_t step(yaml_parser_t *parser, const yaml_token_t *token, struct hel
         fact = token->type == YAML_SCALAR_TOKEN ? token->data.scalar.style == YAML_PLAIN_SCALAR_STYLE
                                                 : fact_of(parser, token, held);
     if (__builtin_expect(kept->has_mends, 0))
-        return pokhvizi_step(&kept->steps, kept->states, kept->states_room, marks, kept->marks_room, token->type, fact,
+        return pokhvizi_step(&kept->steps, kept->states, kept->rooms.states, marks, kept->marks_room, token->type, fact,
                              span_of(token), made, fault);
-    return pokhvizi_step_exact(&kept->steps, kept->states, kept->states_room, marks, kept->marks_room, token->type, fact,
+    return pokhvizi_step_exact(&kept->steps, kept->states, kept->rooms.states, marks, kept->marks_room, token->type, fact,
                                span_of(token), made, fault);
 }
 
@@ -541,9 +758,9 @@ SELDOM int follow(yaml_parser_t *parser, uint32_t did, const pokhvizi_fault_t *f
 {
     switch (did) {
     case POKHVIZI_FULL_STATES:
-        return grow_states(parser, 2 * kept_of(parser)->states_room) || out_of_memory(parser);
+        return grow_states(parser) || out_of_memory(parser);
     case POKHVIZI_FULL_MARKS:
-        if (kept_of(parser)->marks_room == kept_of(parser)->max_depth)
+        if (kept_of(parser)->marks_room == kept_of(parser)->bounds.depth)
             return give_too_deep(parser);
         return grow_marks(parser) || out_of_memory(parser);
     case POKHVIZI_FAULT:
@@ -597,8 +814,9 @@ static int has_stopped(const yaml_parser_t *parser)
     return parser->error != YAML_NO_ERROR || parser->stream_end_produced || parser->state == YAML_PARSE_END_STATE;
 }
 
-/* Gives the next event of a parser that has begun and hasn't stopped; 0 where there is an error, and then the event owns nothing. */
-OFTEN int parse(yaml_parser_t *parser, struct held *held, yaml_event_t *event)
+/* Gives the next event of a parser that has begun and hasn't stopped, which is counted if nodes are bounded; 0 where there is an
+ * error, and then the event owns nothing. */
+OFTEN int parse(yaml_parser_t *parser, struct held *held, yaml_event_t *event, int is_counted)
 {
     pokhvizi_event_t made;
     yaml_token_t *token;
@@ -606,5 +824,9 @@ OFTEN int parse(yaml_parser_t *parser, struct held *held, yaml_event_t *event)
 
     token = at_hand(parser);
     did = advance(parser, &token, held, &made);
-    return did != 0 && give_event(parser, &made, did == POKHVIZI_GAVE ? token : NULL, held, event);
+    if (did != POKHVIZI_GAVE)
+        token = NULL;
+    if (did == 0 || (__builtin_expect(is_counted, 0) && !count_event(parser, &made, token, held)))
+        return 0;
+    return give_event(parser, &made, token, held, event);
 }

@@ -15,24 +15,21 @@
  *
  * The environment's POKHVIZI_MAX_DEPTH, POKHVIZI_MAX_NODES and POKHVIZI_MAX_EXPANDED are the most collections that may be open at
  * once, the most nodes of a document, items or pairs of a node, and the most nodes of a document with its aliases written out.
- * What exceeds them is a parser error, "found too many levels", at the token that opens one more, and a composer error, "found too
- * many nodes" or "found too many nodes, with aliases written out", at the node or alias. With the third, an alias within the node
- * that it names is a composer error, "found an alias within the node that it names".
+ * What exceeds them is a parser error, "found too many levels", at the token that opens one more, and "found too many nodes" or
+ * "found too many nodes, with aliases written out" at the node or alias: a composer error of a load, a parser error of a parse, which
+ * counts for that, and keeps the anchors of its document. With the third, an alias within the node that it names is such an error,
+ * "found an alias within the node that it names". A name that begins so and is unknown ends the program, like a bound that is no number.
  *
  * Events and errors are libyaml's. With POKHVIZI_MENDS=1 in the environment they are those of this project's own grammar, which
  * differs at three places (docs/DIFFERENCES.md). */
-#include <pokhvizi/compose.h>
 #include "libyaml_events.h"
 #include <stdio.h>
 
+extern char **environ;
+
 /* ---- The environment ---- */
 
-/* How many collections may be open, how many entries each list of a document may have, and how many nodes a document may have with
- * its aliases written out: UNCOUNTED if there is no such bound. */
-static struct {
-    size_t depth, nodes, expanded;
-} bounds;
-#define UNCOUNTED ((size_t)PTRDIFF_MAX)
+static struct bounds bounds;
 static int has_mends;  /* POKHVIZI_MENDS is set, to something else than 0 */
 static const char *check_file;
 static int is_read;  /* whether the environment was read */
@@ -55,6 +52,27 @@ static size_t bound_of(const char *name, size_t most)
     return bound < most ? bound : most;
 }
 
+/* Ends the process where a variable of the environment begins as these do and is none of them: a bound may be misspelt. The last two
+ * are of the package for Python and of the crate. */
+static void look_for_others(void)
+{
+    static const char *const names[] = {"MAX_DEPTH", "MAX_NODES", "MAX_EXPANDED", "MENDS", "CHECK", "LIBRARY", "DIR"};
+    enum { PREFIX = sizeof "POKHVIZI_" - 1, COUNT = sizeof names / sizeof *names };
+    size_t length, i;
+
+    for (char **at = environ; at != NULL && *at != NULL; at++) {
+        if (strncmp(*at, "POKHVIZI_", PREFIX) != 0)
+            continue;
+        length = strcspn(*at + PREFIX, "=");
+        for (i = 0; i < COUNT && (strlen(names[i]) != length || strncmp(*at + PREFIX, names[i], length) != 0); i++)
+            ;
+        if (i == COUNT) {
+            fprintf(stderr, "libyaml_preload.so: the environment's %.*s is unknown\n", (int)(PREFIX + length), *at);
+            _exit(2);
+        }
+    }
+}
+
 /* As the program begins, or at the first call, if the constructor of another library parses before. No later call looks at what the
  * program may be changing. */
 __attribute__((constructor)) SELDOM void read_environment(void)
@@ -63,11 +81,12 @@ __attribute__((constructor)) SELDOM void read_environment(void)
 
     if (is_read)
         return;
+    look_for_others();
     check_file = check == NULL ? NULL : strdup(check);
     has_mends = mends != NULL && *mends != '\0' && strcmp(mends, "0") != 0;
-    bounds.depth = bound_of("POKHVIZI_MAX_DEPTH", PTRDIFF_MAX / sizeof(yaml_mark_t));
-    bounds.nodes = bound_of("POKHVIZI_MAX_NODES", INT32_MAX);
-    bounds.expanded = bound_of("POKHVIZI_MAX_EXPANDED", UNCOUNTED);
+    bounds.depth = bound_of("POKHVIZI_MAX_DEPTH", ANY_DEPTH);
+    bounds.nodes = bound_of("POKHVIZI_MAX_NODES", ANY_NODES);
+    bounds.expanded = bound_of("POKHVIZI_MAX_EXPANDED", ANY_EXPANDED);
     is_read = 1;
 }
 
@@ -99,7 +118,7 @@ static int begin_here(yaml_parser_t *parser)
 {
     if (!is_read)
         read_environment();
-    if (!begin(parser, bounds.depth, has_mends))
+    if (!begin(parser, &bounds, has_mends))
         return 0;
     note_use();
     return 1;
@@ -114,7 +133,8 @@ __attribute__((visibility("default"))) int yaml_parser_parse(yaml_parser_t *pars
     assert(parser);
     assert(event);
     stopped = has_stopped(parser);
-    if (!stopped && (is_new(parser) && !begin_here(parser) ? out_of_memory(parser) : parse(parser, &held, event)))
+    if (!stopped && (is_new(parser) && !begin_here(parser) ? out_of_memory(parser)
+                                                           : parse(parser, &held, event, (int)kept_of(parser)->is_counted)))
         return 1;
     memset(event, 0, sizeof *event);
     forget(&held);
@@ -528,7 +548,7 @@ __attribute__((visibility("default"))) int yaml_parser_load(yaml_parser_t *parse
     else if (has_stopped(parser))
         loaded = parser->error == YAML_NO_ERROR;
     else
-        loaded = (bounds.expanded == UNCOUNTED ? load_uncounted : load_counted)(parser, &loading, &held, document);
+        loaded = (bounds.expanded == ANY_EXPANDED ? load_uncounted : load_counted)(parser, &loading, &held, document);
     forget(&held);
     if (!loaded)
         yaml_document_delete(document);

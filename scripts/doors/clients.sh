@@ -218,6 +218,9 @@ preload() {
             return 1
         fi
     done
+    env POKHVIZI_MAX_NODE=1 "LD_PRELOAD=$preloaded" "$work/preload_calls" > "$work/calls" 2>&1
+    [ "$? $(cat "$work/calls")" = "2 libyaml_preload.so: the environment's POKHVIZI_MAX_NODE is unknown" ] ||
+        { echo "an unknown bound: $(cat "$work/calls")"; return 1; }
     for words in 'MAX_DEPTH=2x' 'MAX_NODES=-1' 'MAX_EXPANDED=1e6'; do
         env "POKHVIZI_$words" "LD_PRELOAD=$preloaded" "$work/preload_calls" > "$work/calls" 2>&1
         [ "$? $(cat "$work/calls")" = "2 libyaml_preload.so: POKHVIZI_${words%=*} is no number: ${words#*=}" ] ||
@@ -232,7 +235,7 @@ preload() {
 all_lists() {
     words='-O1 -g -D_GNU_SOURCE -Wall -Wextra -Werror -Ibindings/c/include -fsanitize=address,undefined -fno-sanitize-recover=all'
     mkdir -p "$work/turned/scripts/doors/clients" "$work/turned/bindings/c"
-    cp scripts/doors/clients/all_lists.c "$work/turned/scripts/doors/clients"
+    cp scripts/doors/clients/all_lists.c scripts/doors/clients/token_lists.h "$work/turned/scripts/doors/clients"
     cp bindings/c/libyaml_preload.c "$work/turned/bindings/c"
     sed 's/^        free(held->anchor);$//' bindings/c/libyaml_events.h > "$work/turned/bindings/c/libyaml_events.h"
     ! cmp -s bindings/c/libyaml_events.h "$work/turned/bindings/c/libyaml_events.h" || { echo "nothing is turned"; return 1; }

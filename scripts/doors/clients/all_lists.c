@@ -4,7 +4,7 @@
  *
  * Events, documents and errors must be libyaml's, with all marks and texts, if parsing is strict; without that they may only differ
  * after a token that a strict parser refuses. In lists of up to REFUSED tokens each allocation fails in turn, with and without
- * bounds; for those of up to ODD, parses, loads and scans follow one another in each order, and the parser is deleted twice. After each
+ * bounds, which end a parse where they end a load, in the same words; for those of up to ODD, parses, loads and scans follow one another in each order, and the parser is deleted twice. After each
  * run no byte may be left. Lists that begin with an error aren't made longer. The list's tokens have fifteen texts, among which
  * are two anchors, a declared and an undeclared handle, and a tag of one byte.
  *
@@ -54,101 +54,7 @@ typedef int loads(yaml_parser_t *parser, yaml_document_t *document);
 static parses *libyaml_parse;
 static loads *libyaml_load;
 
-/* ---- The scanner ---- */
-
-static const struct token {
-    yaml_token_type_t type;
-    const char *first, *second;
-    int number, other;  /* an encoding or a style; a version */
-} TOKENS[] = {
-    {YAML_STREAM_START_TOKEN, NULL, NULL, YAML_UTF8_ENCODING, 0},
-    {YAML_STREAM_END_TOKEN, NULL, NULL, 0, 0},
-    {YAML_VERSION_DIRECTIVE_TOKEN, NULL, NULL, 1, 1},
-    {YAML_VERSION_DIRECTIVE_TOKEN, NULL, NULL, 2, 0},
-    {YAML_TAG_DIRECTIVE_TOKEN, "!a!", "tag:a,", 0, 0},
-    {YAML_TAG_DIRECTIVE_TOKEN, "!!", "tag:b,", 0, 0},
-    {YAML_DOCUMENT_START_TOKEN, NULL, NULL, 0, 0},
-    {YAML_DOCUMENT_END_TOKEN, NULL, NULL, 0, 0},
-    {YAML_BLOCK_SEQUENCE_START_TOKEN, NULL, NULL, 0, 0},
-    {YAML_BLOCK_MAPPING_START_TOKEN, NULL, NULL, 0, 0},
-    {YAML_BLOCK_END_TOKEN, NULL, NULL, 0, 0},
-    {YAML_FLOW_SEQUENCE_START_TOKEN, NULL, NULL, 0, 0},
-    {YAML_FLOW_SEQUENCE_END_TOKEN, NULL, NULL, 0, 0},
-    {YAML_FLOW_MAPPING_START_TOKEN, NULL, NULL, 0, 0},
-    {YAML_FLOW_MAPPING_END_TOKEN, NULL, NULL, 0, 0},
-    {YAML_BLOCK_ENTRY_TOKEN, NULL, NULL, 0, 0},
-    {YAML_FLOW_ENTRY_TOKEN, NULL, NULL, 0, 0},
-    {YAML_KEY_TOKEN, NULL, NULL, 0, 0},
-    {YAML_VALUE_TOKEN, NULL, NULL, 0, 0},
-    {YAML_ALIAS_TOKEN, "x", NULL, 0, 0},
-    {YAML_ANCHOR_TOKEN, "x", NULL, 0, 0},
-    {YAML_ANCHOR_TOKEN, "y", NULL, 0, 0},
-    {YAML_TAG_TOKEN, "", "verbatim", 0, 0},
-    {YAML_TAG_TOKEN, "!", "", 0, 0},
-    {YAML_TAG_TOKEN, "!a!", "s", 0, 0},
-    {YAML_TAG_TOKEN, "!!", "a tag in full that is too long for the room that there is for a short one", 0, 0},
-    {YAML_TAG_TOKEN, "", "", 0, 0},
-    {YAML_SCALAR_TOKEN, "plain", NULL, YAML_PLAIN_SCALAR_STYLE, 0},
-    {YAML_SCALAR_TOKEN, "", NULL, YAML_DOUBLE_QUOTED_SCALAR_STYLE, 0},
-};
-enum { KINDS = sizeof TOKENS / sizeof *TOKENS, MOST = 12 };
-static int list[MOST], length, given, wants_more;
-
-static yaml_char_t *text_of(const char *from)
-{
-    yaml_char_t *made = from == NULL ? NULL : malloc(strlen(from) + 1);
-
-    return made == NULL ? NULL : memcpy(made, from, strlen(from) + 1);
-}
-
-/* In the place of libyaml's function of this name, for both parsers. */
-int yaml_parser_fetch_more_tokens(yaml_parser_t *parser)
-{
-    const struct token *next = &TOKENS[list[given]];
-    yaml_token_t token = {.type = next->type};
-    yaml_char_t *first, *second;
-
-    parser->token_available = parser->tokens.head != parser->tokens.tail;
-    if (parser->token_available)
-        return 1;
-    if (given == length) {
-        wants_more = 1;
-        parser->error = YAML_SCANNER_ERROR;
-        return 0;
-    }
-    first = text_of(next->first);
-    second = text_of(next->second);
-    if ((first == NULL) != (next->first == NULL) || (second == NULL) != (next->second == NULL)) {
-        free(first);
-        free(second);
-        if (next->type != YAML_TAG_TOKEN)  /* of whose texts libyaml's scanner doesn't say so */
-            parser->error = YAML_MEMORY_ERROR;
-        return 0;
-    }
-    token.start_mark = (yaml_mark_t){10 * given + 1, given + 1, 3 * given + 2};
-    token.end_mark = (yaml_mark_t){10 * given + 5, given + 1, 3 * given + 7};
-    switch (next->type) {
-    case YAML_STREAM_START_TOKEN:
-        token.data.stream_start.encoding = next->number;
-        parser->stream_start_produced = 1;
-        break;
-    case YAML_VERSION_DIRECTIVE_TOKEN:
-        token.data.version_directive.major = next->number;
-        token.data.version_directive.minor = next->other;
-        break;
-    case YAML_SCALAR_TOKEN:
-        token.data.scalar.value = first;
-        token.data.scalar.length = strlen(next->first);
-        token.data.scalar.style = next->number;
-        break;
-    default:  /* one or two texts, or none */
-        token.data.tag.handle = first;
-        token.data.tag.suffix = second;
-    }
-    given++;
-    *parser->tokens.tail++ = token;
-    return parser->token_available = 1;
-}
+#include "token_lists.h"
 
 static int begin_list(yaml_parser_t *parser)
 {
@@ -262,7 +168,7 @@ static size_t before_error(const struct told *told)
 
 /* ---- Runs ---- */
 
-static long lists, refusals, calls, wrong;
+static long lists, longer_lists, refusals, calls, bounds_of_parses, wrong;
 
 static void expect(int is, const char *what, const struct told *one, const struct told *other)
 {
@@ -368,24 +274,56 @@ static void refuse_in_turn(int wants_documents)
     }
 }
 
-/* Within bounds a run is one without them, up to an error. */
-static void bound_all(void)
+/* What was told after the number of the error, or NULL. */
+static const char *words_of_error(const struct told *told)
 {
-    static struct told whole, told;
+    const char *at = strstr(told->text, "error ");
+
+    return at == NULL ? NULL : at + sizeof "error 4 " - 1;
+}
+
+/* The error is that of a bound on nodes. */
+static int is_of_nodes(const struct told *told)
+{
+    return strstr(told->text, "found too many nodes") != NULL || strstr(told->text, "found an alias within") != NULL;
+}
+
+/* A parse within bounds has a load's error of a bound on nodes, as a parser's. It goes on after two errors of a load, and may have one
+ * of its own then. */
+static void expect_same_bound(const struct told *parse, const struct told *load)
+{
+    int goes_on = strstr(load->text, "undefined alias") != NULL || strstr(load->text, "second occurrence") != NULL;
+
+    expect(!is_of_nodes(load) || (is_of_nodes(parse) && strcmp(words_of_error(parse), words_of_error(load)) == 0),
+           "a parse goes on past a load's bound", parse, load);
+    expect(!is_of_nodes(parse) || is_of_nodes(load) || goes_on, "a parse has a bound of its own", parse, load);
+    expect(!is_of_nodes(parse) || strstr(parse->text, "error 4 ") != NULL, "a parse has a parser error", parse, NULL);
+    bounds_of_parses += is_of_nodes(parse);
+}
+
+/* Within bounds a run is one without them, up to an error; in each an allocation fails in turn, if that is wanted. */
+static void bound_all(int refuses)
+{
+    static const struct bounds BOUNDS[] = {{0, 0, 0}, {1, 1, 1}, {2, 2, 2}, {ANY_DEPTH, ANY_NODES, 6}, {ANY_DEPTH, 3, ANY_EXPANDED}};
+    enum { COUNT = sizeof BOUNDS / sizeof *BOUNDS };
+    static struct told whole, told, parses[COUNT];
 
     for (int wants_documents = 0; wants_documents < 2; wants_documents++) {
         run(&whole, wants_documents);
-        for (size_t bound = 0; bound < 3; bound++) {
-            bounds.depth = bounds.nodes = bounds.expanded = bound;
+        for (int bound = 0; bound < COUNT; bound++) {
+            bounds = BOUNDS[bound];
             run(&told, wants_documents);
             expect(strcmp(told.text, whole.text) == 0 || strstr(told.text, "found too many") != NULL ||
                        strstr(told.text, "found an alias within") != NULL,
                    "within bounds", &told, &whole);
             expect(memcmp(told.text, whole.text, before_error(&told)) == 0, "before a bound", &told, &whole);
-            refuse_in_turn(wants_documents);
-            bounds.depth = PTRDIFF_MAX / sizeof(yaml_mark_t);
-            bounds.nodes = INT32_MAX;
-            bounds.expanded = UNCOUNTED;
+            if (wants_documents)
+                expect_same_bound(&parses[bound], &told);
+            else
+                parses[bound] = told;
+            if (refuses)
+                refuse_in_turn(wants_documents);
+            bounds = (struct bounds){ANY_DEPTH, ANY_NODES, ANY_EXPANDED};
         }
     }
 }
@@ -442,7 +380,7 @@ static int try_list(int refused, int odd)
     if (length <= refused) {
         refuse_in_turn(0);
         refuse_in_turn(1);
-        bound_all();
+        bound_all(1);
     }
     if (length <= odd)
         call_in_each_order();
@@ -461,6 +399,30 @@ static void try_longer(int most, int refused, int odd)
     length--;
 }
 
+/* Bounds on nodes need longer lists: of tokens of these kinds, after the first. */
+static void bound_longer(int most, int refused)
+{
+    static const yaml_token_type_t FEW[] = {YAML_FLOW_SEQUENCE_START_TOKEN, YAML_FLOW_SEQUENCE_END_TOKEN, YAML_FLOW_MAPPING_START_TOKEN,
+                                            YAML_FLOW_MAPPING_END_TOKEN, YAML_FLOW_ENTRY_TOKEN, YAML_KEY_TOKEN, YAML_ALIAS_TOKEN,
+                                            YAML_ANCHOR_TOKEN, YAML_SCALAR_TOKEN};
+    static struct told told;
+
+    run(&told, 0);
+    if (length == 1 || wants_more)
+        bound_all(length <= refused);
+    if (!wants_more || length == most)
+        return;
+    longer_lists++;
+    length++;
+    for (size_t i = 0; i < sizeof FEW / sizeof *FEW; i++)
+        for (int kind = 0; kind < KINDS; kind++)
+            if (TOKENS[kind].type == FEW[i] && (kind == 0 || TOKENS[kind - 1].type != FEW[i] || FEW[i] == YAML_ANCHOR_TOKEN)) {
+                list[length - 1] = kind;
+                bound_longer(most, refused);
+            }
+    length--;
+}
+
 int main(int count, char **words)
 {
     int most = count == 4 ? atoi(words[1]) : 0;
@@ -473,7 +435,10 @@ int main(int count, char **words)
     *(void **)&libyaml_load = dlsym(RTLD_NEXT, "yaml_parser_load");
     read_environment();
     try_longer(most, atoi(words[2]), atoi(words[3]));
-    printf("%ld lists of up to %d tokens, %ld failed allocations, %ld calls in each order%s\n", lists, most, refusals, calls,
-           wrong == 0 ? "" : ": wrong");
+    length = 1;
+    list[0] = 0;
+    bound_longer(most + 2, atoi(words[2]) + 1);
+    printf("%ld lists of up to %d tokens, %ld failed allocations, %ld parses to a bound on nodes, %ld calls in each order%s\n", lists, most,
+           refusals, bounds_of_parses, calls, wrong == 0 ? "" : ": wrong");
     return wrong != 0;
 }

@@ -605,7 +605,14 @@ static void check_bounds(void)
     check_bound("[&a [b, b, b, b, b, b, b, b, b, b, b, b, b, b, b, b, b, b, b, b, b, b, b, b], *a]", 1, 0, YAML_COMPOSER_ERROR, large, 78);
     check_bound("--- &a [x, y]\n--- [&a [x, *a]]\n", 1, 3, YAML_COMPOSER_ERROR, endless, 26);
     check_bound("&a {k: *a}", 1, 0, YAML_COMPOSER_ERROR, endless, 7);
-    check_bound("&a {k: *a}", 0, 8, YAML_NO_ERROR, NULL, 0);
+    check_bound(items("b", 29), 0, 35, YAML_NO_ERROR, NULL, 0);
+    check_bound(items("b", 30), 0, 32, YAML_PARSER_ERROR, nodes, 92);
+    check_bound(items("*a", 31), 0, 33, YAML_PARSER_ERROR, nodes, 124);
+    check_bound("[&a [b, c], *a, *a, *a, *a, *a, *a, *a, *a, *a, *a, *a, d, *a]", 0, 19, YAML_PARSER_ERROR, large, 59);
+    check_bound("--- &a [x, y]\n--- [&a [x, *a]]\n", 0, 11, YAML_PARSER_ERROR, endless, 26);
+    check_bound("&a {k: *a}", 0, 4, YAML_PARSER_ERROR, endless, 7);
+    check_bound("[*b, *b, &a [x, *b], &a y, *a]", 0, 14, YAML_NO_ERROR, NULL, 0);
+    check_bound(items("*b", 31), 0, 33, YAML_PARSER_ERROR, nodes, 124);
     long refused = check_refused_loads(items("b", 29), 30);
     if (!wrong)
         printf("bounds hold, %ld allocations refused within them\n", refused);

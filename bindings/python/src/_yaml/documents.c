@@ -260,7 +260,7 @@ static PyObject *compose_events(struct document *document)
     if (find_hooks(document) < 0)
         return NULL;
     while (deed != POKHVIZI_ENDS) {
-        if (take_event(parser) < 0)
+        if (take_event(parser, 0) < 0)
             return NULL;
         if (parser->event.type == YAML_NO_EVENT)
             break;

@@ -4,19 +4,21 @@
 
 int begin_events(parser_object *parser)
 {
-    if (begin(&parser->scanner, parser->max_depth, parser->has_mends))
+    const struct bounds bounds = {parser->max_depth, parser->max_nodes, parser->max_expanded};
+
+    if (begin(&parser->scanner, &bounds, parser->has_mends))
         return 0;
     PyErr_NoMemory();
     return -1;
 }
 
-int take_event(parser_object *parser)
+int take_event(parser_object *parser, int is_counted)
 {
     struct held held = {0};
 
     if (parser->event.type != YAML_NO_EVENT || has_stopped(&parser->scanner))
         return 0;
-    if (parse(&parser->scanner, &held, &parser->event))
+    if (parse(&parser->scanner, &held, &parser->event, is_counted && kept_of(&parser->scanner)->is_counted))
         return 0;
     parser->event.type = YAML_NO_EVENT;
     forget(&held);

@@ -29,6 +29,11 @@
 #include <string.h>
 #include <yaml.h>
 
+/* How many entries a stack has room for at first. A test makes it one. */
+#ifndef FIRST_ROOM
+#define FIRST_ROOM(usual) (usual)
+#endif
+
 #define LENGTH(array) (sizeof(array) / sizeof *(array))
 
 /* ---- The module ---- */
@@ -189,8 +194,8 @@ PyObject *encoding_of(const parser_object *parser, yaml_encoding_t encoding);
 /* Begins the events of a stream. */
 int begin_events(parser_object *parser);
 
-/* Has an event at hand, unless the stream has ended: then it is of no type. */
-int take_event(parser_object *parser);
+/* Has an event at hand, unless the stream has ended: then it is of no type. Bounds on nodes end it, unless the caller counts them. */
+int take_event(parser_object *parser, int is_counted);
 
 /* Lets the event go that is at hand. */
 void leave_event(parser_object *parser);
@@ -226,11 +231,11 @@ struct hooks {
 struct document {
     parser_object *parser;
     pokhvizi_composer_t composer;
-    pokhvizi_open_t *stack, first_stack[24];
-    struct entry *entries, first_entries[32]; /* by ids, from 1 */
+    pokhvizi_open_t *stack, first_stack[FIRST_ROOM(24)];
+    struct entry *entries, first_entries[FIRST_ROOM(32)]; /* by ids, from 1 */
     size_t stack_room, entries_room, count;
     pokhvizi_size_t size; /* of the nodes so far, with their aliases written out, if that is bounded */
-    uint64_t *sizes, first_sizes[32];
+    uint64_t *sizes, first_sizes[FIRST_ROOM(32)];
     size_t sizes_room;
     PyObject *anchors; /* ids by texts, or NULL before the first */
     struct hooks hooks;

@@ -78,7 +78,7 @@ static PyObject *next_event(parser_object *parser)
     PyObject *event = parser->current_event;
 
     parser->current_event = NULL;
-    if (event != NULL || take_event(parser) < 0)
+    if (event != NULL || take_event(parser, 1) < 0)
         return event;
     event = event_object(parser);
     leave_event(parser);
@@ -96,11 +96,11 @@ static PyObject *peeked_event(parser_object *parser)
 /* Passes the stream's start, and has the event after it at hand: whether a document comes. */
 static int has_document(parser_object *parser)
 {
-    if (take_event(parser) < 0)
+    if (take_event(parser, 1) < 0)
         return -1;
     if (parser->event.type == YAML_STREAM_START_EVENT) {
         leave_event(parser);
-        if (take_event(parser) < 0)
+        if (take_event(parser, 1) < 0)
             return -1;
     }
     return parser->event.type != YAML_NO_EVENT && parser->event.type != YAML_STREAM_END_EVENT;
@@ -218,7 +218,7 @@ static int find_bound(parser_object *parser, PyObject *name, size_t most, size_t
     long long number = 0;
 
     if (found != NULL && found != Py_None)
-        number = PyLong_Check(found) ? PyLong_AsLongLongAndOverflow(found, &is_larger) : -1;
+        number = PyLong_Check(found) && !PyBool_Check(found) ? PyLong_AsLongLongAndOverflow(found, &is_larger) : -1;
     if (number < 0 && is_larger <= 0) {
         PyErr_Format(PyExc_ValueError, "%U has to be None or a whole number from 0 on, and is %R", name,
                      found);
