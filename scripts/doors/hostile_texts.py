@@ -45,6 +45,7 @@ TEXTS = {
     "no_key": ": x\n",
     "bomb": bomb(10, 10),
     "within_itself": "&a [x, *a]\n",
+    "no_anchor": "[*a, *a, &b x, &b [y, z], *b]\n",
     "nodes": "- a\n" * 1000000,
     "anchors": "".join("- &a%d x\n- *a%d\n" % (n, n) for n in range(50000)),
     "directives": "".join("%%TAG !h%d! tag:example.org,2000:%d/\n" % (n, n) for n in range(16000)) + "--- !h7!x a\n",

@@ -18,16 +18,18 @@ pub fn set_max_depth(depth: usize) {
     DEPTH.store(depth, Relaxed);
 }
 
-/// Sets how many nodes a document may have, and how many items or pairs each node. One more is the composer's fault
-/// `found too many nodes`. The most is 2147483647.
+/// Sets how many nodes a document may have, and how many items or pairs each node. One more is the fault `found too many nodes`: the
+/// composer's of a load, the parser's of a parse. The most is 2147483647.
 pub fn set_max_nodes(nodes: u32) {
     NODES.store(nodes.min(i32::MAX as u32), Relaxed);
 }
 
 /// Sets how many nodes a document may have with its aliases written out: each alias stands for a copy of the node that it names.
-/// The node or alias with which there are more is the composer's fault `found too many nodes, with aliases written out`, and an
-/// alias within the node that it names the fault `found an alias within the node that it names`. From 9223372036854775807 on there
-/// is no such bound.
+/// The node or alias with which there are more is the fault `found too many nodes, with aliases written out`, and an alias within the
+/// node that it names the fault `found an alias within the node that it names`: the composer's of a load, the parser's of a parse. From
+/// 9223372036854775807 on there is no such bound.
+///
+/// A parse has no other fault of a composer: an anchor names the last node that has it, and an alias of none counts for its list alone.
 pub fn set_max_expanded(nodes: u64) {
     EXPANDED.store(nodes, Relaxed);
 }

@@ -92,6 +92,9 @@ pub struct Composer {
     max_expanded: Option<u64>,
 }
 
+/// A node that an alias may be said to name where none has its anchor: it is then an entry of its list, and no more.
+const NOBODY: i32 = i32::MAX;
+
 impl Composer {
     const ROOM: usize = 16;
 
@@ -146,6 +149,41 @@ impl Composer {
                 other => Deed::of_few(other, fact),
             };
         }
+    }
+
+    /// Whether there is a bound on nodes.
+    #[inline]
+    pub fn is_bounded(&self) -> bool {
+        self.max_nodes < i32::MAX as u32 || self.max_expanded.is_some()
+    }
+
+    /// Counts an event by its kind and the anchor of its node or alias, that is no part of a load. Other refusals of a load are the
+    /// caller's: an anchor names the last node that has it, and an alias without one no node.
+    #[cold]
+    pub fn count(&mut self, kind: u8, anchor: Option<&[u8]>) -> Result<(), Refusal> {
+        let mut place = Place::default();
+        if kind == 3 {
+            self.forget_anchors();
+            self.begin();
+        }
+        match (kind, anchor.map_or(0, |anchor| self.node_of(anchor))) {
+            (5, 0) => {
+                let expansion = self.expansion.take();
+                let deed = self.compose(kind, NOBODY, &mut place);
+                self.expansion = expansion;
+                deed?;
+            }
+            (5, node) => {
+                self.compose(kind, node, &mut place)?;
+            }
+            _ => {
+                self.compose(kind, 0, &mut place)?;
+                if let Some(anchor) = anchor.filter(|_| place.node != 0) {
+                    self.carry(Text::copy(anchor), place.node);
+                }
+            }
+        }
+        Ok(())
     }
 
     /// Makes a node the carrier of its anchor.

@@ -66,7 +66,7 @@ fn bounds_hold() {
         ("- &a b\n- *a\n- *a\n- *a\n- *a\n", 24),
     ] {
         assert_eq!(unsafe { told(text, true) }.1, format!("found too many nodes {at}"));
-        assert_eq!(unsafe { told(text, false) }.1, "");
+        assert_eq!(unsafe { told(text, false) }.1, format!("found too many nodes {at}"));
     }
     bounds::set_max_nodes(u32::MAX);
     unsafe { bounds_of_the_beginning_hold() };
@@ -131,7 +131,7 @@ fn expansion_is_bounded() {
         assert_eq!(unsafe { told(text, true) }, (1, String::new()), "{text}");
         bounds::set_max_expanded(size - 1);
         assert_eq!(unsafe { told(text, true) }, (0, format!("{large} {at}")), "{text}");
-        assert_eq!(unsafe { told(text, false) }.1, "");
+        assert_eq!(unsafe { told(text, false) }.1, format!("{large} {at}"), "{text}");
     }
     bounds::set_max_expanded(3);
     assert_eq!(unsafe { told("--- [a, b]\n--- [c, d]\n", true) }, (2, String::new()));
@@ -145,5 +145,22 @@ fn expansion_is_bounded() {
     ] {
         bounds::set_max_expanded(bound);
         assert_eq!(unsafe { told("&a [x, *a]", true) }.1, fault);
+        assert_eq!(unsafe { told("&a [x, *a]", false) }.1, fault);
     }
+    // A parse goes on where a load has another fault.
+    bounds::set_max_expanded(6);
+    for (text, fault, at) in [
+        ("[*a, *a, *a, *a, *a, *a, *a]", "found undefined alias", 1),
+        ("[&a [x, y], &a z, *a]", "second occurrence", 12),
+    ] {
+        assert_eq!(unsafe { told(text, true) }.1, format!("{fault} {at}"));
+        assert_eq!(unsafe { told(text, false) }.1, "");
+    }
+    assert_eq!(unsafe { told("[&a [x, y], &a z, *a, w]", false) }.1, format!("{large} 22"));
+    bounds::set_max_nodes(3);
+    assert_eq!(
+        unsafe { told("[*a, *a, *a, *a]", false) }.1,
+        "found too many nodes 13"
+    );
+    bounds::set_max_nodes(u32::MAX);
 }

@@ -174,14 +174,15 @@ class Stops(Exception):
 class Document:
     """The lists of a document that is composed, and its anchors."""
 
-    def __init__(self, nodes, expanded, sizes):
+    def __init__(self, nodes, expanded, sizes, loads):
         self.most = self.left = float("inf") if nodes is None else nodes
         self.expanded, self.sizes = expanded, sizes  # those of the document up to each event
-        self.anchors, self.open = set(), []
+        self.anchors, self.open, self.loads = set(), [], loads
 
     def take(self, kind, start, anchor):
-        """Takes an event that is a node or an alias; returns whether it is no error of another kind."""
-        if kind == ALIAS and anchor not in self.anchors:
+        """Takes an event that is a node or an alias; returns whether it is no error of another kind, which ends a load."""
+        is_known = anchor in self.anchors
+        if self.loads and kind == ALIAS and not is_known:
             return False
         if self.open:
             entry = self.open[-1]
@@ -191,7 +192,7 @@ class Document:
         if kind != ALIAS:
             if self.left == 0:
                 raise Stops(5, "found too many nodes", start)
-            if anchor in self.anchors:
+            if self.loads and is_known:
                 return False
             self.left -= 1
             self.anchors |= {anchor} - {"-"}
@@ -218,7 +219,8 @@ def tree_of(node, children, known, within):
 
 
 def sizes_of(events):
-    """How many nodes a document has with its aliases written out, at each node and alias, for each document of a text."""
+    """How many nodes a document has with its aliases written out, at each node and alias, for each document of a text. An anchor names
+    the last node that has it, and an alias without one is none: a load ends there."""
     documents, children, carriers, open_ = [], [], {}, []
     for line in events:
         words = line.split()
@@ -233,19 +235,18 @@ def sizes_of(events):
                 node = carriers.get(anchor)
             else:
                 children.append([])
-                carriers.setdefault(anchor, node)
-            if node is None:
-                break  # an error of another kind
-            if open_:
+                carriers[anchor] = node
+            if open_ and node is not None:
                 children[open_[-1]].append(node)
             if int(words[0]) in STARTS:
                 open_.append(node)
-            documents[-1].append(tree_of(0, children, {}, frozenset()))
+            documents[-1].append(tree_of(0, children, {}, frozenset()) if children else 0)
     return documents
 
 
 def wanted(events, free, opens, sizes, bounds, loads):
-    """The lines that a text gives within bounds; `free` are those without, of documents if they are loaded."""
+    """The lines that a text gives within bounds; `free` are those without, of documents if they are loaded. A bound on nodes is the
+    composer's error of a load, and else the parser's."""
     collections, document, ended, given = [], None, 0, []
     depth, nodes, expanded = bounds
     try:
@@ -261,21 +262,21 @@ def wanted(events, free, opens, sizes, bounds, loads):
                 collections.append(at is not None)
             elif kind in ENDS:
                 collections.pop()
-            if loads:
-                if kind == 3:
-                    document = Document(nodes, expanded, iter(sizes[ended]))
-                elif kind == 4:
-                    ended += 1
-                elif kind in ENDS:
-                    document.open.pop()
-                elif kind in (ALIAS, SCALAR, *STARTS) and not document.take(kind, start, anchor):
-                    return free
+            if kind == 3:
+                document = Document(nodes, expanded, iter(sizes[ended]), loads)
+            elif kind == 4:
+                ended += 1
+            elif kind in ENDS:
+                document.open.pop()
+            elif kind in (ALIAS, SCALAR, *STARTS) and not document.take(kind, start, anchor) and loads:
+                return free
             given.append(line)
     except Stops as stop:
+        number, *words = stop.args
         if loads:
             places = [number for number, line in enumerate(free) if line.startswith(("document", "error"))] + [len(free)]
             given = free[:places[ended]]
-        return given + ["error %d %s %s - 0:0:0" % stop.args]
+        return given + ["error %d %s %s - 0:0:0" % (number if loads else 4, *words)]
     return free
 
 

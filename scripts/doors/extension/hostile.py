@@ -123,6 +123,14 @@ def bounded(base, text, act, **bounds):
     return said(lambda: len(list(act(text, type("Bounded", (base,), bounds)))))
 
 
+def events_to(base, text, **bounds):
+    """The error that ends the events of a text, and its index."""
+    try:
+        list(yaml.parse(text, type("Bounded", (base,), bounds)))
+    except yaml.MarkedYAMLError as failure:
+        return "%s: %s" % (type(failure).__name__, failure.problem), failure.problem_mark.index
+
+
 def bounds_of(base):
     for levels in (1, 2, 31, 32, 33, 63, 64, 65, 200):
         for text in ("[" * levels + "]" * levels, "- " * levels + "x", "? " * (levels - 1) + "- x"):
@@ -140,8 +148,15 @@ def bounds_of(base):
         yaml.compose("- [a]\n- [b, [c]]", type("Bounded", (base,), {"max_depth": 2}))
     except yaml.YAMLError as failure:
         expect("where it is", (failure.problem_mark.line, failure.problem_mark.column, failure.context), (1, 6, None))
+    for text, at in (("[a, b, c, d]", 10), ("- &a b\n- *a\n- *a\n- *a\n- *a\n", 24), ("[*a, *a, *a, *a, *a]", 17)):
+        expect("events of more nodes than may be", events_to(base, text, max_nodes=4), ("ParserError: found too many nodes", at))
+    for text, problem, at in (("[&a [b, c], *a, d]", "found too many nodes, with aliases written out", 16),
+                              ("&a [b, *a]", "found an alias within the node that it names", 7)):
+        expect("events of a tree that is too large", events_to(base, text, max_expanded=7), ("ParserError: " + problem, at))
+    expect("events of anchors that a composer refuses", bounded(base, "[*a, *a, *a, &b [c], &b d, *b]", yaml.parse, max_expanded=5),
+           14)
     for name in "max_depth", "max_nodes", "max_expanded":
-        for bound in -1, "x", 1.5, -1 << 70:
+        for bound in -1, "x", 1.5, -1 << 70, True:
             expect("no bound", bounded(base, "a", yaml.compose_all, **{name: bound}),
                    "ValueError: %s has to be None or a whole number from 0 on, and is %r" % (name, bound))
         for bound in (1 << 62, 1 << 63, 1 << 64, 1 << 70):
@@ -187,7 +202,7 @@ def expanded_by(base):
         expect("larger than may be", bounded(base, text, yaml.compose_all, max_expanded=size - 1),
                "ComposerError: " + many)
     expect("each document has the bound", bounded(base, "[a]\n--- [b]\n", yaml.compose_all, max_expanded=2), 2)
-    expect("events have none", bounded(base, "[a, b]", yaml.parse, max_expanded=0), 8)
+    expect("events of none", events_to(base, "[a, b]", max_expanded=0), ("ParserError: " + many, 0))
     expect("at an alias", place_of_error(base, "- &a [x, y]\n- *a\n", max_expanded=6), (1, 2, many))
     expect("at a node", place_of_error(base, "- &a [x, y]\n- *a\n", max_expanded=3), (0, 9, many))
     expect("within itself", place_of_error(base, "- &a [x, *a]", max_expanded=100),

@@ -89,7 +89,7 @@ def pointer(buffer):
 def bound_of(loader, name, most):
     """Returns the loader's bound of this name, or `most` if it is None or a larger number."""
     bound = getattr(loader, name, None)
-    if bound is not None and (not isinstance(bound, int) or bound < 0):
+    if bound is not None and (not isinstance(bound, int) or isinstance(bound, bool) or bound < 0):
         raise ValueError("%s has to be None or a whole number from 0 on, and is %r" % (name, bound))
     return most if bound is None else min(bound, most)
 
@@ -160,6 +160,72 @@ class Marks:
         self.few = self.FEW + 2 * len(self.all)
 
 
+class Open:
+    """A collection that is open: the cell of its size, how many nodes there were before it, and the parts of its entries."""
+
+    def __init__(self, cell, before, is_mapping):
+        self.cell, self.before, self.is_mapping, self.parts = cell, before, is_mapping, 0
+
+    def put(self, most):
+        """Adds an item, a key or a value; returns whether there may be so many entries."""
+        self.parts += 1
+        return (self.parts + self.is_mapping) // (1 + self.is_mapping) <= most
+
+
+class Count:
+    """What the events of a document are counted by within bounds on nodes. Other errors of composers are the caller's: an anchor names
+    its last node, and an alias without one is an entry of its list alone."""
+
+    def __init__(self, most, expanded):
+        self.most, self.expanded = most, expanded
+        self.begin_document()
+
+    def begin_document(self):
+        self.left, self.total, self.cells, self.open = self.most, 0, {}, []
+
+    def take(self, event):
+        """Takes an event, unless the document would then be larger than it may."""
+        if isinstance(event, yaml.DocumentStartEvent):
+            self.begin_document()
+        elif isinstance(event, yaml.CollectionEndEvent):
+            if self.open:  # else a composer began it, and was left by an error of others
+                ended = self.open.pop()
+                ended.cell[0] = self.total - ended.before
+        elif isinstance(event, yaml.NodeEvent):
+            is_alias = isinstance(event, yaml.AliasEvent)
+            self.left -= not is_alias
+            if self.left < 0 or self.open and not self.open[-1].put(self.most):
+                self.refuse("found too many nodes", event)
+            if is_alias:
+                self.add(self.cells.get(event.anchor, [0])[0], event)
+            else:
+                self.add(1, event)
+                self.begin_node(event)
+
+    def begin_node(self, event):
+        """Begins a node, whose size isn't known if it is a collection."""
+        is_scalar = isinstance(event, yaml.ScalarEvent)
+        cell = [1 if is_scalar else None]
+        if event.anchor is not None:
+            self.cells[event.anchor] = cell
+        if not is_scalar:
+            self.open.append(Open(cell, self.total - 1, isinstance(event, yaml.MappingStartEvent)))
+
+    def add(self, size, event):
+        """Adds so many nodes, if there is a bound with aliases written out."""
+        if self.expanded == sys.maxsize:
+            return
+        if size is None:
+            self.refuse("found an alias within the node that it names", event)
+        if self.total + size > self.expanded:
+            self.refuse("found too many nodes, with aliases written out", event)
+        self.total += size
+
+    @staticmethod
+    def refuse(problem, event):
+        raise yaml.parser.ParserError(None, None, problem, event.start_mark)
+
+
 def is_of_next(failure):
     """Returns whether `next` of the steps itself raised this, and none of their code."""
     return failure.__traceback__.tb_next is None
@@ -215,6 +281,8 @@ class Steps:
         self.scanner, self.library, self.marks = scanner, Library.get(), Marks()
         self.directives = Directives(self.library)
         self.max_depth = bound_of(scanner, "max_depth", sys.maxsize)
+        self.count = Count(bound_of(scanner, "max_nodes", self.MOST), bound_of(scanner, "max_expanded", sys.maxsize))
+        self.is_counted = self.count.most < self.MOST or self.count.expanded < sys.maxsize
         self.record, self.states = bytearray(self.RECORD), bytearray(self.FEW)
         self.mark_stack = memoryview(bytearray(24 * self.FEW)).cast("Q")
         self.at = memoryview(bytearray(48)).cast("Q")   # pokhvizi_span_t
@@ -342,6 +410,8 @@ class Steps:
             event = self.MAKERS[kind](self, token, not implicit, start, end)
         if self.holds:
             self.let_go()
+        if self.is_counted and not self.scanner.is_composing:
+            self.count.take(event)
         return event
 
     def stream_start(self, token, explicit, start, end):
@@ -416,6 +486,7 @@ class Parser:
     current_event = None
     failure = None
     events = None
+    is_composing = False
 
     def check_event(self, *choices):
         """Returns whether there is a next event, of one of these kinds where some are named."""
@@ -459,9 +530,11 @@ class Parser:
         self.expansion = Expansion(bound_of(self, "max_expanded", sys.maxsize))
         kept = vars(self).get("compose_node")  # a method that was put on the loader
         bounded = self.compose_node = functools.partial(self.compose_bounded, self.compose_node)
+        self.is_composing = True
         try:
             return super().compose_document()
         finally:
+            self.is_composing = False
             if vars(self).get("compose_node") is bounded:  # else a hook has put another on the loader
                 del self.compose_node
                 if kept is not None:
