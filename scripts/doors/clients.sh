@@ -13,6 +13,8 @@
 #                        build_plain.sh made the library
 #     all_lists          each list of up to five tokens, through the preload's source and libyaml's own parser: events, documents
 #                        and errors, each allocation failed in turn, bounds, parses and loads and scans in each order, under sanitizers
+#     python_lists       each list of up to four tokens, through the extension of bindings/python and PyYAML's C loaders: tokens, events,
+#                        nodes and errors, each allocation of libyaml_events.h failed in turn, bounds, calls in each order
 #     events             libyaml's events and nodes of YAML files of this machine, broken texts and the YAML test suite,
 #                        preloaded, with all fields
 #     pipe_c             events before a slow pipe's end, preloaded
@@ -246,6 +248,46 @@ all_lists() {
         return 1
     fi
     ASAN_OPTIONS=detect_leaks=0 "$work/all_lists" 5 4 3 > "$work/calls" 2>&1
+    set -- $?
+    tail -n 40 "$work/calls"
+    return "$1"
+}
+
+# lists_extension FOLDER SOURCES EVENTS: the package with an extension of these sources and this libyaml_events.h, for python_lists.py.
+lists_extension() {
+    mkdir -p "$1"
+    cp -R bindings/python/src/pokhvizi "$1"
+    cc -std=gnu11 -O1 -g -Wall -Wextra -Werror -fPIC -shared -fvisibility=hidden '-DFIRST_ROOM(usual)=1' -Dmalloc=lists_malloc \
+        -Drealloc=lists_realloc -Dcalloc=lists_calloc -I"$("$python" -c 'import sysconfig; print(sysconfig.get_path("include"))')" -I"$3" \
+        -Ibindings/c/include -Wl,--exclude-libs,ALL -o "$1/pokhvizi/_yaml.abi3.so" "$2"/*.c "$dir/libpokhvizi.a" -lyaml
+}
+
+# lists_run FOLDER WORD..: python_lists.py over the package in a folder. No freed block counts as used.
+lists_run() {
+    folder=$1
+    shift
+    env GLIBC_TUNABLES=glibc.malloc.tcache_count=0 "LD_PRELOAD=$work/python_lists.so" PYTHONPATH="$folder:$lists" \
+        "$python" "$lists/python_lists.py" "$@" > "$work/calls" 2>&1
+}
+
+# The same of the extension for Python, and PyYAML's. One that keeps an anchor, in its events or its documents, is seen.
+python_lists() {
+    cc -O1 -g -D_GNU_SOURCE -Wall -Wextra -Werror -fPIC -shared -o "$work/python_lists.so" scripts/doors/clients/python_lists.c &&
+        lists_extension "$work/lists" bindings/python/src/_yaml bindings/c || return 1
+    for turned in bindings/python/src/_yaml/documents.c bindings/c/libyaml_events.h; do
+        rm -rf "$work/turned"
+        mkdir -p "$work/turned"
+        cp -R bindings/python/src/_yaml bindings/c "$work/turned"
+        at=$work/turned/$(basename "$(dirname "$turned")")/$(basename "$turned")
+        sed -i -e '/^    Py_XDECREF(anchor);$/d' -e '/^        free(held->anchor);$/d' "$at"
+        ! cmp -s "$turned" "$at" || { echo "nothing is turned"; return 1; }
+        lists_extension "$work/turned/lists" "$work/turned/_yaml" "$work/turned/c" || return 1
+        if lists_run "$work/turned/lists" 3 0 0 || ! grep -q '^wrong: ' "$work/calls"; then
+            echo "what is turned should be seen: $turned"
+            return 1
+        fi
+    done
+    lists_run "$work/lists" 4 2 1
     set -- $?
     tail -n 40 "$work/calls"
     return "$1"
@@ -643,7 +685,7 @@ serde_yaml() {
 
 wanted=$*
 for word in $wanted; do
-    case " preload all_lists events pipe_c pyyaml_c psych pyyaml_pure loaders pipe_python pyyaml_ext cloaders exact_c exact_python bounds hostile_texts crate loads_rust pipe_rust yaml_test_suite serde_yaml " in
+    case " preload all_lists python_lists events pipe_c pyyaml_c psych pyyaml_pure loaders pipe_python pyyaml_ext cloaders exact_c exact_python bounds hostile_texts crate loads_rust pipe_rust yaml_test_suite serde_yaml " in
     *" $word "*) ;;
     *) echo "no check has the name $word" >&2; exit 2 ;;
     esac
@@ -652,6 +694,7 @@ mkdir -p "$work/python"
 cp -R bindings/python/src/pokhvizi "$work/python"
 check preload cc yaml.h libyaml_preload.so events -- preload
 check all_lists cc yaml.h -- all_lists
+check python_lists PyYAML cc yaml.h -- python_lists
 check events cc yaml.h libyaml_preload.so events libyaml-pp-perl -- events
 check pipe_c cc yaml.h libyaml_preload.so events -- pipe_c
 check pyyaml_c PyYAML cc yaml.h libyaml_preload.so pyyaml -- pyyaml_c
