@@ -2,10 +2,9 @@
  *
  *     all_lists N REFUSED ODD
  *
- * Events, documents and errors must be libyaml's, with all marks and texts, if parsing is strict; without that they may only differ
- * after a token that a strict parser refuses. In lists of up to REFUSED tokens each allocation fails in turn, with and without
- * bounds, which end a parse where they end a load, in the same words; for those of up to ODD, parses, loads and scans follow one another in each order, and the parser is deleted twice. After each
- * run no byte may be left. Lists that begin with an error aren't made longer. The list's tokens have fifteen texts, among which
+ * Events, documents and errors must be libyaml's, with all marks and texts. In lists of up to REFUSED tokens each allocation fails in
+ * turn, with and without bounds, which end a parse where they end a load, in the same words; for those of up to ODD, parses, loads and
+ * scans follow one another in each order, and the parser is deleted twice. After each run no byte may be left. Lists that begin with an error aren't made longer. The list's tokens have fifteen texts, among which
  * are two anchors, a declared and an undeclared handle, and a tag of one byte.
  *
  * It contains the preload's source, built so that each stack and table has room for one entry at first, and is linked with the address
@@ -359,24 +358,17 @@ static void call_in_each_order(void)
 /* Tries the list; returns whether a longer one that begins so says more. */
 static int try_list(int refused, int odd)
 {
-    static struct told plain, strict, loose, documents;
+    static struct told plain, made, documents;
     int is_longer_of_use;
 
     lists++;
     parse_list(&plain, libyaml_parse);
-    is_strict = 1;
-    run(&strict, 0);
-    is_strict = 0;
-    run(&loose, 0);
+    run(&made, 0);
     is_longer_of_use = wants_more;
-    expect(strstr(strict.text, "that libyaml loses") != NULL || strcmp(plain.text, strict.text) == 0, "a strict parse", &strict,
-           &plain);
-    expect(memcmp(strict.text, loose.text, before_error(&strict)) == 0, "a parse", &loose, &strict);
-    if (strcmp(strict.text, loose.text) == 0) {
-        load_list(&plain, libyaml_load);
-        run(&documents, 1);
-        expect(strcmp(plain.text, documents.text) == 0, "a load", &documents, &plain);
-    }
+    expect(strcmp(plain.text, made.text) == 0, "a parse", &made, &plain);
+    load_list(&plain, libyaml_load);
+    run(&documents, 1);
+    expect(strcmp(plain.text, documents.text) == 0, "a load", &documents, &plain);
     if (length <= refused) {
         refuse_in_turn(0);
         refuse_in_turn(1);

@@ -2,9 +2,8 @@
 
     python_lists.py N REFUSED ODD
 
-Events, nodes and errors must be PyYAML's, with all fields and marks, if parsing is strict; without that they may only differ after a
-token that a strict parser refuses. For lists of up to REFUSED tokens each allocation of libyaml_events.h fails in turn; and there
-are bounds, which end events where they end nodes, in the same words. For those of up to ODD, calls for tokens, events and nodes follow
+Events, nodes and errors must be PyYAML's, with all fields and marks. For lists of up to REFUSED tokens each allocation of
+libyaml_events.h fails in turn; and there are bounds, which end events where they end nodes, in the same words. For those of up to ODD, calls for tokens, events and nodes follow
 one another in each order. After each run there are no more bytes and no more objects than before. Lists that begin with an error aren't
 made longer.
 
@@ -34,15 +33,11 @@ count = {"lists": 0, "failed allocations": 0, "events to a bound on nodes": 0, "
 wrong = 0
 
 
-class Loose(pokhvizi.CSafeLoader):
+class Own(pokhvizi.CSafeLoader):
     pass
 
 
-class Strict(pokhvizi.CSafeLoader):
-    strict_libyaml = True
-
-
-BOUNDED = [type("Bounded", (Loose,), dict(zip(("max_depth", "max_nodes", "max_expanded"), bounds))) for bounds in BOUNDS]
+BOUNDED = [type("Bounded", (Own,), dict(zip(("max_depth", "max_nodes", "max_expanded"), bounds))) for bounds in BOUNDS]
 
 
 def expect(holds, what, kinds, *told):
@@ -139,7 +134,7 @@ def refuse_in_turn(kinds, read, loader):
 
 
 def bound_all(kinds, refuses):
-    whole = split(run(kinds, events, Loose))[0], split(run(kinds, documents, Loose))[0]
+    whole = split(run(kinds, events, Own))[0], split(run(kinds, documents, Own))[0]
     for loader in BOUNDED:
         found, failure = split(run(kinds, events, loader))
         roots, reason = split(run(kinds, documents, loader))
@@ -158,7 +153,7 @@ def call_in_each_order(kinds):
     for order in itertools.product(CALLS, repeat=3):
         count["calls in each order"] += len(order)
         begin(kinds)
-        loader = Loose(b"")
+        loader = Own(b"")
         for name in order:
             try:
                 getattr(loader, name)()
@@ -169,20 +164,17 @@ def call_in_each_order(kinds):
 def try_list(kinds, refused, odd):
     """Returns whether a longer list that begins so says more."""
     count["lists"] += 1
-    loose = run(kinds, events, Loose)
+    made = run(kinds, events, Own)
     wants_more = LISTS.lists_wants_more()
-    strict, plain = run(kinds, events, Strict), run(kinds, events, yaml.CSafeLoader)
-    expect(strict == plain or "that libyaml loses" in str(strict[-1:]), "strict events", kinds, strict, plain)
-    before, _ = split(strict)
-    expect(loose[:len(before)] == before, "events", kinds, loose, strict)
-    if strict == loose:
-        made, wanted = run(kinds, documents, Loose), run(kinds, documents, yaml.CSafeLoader)
-        expect(made == wanted, "nodes", kinds, made, wanted)
-    leave_nothing(kinds, lambda: events(Loose))
-    leave_nothing(kinds, lambda: documents(Loose))
+    wanted = run(kinds, events, yaml.CSafeLoader)
+    expect(made == wanted, "events", kinds, made, wanted)
+    made, wanted = run(kinds, documents, Own), run(kinds, documents, yaml.CSafeLoader)
+    expect(made == wanted, "nodes", kinds, made, wanted)
+    leave_nothing(kinds, lambda: events(Own))
+    leave_nothing(kinds, lambda: documents(Own))
     if len(kinds) <= refused:
-        refuse_in_turn(kinds, events, Loose)
-        refuse_in_turn(kinds, documents, Loose)
+        refuse_in_turn(kinds, events, Own)
+        refuse_in_turn(kinds, documents, Own)
         bound_all(kinds, True)
     if len(kinds) <= odd:
         leave_nothing(kinds, lambda: call_in_each_order(kinds))
@@ -209,7 +201,7 @@ def few_kinds():
 
 def bound_longer(kinds, most, refused, few):
     """Bounds on nodes need longer lists, of few kinds of tokens."""
-    run(kinds, events, Loose)
+    run(kinds, events, Own)
     wants_more = LISTS.lists_wants_more()
     if len(kinds) > refused and wants_more:
         bound_all(kinds, False)
