@@ -2,6 +2,7 @@
 
 ghost use Rattle.std.specs.Prelude.{◌≡◌, ℕ, suc, length, nat_le, true, false, IfOk, OnErr, OnOk};
 ghost use Rattle.libyaml_composer.specs.Composing.{is_start, most_of, composer_step, told};
+ghost use Rattle.libyaml_composer.specs.Numbers.{is_id};
 ghost use Rattle.libyaml_loader.specs.document.Stack.{with_document_begun, first_composer, roomy};
 
 use libyaml_composer::{Deed, composer_t, open_t, place_t};
@@ -85,7 +86,7 @@ impl OpenCollections {
     ///
     /// # Errors
     ///
-    /// An allocation failed, at the start of a collection.
+    /// An allocation failed, at the start of a collection whose anchor, if it has one, is new.
     #[inline(always)]
     #[tactic(auto, using(libyaml_composer::proofs::exported::Reasons::full_starts))]
     pub(crate) fn take(
@@ -98,9 +99,9 @@ impl OpenCollections {
         ensures ok { IfOk result (λ d. (room : ℕ) × (told d place.new self.new
             ≡ composer_step kind fact place.old (roomy room self.old))) }
         ensures roomy { IfOk result (λ d. d ≡ Deed.FullStack → ⊥) }
-        ensures err { OnErr result (is_start kind ≡ true) }
+        ensures err { OnErr result ((is_start kind ≡ true) × (is_id fact ≡ false)) }
     {
-        self.make_room(kind)?;
+        self.make_room(kind, fact)?;
         Ok(self.step(kind, fact, place))
     }
 
@@ -109,7 +110,7 @@ impl OpenCollections {
     ///
     /// # Errors
     ///
-    /// An allocation failed, at the start of a collection.
+    /// An allocation failed, at the start of a collection whose anchor, if it has one, is new.
     #[tactic(auto, using(libyaml_composer::proofs::exported::Reasons::full_starts))]
     pub(crate) fn take_any(
         &mut self,
@@ -120,9 +121,9 @@ impl OpenCollections {
         ensures ok { IfOk result (λ d. (room : ℕ) × (told d place.new self.new
             ≡ composer_step kind fact place.old (roomy room self.old))) }
         ensures roomy { IfOk result (λ d. d ≡ Deed.FullStack → ⊥) }
-        ensures err { OnErr result (is_start kind ≡ true) }
+        ensures err { OnErr result ((is_start kind ≡ true) × (is_id fact ≡ false)) }
     {
-        self.make_room(kind)?;
+        self.make_room(kind, fact)?;
         Ok(self.step_any(kind, fact, place))
     }
 
@@ -143,19 +144,20 @@ impl OpenCollections {
         self.composer.depth == self.entries.len()
     }
 
-    /// Makes room for the collection that an event of this kind opens, if it opens one.
+    /// Makes room for the collection that an event of this kind and fact opens, if it opens one. A repeated
+    /// anchor is refused, so it needs none.
     ///
     /// # Errors
     ///
-    /// An allocation failed, at the start of a collection.
+    /// An allocation failed, at the start of a collection whose anchor, if it has one, is new.
     #[inline(always)]
-    fn make_room(&mut self, kind: yaml_event_type_t) -> Result<(), AllocError>
+    fn make_room(&mut self, kind: yaml_event_type_t, fact: i32) -> Result<(), AllocError>
         ensures roomy { OnOk result (self.new ≡ roomy self.new.room self.old) }
-        ensures left { OnOk result (is_start kind ≡ true → nat_le self.new.room (length self.new.stack) ≡
-            false) }
-        ensures err { OnErr result (is_start kind ≡ true) }
+        ensures left { OnOk result (is_start kind ≡ true → is_id fact ≡ false
+            → nat_le self.new.room (length self.new.stack) ≡ false) }
+        ensures err { OnErr result ((is_start kind ≡ true) × (is_id fact ≡ false)) }
     {
-        if is_start(kind) && self.is_full() {
+        if is_start(kind) && fact == 0 && self.is_full() {
             return self.grow();
         }
         Ok(())

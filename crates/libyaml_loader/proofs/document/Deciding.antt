@@ -1,5 +1,5 @@
 -- What the composer decides of an event is what the loader's machine does.
-use Rattle.std.proofs.Common.{◌≡◌, inr, List, ℕ, suc, ℤ, length, map, refl, sym, ap, subst, ◌∙◌, Option, None, true, arith}
+use Rattle.std.proofs.Common.{◌≡◌, inr, List, ℕ, suc, ℤ, length, map, refl, sym, ap, subst, ◌∙◌, Option, None, Some, true, arith}
 use Rattle.libyaml_types.specs.Types.{event_anchor, event_type}
 use Rattle.libyaml_types.specs.declared.event.unnamed_yaml_event_t_data.{unnamed_yaml_event_t_data}
 use Rattle.libyaml_grammar.specs.grammar.Events.{Event}
@@ -12,7 +12,7 @@ use Rattle.libyaml_composer.specs.declared.records.open_t.{open_t}
 use Rattle.libyaml_composer.specs.declared.records.place_t.{place_t}
 use Rattle.libyaml_composer.specs.Composing.{Composer, Told, composer_step, told}
 use Rattle.libyaml_composer.specs.DocumentSoFar as so_far
-use Rattle.libyaml_composer.specs.DocumentSoFar.{DocumentSoFar, IsRefused, anchor_in, anchored, anchored_by, applied_part, event_fact, fault_part, open_of, with_made_node}
+use Rattle.libyaml_composer.specs.DocumentSoFar.{DocumentSoFar, IsRefused, anchor_in, anchored, anchored_by, anchored_node_named, applied_part, event_fact, fault_part, open_of, with_made_node}
 use Rattle.libyaml_composer.specs.Represents.{IsNode, DeedFits, Represents}
 use Rattle.libyaml_composer.proofs.exported.Follows.{fails_so, goes_on}
 use Rattle.libyaml_composer.proofs.exported.Reasons.{repeated}
@@ -20,13 +20,22 @@ use Rattle.libyaml_loader.specs.declared.context.loader_ctx.{loader_ctx}
 use Rattle.libyaml_loader.specs.document.Context.{Decided, Grows, Refuses, ComposerMatches, held_of, loader_of, opening_of_document, IsEvent, Named, refusal_of}
 use Rattle.libyaml_loader.specs.document.Refusals.{fault_by}
 use Rattle.libyaml_loader.specs.document.Stack.{roomy}
-use Rattle.libyaml_loader.specs.loads.LoadGrowth.{load_may_grow}
+use Rattle.libyaml_loader.specs.loads.LoadGrowth.{is_new, load_may_grow}
+
+-- a node by which the machine goes on has no anchor that another has
+free_if_going : (n : ℕ) (l : Loader) (q : Option Part) (k : Loader) → IsNode q → bounded_option n l q ≡ going k
+    → anchored_node_named l.anchors (anchor_in q) ≡ None
+free_if_going n l q k node h = grind arith
+
+is_new_there : (xs : Anchors) (a : Option (List ℕ)) → anchored_node_named xs a ≡ None → is_new a xs ≡ true
+is_new_there xs None h = refl
+is_new_there xs (Some a) h = rw h refl
 
 module _ (n : ℕ) (l : Loader) (h : DocumentSoFar) (same : h.nodes ≡ l.nodes) (s : List open_t) (stack : l.stack ≡ map open_of s)
     (d : Deed) (p : place_t) where
   grows_there : (q : Option Part) (k : Loader) → bounded_option n l q ≡ going k → DeedFits d p q h s → Grows d p
       → load_may_grow l q ≡ true
-  grows_there q k g puts h = grind arith
+  grows_there q k g puts h = grind (arith, free_if_going, is_new_there)
 
 module _ (old : loader_ctx) (new : Composer) (e : Event) (stands : ComposerMatches old) (without : closing_of e ≡ None) (room : ℕ)
     (before p : place_t) (d : Deed)
@@ -73,7 +82,7 @@ module _ (old : loader_ctx) (new : Composer) (e : Event) (stands : ComposerMatch
 pub anchor_at : (k : unnamed_yaml_event_t_data) (m n : Mark) → anchor_in (part_in k m n) ≡ event_anchor k
 anchor_at k m n = grind arith
 
--- what is decided of a node whose anchor is the next node's already
+-- what is decided of a node whose anchor is the next node's, if no other has it
 module _ (old named : loader_ctx) (a : Option (List ℕ)) (m : Mark) (e : Event) (id : ℤ) (at : Named old named a m id)
     (stands : ComposerMatches old) (is : IsEvent (event_type e.content) a m e) (node : IsNode (part_of e)) (room : ℕ) (before p : place_t)
     (d : Deed) (new : Composer)
@@ -88,14 +97,20 @@ module _ (old named : loader_ctx) (a : Option (List ℕ)) (m : Mark) (e : Event)
       ≡ anchored_by (suc (length old.document.nodes)) (part_of e) old.anchors
   anchors = grind arith
 
+  free : (IsRefused d → ⊥) → (d ≡ deed.FullStack → ⊥) → anchored_node_named old.anchors a ≡ None
+  free sound room_left = ap (anchored_node_named old.anchors) anchor
+      ∙ free_if_going old.collections.most (loader_of old) (part_of e) _ node (goes_on old.collections (held_of old)
+      (opening_of_document old.document) stands e is.not_end before room (told d p new) tells_so sound room_left).leads
+
   pub node_decided : (IsRefused d → ⊥) → (d ≡ deed.FullStack → ⊥)
       → Decided old (record named { collections = new }) (part_of e) e.end_mark d p
-  node_decided = decided old new e stands is.not_end room before p d tells_so (record named { collections = new })
+  node_decided sound room_left = decided old new e stands is.not_end room before p d tells_so
+      (record named { collections = new })
       (ap (λ (c : loader_ctx). record c { collections = new }) at.context ∙ ap (λ (xs : Anchors). record old {
         collections = new;
         anchors = xs;
         first_mark = named.first_mark;
-      }) anchors)
+      }) (at.anchors (free sound room_left) ∙ anchors)) sound room_left
 
   pub node_refused : IsRefused d → Refuses old (record named { collections = new }) (part_of e) m (refusal_of d)
   node_refused refused = subst (λ (x : Mark). Refuses old (record named { collections = new }) (part_of e) x (refusal_of d)) is.mark_is

@@ -1,5 +1,5 @@
 -- What is decided is done.
-use Rattle.std.proofs.Common.{◌≡◌, ◌++◌, List, ℕ, length, refl, sym, subst, Option, Some, None, Result, OnOk, arith}
+use Rattle.std.proofs.Common.{◌≡◌, ◌++◌, List, ℕ, length, refl, sym, subst, Option, Some, None, Result, Ok, Err, OnOk, IfErr, inl, true, arith}
 use Rattle.libyaml_types.specs.declared.mark.yaml_mark_t.{yaml_mark_t}
 use Rattle.libyaml_types.specs.declared.event.unnamed_yaml_event_t_data.{unnamed_yaml_event_t_data}
 use Rattle.libyaml_types.specs.Types.{event_anchor, event_type}
@@ -10,7 +10,10 @@ use Rattle.libyaml_composer.specs.declared.records.place_t.{place_t}
 use Rattle.libyaml_composer.specs.DocumentSoFar.{nodes_made, placed}
 use Rattle.libyaml_composer.specs.Represents.{FitsParent, IsNode}
 use Rattle.libyaml_loader.specs.declared.context.loader_ctx.{loader_ctx}
-use Rattle.libyaml_loader.specs.document.Context.{Composed, Decided, ComposerMatches, IsEvent, with_nodes}
+use Rattle.libyaml_loader.specs.declared.refusal.Refusal.{Refusal}
+use Rattle.libyaml_loader.specs.declared.refusal.Refusal.TheVariants.{Memory}
+use Rattle.libyaml_loader.specs.document.Context.{Composed, Decided, ComposerMatches, IsEvent, Refuses, loader_of, with_nodes}
+use Rattle.libyaml_loader.specs.loads.LoadGrowth.{load_may_grow}
 
 -- the outcome of a call, by that of another
 pub on_ok : {A E : Type 0} (r : Result A E) (P Q : Type 0) → (P → Q) → OnOk r P → OnOk r Q
@@ -25,6 +28,18 @@ module _ (old mid : loader_ctx) (q : Option Part) (end : yaml_mark_t) (d : Deed)
     (at : Decided old mid q end d p) where
   pub node_fits : IsNode q → FitsParent d p (length (mid.document.nodes ++ nodes_made q)) (mid.document.nodes ++ nodes_made q)
   node_fits n = grind arith
+
+  -- memory may be taken for it
+  pub node_grows : IsNode q → load_may_grow (loader_of old) q ≡ true
+  node_grows n = grind arith
+
+  pub out_of_memory : (new : loader_ctx) (m : yaml_mark_t) (r : Refusal) → IsNode q → r ≡ Memory → Refuses old new q m r
+  out_of_memory new m r n e = inl (e, node_grows n)
+
+  pub if_refused : {A : Type 0} (r : Result A Refusal) (P : Refusal → Type 0) (new : loader_ctx) (m : yaml_mark_t) → IsNode q
+      → IfErr r (λ x. (x ≡ Memory) × P x) → IfErr r (λ x. Refuses old new q m x)
+  if_refused (Ok a) P new m n h = tt
+  if_refused (Err x) P new m n h = out_of_memory new m x n h.0
 
   -- the node was added
   module _ (n : IsNode q) (add : loader_ctx)

@@ -67,14 +67,13 @@ IsListed _ = ⊥
 abbrev pub Grows : Deed → place_t → Type 0
 Grows d p = (PutsNode d × (is_id p.node ≡ true)) ⊎ IsListed d
 
--- The next node is named by this anchor, if there is one. The id is that of the node which carried it before; 0
--- where none did.
+-- The next node is named by this anchor, if there is one and no node carries it. The id is that of the node which
+-- does; 0 where none does.
 pub record Named (old new : loader_ctx) (a : Option (List ℕ)) (m : yaml_mark_t) (id : ℤ) : Type 0 where
   pub anchored_node : id ≡ pos (id_or (anchored_node_named old.anchors a))
-  pub context : new ≡ record old {
-    anchors = anchored a (suc (length old.document.nodes)) m old.anchors;
-    first_mark = new.first_mark;
-  }
+  pub context : new ≡ record old { anchors = new.anchors; first_mark = new.first_mark }
+  pub anchors : anchored_node_named old.anchors a ≡ None
+      → new.anchors ≡ anchored a (suc (length old.document.nodes)) m old.anchors
   pub first : is_id id ≡ true → new.first_mark ≡ first_mark (anchored_node_named old.anchors a) m
 
 -- why a load stops where this is refused

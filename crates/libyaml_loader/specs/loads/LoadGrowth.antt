@@ -1,7 +1,7 @@
 -- Where a load may take memory of its own (docs/DEFINITIONS.md, "Loads of a parser"): a node is put into the list
 -- of nodes, an item into its sequence's, or a pair, whose value comes, into its mapping's. An undefined alias, a
--- key that waits for its value and a collection's end take none.
-use Rattle.std.specs.Prelude.{◌≡◌, ◌++◌, ℕ, ℤ, List, [], ◌∷◌, Option, None, Some, Bool, true, false}
+-- repeated anchor, a key that waits for its value and a collection's end take none.
+use Rattle.std.specs.Prelude.{◌≡◌, ◌++◌, ℕ, ℤ, List, [], ◌∷◌, Option, None, Some, Bool, true, false, is_some, not}
 use Rattle.std.specs.FinMap.{get}
 use Rattle.libyaml_documents.specs.declared.node.unnamed_yaml_node_t_data.{unnamed_yaml_node_t_data}
 use Rattle.libyaml_documents.specs.declared.node.unnamed_yaml_node_t_data.TheVariants.{Scalar, Sequence, Mapping}
@@ -10,7 +10,7 @@ use Rattle.libyaml_documents.specs.Nodes.{node_at}
 use Rattle.libyaml_grammar.specs.grammar.Events.{Event}
 use Rattle.libyaml_grammar.specs.runs.Runs.{Ending}
 use Rattle.libyaml_graphs.specs.graphs.Graphs.{AnchoredNode}
-use Rattle.libyaml_graphs.specs.machine.Loader.{Loader, OpenNode, load_from, within}
+use Rattle.libyaml_graphs.specs.machine.Loader.{Anchors, Loader, OpenNode, load_from, within}
 use Rattle.libyaml_graphs.specs.loads.Loads.{Load}
 use Rattle.libyaml_graphs.specs.graphs.GraphParts.{Opening, Part, alias_part, end_part, leaf_part, part_of, start_part}
 
@@ -34,10 +34,15 @@ abbrev pub alias_grows : Option AnchoredNode → Loader → Bool
 alias_grows None l = false
 alias_grows (Some c) l = parent_grows l.stack l.nodes
 
+-- no earlier node has this anchor, if there is one
+abbrev pub is_new : Option (List ℕ) → Anchors → Bool
+is_new None xs = true
+is_new (Some a) xs = not (is_some (get xs a))
+
 abbrev pub part_grows : Loader → Part → Bool
 part_grows l (alias_part a m) = alias_grows (get l.anchors a) l
-part_grows l (leaf_part a x) = true
-part_grows l (start_part a x) = true
+part_grows l (leaf_part a x) = is_new a l.anchors
+part_grows l (start_part a x) = is_new a l.anchors
 part_grows l (end_part m) = false
 
 abbrev pub load_may_grow : Loader → Option Part → Bool

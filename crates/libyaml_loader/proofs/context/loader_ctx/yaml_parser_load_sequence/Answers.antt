@@ -1,6 +1,6 @@
 use Rattle.std.proofs.Common.{◌≡◌, Err, refl, rules}
 use Rattle.libyaml_types.specs.declared.event.unnamed_yaml_event_t_data.TheVariants as ev
-use Rattle.libyaml_loader.proofs.document.Putting.{added_done, added_fits, is_event, on_ok}
+use Rattle.libyaml_loader.proofs.document.Putting.{added_done, added_fits, if_refused, is_event, on_ok, out_of_memory}
 use Rattle.libyaml_loader.proofs.context.loader_ctx.yaml_parser_load_sequence.Goals as goal
 
 pub returns-in_err-deed-clause-err : goal.returns-in_err-deed-clause-err
@@ -24,3 +24,14 @@ returns-clause-stands c =
     let at = c.in_ok-deed.ensures.ok _ (is_event (ev.SequenceStart c.args.start.now) c.args.start_mark.now c.args.end_mark.now (search rules) refl) tt in
     on_ok c.attach_child.result _ _ (λ is. (added_done _ _ _ _ _ _ at tt c.append_sequence.new.self (search rules) c.attach_child.new.self is).1)
     c.attach_child.ensures.handed
+
+pub returns-in_err-append_sequence-clause-err : goal.returns-in_err-append_sequence-clause-err
+returns-in_err-append_sequence-clause-err c =
+    let at = c.in_ok-deed.ensures.ok _ (is_event (ev.SequenceStart c.args.start.now) c.args.start_mark.now c.args.end_mark.now (search rules) refl) tt in
+    let e : c.from_residual-in_err-append_sequence.result ≡ Err c.in_err-append_sequence.field-0.0 = search rules in
+    rw e (out_of_memory _ _ _ _ _ _ at c.append_sequence.new.self _ _ tt c.in_err-append_sequence.ensures.err)
+
+pub returns-clause-err : goal.returns-clause-err
+returns-clause-err c =
+    let at = c.in_ok-deed.ensures.ok _ (is_event (ev.SequenceStart c.args.start.now) c.args.start_mark.now c.args.end_mark.now (search rules) refl) tt in
+    if_refused _ _ _ _ _ _ at c.attach_child.result _ c.attach_child.new.self _ tt c.attach_child.ensures.err
