@@ -59,7 +59,7 @@ struct kept {
     uint32_t key;  /* for the hashes of anchors and handles, or 0 */
     int has_mends;  /* events are of this project's own grammar, and not exactly libyaml's */
     uint8_t tag[64];  /* the tag in full whose fact was asked for last, if it is so short */
-    uint8_t states[];
+    _Alignas(uint64_t) uint8_t states[];
 };
 
 /* How many entries a stack or a table has room for at first, and how much more room texts get than they need. A test makes it one,

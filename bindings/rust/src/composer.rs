@@ -161,7 +161,7 @@ impl Composer {
     /// caller's: an anchor names the last node that has it, and an alias without one no node.
     #[cold]
     pub fn count(&mut self, kind: u8, anchor: Option<&[u8]>) -> Result<(), Refusal> {
-        let mut place = Place::default();
+        let mut place = NO_PLACE;
         if kind == 3 {
             self.forget_anchors();
             self.begin();

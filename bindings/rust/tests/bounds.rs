@@ -26,10 +26,10 @@ unsafe fn told(text: &str, loads: bool) -> (usize, String) {
             (given, is_last)
         };
         if is_last {
-            let (mut fault, problem) = (String::new(), (*parser).problem);
+            let (mut fault, problem) = (String::new(), (&*parser).problem);
             if !given {
                 fault = CStr::from_ptr(problem.cast()).to_string_lossy().into_owned();
-                fault += &format!(" {}", (*parser).problem_mark.index);
+                fault += &format!(" {}", (&*parser).problem_mark.index);
             }
             yaml_parser_delete(parser);
             return (count, fault);
@@ -104,7 +104,7 @@ unsafe fn second(text: &str, change: impl Fn()) -> String {
         yaml_document_delete(document.as_mut_ptr());
         String::new()
     } else {
-        CStr::from_ptr((*parser).problem.cast()).to_string_lossy().into_owned()
+        CStr::from_ptr((&*parser).problem.cast()).to_string_lossy().into_owned()
     };
     yaml_parser_delete(parser);
     problem
