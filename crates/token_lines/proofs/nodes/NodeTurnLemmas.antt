@@ -1,5 +1,5 @@
 -- How a run's steps write each document in its turn.
-use Rattle.std.proofs.Common.{◌≡◌, ◌⊎◌, ◌++◌, ◌∷◌, ◌==◌, ℕ, ℤ, List, [], length, Option, Bool, true, false, Ok, Err, sym, ◌∙◌, subst, arith}
+use Rattle.std.proofs.Common.{◌≡◌, ◌⊎◌, ◌++◌, ◌∷◌, ◌==◌, ℕ, ℤ, List, [], length, Option, Bool, true, false, Ok, Err, sym, ◌∙◌, subst, arith, ◌≢◌, ap}
 use Rattle.std.proofs.KnownBytes.{Appends-nil, Appends-trans}
 use Rattle.std.proofs.lemmas.Bool.{eqb-true}
 use Rattle.std.proofs.lemmas.List.{append-nil, nil_from_length}
@@ -37,6 +37,12 @@ use Rattle.token_lines.proofs.events.LastCallLemmas.{fault_after}
 -- whether a document has nodes, by their count
 pub has_none : (ns ms : List yaml_node_t) (b : Bool) → b ≡ (length ns == 0) → b ≡ true → ns ≡ ms → ms ≡ []
 has_none ns ms b is empty same = grind (arith, nil_from_length, eqb-true)
+
+pub has_some : (ns ms : List yaml_node_t) (b : Bool) → b ≡ (length ns == 0) → b ≡ false → ns ≡ ms → ms ≢ []
+has_some ns ms b is_empty is same none = no (sym is ∙ is_empty ∙ ap (λ (l : List yaml_node_t). length l == 0) (same ∙ none))
+  where
+    no : false ≡ true → ⊥
+    no h = cc
 
 module _ {S : Type 0} (g : Ghosts S) (n : ℕ) where
   pub turn_of : (s : RunStep) (p q : Parser S) (b c : Option (List ℕ)) (r a : DocumentOrError) → r ≡ a
