@@ -16,13 +16,10 @@ use Rattle.std.specs.List.{AllByRecursion}
 use Rattle.yaml_keys.specs.declared.duplicate.yaml_duplicate_key_t.{yaml_duplicate_key_t}
 use Rattle.yaml_keys.specs.Keys.{AreClasses, IsDuplicate, IsBefore, IsFirstDuplicate, key_at}
 use Rattle.yaml_keys.specs.Repeats.{class_at, IsRepeat, IsFirstRepeat}
-use Rattle.yaml_keys.proofs.SameKeys.{class_of_same, same_of_class}
+use Rattle.yaml_keys.proofs.SameKeys.{class_of_same, one_some, same_of_class}
 
 abbrev no_pair : yaml_node_pair_t
 no_pair = record { key = pos 0; value = pos 0 }
-
-one_some : {A : Type 0} {a b : A} → Some a ≡ Some b → a ≡ b
-one_some e = cc
 
 -- the key of a pair that there is
 key_here : (pairs : List yaml_node_pair_t) (i : ℕ) (key : ℤ) → option_map (λ (p : yaml_node_pair_t). p.key) (slice_get pairs i) ≡ Some key

@@ -10,7 +10,8 @@ use Rattle.std.specs.declared.cmp.Ordering.TheVariants.{Less, Equal, Greater}
 use Rattle.std.specs.Ordering.{bool_cmp, nat_cmp, ordering_then, is_eq}
 use Rattle.libyaml_documents.specs.declared.node.yaml_node_t.{yaml_node_t}
 use Rattle.yaml_keys.specs.Firsts.{Lent, read, order, HasFirsts}
-use Rattle.yaml_keys.specs.Keys.{ScalarKey, scalar_at, IsSameKey, same_node, same_scalar, IsFirstSame}
+use Rattle.yaml_keys.specs.Keys.{ScalarKey, scalar_key_at, IsSameKey, same_node, same_scalar, IsFirstSame}
+use Rattle.yaml_keys.proofs.SameKeys.{one_some}
 
 -- the order of what keys read
 abbrev read_order : ScalarKey → ScalarKey → Ordering
@@ -69,9 +70,6 @@ found_alike m x y e = ap (λ (r : ScalarKey). get_by (λ (k : Lent). read_order 
 some_none : {A : Type 0} {a : A} → Some a ≡ None → ⊥
 some_none e = cc
 
-one_some : {A : Type 0} {a b : A} → Some a ≡ Some b → a ≡ b
-one_some e = cc
-
 one_id : (a b : ℕ) → pos (suc a) ≡ pos (suc b) → a ≡ b
 one_id a b e = cc
 
@@ -80,15 +78,7 @@ true_false e = cc
 
 module _ (nodes : List yaml_node_t) (n : ℕ) where
   abbrev at : ℕ → Option ScalarKey
-  at place = scalar_at nodes (pos (suc place))
-
-  -- the class of a collection is its own
-  pub of_collection : at n ≡ None → IsFirstSame nodes n n
-  of_collection none = record { at_most = omega arith; same = same_node refl; none_before = before }
-    where
-      before : (other : ℕ) → other < n → ¬ IsSameKey nodes (pos (suc other)) (pos (suc n))
-      before other lt (same_node e) = omega (arith, lt, one_id other n e)
-      before other lt (same_scalar key a b) = some_none (sym b ∙ none)
+  at place = scalar_key_at nodes (pos (suc place))
 
   -- that of a scalar which was found
   pub of_found : (m : BTreeMap Lent ℕ) (key : Lent) (place : ℕ) → HasFirsts nodes n m → at n ≡ Some (read key)
@@ -109,22 +99,6 @@ module _ (nodes : List yaml_node_t) (n : ℕ) where
       before : (other : ℕ) → other < n → ¬ IsSameKey nodes (pos (suc other)) (pos (suc n))
       before other lt (same_node e) = omega (arith, lt, one_id other n e)
       before other lt (same_scalar k a b) = firsts.each key other lt (a ∙ sym b ∙ is) none
-
-  -- the map after a collection
-  pub after_collection : (m : BTreeMap Lent ℕ) → HasFirsts nodes n m → at n ≡ None → HasFirsts nodes (n + 1) m
-  after_collection m firsts none = record {
-    inside = λ key place e. omega (arith, firsts.inside key place e);
-    scalar = firsts.scalar;
-    first = firsts.first;
-    each = λ key place lt is. each_at key place lt is (cases_lt place n);
-  }
-    where
-      each_at : (key : Lent) (place : ℕ) → place < n + 1 → at place ≡ Some (read key) → (place < n) ⊎ (n ≤ place)
-          → get order m key ≢ None
-      each_at key place lt is (inl before) = firsts.each key place before is
-      each_at key place lt is (inr later) =
-          let here : place ≡ n = omega (arith, lt) in
-          absurd (some_none (sym is ∙ ap at here ∙ none))
 
   -- after a scalar that was found
   pub after_found : (m : BTreeMap Lent ℕ) (key : Lent) (first : ℕ) → HasFirsts nodes n m → at n ≡ Some (read key)

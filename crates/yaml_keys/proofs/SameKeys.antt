@@ -4,10 +4,10 @@ use Rattle.std.proofs.lemmas.Bool.{cases_lt}
 use Rattle.std.proofs.lemmas.Int.{ints}
 use Rattle.libyaml_documents.specs.declared.node.yaml_node_t.{yaml_node_t}
 use Rattle.libyaml_documents.specs.Nodes.{IsIdUpTo}
-use Rattle.yaml_keys.specs.Keys.{ScalarKey, scalar_at, IsSameKey, same_node, same_scalar, AreClasses}
+use Rattle.yaml_keys.specs.Keys.{ScalarKey, scalar_key_at, IsSameKey, same_node, same_scalar, AreClasses}
 use Rattle.yaml_keys.specs.Repeats.{class_at}
 
-one_some : {A : Type 0} {a b : A} → Some a ≡ Some b → a ≡ b
+pub one_some : {A : Type 0} {a b : A} → Some a ≡ Some b → a ≡ b
 one_some e = cc
 
 pub back : {nodes : List yaml_node_t} {a b : ℤ} → IsSameKey nodes a b → IsSameKey nodes b a
@@ -21,7 +21,7 @@ through {nodes} {a} {b} {c} (same_scalar k x y) (same_node e) =
 through (same_scalar k x y) (same_scalar l z w) = same_scalar k x (w ∙ sym z ∙ y)
 
 -- a scalar's id names one of the nodes
-named : (nodes : List yaml_node_t) (n : ℕ) (k : ScalarKey) → scalar_at nodes (pos (suc n)) ≡ Some k → n < length nodes
+named : (nodes : List yaml_node_t) (n : ℕ) (k : ScalarKey) → scalar_key_at nodes (pos (suc n)) ≡ Some k → n < length nodes
 named [] n k e = absurd (cc)
 named (x ∷ nodes) zero k e = omega arith
 named (x ∷ nodes) (suc n) k e = omega (arith, named nodes n k e)

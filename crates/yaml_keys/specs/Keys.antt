@@ -9,30 +9,30 @@ use Rattle.libyaml_documents.specs.declared.node.unnamed_yaml_node_t_data.TheVar
 use Rattle.libyaml_documents.specs.Nodes.{node_at, pairs_of}
 use Rattle.yaml_keys.specs.declared.duplicate.yaml_duplicate_key_t.{yaml_duplicate_key_t}
 
-abbrev pub is_plain : yaml_scalar_style_t → Bool
-is_plain YAML_PLAIN_SCALAR_STYLE = true
-is_plain _ = false
+abbrev pub is_plain_style : yaml_scalar_style_t → Bool
+is_plain_style YAML_PLAIN_SCALAR_STYLE = true
+is_plain_style _ = false
 
 -- what tells scalars apart as keys: whether it is plain, the tag, the text; a collection has none
 abbrev pub ScalarKey : Type 0
 ScalarKey = Bool × List ℕ × List ℕ
 
-abbrev pub scalar_in : (tag : List ℕ) → unnamed_yaml_node_t_data → Option ScalarKey
-scalar_in tag (Scalar s) = Some (is_plain s.style, tag, s.value)
-scalar_in tag (Sequence s) = None
-scalar_in tag (Mapping m) = None
+abbrev pub scalar_key_in : (tag : List ℕ) → unnamed_yaml_node_t_data → Option ScalarKey
+scalar_key_in tag (Scalar s) = Some (is_plain_style s.style, tag, s.value)
+scalar_key_in tag (Sequence s) = None
+scalar_key_in tag (Mapping m) = None
 
-abbrev pub scalar_of : yaml_node_t → Option ScalarKey
-scalar_of node = scalar_in node.tag node.content
+abbrev pub scalar_key : yaml_node_t → Option ScalarKey
+scalar_key node = scalar_key_in node.tag node.content
 
 -- the same of the node of an id
-abbrev pub scalar_at : List yaml_node_t → ℤ → Option ScalarKey
-scalar_at nodes id = option_and_then (λ node. scalar_of node) (node_at nodes id)
+abbrev pub scalar_key_at : List yaml_node_t → ℤ → Option ScalarKey
+scalar_key_at nodes id = option_and_then (λ node. scalar_key node) (node_at nodes id)
 
 -- Two ids are the same key: they name the same node, or scalars that no schema can tell apart.
 pub data IsSameKey (nodes : List yaml_node_t) (a b : ℤ) : Type 0 where
   same_node : a ≡ b → IsSameKey nodes a b
-  same_scalar : (key : ScalarKey) → scalar_at nodes a ≡ Some key → scalar_at nodes b ≡ Some key → IsSameKey nodes a b
+  same_scalar : (key : ScalarKey) → scalar_key_at nodes a ≡ Some key → scalar_key_at nodes b ≡ Some key → IsSameKey nodes a b
 
 -- the key of the pair at this index of the mapping of this id
 abbrev pub key_at : List yaml_node_t → (mapping : ℤ) → (index : ℕ) → Option ℤ

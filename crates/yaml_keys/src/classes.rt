@@ -1,7 +1,7 @@
 //! Which nodes are the same key.
 ghost use Rattle.std.specs.Prelude.{◌<◌, ◌+◌, ◌≡◌, IfOk, OnOk, length};
 ghost use Rattle.std.specs.Option.{option_map};
-ghost use Rattle.yaml_keys.specs.Keys.{AreClasses, IsFirstSame, scalar_of};
+ghost use Rattle.yaml_keys.specs.Keys.{AreClasses, IsFirstSame, scalar_key};
 ghost use Rattle.yaml_keys.specs.Firsts.{HasFirsts, read};
 
 use libyaml_documents::{unnamed_yaml_node_t_data, yaml_node_t};
@@ -47,7 +47,7 @@ fn class_of<'a>(
 /// Returns what tells a scalar apart as a key: whether it is plain, its tag and its text. Of a collection it
 /// returns `None`.
 fn scalar_of(node: &yaml_node_t) -> Option<(bool, &str, &str)>
-    ensures { option_map read result ≡ scalar_of node.now }
+    ensures { option_map read result ≡ scalar_key node.now }
 {
     match &node.content {
         unnamed_yaml_node_t_data::Scalar(scalar) => {

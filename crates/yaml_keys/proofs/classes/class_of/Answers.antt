@@ -3,14 +3,14 @@ use Rattle.std.specs.Prelude.{option_and_then}
 use Rattle.std.proofs.lemmas.Option.{slice_get_read}
 use Rattle.libyaml_documents.specs.declared.node.yaml_node_t.{yaml_node_t}
 use Rattle.yaml_keys.specs.Firsts.{read}
-use Rattle.yaml_keys.specs.Keys.{ScalarKey, scalar_of, scalar_at}
+use Rattle.yaml_keys.specs.Keys.{ScalarKey, scalar_key, scalar_key_at}
 use Rattle.yaml_keys.proofs.Firsts.{of_found, of_new, after_found, after_new}
 use Rattle.yaml_keys.proofs.classes.class_of.Goals as goal
 
 at_place : (nodes : List yaml_node_t) (place : ℕ) (node : yaml_node_t) (key : Option ScalarKey) → place < length nodes
-    → node ≡ get_or nodes place node → key ≡ scalar_of node → scalar_at nodes (pos (suc place)) ≡ key
+    → node ≡ get_or nodes place node → key ≡ scalar_key node → scalar_key_at nodes (pos (suc place)) ≡ key
 at_place nodes place node key lt is e =
-    ap (λ (o : Option yaml_node_t). option_and_then (λ (x : yaml_node_t). scalar_of x) o) (slice_get_read nodes (length nodes) place node refl lt is)
+    ap (λ (o : Option yaml_node_t). option_and_then (λ (x : yaml_node_t). scalar_key x) o) (slice_get_read nodes (length nodes) place node refl lt is)
     ∙ sym e
 
 pub returns-in-Some-get-clause-class : goal.returns-in-Some-get-clause-class
