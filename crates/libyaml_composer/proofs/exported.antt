@@ -4,3 +4,4 @@ pub mod Follows
 pub mod Opens
 pub mod Reasons
 pub mod Stacks
+pub mod Standing

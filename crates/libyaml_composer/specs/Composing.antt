@@ -72,12 +72,12 @@ holding_in i o false waits = record o { children = suc o.children }
 holding_in i o true false = record o { key = i; children = suc o.children }
 holding_in i o true true = record o { key = pos 0 }
 
-abbrev pub holding : ℤ → open_t → open_t
-holding i o = holding_in i o (is_set o.is_mapping) (is_id o.key)
+abbrev pub open_with_child : ℤ → open_t → open_t
+open_with_child i o = holding_in i o (is_set o.is_mapping) (is_id o.key)
 
 abbrev pub holding_top : ℤ → List open_t → List open_t
 holding_top i [] = []
-holding_top i (o ∷ s) = holding i o ∷ s
+holding_top i (o ∷ s) = open_with_child i o ∷ s
 
 abbrev pub parent_in : List open_t → ℤ
 parent_in [] = pos 0

@@ -1,6 +1,6 @@
 //! A collection that is open.
 ghost use Rattle.std.specs.Prelude.{◌≡◌, ◌↔◌, true};
-ghost use Rattle.libyaml_composer.specs.Composing.{deed_in, full_in, holding};
+ghost use Rattle.libyaml_composer.specs.Composing.{deed_in, full_in, open_with_child};
 ghost use Rattle.libyaml_composer.specs.Numbers.{is_set, is_id};
 
 use crate::deed::Deed;
@@ -30,7 +30,7 @@ impl open_t {
         ensures full { (result ≡ Deed.FullList)
             ↔ (full_in most self.old.children (is_set self.old.is_mapping) (is_id self.old.key) ≡ true) }
         ensures undone { result ≡ Deed.FullList → self.new ≡ self.old }
-        ensures held { (result ≡ Deed.FullList → ⊥) → (self.new ≡ holding child self.old)
+        ensures held { (result ≡ Deed.FullList → ⊥) → (self.new ≡ open_with_child child self.old)
             × (result ≡ deed_in (is_set self.old.is_mapping) (is_id self.old.key)) }
     {
         if self.is_mapping == 0 {

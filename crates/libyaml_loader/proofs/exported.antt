@@ -1,3 +1,4 @@
 -- The theorems that crates above may name, and no others of these proofs.
 pub mod LoadsInTurn
 pub mod Loops
+pub mod Yielding

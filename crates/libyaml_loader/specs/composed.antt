@@ -1,4 +1,5 @@
 pub mod Anchoring
 pub mod EventComposer
+pub mod Telling
 pub mod ComposedEvents
 pub mod ComposedLoops

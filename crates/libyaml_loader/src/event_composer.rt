@@ -1,12 +1,14 @@
 //! What composes events and makes no documents.
-ghost use Rattle.std.specs.Prelude.{◌≡◌, ◌⊎◌, true, IfErr, OnErr, OnOk};
+ghost use Rattle.std.specs.Prelude.{◌≡◌, ◌⊎◌, true, IfErr, IfOk, IfSome, None, OnErr, OnOk};
 ghost use Rattle.std.specs.Option.{option_map};
 ghost use Rattle.libyaml_types.specs.Fault.{fault_of};
 ghost use Rattle.libyaml_graphs.specs.graphs.GraphParts.{part_of};
 ghost use Rattle.libyaml_composer.specs.Composing.{most_of};
+ghost use Rattle.libyaml_composer.specs.DocumentSoFar.{IsRefused};
 ghost use Rattle.libyaml_loader.specs.composed.Anchoring.{event_first_mark, event_node, registered_at};
 ghost use Rattle.libyaml_loader.specs.composed.EventComposer.{ComposesTo, RefusesBy};
 ghost use Rattle.libyaml_loader.specs.composed.EventComposer.{needs_memory, new_event_composer};
+ghost use Rattle.libyaml_loader.specs.composed.Telling.{TellsDeed, load_fault};
 ghost use Rattle.libyaml_loader.specs.document.Ids.{anchored_node_of};
 ghost use Rattle.libyaml_loader.specs.document.Refusals.{fault_by};
 
@@ -15,7 +17,7 @@ use crate::context::accepted;
 use crate::ids::AnchoredNode;
 use crate::refusal::{Refusal, fault_by};
 use crate::stack::{NO_PLACE, OpenCollections};
-use libyaml_composer::Deed;
+use libyaml_composer::{Deed, place_t};
 use libyaml_events::yaml_parser_t_prefix;
 use libyaml_types::{yaml_error_type_t, yaml_event_t, yaml_event_type_t, yaml_mark_t};
 use std::alloc::{AllocError, Global};
@@ -45,7 +47,7 @@ impl Model for event_composer_t {
 impl event_composer_t {
     /// Returns what is kept before a stream's first event, without an allocation. Each list of a document may
     /// have `max_entries` entries.
-    pub(crate) fn new(alloc: Global, max_entries: u32) -> Self
+    pub fn new(alloc: Global, max_entries: u32) -> Self
         ensures { result ≡ new_event_composer (most_of max_entries) }
     {
         event_composer_t {
@@ -53,6 +55,28 @@ impl event_composer_t {
             anchors: Anchors::new(alloc),
             alloc,
         }
+    }
+
+    /// Takes an event. Returns what is to be done to the document, never `FullStack`, and puts where its node or
+    /// alias goes: zeros if it has none. If the deed refuses the event nothing changes.
+    ///
+    /// # Errors
+    ///
+    /// An allocation failed, at the start of a collection or at a node with an anchor. The value is then
+    /// unspecified.
+    pub fn compose(&mut self, event: &yaml_event_t, place: &mut place_t) -> Result<Deed, AllocError>
+        ensures tells { IfOk result (λ d. TellsDeed self.old event.now d place.new self.new) }
+        ensures err { OnErr result (needs_memory (part_of event.now) ≡ true) }
+    {
+        *place = NO_PLACE;
+        let fact = id_or_none(self.anchored_node(event));
+        let deed = self.collections.take_any(event.type_(), fact, place)?;
+        if let Deed::Begins = deed {
+            self.anchors = Anchors::new(self.alloc);
+            return Ok(deed);
+        }
+        self.register(event, place.node)?;
+        Ok(deed)
     }
 
     /// Composes an event. After an error the value is unspecified.
@@ -66,15 +90,23 @@ impl event_composer_t {
         ensures refuses { IfErr result (λ r. RefusesBy self.old event.now
             (fault_by r (event_first_mark self.new.anchors event.now) event.now.start_mark)) }
     {
-        let fact = id_or_none(self.anchored_node(event));
         let mut place = NO_PLACE;
-        let deed = accepted(self.collections.take_any(event.type_(), fact, &mut place)?)?;
-        if let Deed::Begins = deed {
-            self.anchors = Anchors::new(self.alloc);
-            return Ok(());
-        }
-        self.register(event, place.node)?;
+        accepted(self.compose(event, &mut place)?)?;
         Ok(())
+    }
+
+    /// Returns the error of a load at an event that a deed refuses, and `None` if the deed takes it.
+    pub fn refusal(&self, deed: Deed, event: &yaml_event_t) -> Option<yaml_parser_t_prefix>
+        ensures refused { IfSome result (λ f. IsRefused deed
+            × (fault_of f ≡ load_fault deed self.now event.now)
+            × ((f.error ≡ yaml_error_type_t.YAML_MEMORY_ERROR)
+            ⊎ (f.error ≡ yaml_error_type_t.YAML_COMPOSER_ERROR))) }
+        ensures taken { result ≡ None → IsRefused deed → ⊥ }
+    {
+        match accepted(deed) {
+            Ok(_) => None,
+            Err(refusal) => Some(self.fault(refusal, event)),
+        }
     }
 
     /// Returns the error of an event that was refused.

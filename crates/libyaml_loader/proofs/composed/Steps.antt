@@ -18,7 +18,7 @@ use Rattle.libyaml_composer.specs.DocumentSoFar.{DocumentSoFar, IsRefused, appli
 use Rattle.libyaml_composer.specs.Represents.{IsCarried, IsPart, Opens, DeedFits, Represents}
 use Rattle.libyaml_composer.proofs.exported.Deeds.{none_carried}
 use Rattle.libyaml_composer.proofs.exported.Follows as follow
-use Rattle.libyaml_loader.specs.composed.Anchoring.{anchors_after, event_first_mark, event_node, registered_at}
+use Rattle.libyaml_loader.specs.composed.Anchoring.{anchors_after, event_first_mark, event_node}
 use Rattle.libyaml_loader.specs.composed.EventComposer.{EventComposer, IsComposed, EventRefused, StandsAt, by_loads, is_between, is_within}
 use Rattle.libyaml_loader.specs.document.Context.{refusal_of}
 use Rattle.libyaml_loader.specs.document.Refusals.{fault_by}
@@ -27,11 +27,6 @@ use Rattle.libyaml_loader.specs.document.Stack.{roomy, with_document_begun}
 module _ (p : place_t) (q : Option Part) (m : Mark) (h : DocumentSoFar) (s : List open_t) where
   applied_anchors : (d : Deed) → IsPart d → DeedFits d p q h s → (applied_part d p q m h).anchors ≡ anchors_after d p.node q h.anchors
   applied_anchors d part puts = grind arith
-
--- the anchors after an event that begins no document
-pub registered_after : (d : Deed) (i : ℤ) (q : Option Part) (xs : Anchors) → (d ≡ deed.Begins → ⊥)
-    → registered_at i q xs ≡ anchors_after d i q xs
-registered_after d i q xs never = grind arith
 
 -- what an event that begins no document does between documents
 passes : (k : unnamed_yaml_event_t_data) (m : Mark) (p : place_t) (c : Composer) → opening_in k m ≡ None

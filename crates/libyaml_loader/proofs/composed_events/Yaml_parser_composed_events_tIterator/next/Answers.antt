@@ -1,19 +1,9 @@
-use Rattle.std.proofs.Common.{◌≡◌, Ok, Some, false, inl, inr, refl, rules, subst, sym, arith}
+use Rattle.std.proofs.Common.{◌≡◌, Ok, Some, refl, rules, subst, sym, arith}
 use Rattle.libyaml_types.specs.Fault.{Fault}
-use Rattle.libyaml_types.specs.declared.source.yaml_token_source_t.{Ghosts}
-use Rattle.libyaml_grammar.specs.grammar.Events.{Event}
-use Rattle.libyaml_events.specs.machine.Config.{Parser}
-use Rattle.libyaml_events.specs.sources.History.{Remembers, has_failed}
-use Rattle.libyaml_events.specs.sources.Iterates.{YieldsEvent}
 use Rattle.libyaml_loader.specs.composed.ComposedEvents.{by_loader}
 use Rattle.libyaml_loader.specs.composed.EventComposer.{RefusesBy}
+use Rattle.libyaml_loader.proofs.exported.Yielding.{after_event}
 use Rattle.libyaml_loader.proofs.composed_events.Yaml_parser_composed_events_tIterator.next.Goals as goal
-
--- after an event no error is kept
-after_event : {S : Type 0} (g : Ghosts S) (old new : Parser S) (e : Event) → Remembers old
-    → YieldsEvent g old (Some (Ok e)) new → has_failed new ≡ false
-after_event g old new e (inl failed) y = grind arith
-after_event g old new e (inr (asked, given, h)) y = grind arith
 
 pub keep_fault-requires-clause-first : goal.keep_fault-requires-clause-first
 keep_fault-requires-clause-first g c =
