@@ -1,10 +1,12 @@
 -- A child in the innermost open collection: what the nodes hold then.
 use Rattle.std.proofs.Common.{◌≡◌, ◌<◌, ◌∷◌, ◌++◌, ◌∙◌, ℕ, zero, suc, ℤ, pos, negsuc, List, [], length, map, Option, Bool, true, false, refl, sym, ap, arith, slice_get, option_map, append-nil, append_assoc}
+use Rattle.libyaml_grammar.specs.grammar.Tokens.{Mark}
+use Rattle.libyaml_documents.specs.LoadedNodes.{with_end}
 use Rattle.libyaml_documents.specs.Nodes.{changed_at, ids_of_pairs, with_changed, with_item, with_pair}
 use Rattle.libyaml_documents.specs.declared.node.yaml_node_t.{yaml_node_t}
 use Rattle.libyaml_documents.specs.declared.pairs.yaml_node_pair_t.{yaml_node_pair_t}
 use Rattle.libyaml_composer.specs.declared.records.open_t.{open_t}
-use Rattle.libyaml_composer.specs.Composing.{deed_for, holding, place_in}
+use Rattle.libyaml_composer.specs.Composing.{deed_for, open_with_child, place_in}
 use Rattle.libyaml_composer.specs.Numbers.{is_set, is_id}
 use Rattle.libyaml_composer.specs.DocumentSoFar.{placed}
 use Rattle.libyaml_composer.specs.Represents.{IsOpenBy, IsOpenNode, Opens}
@@ -68,10 +70,10 @@ module _ (nodes : List yaml_node_t) (n i : ℤ) (some : is_id i ≡ true) (o : o
         → ids_at (with_changed o.node f nodes) o.node ≡ ids_of_node (option_map f (slice_get nodes k))
     ids_changed f = grind (arith, ids_here, changes, get_there)
 
-    pub hands : Hands after (holding i o)
+    pub hands : Hands after (open_with_child i o)
     hands = grind (arith, changed_count, changed_others, ids_changed, item_more, ids_here, append-nil, pair_more, append_assoc)
 
-    pub top_after : opened_of after (holding i o) ≡ with_child (opened_of nodes o) i
+    pub top_after : opened_of after (open_with_child i o) ≡ with_child (opened_of nodes o) i
     top_after = grind (arith, hands)
 
 -- collections that no change reaches
@@ -86,3 +88,11 @@ opened_same most nodes later m (p ∷ r) (j, at, lt, there, key, rest) same =
     same_opened : slice_get later j ≡ slice_get nodes j → opened_of later p ≡ opened_of nodes p
     same_opened e = ap (λ (l : List ℤ). opened_as p.node (l ++ key_waiting (is_set p.is_mapping) (is_id p.key) p.key))
         (ap (λ (y : ℤ). ids_at later y) at ∙ (ap ids_of_node e ∙ sym (ap (λ (y : ℤ). ids_at nodes y) at)))
+
+-- where the innermost open collection ends
+pub same_ids : (m : Mark) (x : Option yaml_node_t) → ids_of_node (option_map (with_end m) x) ≡ ids_of_node x
+same_ids m x = grind arith
+
+pub closed_others : (nodes : List yaml_node_t) (m : Mark) (z : ℤ) (k : ℕ) → z ≡ pos (suc k) → (j : ℕ) → (j ≡ k → ⊥)
+    → slice_get (with_changed z (with_end m) nodes) j ≡ slice_get nodes j
+closed_others nodes m z k is j e = ap (λ (y : ℤ). slice_get (with_changed y (with_end m) nodes) j) is ∙ get_other (with_end m) nodes k j e

@@ -9,7 +9,7 @@ use Rattle.libyaml_grammar.specs.grammar.Trees.{Sort, mapping, sequence}
 use Rattle.libyaml_grammar.proofs.exported.Injectivity.{head_same, tail_same}
 use Rattle.libyaml_composer.specs.declared.records.open_t.{open_t}
 use Rattle.libyaml_composer.specs.declared.records.place_t.{place_t}
-use Rattle.libyaml_composer.specs.Composing.{Composer, Told, adding, at_anchored_node, at_start, deed_for, handing, holding, holding_top, if_placed, new_id, with_open_node, within_step}
+use Rattle.libyaml_composer.specs.Composing.{Composer, Told, adding, at_anchored_node, at_start, deed_for, handing, open_with_child, holding_top, if_placed, new_id, with_open_node, within_step}
 use Rattle.libyaml_composer.specs.Numbers.{is_id, is_set}
 use Rattle.libyaml_composer.specs.Represents.{IsPart}
 use Rattle.document_sizes.specs.ParserRuns.{TakesEvent}
@@ -54,7 +54,7 @@ pub data Inside (tail : List Event) (nodes : ℕ) (s : List open_t) (rest : List
 
 child_frame : (i : ℤ) (o : open_t) (k : Sort) (v : Value) (vs : Values) (p q : Mark) (rest r : List Event) → is_id i ≡ true
     → IsOf k o.is_mapping → Waits k o.key (first_value v vs) → AllHavePairs vs
-    → rest ≡ values_events vs (end_at k p q ∷ r) → Frame (holding i o) rest r
+    → rest ≡ values_events vs (end_at k p q ∷ r) → Frame (open_with_child i o) rest r
 child_frame i o k v vs p q rest r is m h pairs e = grind arith
 
 -- what the composer tells where it takes an event
@@ -94,7 +94,7 @@ module _ (tail : List Event) (c : Composer) (f : ℤ) (p : place_t) where
   pub data AfterValue (s : List open_t) (r : List Event) : Type 0 where
     root : c.nodes ≡ 0 → s ≡ [] → r ≡ tail → AfterValue s r
     child : (o : open_t) (s' : List open_t) → s ≡ o ∷ s'
-        → ((i : ℤ) → is_id i ≡ true → Left tail (holding i o ∷ s') r) → AfterValue s r
+        → ((i : ℤ) → is_id i ≡ true → Left tail (open_with_child i o ∷ s') r) → AfterValue s r
 
   loses : (s : List open_t) (r : List Event) → AfterValue s r → LosesNothing (deed_for s) (at s)
   loses s r h = grind arith

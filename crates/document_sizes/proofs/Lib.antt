@@ -11,3 +11,6 @@ pub mod NestedEvents
 pub mod LeftValues
 pub mod ParserRunning
 pub mod ParserLaws
+pub mod Continuing
+pub mod Wholes
+pub mod exported

@@ -1,18 +1,18 @@
 -- What an event does to the nodes and the stack keeps the numbers those of the trees.
-use Rattle.std.proofs.Common.{◌≡◌, ◌+◌, ◌-◌, ◌<◌, ◌≤◌, ◌∷◌, ◌++◌, ◌∙◌, ℕ, suc, ℤ, pos, List, [], length, map, Option, Some, refl, sym, ap, subst, arith, slice_get, option_map, append-nil, length-append}
+use Rattle.std.proofs.Common.{◌≡◌, ◌+◌, ◌-◌, ◌<◌, ◌≤◌, ◌∷◌, ◌++◌, ◌∙◌, ℕ, suc, ℤ, pos, List, [], length, map, Option, Some, refl, sym, ap, subst, arith, slice_get, append-nil, length-append}
 use Rattle.libyaml_grammar.specs.grammar.Tokens.{Mark}
 use Rattle.libyaml_documents.specs.LoadedNodes.{with_end}
 use Rattle.libyaml_documents.specs.Nodes.{changed_at, ids_of, with_changed}
 use Rattle.libyaml_documents.specs.declared.node.yaml_node_t.{yaml_node_t}
 use Rattle.libyaml_composer.specs.declared.records.open_t.{open_t}
-use Rattle.libyaml_composer.specs.Composing.{deed_for, holding, holding_top, place_in}
+use Rattle.libyaml_composer.specs.Composing.{deed_for, open_with_child, holding_top, place_in}
 use Rattle.libyaml_composer.specs.DocumentSoFar.{placed}
 use Rattle.libyaml_composer.specs.Represents.{IsKeyIn, IsOpenNode, Opens}
 use Rattle.yaml_expansion.specs.Expansion.{ids_at, ids_of_node}
 use Rattle.document_sizes.specs.RunLaws.{held_so_far}
 use Rattle.document_sizes.proofs.Trees.{State, Opened, Keeps, Says, with_child, new_at, says_alias, says_scalar, says_root, says_open, says_root_open, says_closed}
-use Rattle.libyaml_composer.proofs.exported.Opens.{get_among, get_last, get_other, get_there, length_changed}
-use Rattle.document_sizes.proofs.Holding.{Hands, after, hands, index_of, opened_of, opened_same, top_after}
+use Rattle.libyaml_composer.proofs.exported.Opens.{get_among, get_last, get_there, length_changed}
+use Rattle.document_sizes.proofs.Holding.{Hands, after, closed_others, hands, index_of, opened_of, opened_same, same_ids, top_after}
 
 abbrev pub state_of : List yaml_node_t → (ℕ → Option ℕ) → State
 state_of nodes g = record { held = ids_at nodes; size = g; nodes = length nodes }
@@ -103,7 +103,7 @@ module _ (limit : ℕ) where
       abbrev later : List yaml_node_t
       later = after grown id id refl o s
 
-      r : Hands grown id id refl o s k most is here_grown later (holding id o)
+      r : Hands grown id id refl o s k most is here_grown later (open_with_child id o)
       r = hands grown id id refl o s k most is here_grown
 
       count : length later ≡ suc (length nodes)
@@ -118,7 +118,7 @@ module _ (limit : ℕ) where
       child_keeps : Keeps limit (state_of nodes g) (state_of later g')
       child_keeps = grind (arith, start_of, keeps_by, count, others, apart)
 
-      top_same : opened_of later (holding id o) ≡ with_child (opened_of nodes o) id
+      top_same : opened_of later (open_with_child id o) ≡ with_child (opened_of nodes o) id
       top_same = top_after grown id id refl o s k most is here_grown
           ∙ ap (λ (p : Opened). with_child p id) (one_same (opened_same most nodes grown (suc k) (o ∷ [])
           (k, is, omega arith, here, key, tt) (λ q l. get_among nodes (x ∷ []) q (omega arith))))
@@ -161,12 +161,6 @@ module _ (limit : ℕ) where
     closed_count : length closed ≡ length nodes
     closed_count = ap length closed_is ∙ length_changed k (with_end m) nodes
 
-    closed_others : (j : ℕ) → (j ≡ k → ⊥) → slice_get closed j ≡ slice_get nodes j
-    closed_others j e = ap (λ (l : List yaml_node_t). slice_get l j) closed_is ∙ get_other (with_end m) nodes k j e
-
-    same_ids : (x : Option yaml_node_t) → ids_of_node (option_map (with_end m) x) ≡ ids_of_node x
-    same_ids x = grind arith
-
     holds : ids_at closed (pos (suc k)) ≡ held_so_far nodes o
     holds = grind (arith, closed_is, get_there, same_ids, append-nil)
 
@@ -174,10 +168,10 @@ module _ (limit : ℕ) where
     closed_says h =
         let place : index_of o.node ≡ k = ap index_of is in
         subst (λ (l : List Opened). Says limit (state_of closed g') l total)
-        (sym (opened_same most nodes closed k s rest (λ q l. closed_others q (λ e. omega arith))))
+        (sym (opened_same most nodes closed k s rest (λ q l. closed_others nodes m o.node k is q (λ e. omega arith))))
         (says_closed limit (state_of nodes g) (state_of closed g')
         (keeps_by nodes closed g g' (omega (arith, closed_count)) (λ q l z e m. sizes q (apart g q k z before e m at))
-        (λ q z l e m. closed_others q (apart g q k z before e m at)))
+        (λ q z l e w. closed_others nodes m o.node k is q (apart g q k z before e w at)))
         closed_count (opened_of nodes o) (map (opened_of nodes) s) total before
         (λ j e. sizes j (λ f. e (f ∙ sym place)))
         (ap (λ (q : ℕ). ids_at closed (pos (suc q))) place ∙ holds)

@@ -6,7 +6,7 @@ ghost use Rattle.libyaml_grammar.specs.grammar.Nesting.{NestsSoFar};
 ghost use Rattle.libyaml_grammar.specs.grammar.Tokens.{Token};
 ghost use Rattle.libyaml_grammar.specs.runs.Runs.{Ending, IsRun};
 ghost use Rattle.document_sizes.specs.ParserLaws.{EndsWithItsSize, NothingIsLost, StopsAtACycle};
-ghost use Rattle.document_sizes.specs.ParserLaws.{StopsAtTheBound};
+ghost use Rattle.document_sizes.specs.ParserLaws.{StopsAtTheBound, WholeContinues};
 ghost use Rattle.document_sizes.specs.RunLaws.{EndlessIsRight, TooLargeIsRight, TotalIsSize};
 
 /// The total of a document whose events were all counted is its expanded size, and at most the bound.
@@ -24,7 +24,7 @@ pub fn endless_is_right()
     ensures { EndlessIsRight }
 {}
 
-/// The three laws of a caller who hands in a parser's events from the stream's start on: no such event is
+/// The laws of a caller who hands in a parser's events from the stream's start on: no such event is
 /// lost, so nothing is left to suppose. A parser's events nest so far: those with which a run over tokens
 /// begins do, those of any parser (`nests` of `laws::calls` and `laws::pushes` of `libyaml_events`), and
 /// those of steps.
@@ -35,4 +35,6 @@ pub fn parser_is_counted()
     ensures ends_with_its_size { EndsWithItsSize }
     ensures stops_at_the_bound { StopsAtTheBound }
     ensures stops_at_a_cycle { StopsAtACycle }
+    // so no document that comes of it is within the bound
+    ensures whole_continues { WholeContinues }
 {}
