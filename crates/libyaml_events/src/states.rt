@@ -132,7 +132,7 @@ impl TokenParser {
         ensures content { result ≡ Action.AsksContent → GrowsAfter pending.new self.new token.now
             → may_grow (wanted pending.old) self.old token.now.content ≡ true }
     {
-        self.automaton.automaton.step::<true>(
+        self.automaton.automaton.step::<true, false>(
             &mut pending.reading,
             self.automaton.states.as_mut_slice(),
             self.automaton.marks.as_mut_slice(),

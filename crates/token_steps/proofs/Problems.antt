@@ -1,9 +1,13 @@
 -- Each error of a call has a number from 1 to 12.
-use Rattle.std.proofs.Common.{◌≡◌, ℕ, Ok, Err, arith}
+use Rattle.std.proofs.Common.{◌≡◌, ℕ, Bool, true, false, Ok, Err, arith, rules}
 use Rattle.libyaml_types.specs.declared.enums.yaml_token_type_t.{yaml_token_type_t}
 use Rattle.libyaml_automaton.specs.declared.node_place.NodePlace.{NodePlace}
 use Rattle.libyaml_automaton.specs.Automaton.{PropertiesRead, Step}
 use Rattle.libyaml_automaton.specs.Config.{Stacks}
+use Rattle.libyaml_automaton.specs.Differing.{differs}
+use Rattle.libyaml_automaton.specs.declared.difference.Difference.{Difference}
+use Rattle.libyaml_automaton.specs.declared.difference.Difference.TheVariants.{Nowhere}
+use Rattle.token_steps.specs.Exact.{step_by_fact_if, step_there}
 use Rattle.token_steps.specs.Facts.{StepResult, TagRead, StepToken, StepWant, content_by_fact, without_fact, step_by_fact, with_facts}
 use Rattle.token_steps.specs.Numbers.{IsFaultNumber}
 use Rattle.token_steps.specs.Tells.{Tells}
@@ -28,6 +32,14 @@ event_result v k tag t s x = grind (arith, content_number)
 
 pub step_number : (v : StepWant) (c : Stacks) (t : StepToken) → Numbered (step_by_fact v c t)
 step_number v c t = event_result (keeping v.next) t.kind v.tag t _ (follows v.next c (without_fact t) t.kind)
+
+there_number : (x : Difference) (v : StepWant) (c : Stacks) (t : StepToken) → Numbered (step_there x v c t)
+there_number Nowhere v c t = step_number v c t
+there_number _ v c t = search rules
+
+pub number_if : (b : Bool) (v : StepWant) (c : Stacks) (t : StepToken) → Numbered (step_by_fact_if b v c t)
+number_if false v c t = step_number v c t
+number_if true v c t = there_number (differs v.next c.state c.behind_document_end t.kind) v c t
 
 pub failed_number : (x : Did) (p : StepResult) (d : steps_t) (e : step_event_t) (f : step_fault_t) (c : Stacks)
     → Numbered p → x ≡ did.Failed → Tells x p d e f c → IsFaultNumber f.problem

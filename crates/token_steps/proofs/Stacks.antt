@@ -7,11 +7,6 @@ use Rattle.libyaml_events.proofs.exported.Pushes.{fed_depth, fed_marks}
 use Rattle.libyaml_events.specs.parsers.Stages.{open_collections, stage_of}
 use Rattle.token_steps.specs.RunLaws.{ForStacks}
 use Rattle.token_steps.proofs.Running.{fed}
-pub use Rattle.libyaml_automaton.proofs.exported.Stacks.{marks_none}
-pub use Rattle.libyaml_automaton.proofs.exported.Tops.{marks_below}
-
--- the mark on top of a stack
-pub ruleset top_of_marks = (marks_below, marks_none)
 
 states_counted : (n : ℕ) (ss : List ℕ) → n ≤ length ss → length (states_of n ss) ≡ n
 unfolding states_of

@@ -6,6 +6,7 @@ use Rattle.libyaml_types.specs.declared.enums.yaml_parser_state_t.TheVariants.{Y
 use Rattle.libyaml_types.specs.declared.enums.yaml_token_type_t.{yaml_token_type_t}
 use Rattle.libyaml_automaton.specs.Config.{Stacks, in_state, top_mark}
 use Rattle.libyaml_automaton.specs.Differing.{differs}
+use Rattle.libyaml_automaton.specs.Exact.{where_same}
 use Rattle.libyaml_automaton.specs.Problems as problem
 use Rattle.libyaml_automaton.specs.declared.difference.Difference.{Difference}
 use Rattle.libyaml_automaton.specs.declared.difference.Difference.TheVariants.{Nowhere, PairKey, ValueFirst, BareDocument}
@@ -36,13 +37,18 @@ step_there BareDocument v c t
 abbrev pub exact_step_by_fact : StepWant → Stacks → StepToken → StepResult
 exact_step_by_fact v c t = step_there (differs v.next c.state c.behind_document_end t.kind) v c t
 
--- Where an exact call pushes: where the other does and libyaml does the same.
-abbrev pub where_same : Difference → Bool → Bool
-where_same Nowhere b = b
-where_same _ b = false
+-- a step by a token, which may be exact
+abbrev pub step_by_fact_if : (is_exact : Bool) → StepWant → Stacks → StepToken → StepResult
+step_by_fact_if false v c t = step_by_fact v c t
+step_by_fact_if true v c t = exact_step_by_fact v c t
 
+-- Where an exact call pushes: where the other does and libyaml does the same.
 abbrev pub exactly_grows_states : steps_t → yaml_token_type_t → Bool
 exactly_grows_states d k = where_same (differs_in d k) (grows_states d k)
 
 abbrev pub exactly_grows_marks : steps_t → yaml_token_type_t → Bool
 exactly_grows_marks d k = where_same (differs_in d k) (grows_marks d k)
+
+abbrev pub where_same_if : (is_exact : Bool) → Difference → Bool → Bool
+where_same_if false x b = b
+where_same_if true x b = where_same x b

@@ -75,6 +75,7 @@ FitsTold action.WantsAnchor k r g = k ≡ kinds.YAML_ANCHOR_TOKEN
 FitsTold action.WantsTag k r g = (k ≡ kinds.YAML_TAG_TOKEN) × (next_of r.next ≡ next.AfterProperties)
 FitsTold action.Empty k r g = g ≡ NoTag
 FitsTold action.EmptyAfter k r g = g ≡ NoTag
+FitsTold action.EmptyAtEnd k r g = g ≡ NoTag
 FitsTold action.Pair k r g = g ≡ NoTag
 FitsTold _ k r g = Unit {0}
 

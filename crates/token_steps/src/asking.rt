@@ -6,6 +6,8 @@ ghost use Rattle.libyaml_automaton.specs.Fits.{Documents};
 ghost use Rattle.libyaml_automaton.specs.Growth.{HasNoRoom, stack_part_of, pushes_in_documents};
 ghost use Rattle.libyaml_automaton.specs.Numbers.{flag, next_of, state_of, place_of};
 ghost use Rattle.libyaml_automaton.specs.Purposes.{IsAt, properties};
+ghost use Rattle.token_steps.specs.Differing.{differs_in};
+ghost use Rattle.token_steps.specs.Exact.{step_by_fact_if, where_same_if};
 ghost use Rattle.token_steps.specs.Facts as facts;
 ghost use Rattle.token_steps.specs.Facts.{tag_if};
 ghost use Rattle.token_steps.specs.Growth.{content_opens};
@@ -23,7 +25,7 @@ use libyaml_types::{yaml_mark_t, yaml_token_type_t};
 impl steps_t {
     /// Takes a token that is the stream's or a document's.
     #[inline(never)]
-    pub(crate) fn document(
+    pub(crate) fn document<const IS_EXACT: bool>(
         &mut self,
         states: &mut [u8],
         kind: yaml_token_type_t,
@@ -35,13 +37,14 @@ impl steps_t {
         requires within { self.old.machine.states_count ≤ length states.old }
         requires at { IsAt (next_of self.old.read.next) (state_of self.old.machine.state) }
         requires documents { stack_part_of (next_of self.old.read.next) ≡ Documents }
-        ensures tells { (marks : List yaml_mark_t) → Tells result (facts.step_by_fact (want_in self.old)
+        ensures tells { (marks : List yaml_mark_t) → Tells result (step_by_fact_if IS_EXACT (want_in self.old)
             (stacks_of self.old.machine states.old marks) (span_token kind fact at.now))
             self.new event.new fault.new (stacks_of self.new.machine states.new marks) }
         ensures within { self.new.machine.states_count ≤ length states.new }
         ensures marks { self.new.machine.marks_count ≡ self.old.machine.marks_count }
-        ensures full { (result ≡ Did.FullStates) ↔ HasNoRoom (pushes_in_documents (next_of self.old.read.next)
-            (flag self.old.machine.behind_document_end) kind) states.old self.old.machine.states_count }
+        ensures full { (result ≡ Did.FullStates) ↔ HasNoRoom (where_same_if IS_EXACT
+            (differs_in self.old kind) (pushes_in_documents (next_of self.old.read.next)
+            (flag self.old.machine.behind_document_end) kind)) states.old self.old.machine.states_count }
         ensures undone { result ≡ Did.FullStates → (self.new.machine ≡ self.old.machine)
             × ((states.new ≡ states.old) × (want_in self.new ≡ want_in self.old)) }
         ensures done { (result ≡ Did.FullStates → ⊥) → IsDone result }
@@ -53,7 +56,7 @@ impl steps_t {
     {
         match self
             .machine
-            .document_step(&mut self.read, states, kind, &at.start_mark)
+            .document_step::<IS_EXACT>(&mut self.read, states, kind, &at.start_mark)
         {
             Action::FullStates => Did::FullStates,
             Action::AsksVersion => {

@@ -8,6 +8,7 @@ ghost use Rattle.libyaml_automaton.specs.Config.{stacks_of, first_stacks, Within
 ghost use Rattle.libyaml_automaton.specs.Growth.{HasNoRoom};
 ghost use Rattle.libyaml_automaton.specs.Purposes.{purpose_of};
 ghost use Rattle.token_steps.specs.Differing.{differs_in};
+ghost use Rattle.token_steps.specs.Exact.{step_by_fact_if, where_same_if};
 ghost use Rattle.token_steps.specs.Facts as facts;
 ghost use Rattle.token_steps.specs.Growth.{grows_states, grows_marks};
 ghost use Rattle.token_steps.specs.Records.{AreFlags, AreUnused, kind_of, span_token};
@@ -145,11 +146,50 @@ impl steps_t {
         ensures event_kept { (IsGiven result → ⊥) → event.new ≡ event.old }
         ensures fault_kept { (result ≡ Did.Failed → ⊥) → fault.new ≡ fault.old }
     {
+        self.step_as::<false>(states, marks, kind, fact, at, event, fault)
+    }
+
+    /// Takes a token in the way of `step`, or of `step_exact`.
+    #[inline(always)]
+    pub(crate) fn step_as<const IS_EXACT: bool>(
+        &mut self,
+        states: &mut [u8],
+        marks: &mut [yaml_mark_t],
+        kind: yaml_token_type_t,
+        fact: u8,
+        at: &step_span_t,
+        event: &mut step_event_t,
+        fault: &mut step_fault_t,
+    ) -> Did
+        ensures tells { Tells result (step_by_fact_if IS_EXACT (want_in self.old)
+            (stacks_of self.old.machine states.old marks.old) (span_token kind fact at.now))
+            self.new event.new fault.new (stacks_of self.new.machine states.new marks.new) }
+        ensures within { Within self.old.machine states.old marks.old
+            → Within self.new.machine states.new marks.new }
+        ensures bad { (result ≡ Did.Bad) ↔ (Within self.old.machine states.old marks.old → ⊥) }
+        ensures full_states { Within self.old.machine states.old marks.old → (result ≡ Did.FullStates)
+            ↔ (HasNoRoom (where_same_if IS_EXACT (differs_in self.old kind) (grows_states self.old kind))
+            states.old self.old.machine.states_count
+            × (HasNoRoom (where_same_if IS_EXACT (differs_in self.old kind) (grows_marks self.old kind))
+            marks.old self.old.machine.marks_count → ⊥)) }
+        ensures full_marks { Within self.old.machine states.old marks.old → (result ≡ Did.FullMarks)
+            ↔ HasNoRoom (where_same_if IS_EXACT (differs_in self.old kind) (grows_marks self.old kind))
+            marks.old self.old.machine.marks_count }
+        ensures undone { IsUntold result → (self.new.machine ≡ self.old.machine) × ((states.new ≡ states.old)
+            × ((marks.new ≡ marks.old) × (want_in self.new ≡ want_in self.old))) }
+        ensures holds_nothing { IsGiven result → purpose_of self.new.read ≡ AtState }
+        ensures event_number { IsGiven result → IsEventNumber event.new.kind }
+        ensures event_flags { IsGiven result → AreFlags event.new }
+        ensures event_unused { IsGiven result → AreUnused event.new }
+        ensures fault_number { result ≡ Did.Failed → IsFaultNumber fault.new.problem }
+        ensures event_kept { (IsGiven result → ⊥) → event.new ≡ event.old }
+        ensures fault_kept { (result ≡ Did.Failed → ⊥) → fault.new ≡ fault.old }
+    {
         if self.machine.states_count > states.len() || self.machine.marks_count > marks.len() {
             return Did::Bad;
         }
         self.read.settle(&self.machine);
-        match self.machine.step::<false>(
+        match self.machine.step::<false, IS_EXACT>(
             &mut self.read,
             states,
             marks,
@@ -159,7 +199,7 @@ impl steps_t {
         ) {
             Action::FullStates => Did::FullStates,
             Action::FullMarks => Did::FullMarks,
-            Action::Document => self.document(states, kind, fact, at, event, fault),
+            Action::Document => self.document::<IS_EXACT>(states, kind, fact, at, event, fault),
             Action::AsksContent => self.content(states, marks, kind, fact, at, event, fault),
             led => self.tell(
                 led,

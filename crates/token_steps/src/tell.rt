@@ -243,6 +243,10 @@ impl steps_t {
                 put_event(event, SCALAR, true, &self.read.mark, &self.read.mark);
                 self.rest(Did::Stays)
             }
+            Action::EmptyAtEnd => {
+                put_event(event, SCALAR, true, &at.end_mark, &at.end_mark);
+                self.rest(Did::Gave)
+            }
             Action::EmptyHead => {
                 let is_missing = head.is_missing();
                 put_node(event, SCALAR, head, is_missing, false, false, start, end);

@@ -13,11 +13,11 @@ use Rattle.libyaml_events.specs.parsers.Lookahead.{LookaheadIsLast}
 use Rattle.libyaml_grammar.specs.vectors.VectorNotation.{SCALAR, STREAM, at, place, says_while, token}
 
 -- a parser in this state, over these stacks
-abbrev pub over : yaml_parser_state_t → List yaml_parser_state_t → List yaml_mark_t → Config
-over state states marks = holding None (record start { state = state; states = states; marks = marks })
+abbrev pub standing_over : yaml_parser_state_t → List yaml_parser_state_t → List yaml_mark_t → Config
+standing_over state states marks = holding None (record start { state = state; states = states; marks = marks })
 
 abbrev pub in_sequence : List yaml_parser_state_t → List yaml_mark_t → Config
-in_sequence states marks = over st.YAML_PARSE_BLOCK_SEQUENCE_ENTRY_STATE states marks
+in_sequence states marks = standing_over st.YAML_PARSE_BLOCK_SEQUENCE_ENTRY_STATE states marks
 
 abbrev pub MissesEntry : List yaml_mark_t → (opened_at : ℕ) → Type 0
 MissesEntry marks i = KeepsBelow (in_sequence (st.YAML_PARSE_DOCUMENT_END_STATE ∷ []) marks) (Ok (token 4 Key)
@@ -27,16 +27,16 @@ MissesEntry marks i = KeepsBelow (in_sequence (st.YAML_PARSE_DOCUMENT_END_STATE 
 -- A sequence ends: its state goes and the one below comes, and its mark goes.
 abbrev pub VectorSequenceEnds : Type 0
 VectorSequenceEnds = KeepsBelow (in_sequence (st.YAML_PARSE_DOCUMENT_END_STATE ∷ []) (place 2 ∷ [])) (Ok (token 4 BlockEnd)
-    ∷ []) (Ok (at 8 9 ev.SequenceEnd)) (over st.YAML_PARSE_DOCUMENT_END_STATE [] [])
+    ∷ []) (Ok (at 8 9 ev.SequenceEnd)) (standing_over st.YAML_PARSE_DOCUMENT_END_STATE [] [])
 
 -- not over an empty stack
 abbrev pub NeverWithoutState : Type 0
 NeverWithoutState = KeepsBelow (in_sequence [] (place 2 ∷ [])) (Ok (token 4 BlockEnd) ∷ [])
-    (Ok (at 8 9 ev.SequenceEnd)) (over st.YAML_PARSE_END_STATE [] []) → ⊥
+    (Ok (at 8 9 ev.SequenceEnd)) (standing_over st.YAML_PARSE_END_STATE [] []) → ⊥
 
 abbrev pub NeverWithoutMark : Type 0
 NeverWithoutMark = KeepsBelow (in_sequence (st.YAML_PARSE_DOCUMENT_END_STATE ∷ []) []) (Ok (token 4 BlockEnd)
-    ∷ []) (Ok (at 8 9 ev.SequenceEnd)) (over st.YAML_PARSE_DOCUMENT_END_STATE [] []) → ⊥
+    ∷ []) (Ok (at 8 9 ev.SequenceEnd)) (standing_over st.YAML_PARSE_DOCUMENT_END_STATE [] []) → ⊥
 
 -- An entry is missing: the error has the mark on top.
 abbrev pub VectorEntryMissing : Type 0

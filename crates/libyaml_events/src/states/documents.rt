@@ -241,7 +241,7 @@ impl TokenParser {
             → was_declared self.new.handles token.now.content ≡ false
             → may_grow (wanted pending.old) self.old token.now.content ≡ true }
     {
-        self.automaton.automaton.document_step(
+        self.automaton.automaton.document_step::<false>(
             &mut pending.reading,
             self.automaton.states.as_mut_slice(),
             token.type_(),

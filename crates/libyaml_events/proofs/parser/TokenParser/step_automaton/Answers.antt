@@ -1,4 +1,4 @@
-use Rattle.std.proofs.Common.{true, ◌≡◌, ◌∙◌, rules, arith}
+use Rattle.std.proofs.Common.{true, ◌≡◌, ◌∙◌, refl, rules, arith}
 use Rattle.std.specs.Vec.{with_items}
 use Rattle.std.proofs.lemmas.List.{with_items_is}
 use Rattle.libyaml_types.specs.Fault.{fault_of}
@@ -29,7 +29,7 @@ asked c e = rw e at (c.step.ensures.undone (rw e tt)).1.1.1
 pub returns-clause-led : goal.returns-clause-led
 returns-clause-led c = rw (states c, marks c) (leads c.self-inside.inside.0.1.0 (fault_of c.self-inside.inside.0.1.1.1.0) _ _
     c.args.self.now c.args.token.now c.args.pending.now c.step.new.read c.step.result c.type_.result (was c)
-    c.type_.ensures c.step.ensures.fits (asked c) c.step.ensures.steps)
+    c.type_.ensures c.step.ensures.fits (asked c) (c.step.ensures.steps refl))
 
 pub returns-clause-undone : goal.returns-clause-undone
 returns-clause-undone c = λ h.
@@ -42,7 +42,7 @@ returns-clause-undone c = λ h.
 pub returns-clause-content : goal.returns-clause-content
 returns-clause-content c = (grows_asked c.self-inside.inside.0.1.0 (fault_of c.self-inside.inside.0.1.1.1.0)
     _ _ c.args.self.now c.args.token.now c.args.pending.now c.step.new.read c.step.result c.type_.result (was c)
-    c.type_.ensures c.step.ensures.fits (asked c) c.step.ensures.steps)
+    c.type_.ensures c.step.ensures.fits (asked c) (c.step.ensures.steps refl))
 
 pub returns-clause-grows : goal.returns-clause-grows
 returns-clause-grows c = λ h.

@@ -1,4 +1,4 @@
-use Rattle.std.proofs.Common.{◌≡◌, ap, rules, true, arith}
+use Rattle.std.proofs.Common.{◌≡◌, ap, refl, rules, true, arith}
 use Rattle.std.specs.Vec.{with_items}
 use Rattle.std.proofs.lemmas.List.{with_items_is}
 use Rattle.libyaml_types.specs.Fault.{fault_of}
@@ -26,7 +26,7 @@ pub returns-clause-led : goal.returns-clause-led
 returns-clause-led c = rw (states c) (document_leads c.self-inside.inside.0.1.0 (fault_of c.self-inside.inside.0.1.1.1.0)
     _ _ c.args.self.now c.args.token.now c.args.pending.now c.document_step.new.read c.document_step.result c.type_.result
     (was c) c.type_.ensures c.requires.declared
-    (c.document_step.ensures.steps c.self-inside.inside.0.0.marks.items c.args.token.now.end_mark))
+    (c.document_step.ensures.steps refl c.self-inside.inside.0.0.marks.items c.args.token.now.end_mark))
 
 pub returns-clause-undone : goal.returns-clause-undone
 returns-clause-undone c = λ h.
@@ -47,4 +47,4 @@ pub returns-clause-handle : goal.returns-clause-handle
 returns-clause-handle c = handle_grows c.self-inside.inside.0.1.0 (fault_of c.self-inside.inside.0.1.1.1.0)
     _ _ c.args.self.now c.args.token.now c.args.pending.now c.document_step.new.read c.document_step.result c.type_.result
     (was c) c.requires.ready c.type_.ensures c.document_step.ensures.fits c.requires.documents
-    (c.document_step.ensures.steps c.self-inside.inside.0.0.marks.items c.args.token.now.end_mark)
+    (c.document_step.ensures.steps refl c.self-inside.inside.0.0.marks.items c.args.token.now.end_mark)

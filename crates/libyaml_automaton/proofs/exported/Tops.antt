@@ -1,2 +1,0 @@
--- What lies on top of a stack of marks.
-pub use Rattle.libyaml_automaton.proofs.Tops.{marks_at, marks_below}
