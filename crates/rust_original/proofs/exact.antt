@@ -1,2 +1,4 @@
+pub mod Quiet
+pub mod Judged
 pub mod Feed
 pub mod Calls

@@ -2,6 +2,4 @@ pub mod Parser
 pub mod Texts
 pub mod Runs
 pub mod Differences
-pub mod Strict
 pub mod ExactCalls
-pub mod Passed

@@ -7,28 +7,19 @@ ghost use Rattle.libyaml_grammar.specs.runs.Runs.{Ending, Ends, Fails, IsRun};
 ghost use Rattle.libyaml_grammar.specs.grammar.Events.{Event};
 ghost use Rattle.libyaml_grammar.specs.grammar.Nesting.{IsNested, NestsSoFar};
 ghost use Rattle.libyaml_grammar.specs.grammar.ValidLists.{has_end};
-ghost use Rattle.libyaml_grammar.specs.grammar.Tokens.{Mark, Token};
-ghost use Rattle.libyaml_automaton.specs.declared.difference.Difference.{Difference};
-ghost use Rattle.libyaml_automaton.specs.declared.difference.Difference.TheVariants.{BareDocument};
-ghost use Rattle.libyaml_automaton.specs.declared.difference.Difference.TheVariants.{ValueFirst};
+ghost use Rattle.libyaml_grammar.specs.grammar.Tokens.{Token};
 ghost use Rattle.libyaml_graphs.specs.loads.Bounds.{IsBoundedLoads, bounded_loads};
 ghost use Rattle.libyaml_graphs.specs.loads.Loads.{Load};
-ghost use Rattle.libyaml_events.specs.machine.Config.{is_fault, start};
-ghost use Rattle.libyaml_events.specs.machine.Want.{AtState};
+ghost use Rattle.libyaml_events.specs.machine.Config.{is_fault};
 ghost use Rattle.rust_original.specs.loader.Loader.{loads_there};
 ghost use Rattle.rust_original.specs.loader.LoadsThere.{LoadsCompare, LoadsThere};
 ghost use Rattle.rust_original.specs.parser.Differences.{Compares, Differs, call_here, call_there};
 ghost use Rattle.rust_original.specs.parser.ExactCalls.{BetweenExact, ForExactFailed, RunThere};
-ghost use Rattle.rust_original.specs.parser.Passed.{FailsBefore, IsTagFault, PassedRun, passed};
-ghost use Rattle.rust_original.specs.parser.Parser.{Mends, OK, OriginalParser, ParserResult};
+ghost use Rattle.rust_original.specs.parser.Parser.{Fixes, OK, OriginalParser, ParserResult};
 ghost use Rattle.rust_original.specs.parser.Parser.{yaml_parser_parse};
 ghost use Rattle.rust_original.specs.parser.Runs.{Runs, RunsThere, as_here, as_there, call};
 ghost use Rattle.rust_original.specs.parser.Runs.{new_original_parser, run_within};
-ghost use Rattle.rust_original.specs.parser.Strict.{Over, Stopped, StopsAt, StrictEnding};
-ghost use Rattle.rust_original.specs.parser.Strict.{StrictFrom, StrictRun};
-ghost use Rattle.rust_original.specs.parser.Strict.{document_fault, key_fault};
 ghost use Rattle.rust_original.specs.parser.Texts.{NoneHoldsZero, as_held};
-ghost use Rattle.token_limits.specs.Limits.{difference_fault};
 
 /// The Rust crate has one run over each list of tokens and error of a source after it. Its events nest, and
 /// to the end only if it ends. A run that is computed within so many calls is a run.
@@ -40,11 +31,11 @@ pub fn runs_there()
         → NestsSoFar e }
     ensures whole { (l : List Token) (f : Fault) (e : List Event) (x : Ending) → RunsThere l f e x
         → IsNested e → x ≡ Ends }
-    ensures computed { (m : Mends) (n : ℕ) (p : OriginalParser) (e : List Event) (x : Ending)
+    ensures computed { (m : Fixes) (n : ℕ) (p : OriginalParser) (e : List Event) (x : Ending)
         → run_within m n p ≡ (e, Some x) → Runs m p e x }
 {}
 
-/// With its three mends, the run is that of the grammar, whose events too nest to the end only if it ends.
+/// With its three fixes, the run is that of the grammar, whose events too nest to the end only if it ends.
 pub fn runs_here()
     ensures run { (l : List Token) (f : Fault) (e : List Event) (x : Ending) → IsRun l f e x
         → Runs as_here (new_original_parser l f) e x }
@@ -52,16 +43,16 @@ pub fn runs_here()
         → IsNested e → x ≡ Ends }
 {}
 
-/// A call of any parser does the same with the mends and without, but at three places; what it does there,
+/// A call of any parser does the same with the fixes and without, but at three places; what it does there,
 /// which is never the same. After the stream's end, and after an error, it returns the empty event and
 /// changes nothing.
 pub fn calls()
     ensures places { (p : OriginalParser) → (call_there p ≡ call_here p) ⊎ Differs p (call_there p)
         (call_here p) }
     ensures apart { (p : OriginalParser) (a b : ParserResult) → Differs p a b → a ≡ b → ⊥ }
-    ensures after_the_end { (m : Mends) (kept : Fault) (p : OriginalParser) → p.stream_end_produced ≡ true
+    ensures after_the_end { (m : Fixes) (kept : Fault) (p : OriginalParser) → p.stream_end_produced ≡ true
         → yaml_parser_parse m kept p ≡ OK empty_event p }
-    ensures after_a_fault { (m : Mends) (kept : Fault) (p : OriginalParser) → is_fault kept.error ≡ true
+    ensures after_a_fault { (m : Fixes) (kept : Fault) (p : OriginalParser) → is_fault kept.error ≡ true
         → yaml_parser_parse m kept p ≡ OK empty_event p }
 {}
 
@@ -71,40 +62,6 @@ pub fn compared()
     ensures runs { (l : List Token) (f : Fault) (e d : List Event) (x y : Ending) → RunsThere l f e x
         → IsRun (map as_held l) f d y → Compares (new_original_parser (map as_held l) f) e x d y }
     ensures texts { (l : List Token) → NoneHoldsZero l → map as_held l ≡ l }
-{}
-
-/// A strict parser is asked before each token whether the Rust crate does something else there. Where it
-/// never does, the run is that of both. Where it does, both do the same up to that call, and there something
-/// else: the Rust crate fails with this error, or after the KEY of a pair goes on. Over each list there is
-/// one such run.
-pub fn strict()
-    ensures same { (l : List Token) (f : Fault) (e : List Event) (x : Ending) → StrictRun l f e (Over x)
-        → RunsThere l f e x × IsRun (map as_held l) f e x }
-    ensures stops { (l : List Token) (f : Fault) (e : List Event) (k : Difference) (m n : Mark)
-        → StrictRun l f e (Stopped k m n) → StopsAt (new_original_parser (map as_held l) f) e k m n }
-    ensures value_first { (l : List Token) (f : Fault) (e : List Event) (m n : Mark)
-        → StrictRun l f e (Stopped ValueFirst m n) → RunsThere l f e (Fails (key_fault m n)) }
-    ensures bare_document { (l : List Token) (f : Fault) (e : List Event) (m n : Mark)
-        → StrictRun l f e (Stopped BareDocument m n) → RunsThere l f e (Fails (document_fault n)) }
-    ensures some { (l : List Token) (f : Fault) → (e : List Event) × (x : StrictEnding) × StrictRun l f e x }
-    ensures one { (l : List Token) (f : Fault) (e d : List Event) (x y : StrictEnding) → StrictRun l f e x
-        → StrictRun l f d y → (e ≡ d) × (x ≡ y) }
-{}
-
-/// The run of a parser over a source that a strict limiter stands before, and so what
-/// `yaml_parser_parse_all` gives over a `yaml_limited_source_t` of `token_limits`: where the strict run is
-/// over, the same run. At a token where the Rust crate does something else the limiter fails with that
-/// crate's words and marks, and the parser gives the events that the tokens before it determine. It also
-/// does so beside a tag whose handle isn't defined, where the Rust crate has the error of the tag.
-pub fn strict_source()
-    ensures ends { (l : List Token) (f : Fault) (e : List Event) → StrictFrom f AtState start l e (Over Ends)
-        → PassedRun l f e Ends }
-    ensures fails { (l : List Token) (f g : Fault) (e : List Event)
-        → StrictFrom f AtState start l e (Over (Fails g))
-        → PassedRun l f e (Fails g) ⊎ (IsTagFault g × FailsBefore l f e) }
-    ensures stops { (l : List Token) (f : Fault) (e : List Event) (k : Difference) (m n : Mark)
-        → StrictFrom f AtState start l e (Stopped k m n)
-        → ((passed l f).fault ≡ difference_fault k m n) × FailsBefore l f e }
 {}
 
 /// A caller of exact steps (`steps_t::step_exact`) has the Rust crate's run over the same tokens, whatever they are:

@@ -1,57 +1,58 @@
--- Limits over whole lists.
-use Rattle.std.proofs.Common.{◌≡◌, ◌≤◌, ◌<◌, ◌+◌, ◌∙◌, ◌∷◌, ℕ, List, [], false, None, Some, length, refl, sym, ap, subst, arith}
+-- A bound on depth over whole lists.
+use Rattle.std.proofs.Common.{◌≡◌, ◌≤◌, ◌<◌, ◌+◌, ◌∷◌, ◌++◌, ℕ, suc, List, [], refl, ap, arith}
 use Rattle.std.proofs.lemmas.Bool.{le-ltb}
 use Rattle.libyaml_types.specs.Fault.{Fault}
-use Rattle.libyaml_types.specs.Source.{Coming, coming}
-use Rattle.libyaml_types.specs.declared.mark.yaml_mark_t.{yaml_mark_t}
+use Rattle.libyaml_types.specs.Source.{coming}
+use Rattle.libyaml_types.specs.Types.{token_type}
+use Rattle.libyaml_types.specs.declared.enums.yaml_token_type_t.{yaml_token_type_t}
 use Rattle.libyaml_types.specs.declared.token.yaml_token_t.{yaml_token_t}
-use Rattle.libyaml_automaton.specs.Automaton.{Purpose}
-use Rattle.libyaml_automaton.specs.Config.{Stacks}
-use Rattle.token_limits.specs.Depth.{NestsWithin, with_depth, levels, without_depth}
-use Rattle.token_limits.specs.Limited.{limited, if_passed}
-use Rattle.token_limits.specs.Limits.{At, Passes, Standing, most_looks, starts, taken, within, without_texts}
-use Rattle.token_limits.specs.declared.limits.yaml_limits_t.{yaml_limits_t}
-use Rattle.token_limits.proofs.Looking.{OneDeeper, one_deeper}
+use Rattle.token_limits.specs.Limited.{depth_fault, limited}
+use Rattle.token_limits.specs.Nesting.{NestsWithin, levels_after, nesting, nesting_from}
 
-all_pass : (m : yaml_limits_t) (l : List yaml_token_t) (f : Fault) → limited m Passes l f ≡ coming l f
-all_pass m [] f = refl
-all_pass m (t ∷ l) f = ap (λ (c : Coming). if_passed t Passes c) (all_pass m l f)
+pub nesting_on : (n : ℕ) (l : List yaml_token_t) (t : yaml_token_t)
+    → nesting_from n (l ++ t ∷ []) ≡ levels_after (nesting_from n l) (token_type t.content)
+nesting_on n [] t = refl
+nesting_on n (u ∷ l) t = nesting_on (levels_after n (token_type u.content)) l t
 
-starts_none : (m : yaml_limits_t) → m.strict ≡ false → m.max_depth ≡ None → starts m ≡ Passes
-starts_none m e i = grind arith
+one_more : (n : ℕ) (k : yaml_token_type_t) → levels_after n k ≤ suc n
+one_more n k = grind arith
 
-pub no_limits : (m : yaml_limits_t) (l : List yaml_token_t) (f : Fault) → m.strict ≡ false → m.max_depth ≡ None
-    → limited m (starts m) l f ≡ coming l f
-no_limits m l f e i = grind (arith, starts_none, all_pass)
+-- no prefix nests deeper, where n levels are open
+abbrev NestsFrom : (max n : ℕ) → List yaml_token_t → Type 0
+NestsFrom max n l = (before after : List yaml_token_t) → l ≡ before ++ after → nesting_from n before ≤ max
 
-within_none : (n : yaml_mark_t) (s : Standing) → within None n s ≡ s
-within_none n s = grind arith
+module _ (max : ℕ) (n : ℕ) (t : yaml_token_t) (l : List yaml_token_t) (h : NestsFrom max n (t ∷ l)) where
+  first : levels_after n (token_type t.content) ≤ max
+  first = h (t ∷ []) l refl
 
-pub by_token : (m : yaml_limits_t) (max : ℕ) (s : Standing) (t : yaml_token_t)
-    → taken (with_depth max m) s t ≡ within (Some max) t.start_mark (taken (without_depth m) s t)
-by_token m max s t = grind (arith, within_none)
+  rest : NestsFrom max (levels_after n (token_type t.content)) l
+  rest before after e = h (t ∷ before) after (ap (λ (x : List yaml_token_t). t ∷ x) e)
 
-not_beyond : (max : ℕ) (n : yaml_mark_t) (s : Standing) → levels s ≤ max → within (Some max) n s ≡ s
-not_beyond max n s h = grind (arith, le-ltb)
+within_from : (max n : ℕ) (l : List yaml_token_t) (f : Fault) → NestsFrom max n l → limited max n l f ≡ coming l f
+within_from max n [] f h = refl
+within_from max n (t ∷ l) f h =
+    let passes = first max n t l h in
+    let e = within_from max (levels_after n (token_type t.content)) l f (rest max n t l h) in
+    grind (arith, le-ltb, passes, e)
 
-pub of_list : (m : yaml_limits_t) (max : ℕ) (s : Standing) (l : List yaml_token_t) (f : Fault) → NestsWithin max m s l
-    → limited (with_depth max m) s l f ≡ limited (without_depth m) s l f
-of_list m max s [] f h = refl
-of_list m max s (t ∷ l) f h =
-    let e : taken (with_depth max m) s t ≡ taken (without_depth m) s t
-    = by_token m max s t ∙ not_beyond max t.start_mark (taken (without_depth m) s t) h.0 in
-    ap (λ (z : Standing). if_passed t z (limited (with_depth max m) z l f)) e
-    ∙ ap (if_passed t (taken (without_depth m) s t)) (of_list m max (taken (without_depth m) s t) l f h.1)
+pub kept : (max : ℕ) (l : List yaml_token_t) (f : Fault) → NestsWithin max l → limited max 0 l f ≡ coming l f
+kept max l f h = within_from max 0 l f h
 
-pub one_too_many : (m : yaml_limits_t) (max : ℕ) (w v : Purpose) (c d : Stacks) (t : yaml_token_t)
-    → taken (without_depth m) (At w c) t ≡ At v d → length c.marks ≤ max → max < length d.marks
-    → (length c.marks ≡ max) × (length d.marks ≡ max + 1)
-one_too_many m max w v c d t e h i =
-    let more : length d.marks ≤ length c.marks + 1 = deeper in
-    (omega (arith, more, h, i), omega (arith, more, h, i))
-  where
-    deeper : length d.marks ≤ length c.marks + 1
-    deeper =
-        let k = subst (OneDeeper c.marks) (sym (within_none t.start_mark _) ∙ e)
-        (one_deeper (most_looks c) m.strict w c (without_texts t)) in
-        omega (arith, k)
+beyond_from : (max n : ℕ) (before after : List yaml_token_t) (t : yaml_token_t) (f : Fault) → NestsFrom max n before
+    → max < nesting_from n (before ++ t ∷ []) → limited max n (before ++ t ∷ after) f ≡ coming before (depth_fault t.start_mark)
+beyond_from max n [] after t f h i = grind arith
+beyond_from max n (u ∷ before) after t f h i =
+    let passes = first max n u before h in
+    let e = beyond_from max (levels_after n (token_type u.content)) before after t f (rest max n u before h) i in
+    grind (arith, le-ltb, passes, e)
+
+pub cut : (max : ℕ) (before after : List yaml_token_t) (t : yaml_token_t) (f : Fault) → NestsWithin max before
+    → max < nesting (before ++ t ∷ []) → limited max 0 (before ++ t ∷ after) f ≡ coming before (depth_fault t.start_mark)
+cut max before after t f h i = beyond_from max 0 before after t f h i
+
+pub one_over : (max : ℕ) (before : List yaml_token_t) (t : yaml_token_t) → nesting before ≤ max
+    → max < nesting (before ++ t ∷ []) → (nesting before ≡ max) × (nesting (before ++ t ∷ []) ≡ max + 1)
+one_over max before t h i =
+    let e = nesting_on 0 before t in
+    let j = one_more (nesting before) (token_type t.content) in
+    (omega (arith, e, j, h, i), omega (arith, e, j, h, i))

@@ -1,5 +1,3 @@
-pub mod Limits
-pub mod View
+pub mod Nesting
 pub mod Limited
 pub mod LimitedLaws
-pub mod Depth

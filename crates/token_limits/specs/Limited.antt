@@ -1,38 +1,45 @@
--- What a limiter returns, and what a limited source gives and knows (docs/DEFINITIONS.md, "Limits").
-use Rattle.std.specs.Prelude.{◌≡◌, ◌⊎◌, ◌∷◌, List, [], Option, None, Some, Ok, Err}
-use Rattle.libyaml_types.specs.Fault.{Fault, SourceResult, memory_fault}
+-- A bound on depth (docs/DEFINITIONS.md, "Limits"): what a limiter returns, and what a limited source gives and knows.
+use Rattle.std.specs.Prelude.{◌≡◌, ◌∷◌, ℕ, List, [], Option, None, Some, Ok, Err, codes, nat_lt, if◌then◌else◌}
+use Rattle.libyaml_types.specs.Fault.{Fault, SourceResult, scanner_fault}
 use Rattle.libyaml_types.specs.Source.{Coming, coming}
+use Rattle.libyaml_types.specs.Types.{token_type}
+use Rattle.libyaml_types.specs.declared.mark.yaml_mark_t.{yaml_mark_t}
 use Rattle.libyaml_types.specs.declared.token.yaml_token_t.{yaml_token_t}
-use Rattle.token_limits.specs.declared.limits.yaml_limits_t.{yaml_limits_t}
-use Rattle.token_limits.specs.Limits.{At, Refuses, Standing, starts, taken}
+use Rattle.token_limits.specs.Nesting.{levels_after}
 
+abbrev pub depth_fault : (mark : yaml_mark_t) → Fault
+depth_fault m = scanner_fault (codes "found too many levels") m
+
+-- the levels that are open, and where a token was refused
 pub record Limiter : Type 0 where
-  pub limits : yaml_limits_t
-  pub standing : Standing
+  pub max_depth : ℕ
+  pub levels : ℕ
+  pub refused_at : Option yaml_mark_t
 
-abbrev pub new_limiter : yaml_limits_t → Limiter
-new_limiter m = record { limits = m; standing = starts m }
+abbrev pub new_limiter : (max : ℕ) → Limiter
+new_limiter max = record { max_depth = max; levels = 0; refused_at = None }
 
-abbrev pub refusing : Fault → Limiter → Limiter
-refusing f l = record l { standing = Refuses f }
+-- n levels, if so many may be open
+abbrev pub within : (max n : ℕ) → Option ℕ
+within max n = if nat_lt max n then None else Some n
 
-abbrev pub refusal : Standing → Option Fault
-refusal (Refuses f) = Some f
-refusal s = None
+-- a token at this mark is counted or refused
+abbrev pub at_levels : Option ℕ → (mark : yaml_mark_t) → Limiter → Limiter
+at_levels None mark l = record l { refused_at = Some mark }
+at_levels (Some n) mark l = record l { levels = n }
 
--- the token, or the error that is kept
-abbrev pub answer_at : yaml_token_t → Standing → SourceResult
-answer_at t (Refuses f) = Err f
-answer_at t s = Ok t
+-- once one was refused nothing changes
+abbrev pub counted : Option yaml_mark_t → Limiter → yaml_token_t → Limiter
+counted (Some m) l t = l
+counted None l t = at_levels (within l.max_depth (levels_after l.levels (token_type t.content))) t.start_mark l
 
--- where a limiter comes to stand; only one that looks at tokens takes memory
-abbrev pub StandsAfter : yaml_limits_t → (old : Standing) → yaml_token_t → (new : Standing) → Type 0
-StandsAfter m (At w c) t new = (new ≡ taken m (At w c) t) ⊎ (new ≡ Refuses memory_fault)
-StandsAfter m old t new = new ≡ old
+abbrev pub taken : Limiter → yaml_token_t → Limiter
+taken l t = counted l.refused_at l t
 
--- what a call of `take` does
-abbrev pub LimiterTakes : Limiter → yaml_token_t → SourceResult → Limiter → Type 0
-LimiterTakes l t answer n = (n.limits ≡ l.limits) × (StandsAfter l.limits l.standing t n.standing × (answer ≡ answer_at t n.standing))
+-- the token, or the error of the one that was refused
+abbrev pub answer_at : (refused_at : Option yaml_mark_t) → yaml_token_t → SourceResult
+answer_at None t = Ok t
+answer_at (Some m) t = Err (depth_fault m)
 
 -- a source
 
@@ -40,36 +47,35 @@ pub record Limited (S : Type 0) : Type 0 where
   pub source : S
   pub limiter : Limiter
 
-abbrev pub Passed : Limiter → SourceResult → SourceResult → Limiter → Type 0
-Passed l (Ok t) answer n = LimiterTakes l t answer n
-Passed l (Err f) answer n = (answer ≡ Err f) × (n ≡ refusing f l)
+-- the source was asked
+abbrev pub Passes : Limiter → SourceResult → SourceResult → Limiter → Type 0
+Passes l (Ok t) answer n = (n ≡ taken l t) × (answer ≡ answer_at n.refused_at t)
+Passes l (Err f) answer n = (n ≡ l) × (answer ≡ Err f)
 
--- the source is asked, unless an error is kept, and its error is kept
-abbrev pub GivesAt : {S : Type 0} → (S → SourceResult → S → Type 0) → Standing → Limited S → SourceResult → Limited S → Type 0
-GivesAt gives (Refuses f) s answer t = (answer ≡ Err f) × (t ≡ s)
-GivesAt gives _ s answer t
-    = (inner : SourceResult) × (gives s.source inner t.source × Passed s.limiter inner answer t.limiter)
+-- unless a token was refused
+abbrev pub GivesAt : {S : Type 0} → (S → SourceResult → S → Type 0) → Option yaml_mark_t → Limited S → SourceResult → Limited S → Type 0
+GivesAt gives (Some m) s answer t = (answer ≡ Err (depth_fault m)) × (t ≡ s)
+GivesAt gives None s answer t
+    = (inner : SourceResult) × (gives s.source inner t.source × Passes s.limiter inner answer t.limiter)
 
 abbrev pub LimitedGives : {S : Type 0} → (S → SourceResult → S → Type 0) → Limited S → SourceResult → Limited S → Type 0
-LimitedGives gives s answer t = GivesAt gives s.limiter.standing s answer t
+LimitedGives gives s answer t = GivesAt gives s.limiter.refused_at s answer t
 
--- the tokens up to the first that is refused, and then that error; or all, and the source's error
-abbrev pub ending_at : Standing → Fault → Coming
-ending_at (Refuses g) f = coming [] g
-ending_at _ f = coming [] f
+-- the list that it knows
 
-abbrev pub if_passed : yaml_token_t → Standing → Coming → Coming
-if_passed t (Refuses g) rest = coming [] g
-if_passed t _ rest = coming (t ∷ rest.tokens) rest.fault
+abbrev pub after_token : yaml_token_t → Coming → Coming
+after_token t c = coming (t ∷ c.tokens) c.fault
 
-abbrev pub limited : yaml_limits_t → Standing → List yaml_token_t → Fault → Coming
-limited m s [] f = ending_at s f
-limited m s (t ∷ l) f = if_passed t (taken m s t) (limited m (taken m s t) l f)
+-- Where n levels are open: the tokens up to the first that is refused, and then its error; or all, and the error after them.
+abbrev pub limited : (max n : ℕ) → List yaml_token_t → Fault → Coming
+limited max n [] f = coming [] f
+limited max n (t ∷ l) f = if nat_lt max (levels_after n (token_type t.content)) then coming [] (depth_fault t.start_mark)
+    else after_token t (limited max (levels_after n (token_type t.content)) l f)
+
+abbrev pub limited_at : Option yaml_mark_t → Limiter → Coming → Coming
+limited_at (Some m) l c = coming [] (depth_fault m)
+limited_at None l c = limited l.max_depth l.levels c.tokens c.fault
 
 abbrev pub known_within : Limiter → Option Coming → Option Coming
 known_within l None = None
-known_within l (Some c) = Some (limited l.limits l.standing c.tokens c.fault)
-
--- as the source may break, or out of memory
-abbrev pub MayBreakBy : (Fault → Type 0) → Fault → Type 0
-MayBreakBy breaks f = breaks f ⊎ (f ≡ memory_fault)
+known_within l (Some c) = Some (limited_at l.refused_at l c)

@@ -1,43 +1,46 @@
-//! What limits say of whole lists and of depth. Each function does nothing when it runs: its contract is the
-//! law.
-ghost use Rattle.std.specs.Prelude.{◌≡◌, ◌≤◌, ◌<◌, ◌+◌, ◌↔◌, ℕ, List, Bool, None, false, length};
+//! What a bound on depth says of whole lists and of parsers. Each function does nothing when it runs: its contract
+//! is the law.
+ghost use Rattle.std.specs.Prelude.{◌≡◌, ◌≤◌, ◌<◌, ◌+◌, ◌++◌, ◌∷◌, ℕ, List, [], Option, length};
 ghost use Rattle.libyaml_types.specs.Fault.{Fault};
 ghost use Rattle.libyaml_types.specs.Source.{coming};
 ghost use Rattle.libyaml_types.specs.declared.token.yaml_token_t.{yaml_token_t};
-ghost use Rattle.libyaml_automaton.specs.Automaton.{AtState, KindAndMarks, Purpose};
-ghost use Rattle.libyaml_automaton.specs.Config.{Stacks};
-ghost use Rattle.token_limits.specs.Depth.{NestsWithin, with_depth, without_depth};
-ghost use Rattle.token_limits.specs.Limited.{limited};
-ghost use Rattle.token_limits.specs.Limits.{At, Standing, look, looks, most_looks, starts, taken, then_again};
-ghost use Rattle.token_limits.specs.Limits.{LooksTo, within};
-ghost use Rattle.token_limits.specs.declared.limits.yaml_limits_t.{yaml_limits_t};
+ghost use Rattle.libyaml_grammar.specs.grammar.Events.{Event};
+ghost use Rattle.libyaml_grammar.specs.grammar.Tokens.{Token};
+ghost use Rattle.libyaml_types.specs.declared.mark.yaml_mark_t.{yaml_mark_t};
+ghost use Rattle.libyaml_automaton.specs.Config.{Within};
+ghost use Rattle.libyaml_events.specs.machine.Config.{Handles, Machine};
+ghost use Rattle.libyaml_events.specs.machine.Want.{Texts, Want};
+ghost use Rattle.libyaml_events.specs.sources.Pushed.{Fed};
+ghost use Rattle.token_steps.specs.Runs.{ExactRun, Run};
+ghost use Rattle.token_steps.specs.SeenRuns.{SeenRun, seen_in_hand};
+ghost use Rattle.token_steps.specs.declared.steps.steps_t.{steps_t};
+ghost use Rattle.token_limits.specs.Limited.{depth_fault, limited};
+ghost use Rattle.token_limits.specs.Nesting.{IsNestingOfTaken, NestsWithin, nesting};
 
-/// Without limits all tokens pass, and the source's own error.
-pub fn no_limits()
-    ensures { (m : yaml_limits_t) (l : List yaml_token_t) (f : Fault) → m.strict ≡ false → m.max_depth ≡ None
-        → limited m (starts m) l f ≡ coming l f }
-{}
-
-/// A token is looked at until it doesn't stay, and leads to exactly one standing: the bound on how often it
-/// is looked at is never reached, whatever the stacks.
-pub fn token_is_taken()
-    ensures looks_to { (strict : Bool) (t : KindAndMarks) (w : Purpose) (c : Stacks) (s : Standing)
-        → LooksTo strict t w c s ↔ (looks (most_looks c) strict w c t ≡ s) }
-    ensures step_by_step { (strict : Bool) (w : Purpose) (c : Stacks) (t : KindAndMarks)
-        → looks (most_looks c) strict w c t
-        ≡ then_again (look strict w c t) (λ d. looks (most_looks d) strict AtState d t) }
-{}
-
-/// A bound on depth refuses a token exactly where more collections are open after it than may be, and changes
-/// nothing else. A list whose tokens stay within it is not cut. A token that is refused is one too many:
-/// without a bound it would open one collection more than there may be.
+/// Over a list that nests within the bound nothing changes. Of another the tokens come up to the first that opens a
+/// collection more than there may be, and then its error. It is one too many.
+#[tactic(auto, using(crate::proofs::Lists::kept, crate::proofs::Lists::cut, crate::proofs::Lists::one_over))]
 pub fn depth()
-    ensures by_token { (m : yaml_limits_t) (max : ℕ) (s : Standing) (t : yaml_token_t)
-        → taken (with_depth max m) s t
-        ≡ within (with_depth max m).max_depth t.start_mark (taken (without_depth m) s t) }
-    ensures of_list { (m : yaml_limits_t) (max : ℕ) (s : Standing) (l : List yaml_token_t) (f : Fault)
-        → NestsWithin max m s l → limited (with_depth max m) s l f ≡ limited (without_depth m) s l f }
-    ensures one_too_many { (m : yaml_limits_t) (max : ℕ) (w v : Purpose) (c d : Stacks) (t : yaml_token_t)
-        → taken (without_depth m) (At w c) t ≡ At v d → length c.marks ≤ max → max < length d.marks
-        → (length c.marks ≡ max) × (length d.marks ≡ max + 1) }
+    ensures within { (max : ℕ) (l : List yaml_token_t) (f : Fault) → NestsWithin max l
+        → limited max 0 l f ≡ coming l f }
+    ensures beyond { (max : ℕ) (before after : List yaml_token_t) (t : yaml_token_t) (f : Fault)
+        → NestsWithin max before → max < nesting (before ++ t ∷ [])
+        → limited max 0 (before ++ t ∷ after) f ≡ coming before (depth_fault t.start_mark) }
+    ensures one_too_many { (max : ℕ) (before : List yaml_token_t) (t : yaml_token_t) → nesting before ≤ max
+        → max < nesting (before ++ t ∷ []) → (nesting before ≡ max) × (nesting (before ++ t ∷ []) ≡ max + 1) }
+{}
+
+/// The stack of marks of a machine, which is a parser's or that of a caller's steps, holds as many as the tokens
+/// that it took nest deep. So this bound on depth is the one that the size of that stack is. Of exact steps these
+/// are the tokens as they are seen, with an empty scalar in the place of one that is lost.
+pub fn marks()
+    ensures machine { (w : Want) (c : Machine) (o : Option Token) (l : List Token) (g : List Event)
+        → Fed w c o l g → IsNestingOfTaken o l (length c.marks) }
+    ensures steps { (d : steps_t) (ss : List ℕ) (ms : List yaml_mark_t) (hs : Handles) (kept : Texts)
+        (o : Option Token) (l : List Token) (g : List Event) → Run d ss ms hs kept o l g
+        → Within d.machine ss ms → IsNestingOfTaken o l d.machine.marks_count }
+    ensures exact_steps { (d : steps_t) (ss : List ℕ) (ms : List yaml_mark_t) (hs : Handles) (kept : Texts)
+        (o : Option Token) (l : List Token) (g : List Event) → ExactRun d ss ms hs kept o l g
+        → Within d.machine ss ms → (seen : SeenRun d ss ms hs kept o l g)
+        × IsNestingOfTaken (seen_in_hand d o) seen.tokens d.machine.marks_count }
 {}

@@ -100,8 +100,11 @@ pub use Rattle.libyaml_loader.specs.loads.LoadGrowth
 pub use Rattle.libyaml_loader.specs.document.Ids
 pub use Rattle.libyaml_loader.specs.document.Anchors
 pub use Rattle.libyaml_loader.specs.document.Context
+pub use Rattle.libyaml_loader.specs.document.Refusals
 pub use Rattle.libyaml_loader.specs.document.Stack as LoaderStack
+pub use Rattle.libyaml_loader.specs.composed.Anchoring
 pub use Rattle.libyaml_loader.specs.composed.EventComposer
+pub use Rattle.libyaml_loader.specs.composed.Telling
 pub use Rattle.libyaml_loader.specs.composed.ComposedEvents
 pub use Rattle.libyaml_loader.specs.composed.ComposedLoops
 pub use Rattle.libyaml_loader.specs.loads.Loading

@@ -3,7 +3,7 @@
 use crate::marks::mark;
 use anyhow::Result;
 use std::alloc::Global;
-use token_limits::{token_limiter_t, yaml_limited_source_t, yaml_limits_t};
+use token_limits::{token_limiter_t, yaml_limited_source_t};
 use unsafe_libyaml::{
     NO_FAULT, YAML_UTF8_ENCODING, unnamed_yaml_token_t_data, yaml_event_t, yaml_list_source_t,
     yaml_parser_load_all, yaml_parser_parse_all, yaml_parser_t_prefix, yaml_push_parser_t,
@@ -13,20 +13,21 @@ use vectors_common::Tables;
 
 type Source = yaml_limited_source_t<yaml_list_source_t>;
 
-/// So many nested flow sequences under a bound, and the column of the fault, if there is one.
+/// Documents of so many nested flow sequences, under a bound, and the column of the fault, if there is one.
 #[derive(Copy, Clone)]
 struct Vector {
     levels: u64,
-    limits: yaml_limits_t,
+    documents: u64,
+    max_depth: usize,
     fault: Option<u64>,
 }
 
-/// Returns a test vector with this bound, strict or not.
-fn vector_of(levels: u64, strict: bool, max_depth: Option<usize>, fault: Option<u64>) -> Vector {
-    let limits = yaml_limits_t { strict, max_depth };
+/// Returns a test vector of one document.
+fn vector_of(levels: u64, max_depth: usize, fault: Option<u64>) -> Vector {
     Vector {
         levels,
-        limits,
+        documents: 1,
+        max_depth,
         fault,
     }
 }
@@ -35,24 +36,49 @@ impl Vector {
     /// Whether events, documents, pushes and calls of the source end as they must.
     fn is_right(&self, alloc: Global) -> Result<bool> {
         let wanted = self.fault.map(|column| too_many_levels(column));
+        let tokens = self.tokens(alloc)?.len() as u64;
+        let calls = self.fault.map_or(tokens, |column| column.saturating_add(1));
         Ok(
             end_of_events(alloc, self.source(alloc)?)? == wanted
                 && end_of_documents(alloc, self.source(alloc)?)? == wanted
-                && end_of_pushes(alloc, self.limits, nested(alloc, self.levels)?) == wanted
-                && self.is_asked_no_further(self.source(alloc)?, wanted),
+                && end_of_pushes(alloc, self.max_depth, self.tokens(alloc)?) == wanted
+                && self.is_asked_no_further(self.source(alloc)?, calls, wanted),
         )
     }
 
     fn source(&self, alloc: Global) -> Result<Source> {
-        let list = yaml_list_source_t::from(nested(alloc, self.levels)?);
-        Ok(yaml_limited_source_t::new(alloc, list, self.limits))
+        let list = yaml_list_source_t::from(self.tokens(alloc)?);
+        Ok(yaml_limited_source_t::new(list, self.max_depth))
     }
 
-    /// Whether the calls for each token end by this fault, which a further call returns too, and the source
-    /// has then asked its own source for no token after the refused one.
-    fn is_asked_no_further(&self, source: Source, wanted: Option<yaml_parser_t_prefix>) -> bool {
+    /// Returns the tokens, each in its own column.
+    fn tokens(&self, alloc: Global) -> Result<Vec<yaml_token_t>> {
+        let mut tokens = Vec::new(alloc);
+        let pushed = self.push_tokens(&mut tokens);
+        pushed.and(Ok(tokens))
+    }
+
+    fn push_tokens(&self, tokens: &mut Vec<yaml_token_t>) -> Result<()> {
+        tokens.push(yaml_token_t::stream_start(YAML_UTF8_ENCODING, mark(0), mark(0)))?;
+        for document in 0..self.documents {
+            if document > 0 {
+                push(tokens, unnamed_yaml_token_t_data::DocumentStart)?;
+            }
+            push_nested(tokens, self.levels)?;
+        }
+        push(tokens, unnamed_yaml_token_t_data::StreamEnd)
+    }
+
+    /// Whether the last of so many calls, and none before it, returns this fault, which a further call returns
+    /// too, and the source has then asked its own source for no token after the refused one.
+    fn is_asked_no_further(
+        &self,
+        source: Source,
+        calls: u64,
+        wanted: Option<yaml_parser_t_prefix>,
+    ) -> bool {
         let mut source = source;
-        let first = first_fault(&mut source, self.levels.saturating_mul(2).saturating_add(2));
+        let first = first_fault(&mut source, calls);
         let again = first_fault(&mut source, 1);
         let next = column_of_next(source.into_source());
         match self.fault {
@@ -83,13 +109,13 @@ fn end_of_documents(alloc: Global, source: Source) -> Result<Option<yaml_parser_
     Ok(all.fault)
 }
 
-/// Returns the fault of the first push, within limits, that fails.
+/// Returns the fault of the first push, within the bound, that fails.
 fn end_of_pushes(
     alloc: Global,
-    limits: yaml_limits_t,
+    max_depth: usize,
     tokens: Vec<yaml_token_t>,
 ) -> Option<yaml_parser_t_prefix> {
-    let mut limiter = token_limiter_t::new(alloc, limits);
+    let mut limiter = token_limiter_t::new(max_depth);
     let mut parser = yaml_push_parser_t::new(alloc);
     let mut events = Vec::new(alloc);
     push_all(&mut limiter, &mut parser, &mut events, tokens).err()
@@ -143,22 +169,15 @@ fn column_of_next(list: yaml_list_source_t) -> Option<u64> {
     list.next_token().ok().map(|token| token.start_mark.column)
 }
 
-/// Returns the tokens of so many nested flow sequences, each in its own column.
-fn nested(alloc: Global, levels: u64) -> Result<Vec<yaml_token_t>> {
-    let mut tokens = Vec::new(alloc);
-    let pushed = push_nested(&mut tokens, levels);
-    pushed.and(Ok(tokens))
-}
-
+/// Appends the tokens of so many nested flow sequences.
 fn push_nested(tokens: &mut Vec<yaml_token_t>, levels: u64) -> Result<()> {
-    tokens.push(yaml_token_t::stream_start(YAML_UTF8_ENCODING, mark(0), mark(0)))?;
     for _ in 0..levels {
         push(tokens, unnamed_yaml_token_t_data::FlowSequenceStart)?;
     }
     for _ in 0..levels {
         push(tokens, unnamed_yaml_token_t_data::FlowSequenceEnd)?;
     }
-    push(tokens, unnamed_yaml_token_t_data::StreamEnd)
+    Ok(())
 }
 
 /// Appends a token in its own column.
@@ -168,18 +187,22 @@ fn push(tokens: &mut Vec<yaml_token_t>, content: unnamed_yaml_token_t_data) -> R
     Ok(())
 }
 
-/// Returns all test vectors: levels, strictness, the bound, and the column of the fault.
-fn vectors() -> [Vector; 9] {
+/// Returns all test vectors: levels, the bound, and the column of the fault.
+fn vectors() -> [Vector; 8] {
     [
-        vector_of(3, false, None, None),
-        vector_of(3, true, None, None),
-        vector_of(3, true, Some(3), None),
-        vector_of(3, false, Some(2), Some(3)),
-        vector_of(3, true, Some(2), Some(3)),
-        vector_of(1, false, Some(0), Some(1)),
-        vector_of(0, false, Some(0), None),
-        vector_of(60, false, Some(60), None),
-        vector_of(60, true, Some(59), Some(60)),
+        vector_of(3, usize::MAX, None),
+        vector_of(3, 3, None),
+        vector_of(3, 2, Some(3)),
+        vector_of(1, 0, Some(1)),
+        vector_of(0, 0, None),
+        vector_of(60, 60, None),
+        vector_of(60, 59, Some(60)),
+        Vector {
+            levels: 2,
+            documents: 3,
+            max_depth: 2,
+            fault: None,
+        },
     ]
 }
 

@@ -32,10 +32,14 @@ use Rattle.rust_original.specs.parser.Differences.{call_there}
 use Rattle.rust_original.specs.parser.ExactCalls.{BetweenExact, ForExactFailed, RunThere}
 use Rattle.rust_original.specs.parser.Parser.{FAIL, OK, OriginalParser, ParserResult}
 use Rattle.rust_original.specs.parser.Runs.{Runs, as_there, ends, fails, goes_on, new_original_parser}
-use Rattle.rust_original.specs.parser.Strict.{to_come}
 use Rattle.rust_original.proofs.exact.Feed.{exact, exact_feed, exact_same, there}
 use Rattle.rust_original.proofs.parser.Calls.{flagged}
 use Rattle.rust_original.proofs.parser.Relation.{HereCall, Matches, SamePlace, before, given, led, standing, stopped, tokens_of}
+
+-- a token that stayed comes first
+abbrev to_come : Option Token → List Token → List Token
+to_come None l = l
+to_come (Some t) l = t ∷ l
 
 -- what an exact call tells is what the machine does exactly
 exact_told : (d : steps_t) (c : Stacks) (hs : Handles) (h : Texts) (o : Option Token) (l : List Token) (g : List Event) (t : Token)

@@ -12,11 +12,10 @@ use Rattle.libyaml_events.specs.machine.Machine.{Progressed, step}
 use Rattle.libyaml_events.specs.machine.Want.{AtState, Given, Want, Wants}
 use Rattle.rust_original.specs.parser.Differences.{Differs, call_there, pair_key}
 use Rattle.rust_original.specs.parser.Parser.{OriginalParser, ParserResult, is_one_of}
-use Rattle.rust_original.specs.parser.Strict.{GivesEvent, differs_by, document_fault, key_fault}
 use Rattle.rust_original.proofs.parser.Calls.{call_same}
 use Rattle.rust_original.proofs.parser.Relation.{HereCall, Matches, SamePlace, feed, given, inside, led, stopped, tokens_of}
 use Rattle.rust_original.proofs.runs.RunExists.{after_pair_key, empty_at, fresh_none, pair_stands}
-use Rattle.rust_original.proofs.strict.Judged.{Found, Judged, call_found, judged, judged_at, judged_by, met, none}
+use Rattle.rust_original.proofs.exact.Judged.{Found, GivesEvent, Judged, call_found, differs_by, document_fault, judged, judged_at, judged_by, key_fault, met, none}
 
 -- a step, exactly
 abbrev pub there : Difference → Want → Machine → Token → Progressed

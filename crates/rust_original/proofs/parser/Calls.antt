@@ -8,7 +8,7 @@ use Rattle.libyaml_grammar.specs.grammar.ValidLists.{is_end}
 use Rattle.libyaml_grammar.specs.grammar.Tokens.{Mark, Token}
 use Rattle.libyaml_events.specs.machine.Config.{Config, Machine, Handles, is_end_state}
 use Rattle.libyaml_events.specs.machine.Want.{AtState}
-use Rattle.rust_original.specs.parser.Parser.{Mends, OriginalParser, yaml_parser_state_machine}
+use Rattle.rust_original.specs.parser.Parser.{Fixes, OriginalParser, yaml_parser_state_machine}
 use Rattle.rust_original.specs.parser.Runs.{as_here, call}
 use Rattle.rust_original.proofs.parser.Documents as documents
 use Rattle.rust_original.proofs.parser.States as states
@@ -94,7 +94,7 @@ both_end : {ss : List yaml_parser_state_t} {s s' : yaml_parser_state_t} {ms ms' 
 both_end fits = grind arith
 
 -- a parser that has not ended calls its state's function
-begun_call : (m : Mends) (q : OriginalParser) → q.stream_end_produced ≡ false → is_end_state q.state ≡ false
+begun_call : (m : Fixes) (q : OriginalParser) → q.stream_end_produced ≡ false → is_end_state q.state ≡ false
     → call m q ≡ yaml_parser_state_machine m q.state q
 begun_call m q h k = grind arith
 

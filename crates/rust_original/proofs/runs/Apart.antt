@@ -1,5 +1,5 @@
 -- What the two parsers do at the three places is never the same.
-use Rattle.std.proofs.Common.{◌≡◌, ◌∷◌, ◌∙◌, ℕ, suc, List, [], None, length, false, ap, subst, sym, arith}
+use Rattle.std.proofs.Common.{◌≡◌, ◌∷◌, ℕ, suc, List, [], None, length, false, ap, subst, sym, arith}
 use Rattle.libyaml_types.specs.declared.enums.yaml_token_type_t.TheVariants as kinds
 use Rattle.libyaml_grammar.specs.grammar.Tokens.{Content, Mark, TagDirective, Token, VersionDirective}
 use Rattle.rust_original.specs.parser.Differences.{Differs, bare_document, pair_key, value_first}

@@ -1,4 +1,4 @@
--- That there is a run over each list, with the mends and without, and that of the grammar is the one with them.
+-- That there is a run over each list, with the fixes and without, and that of the grammar is the one with them.
 use Rattle.std.proofs.Common.{◌≡◌, ◌⊎◌, List, map, Bool, true, false, inl, refl, subst}
 use Rattle.libyaml_types.specs.Fault.{Fault}
 use Rattle.libyaml_grammar.specs.runs.Runs.{Ending, Ends, IsRun}
@@ -7,7 +7,7 @@ use Rattle.libyaml_grammar.specs.grammar.Nesting.{IsNested, NestsSoFar}
 use Rattle.libyaml_grammar.specs.grammar.Tokens.{Token}
 use Rattle.libyaml_grammar.proofs.exported.Running.{one_run_proof}
 use Rattle.rust_original.specs.parser.Differences.{Differs, call_here}
-use Rattle.rust_original.specs.parser.Parser.{Mends, OriginalParser}
+use Rattle.rust_original.specs.parser.Parser.{Fixes, OriginalParser}
 use Rattle.rust_original.specs.parser.Runs.{Runs, RunsThere, as_here, as_there, call, new_original_parser}
 use Rattle.rust_original.specs.parser.Texts.{as_held}
 use Rattle.rust_original.proofs.runs.UpToDifferences.{may_differ, one_run}
@@ -17,7 +17,7 @@ use Rattle.rust_original.proofs.runs.RunExists.{has_run}
 -- Over each list of tokens and error of a source after it there is a run of a parser that does what the mended one does,
 -- but at the three places. Its events nest, to the end only where the run ends; and where it differs nowhere, the run is
 -- that of the grammar.
-pub some_run : (m : Mends) (differs : Bool) → ((p : OriginalParser) → (call m p ≡ call_here p)
+pub some_run : (m : Fixes) (differs : Bool) → ((p : OriginalParser) → (call m p ≡ call_here p)
     ⊎ ((differs ≡ true) × Differs p (call m p) (call_here p)))
     → (l : List Token) (f : Fault) → (e : List Event) × (x : Ending) × Runs m (new_original_parser l f) e x
     × NestsSoFar e × (IsNested e → x ≡ Ends) × (differs ≡ false → IsRun l f e x)

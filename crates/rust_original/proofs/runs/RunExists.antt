@@ -20,7 +20,7 @@ use Rattle.libyaml_events.proofs.exported.Pushes as push_lemmas
 use Rattle.libyaml_events.proofs.exported.Pushes.{fed_count, fed_ended, fed_nests, fed_whole, gives_end, hand_runs, none_kept}
 use Rattle.libyaml_events.proofs.exported.RunStops.{whole_run}
 use Rattle.rust_original.specs.parser.Differences.{Differs, call_here, pair_key}
-use Rattle.rust_original.specs.parser.Parser.{FAIL, Mends, OK, ParserResult, OriginalParser, SKIP_TOKEN, is_one_of, scalar_event_with, set_state}
+use Rattle.rust_original.specs.parser.Parser.{FAIL, Fixes, OK, ParserResult, OriginalParser, SKIP_TOKEN, is_one_of, scalar_event_with, set_state}
 use Rattle.rust_original.specs.parser.Runs.{Runs, call, ends, fails, goes_on, new_original_parser}
 use Rattle.rust_original.proofs.parser.Calls.{call_same, flagged}
 use Rattle.rust_original.proofs.parser.Relation.{standing, Agree, Below, Fits, HereCall, IsFresh, Matches, Opens, SamePlace, before, entering, inside, tk}
@@ -71,8 +71,8 @@ no_end : (k : Content) (m n : Mark)
     → is_one_of (tk k m n) (kinds.YAML_STREAM_END_TOKEN ∷ []) ≡ false
 no_end k m n e = grind arith
 
--- The parser with the mends m; it may differ from the one with all three where b is true.
-module _ (f : Fault) (m : Mends) (b : Bool)
+-- The parser with the fixes m; it may differ from the one with all three where b is true.
+module _ (f : Fault) (m : Fixes) (b : Bool)
     (places : (p : OriginalParser) → (call m p ≡ call_here p) ⊎ ((b ≡ true) × Differs p (call m p) (call_here p))) (most : ℕ) where
   -- it stands beside our machine, which was handed l and gave g, with no more tokens than there are
   record Along (q : OriginalParser) (d : Config) (rest l : List Token) (g : List Event) : Type 0 where
@@ -221,7 +221,7 @@ module _ (f : Fault) (m : Mends) (b : Bool)
       go (inl i) next = alike n q d rest l g a less begun next i
       go (inr (may, i)) next = parted n q d rest l g a less begun next may i refl
 
-pub has_run : (f : Fault) (m : Mends) (b : Bool)
+pub has_run : (f : Fault) (m : Fixes) (b : Bool)
     → (places : (p : OriginalParser) → (call m p ≡ call_here p) ⊎ ((b ≡ true) × Differs p (call m p) (call_here p)))
     → (l : List Token) → HasRun f m b places (length l) (new_original_parser l f) l []
 has_run f m b places l = total f m b places (length l) (suc (4 * length l)) (new_original_parser l f) (holding None start) l [] []

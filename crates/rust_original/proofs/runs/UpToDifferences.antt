@@ -10,7 +10,7 @@ use Rattle.libyaml_grammar.specs.runs.Runs.{Ending, Ends, Fails}
 use Rattle.libyaml_grammar.specs.grammar.Events.{Event}
 use Rattle.libyaml_grammar.specs.grammar.Tokens.{Content, DocumentEnd, DocumentStart, FlowEntry, FlowSequenceEnd, Mark, StreamEnd, TagDirective, Token, Value, VersionDirective}
 use Rattle.rust_original.specs.parser.Parser as orig
-use Rattle.rust_original.specs.parser.Parser.{FAIL, Mends, OK, ParserResult, OriginalParser, SKIP_TOKEN, after_directives, implicit_document_start, is_one_of, skip_document_ends, yaml_parser_parse, yaml_parser_state_machine}
+use Rattle.rust_original.specs.parser.Parser.{FAIL, Fixes, OK, ParserResult, OriginalParser, SKIP_TOKEN, after_directives, implicit_document_start, is_one_of, skip_document_ends, yaml_parser_parse, yaml_parser_state_machine}
 use Rattle.rust_original.specs.parser.Runs.{Runs, as_here, as_there, ends, fails, goes_on}
 use Rattle.rust_original.specs.parser.Differences.{Compares, Differs, bare_document, after_entry, after_start, by_call, call_here, call_there, here, pair_key, parts, same, value_first}
 use Rattle.rust_original.proofs.parser.Handles.{defaults_appended}
@@ -190,7 +190,7 @@ compared {p} {e} {x} (fails {f = f} i) d y s = go (apart p) d y s
     go (inl h) d y (fails j) = same refl (ap Fails (fail_same (sym i ∙ (h ∙ j))))
 
 -- one run
-pub one_run : {m : Mends} {p : OriginalParser} {e : List Event} {x : Ending} → Runs m p e x → (d : List Event) (y : Ending)
+pub one_run : {m : Fixes} {p : OriginalParser} {e : List Event} {x : Ending} → Runs m p e x → (d : List Event) (y : Ending)
     → Runs m p d y → (e ≡ d) × (x ≡ y)
 one_run (ends i f) d y (ends j g) = grind arith
 one_run (ends i f) d y (goes_on j g later) = grind arith
@@ -204,10 +204,10 @@ one_run (fails i) d y (goes_on j g later) = grind arith
 one_run (fails i) d y (fails j) = grind arith
 
 -- after the stream's end, and after an error
-pub after_the_end : (m : Mends) (kept : Fault) (p : OriginalParser) → p.stream_end_produced ≡ true
+pub after_the_end : (m : Fixes) (kept : Fault) (p : OriginalParser) → p.stream_end_produced ≡ true
     → yaml_parser_parse m kept p ≡ OK empty_event p
 after_the_end m kept p h = grind arith
 
-pub after_a_fault : (m : Mends) (kept : Fault) (p : OriginalParser) → is_fault kept.error ≡ true
+pub after_a_fault : (m : Fixes) (kept : Fault) (p : OriginalParser) → is_fault kept.error ≡ true
     → yaml_parser_parse m kept p ≡ OK empty_event p
 after_a_fault m kept p h = grind arith

@@ -34,13 +34,13 @@ use Rattle.libyaml_automaton.specs.Config.{below, top, top_mark}
 
 -- The three places where this repository's parser differs (docs/DIFFERENCES.md): as there where the field is
 -- false, as here where it is true.
-pub record Mends : Type 0 where
+pub record Fixes : Type 0 where
   pub pair_key_stays : Bool
   pub value_begins_entry : Bool
   pub bare_document_after_end : Bool
 
 -- The parser's fields: the tokens that the scanner will give, and what it fails with after them; the stacks,
--- their top first; the tag directives in their order. `after_explicit_end`, which a mend alone looks at, is
+-- their top first; the tag directives in their order. `after_explicit_end`, which a fix alone looks at, is
 -- no field there: the last document had an explicit end.
 pub record OriginalParser : Type 0 where
   pub tokens : List Token
@@ -255,16 +255,16 @@ abbrev pub end_of_stream : Token → OriginalParser → ParserResult
 end_of_stream token p = OK (event ev.StreamEnd token.start_mark token.end_mark)
     (SKIP_TOKEN (set_state st.YAML_PARSE_END_STATE p))
 
--- `implicit` there; the mend lets a document be implicit after an explicit end too.
-abbrev pub may_be_implicit : Mends → (implicit : Bool) → OriginalParser → Bool
-may_be_implicit mends implicit p = implicit || (mends.bare_document_after_end && p.after_explicit_end)
+-- `implicit` there; the fix lets a document be implicit after an explicit end too.
+abbrev pub may_be_implicit : Fixes → (implicit : Bool) → OriginalParser → Bool
+may_be_implicit fixes implicit p = implicit || (fixes.bare_document_after_end && p.after_explicit_end)
 
 -- A document's start, or the stream's end; after the first document, DOCUMENT-ENDs are skipped before.
-abbrev pub yaml_parser_parse_document_start : Mends → OriginalParser → (implicit : Bool) → ParserResult
-yaml_parser_parse_document_start mends p implicit =
+abbrev pub yaml_parser_parse_document_start : Fixes → OriginalParser → (implicit : Bool) → ParserResult
+yaml_parser_parse_document_start fixes p implicit =
     let q : OriginalParser = if implicit then p else skip_document_ends p.tokens p in
     PEEK_TOKEN q λ token.
-    if may_be_implicit mends implicit q && not (is_one_of token (
+    if may_be_implicit fixes implicit q && not (is_one_of token (
     kinds.YAML_VERSION_DIRECTIVE_TOKEN ∷ kinds.YAML_TAG_DIRECTIVE_TOKEN ∷ kinds.YAML_DOCUMENT_START_TOKEN
     ∷ kinds.YAML_STREAM_END_TOKEN ∷ []
     ))
@@ -461,10 +461,10 @@ yaml_parser_parse_indentless_sequence_entry p = PEEK_TOKEN p λ token. elim toke
   | _ ↦ OK (event ev.SequenceEnd token.start_mark token.start_mark) (POP_state p)
 ]
 
--- KEY and its node, which is empty at the indicator's end where none comes; or BLOCK-END. The mend lets an
+-- KEY and its node, which is empty at the indicator's end where none comes; or BLOCK-END. The fix lets an
 -- entry begin with VALUE.
-abbrev pub yaml_parser_parse_block_mapping_key : Mends → OriginalParser → (first : Bool) → ParserResult
-yaml_parser_parse_block_mapping_key mends p first = past_opening first p λ q. PEEK_TOKEN q λ token.
+abbrev pub yaml_parser_parse_block_mapping_key : Fixes → OriginalParser → (first : Bool) → ParserResult
+yaml_parser_parse_block_mapping_key fixes p first = past_opening first p λ q. PEEK_TOKEN q λ token.
     let missing : ParserResult
     = yaml_parser_set_parser_error_context (codes "while parsing a block mapping") (top_mark q.marks)
     (codes "did not find expected key") token.start_mark in
@@ -478,7 +478,7 @@ yaml_parser_parse_block_mapping_key mends p first = past_opening first p λ q. P
           (set_state st.YAML_PARSE_BLOCK_MAPPING_VALUE_STATE r)
       | tok.BlockEnd ↦ with_end_event ev.MappingEnd token q
       | tok.Value ↦
-          if mends.value_begins_entry
+          if fixes.value_begins_entry
           then yaml_parser_process_empty_scalar token.start_mark
           (set_state st.YAML_PARSE_BLOCK_MAPPING_VALUE_STATE q)
           else missing
@@ -528,15 +528,15 @@ sequence_entry_after_start first q = PEEK_TOKEN q λ token. elim token.content [
 abbrev pub yaml_parser_parse_flow_sequence_entry : OriginalParser → (first : Bool) → ParserResult
 yaml_parser_parse_flow_sequence_entry p first = past_opening first p (sequence_entry_after_start first)
 
--- A pair's key. Where none comes, the token is skipped, and the key is empty at its end; with the mend the
+-- A pair's key. Where none comes, the token is skipped, and the key is empty at its end; with the fix the
 -- token stays, and the key stands at its start.
-abbrev pub yaml_parser_parse_flow_sequence_entry_mapping_key : Mends → OriginalParser → ParserResult
-yaml_parser_parse_flow_sequence_entry_mapping_key mends p = PEEK_TOKEN p λ token.
+abbrev pub yaml_parser_parse_flow_sequence_entry_mapping_key : Fixes → OriginalParser → ParserResult
+yaml_parser_parse_flow_sequence_entry_mapping_key fixes p = PEEK_TOKEN p λ token.
     if not (is_one_of token
     (kinds.YAML_VALUE_TOKEN ∷ kinds.YAML_FLOW_ENTRY_TOKEN ∷ kinds.YAML_FLOW_SEQUENCE_END_TOKEN ∷ []))
     then yaml_parser_parse_node (PUSH_state st.YAML_PARSE_FLOW_SEQUENCE_ENTRY_MAPPING_VALUE_STATE p) false
     false
-    else if mends.pair_key_stays
+    else if fixes.pair_key_stays
     then yaml_parser_process_empty_scalar token.start_mark
     (set_state st.YAML_PARSE_FLOW_SEQUENCE_ENTRY_MAPPING_VALUE_STATE p)
     else yaml_parser_process_empty_scalar token.end_mark
@@ -608,7 +608,7 @@ yaml_parser_parse_flow_mapping_value p empty = PEEK_TOKEN p λ token.
 -- calls; the Rust has these two functions first
 
 -- The state's function.
-abbrev pub yaml_parser_state_machine : Mends → yaml_parser_state_t → OriginalParser → ParserResult
+abbrev pub yaml_parser_state_machine : Fixes → yaml_parser_state_t → OriginalParser → ParserResult
 yaml_parser_state_machine m st.YAML_PARSE_STREAM_START_STATE p = yaml_parser_parse_stream_start p
 yaml_parser_state_machine m st.YAML_PARSE_IMPLICIT_DOCUMENT_START_STATE p
     = yaml_parser_parse_document_start m p true
@@ -653,8 +653,8 @@ yaml_parser_state_machine m st.YAML_PARSE_END_STATE p = FAIL p.scanner_fault
 
 -- The next event, where `kept` is the error that an earlier call set, or none. After the stream's end or an
 -- error it is the empty event, and the parser stays as it is.
-abbrev pub yaml_parser_parse : Mends → (kept : Fault) → OriginalParser → ParserResult
-yaml_parser_parse mends kept p =
+abbrev pub yaml_parser_parse : Fixes → (kept : Fault) → OriginalParser → ParserResult
+yaml_parser_parse fixes kept p =
     if p.stream_end_produced || (is_fault kept.error || is_end_state p.state)
     then OK empty_event p
-    else yaml_parser_state_machine mends p.state p
+    else yaml_parser_state_machine fixes p.state p

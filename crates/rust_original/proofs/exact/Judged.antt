@@ -1,25 +1,47 @@
 -- A call of the original does the same as one here where no token of the call was told apart, and what it does where one was.
-use Rattle.std.proofs.Common.{◌≡◌, ◌∷◌, List, [], None, Bool, true, false, Ok, Err, refl, sym, subst, arith}
+use Rattle.std.proofs.Common.{◌≡◌, ◌∷◌, List, [], None, Bool, true, false, Ok, Err, codes, refl, sym, subst, arith}
 use Rattle.libyaml_types.specs.Types.{token_type}
 use Rattle.libyaml_types.specs.declared.directive.yaml_tag_directive_t.{yaml_tag_directive_t}
 use Rattle.libyaml_types.specs.declared.enums.yaml_parser_state_t.{yaml_parser_state_t}
 use Rattle.libyaml_types.specs.declared.enums.yaml_parser_state_t.TheVariants as st
 use Rattle.libyaml_types.specs.Fault.{Fault}
+use Rattle.libyaml_grammar.specs.partial.FaultTexts.{parser_fault, parser_fault_in}
+use Rattle.libyaml_grammar.specs.grammar.Events.{Event}
 use Rattle.libyaml_grammar.specs.grammar.Tokens.{Content, DocumentEnd, DocumentStart, FlowEntry, FlowSequenceEnd, Mark, StreamEnd, TagDirective, Token, Value, VersionDirective}
 use Rattle.libyaml_automaton.specs.Automaton as automaton
 use Rattle.libyaml_automaton.specs.Config.{top_mark}
 use Rattle.libyaml_automaton.specs.declared.difference.Difference.{Difference}
-use Rattle.libyaml_automaton.specs.declared.difference.Difference.TheVariants.{Nowhere}
+use Rattle.libyaml_automaton.specs.declared.difference.Difference.TheVariants.{Nowhere, PairKey, ValueFirst, BareDocument}
+use Rattle.libyaml_automaton.specs.Differing.{differs}
 use Rattle.libyaml_events.specs.machine.Config.{Config, Machine, Handles, config_of, is_end_state, no_handles}
 use Rattle.libyaml_events.specs.machine.Machine.{Progressed, seen, step}
 use Rattle.libyaml_events.specs.machine.Want.{AtState, Given, Want, Wants}
 use Rattle.rust_original.specs.parser.Differences.{Differs, KeyDue, bare_document, after_entry, after_start, call_here, call_there, pair_key, value_first}
-use Rattle.rust_original.specs.parser.Parser.{OriginalParser, PUSH_mark, ParserResult, SKIP_TOKEN, after_directives}
-use Rattle.rust_original.specs.parser.Strict.{DoesThere, differs_by}
+use Rattle.rust_original.specs.parser.Parser.{FAIL, OK, OriginalParser, PUSH_mark, ParserResult, SKIP_TOKEN, after_directives}
 use Rattle.rust_original.proofs.parser.Handles.{defaults_appended}
 use Rattle.rust_original.proofs.parser.Relation.{Fits, IsInside, Opens, SamePlace, following, after_end, entering, inside, there_with, tk, tokens_of}
-use Rattle.rust_original.proofs.strict.Quiet as quiet
-use Rattle.rust_original.proofs.strict.Quiet.{Quiet, QuietProgress, QuietState, QuietStep, quiet_after, quiet_by}
+use Rattle.rust_original.proofs.exact.Quiet as quiet
+use Rattle.rust_original.proofs.exact.Quiet.{Quiet, QuietProgress, QuietState, QuietStep, quiet_after, quiet_by}
+
+-- what libyaml does with the token where this is wanted: the same, or something else
+abbrev pub differs_by : Want → Machine → Token → Difference
+differs_by w c t = differs w.next c.state c.behind_document_end (token_type t.content)
+
+-- its errors there, where it has one
+abbrev pub key_fault : (context_mark mark : Mark) → Fault
+key_fault m n = parser_fault_in (codes "while parsing a block mapping") m (codes "did not find expected key") n
+
+abbrev pub document_fault : (mark : Mark) → Fault
+document_fault n = parser_fault (codes "did not find expected <document start>") n
+
+abbrev pub GivesEvent : ParserResult → Type 0
+GivesEvent o = (e : Event) × (q : OriginalParser) × (o ≡ OK e q)
+
+abbrev DoesThere : Difference → (context_mark mark : Mark) → ParserResult → Type 0
+DoesThere Nowhere m n o = ⊥
+DoesThere PairKey m n o = GivesEvent o
+DoesThere ValueFirst m n o = o ≡ FAIL (key_fault m n)
+DoesThere BareDocument m n o = o ≡ FAIL (document_fault n)
 
 -- what the questions of one call say: none is met, or one is, with the marks of the innermost collection and the token
 pub data Judged : Type 0 where

@@ -1,4 +1,0 @@
-pub mod Quiet
-pub mod Judged
-pub mod Runs
-pub mod Passed

@@ -1,2 +1,0 @@
--- The theorems that crates above may name, and no others of these proofs.
-pub mod Looks
