@@ -7,6 +7,7 @@
 //! `scripts/gate/flat_memory.sh`.
 #![tactic(auto)]
 
+mod bounded;
 mod calls;
 mod drawn;
 mod failing;
@@ -27,9 +28,11 @@ fn show_tables(rt: &(impl Files + Print + AllocGlobal), tables: &mut Tables<'_>)
     let vector = read_text(rt, "text.tokens")?;
     let kinds = read_text(rt, "kinds")?;
     let sizes = read_text(rt, "sizes")?;
+    let bounded = read_text(rt, "bounded")?;
     large::show(rt, tables)?;
     nested::show(rt, tables)?;
     sizes::show(rt, tables, sizes.as_str())?;
+    bounded::show(rt, tables, bounded.as_str())?;
     texts::show(rt, tables, vector.as_str())?;
     drawn::show(rt, tables, kinds.as_str())?;
     failing::show(rt, tables)?;
