@@ -1,69 +1,67 @@
 #!/bin/sh
-# Runs a built `yamltokens` once for each exit status that docs/DEFINITIONS.md gives ("The program"), and fails if one
-# is another. The contract of `run_words` says its status; that `main` passes that on is seen here alone.
+# Runs a built `yamltokens` as crates/vectors_lines/data/worked says, and over what no line there can have, and fails if its
+# exit status, its output or its error output is another (docs/DEFINITIONS.md, "The program"). The contract of `run_words` says
+# its status; that `main` passes that on is seen here alone.
 #
 #     scripts/gate/statuses.sh crates/yamltokens/out/yamltokens
 #
 # Run by check_programs.sh.
-set -u
+set -uf
 [ $# -eq 1 ] && case $1 in '' | -*) false ;; esac || { echo "usage: statuses.sh PROGRAM" >&2; exit 2; }
 program=$(realpath "$1") && [ -x "$program" ] || { echo "no program" >&2; exit 2; }
+data=$(cd "$(dirname "$0")/../../crates/vectors_lines/data" && pwd) || exit 2
 work=$(mktemp -d) || exit 2
 trap 'rm -rf "$work"' EXIT
 cd "$work" || exit 2
-
-printf '%s\n' 'STREAM-START 0:0:0 0:0:0 utf8' 'SCALAR 0:0:0 1:0:1 =a plain' 'STREAM-END 1:0:1 1:0:1' > whole
-head -n 2 whole > cut
-printf '%s\n' 'STREAM-START 0:0:0 0:0:0 utf8' 'STREAM-END 0:0:0' > bad
-printf '%s\n' 'STREAM-START 0:0:0 0:0:0 utf8' 'ALIAS 0:0:0 2:0:2 =a' 'STREAM-END 2:0:2 2:0:2' > unknown
-printf '%s\n' 'STREAM-START 0:0:0 0:0:0 utf8' 'SCALAR 0:0:0 1:0:1 =a plain' 'DOCUMENT-END 2:1:0 5:1:3' \
-    'SCALAR 6:2:0 7:2:1 =b plain' 'STREAM-END 8:3:0 8:3:0' > bare
-printf 'a: b\n' > yaml
-{ printf '\357\273\277' && cat whole; } > bom
-sed 's/$/\r/' whole > crlf
-
+: > none
 wrong=0
-# is WANTED INPUT OUTPUT WORD..: runs the program with these words
-is() {
-    wanted=$1 input=$2 output=$3
-    shift 3
-    "$program" "$@" < "$input" > "$output" 2> errors
-    status=$?
-    [ "$status" -eq "$wanted" ] || { echo "'$*' over $input to $output: status $status, not $wanted"; wrong=1; }
-}
-# says WORD..: what the last run wrote on its output and on standard error
-says() {
-    [ "$(wc -l < output) $(wc -l < errors)" = "$1 $2" ] || { echo "$(wc -l < output) lines and $(wc -l < errors) errors, not $1 and $2"; wrong=1; }
+runs=0
+
+# file NAME: where a file of a line is; `-` has no bytes
+file() {
+    case $1 in -) echo none ;; *) echo "$data/runs/$1" ;; esac
 }
 
-is 0 whole output events; says 5 0
-for input in yaml bom crlf; do
-    is 1 $input output events; says 1 0
-    [ "$(cat output)" = 'FAULT scanner 0:0:0 bad token line' ] || { echo "$input: $(head -n 1 output)"; wrong=1; }
-done
-is 0 whole output nodes; says 2 0
-is 1 cut output events; says 4 0
-is 1 cut output nodes; says 1 0
-is 1 bad output events; says 2 0
-is 1 bad output nodes; says 1 0
-is 0 unknown output events; says 5 0
-is 1 unknown output nodes; says 1 0
-is 1 /dev/null output events; says 1 0
-is 0 bare output events; says 8 0
-is 0 bare output nodes; says 4 0
-is 2 whole output; says 0 1
-is 2 whole output Events; says 0 1
-is 2 whole output events nodes; says 0 1
-is 2 whole output strict-events; says 0 1
-is 2 whole output strict-nodes; says 0 1
-is 2 whole output "$(printf 'events\377')"; says 0 1
-if [ -w /dev/full ]; then
-    is 3 whole /dev/full events
-    is 3 whole /dev/full nodes
-    is 3 cut /dev/full events
-    is 3 bare /dev/full nodes
-else
-    echo "no /dev/full: status 3 is not tried"; wrong=1
-fi
-[ $wrong -eq 0 ] && echo "all statuses are as said"
+# is NAME STATUS INPUT OUTPUT ERRORS WORD..: runs the program with these words over a file, and compares
+is() {
+    name=$1 wanted=$2 input=$3 output=$4 errors=$5
+    shift 5
+    if [ "$output" = full ]; then
+        "$program" "$@" < "$input" > /dev/full 2> told
+        status=$?
+    else
+        "$program" "$@" < "$input" > given 2> told
+        status=$?
+        cmp -s given "$output" || { echo "$name: another output: $(head -n 1 given)"; wrong=1; }
+    fi
+    [ "$status" -eq "$wanted" ] || { echo "$name: status $status, not $wanted"; wrong=1; }
+    cmp -s told "$errors" || { echo "$name: another error output: $(head -n 1 told)"; wrong=1; }
+    runs=$((runs + 1))
+}
+
+[ -w /dev/full ] || { echo "no /dev/full: status 3 is not tried"; wrong=1; }
+while IFS= read -r line; do
+    # shellcheck disable=SC2086
+    set -- ${line%%: *}
+    name=$1 wanted=$2 input=$3 output=$4 errors=$5
+    shift 5
+    [ "$output" = full ] || output=$(file "$output")
+    is "$name" "$wanted" "$(file "$input")" "$output" "$(file "$errors")" "$@"
+done < "$data/worked"
+
+whole=$data/runs/implicit_document.tokens
+usage=$data/runs/usage.errors
+failed=$data/runs/output_failed.errors
+bad=$data/runs/empty_line.events
+printf 'a: b\n' > yaml
+{ printf '\357\273\277' && cat "$whole"; } > bom
+head -n 2 "$whole" > cut
+is yaml 1 yaml "$bad" none events
+is bom 1 bom "$bad" none events
+is 'a word that is no text' 2 "$whole" none "$usage" "$(printf 'events\377')"
+is 'an empty word' 2 "$whole" none "$usage" ''
+is 'a word with a space' 2 "$whole" none "$usage" 'events '
+is 'a full output of a cut list' 3 cut full "$failed" events
+[ $runs -gt 6 ] || { echo "no line was run"; wrong=1; }
+echo "$runs runs, $([ $wrong -eq 0 ] && echo 'all as said' || echo 'some not as said')"
 exit $wrong

@@ -1,10 +1,11 @@
 //! Vectors of lines: token lines that are read, lines of events and documents that are written, and readers
 //! and writers that fail.
 //!
-//! The program makes each check of `Check` for each run that the file `names` names, and for each line of
-//! `good_lines` and `bad_lines`; it counts the test vectors of each table and names those that differ. It also runs over
-//! more lines than are read. `vectors_lines TABLE` makes the checks of one table, `vectors_lines TABLE
-//! VECTOR` those of one test vector, and `vectors_lines failing` those of `failing`, for
+//! The program makes each run that a line of the file `worked` gives, by words of a command line, and names it. It
+//! makes each check of `Check` for each run that the file `names` names, and for each line of `good_lines` and
+//! `bad_lines`; it counts the test vectors of each table and names those that differ. It also runs over more
+//! lines than are read. `vectors_lines TABLE` makes the checks of one table, `vectors_lines TABLE VECTOR` those
+//! of one test vector, and `vectors_lines failing` those of `failing`, for
 //! `scripts/gate/allocation_failures.sh`.
 #![tactic(auto)]
 
@@ -15,6 +16,7 @@ mod memory;
 mod runs;
 mod source;
 mod words;
+mod worked;
 
 use anyhow::{Context, Result};
 use runs::{LinesOf, Run};
@@ -197,6 +199,7 @@ fn show_failing_tables(
 }
 
 fn show_tables(rt: &(impl Files + Print + AllocGlobal), tables: &mut Tables<'_>) -> Result<()> {
+    worked::show(rt, tables)?;
     show_runs(rt, tables, "runs in pieces", Check::Pieces)?;
     show_runs(rt, tables, "runs, reads that fail", Check::Reads)?;
     show_runs(rt, tables, "runs, writes that fail", Check::Writes)?;

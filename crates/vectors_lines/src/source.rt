@@ -10,7 +10,11 @@ use unsafe_libyaml::{
 };
 use vectors_common::Tables;
 
-/// The lines of a stream with one scalar, and what is no line after them.
+/// The lines of a stream with one scalar.
+const STREAM: &[u8] =
+    b"STREAM-START 0:0:0 1:0:1 utf8\nSCALAR 2:0:2 3:0:3 =a plain\nSTREAM-END 4:0:4 5:0:5\n";
+
+/// The same, and what is no line after them.
 const STREAM_AND_JUNK: &[u8] =
     b"STREAM-START 0:0:0 1:0:1 utf8\nSCALAR 2:0:2 3:0:3 =a plain\nSTREAM-END 4:0:4 5:0:5\njunk";
 
@@ -58,7 +62,7 @@ fn stops(mut source: yaml_line_source_t<&[u8]>, fault: &yaml_source_fault_t, lef
 }
 
 fn stops_at_its_bound(alloc: Global) -> bool {
-    let source = yaml_line_source_t::new(alloc, STREAM_AND_JUNK, 1);
+    let source = yaml_line_source_t::new(alloc, STREAM, 1);
     let problem = Some("too many tokens");
     let fault = yaml_source_fault_t::new(
         YAML_READER_ERROR,
@@ -69,7 +73,7 @@ fn stops_at_its_bound(alloc: Global) -> bool {
         None,
         ZERO_MARK,
     );
-    let left = STREAM_AND_JUNK.strip_prefix(START).unwrap_or(&[]);
+    let left = STREAM.strip_prefix(START).unwrap_or(&[]);
     stops(source, &fault, left)
 }
 

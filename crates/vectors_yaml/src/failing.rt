@@ -125,7 +125,7 @@ fn count_line(
     Ok(())
 }
 
-/// Shows the tables of this module, over the lists of `productions` and `loads`.
+/// Shows the tables of this module, over the lists of `worked`, `productions` and `loads`.
 ///
 /// # Errors
 ///
@@ -146,6 +146,7 @@ fn show_table(
     reading: Reading,
 ) -> Result<()> {
     let mut table = table;
+    count_lists(rt, &mut table, "worked", reading)?;
     count_lists(rt, &mut table, "productions", reading)?;
     count_lists(rt, &mut table, "loads", reading)?;
     tables.show(rt, table)?;

@@ -1,21 +1,19 @@
 //! Tables of lists, read from files.
 
-use crate::{asked, composed, cuts, lines, one_by_one, strict};
+use crate::{asked, composed, cuts, lines, one_by_one};
 use anyhow::{Context, Result};
 use std::io;
 use std::rt::Files;
 use vectors_common::{Tables, read_text, show_difference};
 
-/// The tables whose lists libyaml reads alike.
-const SAME_IN_LIBYAML: [&str; 2] = ["suite", "real"];
+/// The table whose lists are named where they are as expected, too.
+const NAMED: &str = "worked";
 
 /// A text of a list.
 #[derive(Copy, Clone)]
 enum View {
     /// What is parsed or loaded.
     Given(Given),
-    /// What is parsed or loaded strictly.
-    Strict(Given),
     /// How many tokens each call has asked for.
     Asked,
 }
@@ -150,11 +148,32 @@ fn show_list(
     if !tables.has_vector(name) {
         return Ok(());
     }
+    let differ = count.differ;
+    show_texts(rt, table, name, others, count)?;
+    name_expected(rt, table, name, count.differ == differ)
+}
+
+/// Compares the events and the nodes of a list, and its other texts.
+fn show_texts(
+    rt: &(impl Files + Print + AllocGlobal),
+    table: &str,
+    name: &str,
+    others: &str,
+    count: &mut Count,
+) -> Result<()> {
     count.lists = count.lists.wrapping_add(1);
     show_text(rt, table, name, "events", count)?;
     show_text(rt, table, name, "nodes", count)?;
     for other in others.split_whitespace() {
         show_text(rt, table, name, other, count)?;
+    }
+    Ok(())
+}
+
+/// Names a list that is as expected, where its table has that done.
+fn name_expected(rt: &impl Print, table: &str, name: &str, is_expected: bool) -> Result<()> {
+    if is_expected && table == NAMED {
+        println!(rt; "{table}/{name}: as expected")?;
     }
     Ok(())
 }
@@ -212,8 +231,7 @@ fn are_given(
     text: Text<'_>,
 ) -> Result<bool> {
     let view = view_of(place.text)?;
-    let is_same = SAME_IN_LIBYAML.contains(&place.table);
-    Ok(is_text_right(rt, view, is_same, text)? && is_composed(rt, place, view, text)?)
+    Ok(is_text_right(rt, view, text)? && is_composed(rt, place, view, text)?)
 }
 
 /// Reads a text of a list.
@@ -233,7 +251,7 @@ fn is_composed(
     text: Text<'_>,
 ) -> Result<bool> {
     match view {
-        View::Given(Given::Events) | View::Strict(_) | View::Asked => Ok(true),
+        View::Given(Given::Events) | View::Asked => Ok(true),
         View::Given(given) => are_composed(rt, place, Case { text, given }),
     }
 }
@@ -251,8 +269,6 @@ fn view_of(text: &str) -> Result<View> {
     Ok(match text {
         "events" => View::Given(Given::Events),
         "nodes" => View::Given(Given::Nodes),
-        "strict-events" => View::Strict(Given::Events),
-        "strict-nodes" => View::Strict(Given::Nodes),
         "asked" => View::Asked,
         _ => {
             let most = text.strip_prefix("nodes@").context("no text of a list")?;
@@ -261,19 +277,10 @@ fn view_of(text: &str) -> Result<View> {
     })
 }
 
-fn is_text_right(
-    rt: &(impl Print + AllocGlobal),
-    view: View,
-    is_same: bool,
-    text: Text<'_>,
-) -> Result<bool> {
+fn is_text_right(rt: &(impl Print + AllocGlobal), view: View, text: Text<'_>) -> Result<bool> {
     match view {
         View::Asked => Ok(asked::is_counted(rt, text)?),
-        View::Strict(given) => strict::is_strict(rt, Case { text, given }),
-        View::Given(given) => {
-            let case = Case { text, given };
-            Ok(is_case_right(rt, case)? && (!is_same || strict::is_strict(rt, case)?))
-        }
+        View::Given(given) => is_case_right(rt, Case { text, given }),
     }
 }
 
