@@ -334,6 +334,13 @@ fn leave_out_comment(out: &mut String) {
     }
 }
 
+/// A variant of an enum of errors, with its words.
+struct Variant<'b> {
+    name: &'b str,
+    words: &'b str,
+    has_field: bool,
+}
+
 /// What is written of Rust's pieces.
 struct Writer<'a, 'b> {
     of: &'b Crate<'a>,
@@ -341,8 +348,8 @@ struct Writer<'a, 'b> {
     place: usize,
     out: String,
     modules: Vec<String>,
-    /// An enum of errors, and its variants, each with its words and whether it has a field.
-    error: Option<(&'b str, Vec<(&'b str, &'b str, bool)>)>,
+    /// An enum of errors, and its variants.
+    error: Option<(&'b str, Vec<Variant<'b>>)>,
     is_error: bool,
     is_drop: bool,
 }
@@ -425,7 +432,11 @@ impl<'b> Writer<'_, 'b> {
                 .take(9)
                 .map(|piece| piece.text)
                 .collect();
-            variants.push((rest[7], rest[4], rest[8] == "("));
+            variants.push(Variant {
+                name: rest[7],
+                words: rest[4],
+                has_field: rest[8] == "(",
+            });
             self.take(7, false);
             return Ok(());
         }
@@ -632,12 +643,16 @@ pub fn erase(of: &Crate<'_>, text: &str) -> Result<Plain, Unknown> {
             .push_str("#[allow(unused_imports)] use crate::kit::{String, Vec};\n");
     }
     if let Some((name, variants)) = &writer.error {
-        let arms = variants
-            .iter()
-            .map(|(variant, words, has_field)| match has_field {
-                true => format!("Self::{variant}(field) => write!(f, {words}, field),"),
-                false => format!("Self::{variant} => f.write_str({words}),"),
-            });
+        let arms = variants.iter().map(
+            |Variant {
+                 name,
+                 words,
+                 has_field,
+             }| match has_field {
+                true => format!("Self::{name}(field) => write!(f, {words}, field),"),
+                false => format!("Self::{name} => f.write_str({words}),"),
+            },
+        );
         let arms: String = arms.collect();
         writer.out += &format!("impl core::fmt::Display for {name} {{ ");
         writer.out += "fn fmt(&self, f: &mut core::fmt::Formatter<'_>) -> core::fmt::Result { ";

@@ -1,14 +1,16 @@
 //! What the proved crates use of their standard library, over Rust's own.
 //!
-//! What takes memory gives an [`AllocError`] if there is none, and changes nothing then. Two things end the
-//! process instead: a new entry of a map, as there is no other form of it in Rust, and memory that Rust's own
-//! code lacks.
+//! What takes memory gives an [`AllocError`] if there is none, and changes nothing then. Lists and texts are
+//! made of Rust's own and become such, without a copy.
 
-use alloc::collections::btree_map;
+mod map;
+
 use alloc::{string, vec};
 use core::borrow::Borrow;
 use core::fmt;
 use core::ops::{Deref, DerefMut};
+
+pub use map::BTreeMap;
 
 /// A type with a model, which only the prover reads.
 pub trait Model {}
@@ -32,9 +34,10 @@ impl core::error::Error for AllocError {}
 // ---- Lists ----
 
 /// A list that grows.
-#[derive(Debug, PartialEq, Eq, PartialOrd, Ord, Hash)]
+#[derive(PartialEq, Eq, PartialOrd, Ord, Hash)]
 pub struct Vec<T>(vec::Vec<T>);
 
+/// An iterator that moves the values of a list out.
 pub type IntoIter<T> = vec::IntoIter<T>;
 
 impl<T> Vec<T> {
@@ -43,17 +46,32 @@ impl<T> Vec<T> {
         Vec(vec::Vec::new())
     }
 
+    /// Returns an empty list with this much room.
+    ///
+    /// # Errors
+    ///
+    /// There is no memory.
     pub fn with_capacity(alloc: Global, room: usize) -> Result<Self, AllocError> {
         let mut made = Vec::new(alloc);
         made.0.try_reserve_exact(room).map_err(|_| AllocError)?;
         Ok(made)
     }
 
+    /// Makes room for so many more values.
+    ///
+    /// # Errors
+    ///
+    /// There is no memory.
     #[inline]
     pub fn reserve(&mut self, more: usize) -> Result<(), AllocError> {
         self.0.try_reserve(more).map_err(|_| AllocError)
     }
 
+    /// Appends a value.
+    ///
+    /// # Errors
+    ///
+    /// There is no memory.
     #[inline]
     pub fn push(&mut self, value: T) -> Result<(), AllocError> {
         self.reserve(1)?;
@@ -67,41 +85,57 @@ impl<T> Vec<T> {
         self.0.push(value);
     }
 
+    /// Puts a value before the one at this place, which is at most the length.
+    ///
+    /// # Errors
+    ///
+    /// There is no memory.
     pub fn insert(&mut self, place: usize, value: T) -> Result<(), AllocError> {
         self.reserve(1)?;
         self.0.insert(place, value);
         Ok(())
     }
 
+    /// Takes the last value off.
     #[inline]
     pub fn pop(&mut self) -> Option<T> {
         self.0.pop()
     }
 
+    /// Returns for how many values, or bytes, there is room.
     pub fn capacity(&self) -> usize {
         self.0.capacity()
     }
 
+    /// Takes everything off. The room stays.
     pub fn clear(&mut self) {
         self.0.clear();
     }
 
+    /// Returns the values.
     #[inline]
     pub fn as_slice(&self) -> &[T] {
         &self.0
     }
 
+    /// Returns the values, to be changed.
     #[inline]
     pub fn as_mut_slice(&mut self) -> &mut [T] {
         &mut self.0
     }
 
+    /// Returns the allocator.
     pub fn allocator(&self) -> &Global {
         &Global
     }
 }
 
 impl<T: Clone> Vec<T> {
+    /// Lengthens the list by copies of a value, or shortens it.
+    ///
+    /// # Errors
+    ///
+    /// There is no memory.
     pub fn resize(&mut self, length: usize, value: T) -> Result<(), AllocError> {
         self.reserve(length.saturating_sub(self.0.len()))?;
         self.0.resize(length, value);
@@ -125,6 +159,45 @@ impl<T> DerefMut for Vec<T> {
     }
 }
 
+impl<T: fmt::Debug> fmt::Debug for Vec<T> {
+    fn fmt(&self, f: &mut fmt::Formatter<'_>) -> fmt::Result {
+        self.0.fmt(f)
+    }
+}
+
+impl<T> Default for Vec<T> {
+    fn default() -> Self {
+        Vec::new(Global)
+    }
+}
+
+impl<T> AsRef<[T]> for Vec<T> {
+    fn as_ref(&self) -> &[T] {
+        &self.0
+    }
+}
+
+impl<T> From<vec::Vec<T>> for Vec<T> {
+    fn from(values: vec::Vec<T>) -> Self {
+        Vec(values)
+    }
+}
+
+impl<T> From<Vec<T>> for vec::Vec<T> {
+    fn from(values: Vec<T>) -> Self {
+        values.0
+    }
+}
+
+impl<'a, T> IntoIterator for &'a Vec<T> {
+    type Item = &'a T;
+    type IntoIter = core::slice::Iter<'a, T>;
+
+    fn into_iter(self) -> Self::IntoIter {
+        self.0.iter()
+    }
+}
+
 impl<T> IntoIterator for Vec<T> {
     type Item = T;
     type IntoIter = IntoIter<T>;
@@ -137,7 +210,7 @@ impl<T> IntoIterator for Vec<T> {
 // ---- Texts ----
 
 /// A text that grows.
-#[derive(Debug, PartialEq, Eq, PartialOrd, Ord, Hash)]
+#[derive(PartialEq, Eq, PartialOrd, Ord, Hash)]
 pub struct String(string::String);
 
 impl String {
@@ -146,12 +219,22 @@ impl String {
         String(string::String::new())
     }
 
+    /// Returns an empty text with room for so many bytes.
+    ///
+    /// # Errors
+    ///
+    /// There is no memory.
     pub fn with_capacity(alloc: Global, room: usize) -> Result<Self, AllocError> {
         let mut made = String::new(alloc);
         made.0.try_reserve_exact(room).map_err(|_| AllocError)?;
         Ok(made)
     }
 
+    /// Returns a copy of a text.
+    ///
+    /// # Errors
+    ///
+    /// There is no memory.
     #[allow(clippy::should_implement_trait)]
     pub fn from_str(alloc: Global, text: &str) -> Result<Self, AllocError> {
         let mut made = String::with_capacity(alloc, text.len())?;
@@ -159,25 +242,34 @@ impl String {
         Ok(made)
     }
 
+    /// Appends a text.
+    ///
+    /// # Errors
+    ///
+    /// There is no memory.
     pub fn push_str(&mut self, text: &str) -> Result<(), AllocError> {
         self.0.try_reserve(text.len()).map_err(|_| AllocError)?;
         self.0.push_str(text);
         Ok(())
     }
 
+    /// Returns the text.
     #[inline]
     pub fn as_str(&self) -> &str {
         &self.0
     }
 
+    /// Returns for how many values, or bytes, there is room.
     pub fn capacity(&self) -> usize {
         self.0.capacity()
     }
 
+    /// Takes everything off. The room stays.
     pub fn clear(&mut self) {
         self.0.clear();
     }
 
+    /// Returns the allocator.
     pub fn allocator(&self) -> &Global {
         &Global
     }
@@ -198,36 +290,50 @@ impl Borrow<str> for String {
     }
 }
 
-impl fmt::Display for String {
-    fn fmt(&self, f: &mut fmt::Formatter<'_>) -> fmt::Result {
-        f.write_str(&self.0)
+impl Default for String {
+    fn default() -> Self {
+        String::new(Global)
     }
 }
 
-// ---- Maps ----
-
-/// A map in the order of its keys.
-#[derive(Debug)]
-pub struct BTreeMap<K, V>(btree_map::BTreeMap<K, V>);
-
-impl<K: Ord, V> BTreeMap<K, V> {
-    /// Returns an empty map. Takes no memory.
-    pub const fn new(_: Global) -> Self {
-        BTreeMap(btree_map::BTreeMap::new())
+impl AsRef<str> for String {
+    fn as_ref(&self) -> &str {
+        &self.0
     }
+}
 
-    pub fn insert(&mut self, key: K, value: V) -> Result<Option<V>, AllocError> {
-        Ok(self.0.insert(key, value))
+impl From<string::String> for String {
+    fn from(text: string::String) -> Self {
+        String(text)
     }
+}
 
-    pub fn get<Q: Ord + ?Sized>(&self, key: &Q) -> Option<&V>
-    where
-        K: Borrow<Q>,
-    {
-        self.0.get(key)
+impl From<String> for string::String {
+    fn from(text: String) -> Self {
+        text.0
     }
+}
 
-    pub fn is_empty(&self) -> bool {
-        self.0.is_empty()
+impl PartialEq<str> for String {
+    fn eq(&self, other: &str) -> bool {
+        self.0 == other
+    }
+}
+
+impl PartialEq<&str> for String {
+    fn eq(&self, other: &&str) -> bool {
+        self.0 == *other
+    }
+}
+
+impl fmt::Debug for String {
+    fn fmt(&self, f: &mut fmt::Formatter<'_>) -> fmt::Result {
+        self.0.fmt(f)
+    }
+}
+
+impl fmt::Display for String {
+    fn fmt(&self, f: &mut fmt::Formatter<'_>) -> fmt::Result {
+        f.write_str(&self.0)
     }
 }

@@ -1,12 +1,14 @@
 #![doc = include_str!("README.md")]
 #![no_std]
 #![forbid(unsafe_code)]
-#![allow(non_camel_case_types, unused_variables, dead_code, unused_imports)]
-#![allow(clippy::all)]
+#![warn(missing_docs)]
 
 #[cfg(feature = "alloc")]
 extern crate alloc;
 #[cfg(feature = "alloc")]
 pub mod kit;
+#[cfg(feature = "alloc")]
+pub mod yaml;
 
+// The proved crates, each a module. Their names are libyaml's, and some items are there for contracts alone.
 include!(concat!(env!("OUT_DIR"), "/crates.rs"));

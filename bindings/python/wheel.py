@@ -38,6 +38,10 @@ def checksum(data):
     return "sha256=" + base64.urlsafe_b64encode(hashlib.sha256(data).digest()).rstrip(b"=").decode()
 
 
+def metadata(version):
+    return METADATA.format(version=version, readme=(HERE / "README.md").read_text())
+
+
 def package_files(library, extension):
     """The files of the package, by their names in the wheel."""
     parts = [path for path in (HERE / "src" / "pokhvizi").iterdir() if path.suffix in (".py", ".pyi") or path.name == "py.typed"]
@@ -55,7 +59,7 @@ def main(library, extension, pages, version, tag, out):
     for page in ("LICENSE", "NOTICES", "PROOF"):
         files[f"{info}/{page}"] = (Path(pages) / page).read_bytes()
     files[f"{info}/LICENSE.libyaml"] = (HERE / "LICENSE.libyaml").read_bytes()
-    files[f"{info}/METADATA"] = METADATA.format(version=version, readme=(HERE / "README.md").read_text()).encode()
+    files[f"{info}/METADATA"] = metadata(version).encode()
     tags = "".join(f"Tag: {python}-{one}\n" for one in tag.split("."))
     files[f"{info}/WHEEL"] = f"Wheel-Version: 1.0\nGenerator: wheel.py\nRoot-Is-Purelib: false\n{tags}".encode()
     record = "".join(f"{name},{checksum(data)},{len(data)}\n" for name, data in sorted(files.items()))

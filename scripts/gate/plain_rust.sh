@@ -5,10 +5,14 @@
 #     sh scripts/gate/plain_rust.sh
 #
 # Runs its tests, without features and with `alloc`: the lists of vectors_steps and vectors_yaml, which give
-# the lines that stand there; what the build leaves out, and what ends it; the program of its README. Makes
-# its package, which has each source as it stands here, and builds that alone. A line of a list that is
+# the lines that stand there; what the build leaves out, and what ends it; the module `yaml` and its map; each
+# allocation refused in turn; drawn tokens, which each call has to read alike; the programs of its README. Makes its pages, and asks clippy, which may not warn.
+# Makes its package, which has each source as it stands here, and tests that alone; a crate that names it
+# in two lines parses and loads. A line of a list that is
 # changed there must fail the test, and a construct that isn't known must end the build with its file and
-# line. Last it builds C's library by build_plain.sh, and runs the samples of yaml.c over it.
+# line. What is left out is what left_out.py finds. Runs the tests of `scanner`, if the crate unsafe-libyaml 0.2.11 is in the folder that CLIENT_CRATES
+# names or /usr/share/cargo/registry. Last it builds C's library by build_plain.sh, and runs the samples of
+# yaml.c over it.
 #
 # The status is 0 if all is as it should be. Needs what build_plain.sh needs.
 #
@@ -29,7 +33,13 @@ complain() {
 tests=$(cargo test 2> "$work/said" && cargo test --features alloc 2>> "$work/said") || { cat "$work/said"; echo "$tests"; complain "a test"; }
 grep -A 5 '^warning' "$work/said" && complain "a warning"
 passed=$(echo "$tests" | sed -n 's/^test result: ok. \([0-9]*\) passed.*/\1/p' | awk '{ n += $1 } END { print n + 0 }')
-[ "$passed" -ge 17 ] || complain "only $passed tests"
+[ "$passed" -ge 30 ] || complain "only $passed tests"
+RUSTDOCFLAGS='-D warnings' cargo doc -q --no-deps --features alloc > "$work/said" 2>&1 || { cat "$work/said"; complain "the pages"; }
+if cargo clippy --version > /dev/null 2>&1; then
+    cargo clippy -q --all-targets --features alloc -- -D warnings > "$work/said" 2>&1 || { cat "$work/said"; complain "clippy"; }
+else
+    echo "clippy isn't there"
+fi
 
 # ---- The package ----
 
@@ -41,6 +51,51 @@ for source in $sources; do
     cmp -s "$source" "$package/$source" || complain "$source differs in the package"
 done
 [ "$(echo "$sources" | grep -c '\.rt$')" -ge 100 ] || complain "the package lacks sources"
+
+(cd "$package" && cargo test -q --features alloc) > "$work/said" 2>&1 || { cat "$work/said"; complain "a test of the package"; }
+
+# A user's crate, which names the package in two lines.
+mkdir -p "$work/app/src"
+printf '[package]\nname = "app"\nversion = "0.1.0"\nedition = "2021"\n[dependencies]\npokhvizi = { path = "%s", features = ["alloc"] }\n' \
+    "$package" > "$work/app/Cargo.toml"
+printf '[profile.release]\nlto = true\npanic = "abort"\noverflow-checks = true\n' >> "$work/app/Cargo.toml"
+cat > "$work/app/src/main.rs" << 'RUST'
+use pokhvizi::yaml::{Documents, Encoding, Mark, Parser, ScalarStyle, SourceError, Token, TokenData, TokenSource};
+
+struct Words<'a>(std::str::SplitWhitespace<'a>, u64);
+
+impl TokenSource for Words<'_> {
+    fn next_token(&mut self) -> Result<Token, SourceError> {
+        let place = Mark { index: self.1, line: 0, column: self.1 };
+        self.1 += 1;
+        let data = match (self.1, self.0.next()) {
+            (1, _) => TokenData::stream_start(Encoding::UTF8),
+            (_, None) => TokenData::StreamEnd,
+            (_, Some("[")) => TokenData::FlowSequenceStart,
+            (_, Some("]")) => TokenData::FlowSequenceEnd,
+            (_, Some(",")) => TokenData::FlowEntry,
+            (_, Some("?")) => return Err(SourceError::scanner_error("found a question", place)),
+            (_, Some(word)) => TokenData::scalar(word, ScalarStyle::PLAIN)?,
+        };
+        Ok(Token::new(data, place, place))
+    }
+}
+
+fn main() -> Result<(), Box<dyn std::error::Error>> {
+    let words = |text| Words(text, 0);
+    for event in Parser::new(words("- [ a , b ]".split_whitespace())) {
+        print!("{} ", event?.type_().number());
+    }
+    for document in Documents::new(words("- [ a , b ]".split_whitespace())) {
+        print!("{:?} ", document?.text_at(&["1"]));
+    }
+    Parser::new(words("- [ a ?".split_whitespace())).try_for_each(|event| event.map(drop))?;
+    Ok(())
+}
+RUST
+said=$(cd "$work/app" && cargo run -q --release 2> "$work/said")
+[ "$said" = '1 3 7 6 6 8 4 2 Some("b") ' ] && grep -q 'problem: Some("found a question"), mark: .* column: 3 }' "$work/said" ||
+    { cat "$work/said"; complain "a user's crate: $said"; }
 
 # ---- What must fail ----
 
@@ -57,6 +112,45 @@ line=$(($(wc -l < $source) + 1))
 echo 'fn f() { prove!(true); }' >> "$package/$source"
 (cd "$package" && cargo build -q) > "$work/said" 2>&1 && complain "what isn't known ends no build"
 grep -q "/$source:$line: .prove" "$work/said" || { cat "$work/said"; complain "what isn't known isn't named"; }
+
+python3 scripts/gate/left_out.py > "$work/said" || { cat "$work/said"; complain "what is left out"; }
+tail -n 1 "$work/said"
+
+# ---- The target for cargo-fuzz, over a stub in place of libFuzzer ----
+
+mkdir -p "$work/stub/src" "$work/none" "$work/fuzz_home"
+printf '[package]\nname = "libfuzzer-sys"\nversion = "0.4.10"\nedition = "2021"\n' > "$work/stub/Cargo.toml"
+cat > "$work/stub/src/lib.rs" << 'RUST'
+#[macro_export]
+macro_rules! fuzz_target {
+    (|$bytes:ident: &[u8]| $body:block) => {
+        #[no_mangle]
+        pub extern "C" fn main() -> i32 {
+            let $bytes: &[u8] = &[10, 27, 16, 59, 11];
+            $body
+            0
+        }
+    };
+}
+RUST
+printf '[source.crates-io]\nreplace-with = "none"\n[source.none]\ndirectory = "%s"\n[patch.crates-io]\nlibfuzzer-sys = { path = "%s" }\n' \
+    "$work/none" "$work/stub" > "$work/fuzz_home/config.toml"
+CARGO_HOME=$work/fuzz_home cargo run -q --manifest-path bindings/plain/fuzz/Cargo.toml --bin tokens > "$work/said" 2>&1 ||
+    { cat "$work/said"; complain "the target for cargo-fuzz"; }
+
+# ---- libyaml's scanner before it ----
+
+crates=$(realpath "${CLIENT_CRATES:-/usr/share/cargo/registry}" 2> /dev/null || true)
+if [ -d "$crates/unsafe-libyaml-0.2.11" ]; then
+    mkdir "$work/home"
+    printf '[source.crates-io]\nreplace-with = "debian"\n[source.debian]\ndirectory = "%s"\n' "$crates" > "$work/home/config.toml"
+    CARGO_HOME=$work/home cargo test -q --manifest-path bindings/plain/scanner/Cargo.toml > "$work/said" 2>&1 || { cat "$work/said"; complain "the scanner's tests"; }
+    scanner=$work/target/debug/scanner
+    [ "$("$scanner" services web image < examples/compose.yaml)" = nginx:1.25 ] || complain "the text at a path"
+    [ "$("$scanner" < examples/list.yaml | wc -l)" -eq "$(wc -l < examples/list.events)" ] || complain "the events of the scanner"
+else
+    echo "unsafe-libyaml 0.2.11 isn't there"
+fi
 
 # ---- C ----
 

@@ -1,0 +1,211 @@
+//! plain WORK ROUNDS < token-lines: what `libyaml.c` does, by the crate `pokhvizi`. Each copy is made in the variable
+//! that the parser passes to its source. WORK is one of:
+//!
+//! - `place-events`, `iterate-events`: `Parser::next_into`, and the parser as an iterator;
+//! - `composed-events`: `ComposedEvents`, with the errors of a load;
+//! - `place-nodes`, `iterate-nodes`: `yaml_parser_load`, and `Documents`.
+
+#[path = "../../../bindings/plain/tests/lines/mod.rs"]
+mod lines;
+
+use pokhvizi::kit::{AllocError, Global, String as Text};
+use pokhvizi::libyaml_types::{
+    unnamed_yaml_token_t_data_alias, unnamed_yaml_token_t_data_anchor, unnamed_yaml_token_t_data_scalar,
+    unnamed_yaml_token_t_data_tag, unnamed_yaml_token_t_data_tag_directive,
+};
+use pokhvizi::unsafe_libyaml::{yaml_parser_initialize, yaml_parser_load};
+use pokhvizi::yaml::*;
+use std::io::Read;
+
+/// Copies of tokens, one after another.
+struct Copies<'a>(&'a [Token]);
+
+impl TokenSource for Copies<'_> {
+    fn next_token(&mut self) -> Result<Token, SourceError> {
+        let place = Mark {
+            index: 0,
+            line: 0,
+            column: 0,
+        };
+        let mut token = Token::new(TokenData::NoToken, place, place);
+        self.next_token_into(&mut token)?;
+        Ok(token)
+    }
+
+    #[inline(always)]
+    fn next_token_into(&mut self, slot: &mut Token) -> Result<(), SourceError> {
+        let Some((token, others)) = self.0.split_first() else {
+            return Err(SourceError::scanner_error("no more tokens", slot.end_mark));
+        };
+        self.0 = others;
+        (slot.start_mark, slot.end_mark) = (token.start_mark, token.end_mark);
+        copy_into(&token.content, &mut slot.content)?;
+        Ok(())
+    }
+}
+
+/// Puts a copy of a content in the place of another.
+#[inline(always)]
+fn copy_into(data: &TokenData, slot: &mut TokenData) -> Result<(), AllocError> {
+    match data {
+        TokenData::Scalar(scalar) => {
+            let value = Text::from_str(Global, &scalar.value)?;
+            let style = scalar.style;
+            *slot = TokenData::Scalar(unnamed_yaml_token_t_data_scalar { value, style });
+            Ok(())
+        }
+        _ => copy_other(data, slot),
+    }
+}
+
+#[inline(never)]
+fn copy_other(data: &TokenData, slot: &mut TokenData) -> Result<(), AllocError> {
+    use TokenData::*;
+    let copy = |text: &str| Text::from_str(Global, text);
+    *slot = match data {
+        StreamStart(start) => TokenData::stream_start(start.encoding),
+        VersionDirective(version) => TokenData::version_directive(version.major, version.minor),
+        TagDirective(tag) => {
+            let (handle, prefix) = (copy(&tag.handle)?, copy(&tag.prefix)?);
+            TagDirective(unnamed_yaml_token_t_data_tag_directive { handle, prefix })
+        }
+        Alias(alias) => Alias(unnamed_yaml_token_t_data_alias {
+            value: copy(&alias.value)?,
+        }),
+        Anchor(anchor) => Anchor(unnamed_yaml_token_t_data_anchor {
+            value: copy(&anchor.value)?,
+        }),
+        Tag(tag) => {
+            let (handle, suffix) = (copy(&tag.handle)?, copy(&tag.suffix)?);
+            Tag(unnamed_yaml_token_t_data_tag { handle, suffix })
+        }
+        other => bare(other),
+    };
+    Ok(())
+}
+
+/// A copy of a content without fields.
+fn bare(data: &TokenData) -> TokenData {
+    use TokenData::*;
+    match data {
+        StreamEnd => StreamEnd,
+        DocumentStart => DocumentStart,
+        DocumentEnd => DocumentEnd,
+        BlockSequenceStart => BlockSequenceStart,
+        BlockMappingStart => BlockMappingStart,
+        BlockEnd => BlockEnd,
+        FlowSequenceStart => FlowSequenceStart,
+        FlowSequenceEnd => FlowSequenceEnd,
+        FlowMappingStart => FlowMappingStart,
+        FlowMappingEnd => FlowMappingEnd,
+        BlockEntry => BlockEntry,
+        FlowEntry => FlowEntry,
+        Key => Key,
+        Value => Value,
+        _ => NoToken,
+    }
+}
+
+/// What is seen of a round, or only how much there is.
+#[derive(Default)]
+struct Seen {
+    items: u64,
+    checksum: u64,
+    is_whole: bool,
+}
+
+impl Seen {
+    #[inline(always)]
+    fn see(&mut self, number: u32, start: Mark, end: Mark) {
+        self.items += 1;
+        if self.is_whole {
+            let sum = self.checksum.wrapping_mul(31).wrapping_add(number.into());
+            let sum = sum.wrapping_mul(31).wrapping_add(start.index);
+            self.checksum = sum.wrapping_mul(31).wrapping_add(end.index);
+        }
+    }
+
+    #[inline(always)]
+    fn event(&mut self, event: &Event) {
+        match self.is_whole {
+            true => self.see(event.type_().number(), event.start_mark, event.end_mark),
+            false => self.items += 1,
+        }
+    }
+
+    fn document(&mut self, document: &Document) {
+        if !self.is_whole {
+            self.items += document.nodes().len() as u64;
+            return;
+        }
+        for node in document.nodes() {
+            self.see(node.type_().number(), node.start_mark, node.end_mark);
+        }
+    }
+}
+
+fn parse_in_place(tokens: &[Token], seen: &mut Seen) -> Result<(), Error> {
+    let (mut parser, mut event) = (Parser::new(Copies(tokens)), Event::default());
+    while let Some(read) = parser.next_into(&mut event) {
+        read?;
+        seen.event(&event);
+    }
+    Ok(())
+}
+
+fn each_event(events: impl Iterator<Item = Result<Event, Error>>, seen: &mut Seen) -> Result<(), Error> {
+    for event in events {
+        seen.event(&event?);
+    }
+    Ok(())
+}
+
+fn load(tokens: &[Token], seen: &mut Seen) -> Result<(), Error> {
+    let mut parser = yaml_parser_initialize(Global, Copies(tokens));
+    loop {
+        let Ok(document) = yaml_parser_load(&mut parser) else {
+            return Err(Error::from(*parser.prefix()));
+        };
+        if document.nodes().is_empty() {
+            return Ok(());
+        }
+        seen.document(&document);
+    }
+}
+
+fn each_document(tokens: &[Token], seen: &mut Seen) -> Result<(), Error> {
+    for document in Documents::new(Copies(tokens)) {
+        seen.document(&document?);
+    }
+    Ok(())
+}
+
+fn run(work: &str, tokens: &[Token], seen: &mut Seen) -> Result<(), Error> {
+    match work {
+        "place-events" => parse_in_place(tokens, seen),
+        "iterate-events" => each_event(Parser::new(Copies(tokens)), seen),
+        "composed-events" => each_event(ComposedEvents::new(Copies(tokens)), seen),
+        "place-nodes" => load(tokens, seen),
+        "iterate-nodes" => each_document(tokens, seen),
+        _ => panic!("unknown work {work}"),
+    }
+}
+
+fn main() -> Result<(), Box<dyn std::error::Error>> {
+    let words: Vec<String> = std::env::args().collect();
+    let (work, rounds): (&str, u32) = (&words[1], words[2].parse()?);
+    let mut input = String::new();
+    std::io::stdin().read_to_string(&mut input)?;
+    let tokens: Vec<Token> = input.lines().map(lines::token_of).collect();
+    let mut whole = Seen {
+        is_whole: true,
+        ..Seen::default()
+    };
+    run(work, &tokens, &mut whole)?;
+    let mut counted = Seen::default();
+    for _ in 0..rounds {
+        run(work, &tokens, &mut counted)?;
+    }
+    println!("{work} {} {} {}", whole.items, whole.checksum, counted.items);
+    Ok(())
+}

@@ -1,0 +1,315 @@
+//! The module `yaml`: each of its iterators and calls gives what the library's own give, over all lists.
+
+mod lines;
+
+use lines::{document_lines, event_line, events, fault_lines, nodes, source_of, token_files, token_of};
+use pokhvizi::unsafe_libyaml::yaml_parser_initialize;
+use pokhvizi::yaml::*;
+use std::fs;
+use std::num::NonZeroU32;
+
+/// Each list of the test vectors: its name, its lines, its tokens.
+fn each_list(mut then: impl FnMut(&str, &str, Vec<Token>)) {
+    let mut lists = 0;
+    for file in token_files() {
+        let lines = fs::read_to_string(&file).unwrap();
+        then(
+            &file.display().to_string(),
+            &lines,
+            lines.lines().map(token_of).collect(),
+        );
+        lists += 1;
+    }
+    assert!(lists >= 142, "only {lists} lists");
+}
+
+fn told(error: &Error) -> String {
+    let fault = pokhvizi::libyaml_types::yaml_parser_t_prefix {
+        error: error.kind(),
+        problem: error.problem(),
+        problem_offset: 0,
+        problem_value: 0,
+        problem_mark: error.mark(),
+        context: error.context(),
+        context_mark: error.context_mark(),
+    };
+    fault_lines(&fault)
+}
+
+/// The lines of an iterator's values and of its error.
+fn lines_of<T>(values: impl Iterator<Item = Result<T, Error>>, line: impl Fn(&T) -> String) -> String {
+    values
+        .map(|value| value.map_or_else(|error| told(&error), |value| line(&value)))
+        .collect()
+}
+
+#[test]
+fn iterators_give_what_the_library_gives() {
+    each_list(|name, lines, tokens| {
+        assert_eq!(
+            lines_of(Parser::new(source_of(lines)), event_line),
+            events(lines),
+            "{name}"
+        );
+        assert_eq!(
+            lines_of(Documents::new(source_of(lines)), document_lines),
+            nodes(lines),
+            "{name}"
+        );
+        let (mut parser, mut event, mut in_place) =
+            (Parser::new(source_of(lines)), Event::default(), String::new());
+        while let Some(next) = parser.next_into(&mut event) {
+            in_place += &next.map_or_else(|error| told(&error), |()| event_line(&event));
+        }
+        assert_eq!(in_place, events(lines), "{name}");
+        assert_eq!(event, Event::default());
+        let mut boxed: Box<dyn TokenSource> = Box::new(TokenList::from(tokens));
+        let pulled = lines_of(Parser::new(&mut boxed), event_line);
+        let list = lines_of(Parser::new(source_of(lines)), event_line);
+        assert!(pulled == list || list.contains("no more tokens"), "{name}");
+    });
+}
+
+#[test]
+fn composed_events_are_events_up_to_the_error_of_a_load() {
+    let mut stopped = 0;
+    each_list(|name, lines, _| {
+        let composed = lines_of(ComposedEvents::new(source_of(lines)), event_line);
+        let (all, loads) = (events(lines), nodes(lines));
+        let fault = |lines: &str| lines.find("FAULT ").map(|place| lines[place..].to_string());
+        assert_eq!(fault(&composed), fault(&loads), "{name}");
+        if fault(&composed) == fault(&all) {
+            assert_eq!(composed, all, "{name}");
+        } else {
+            let before = composed.find("FAULT ").unwrap();
+            assert!(all.starts_with(&composed[..before]), "{name}");
+            stopped += 1;
+        }
+    });
+    assert!(stopped >= 5, "only {stopped} lists with an error of a load alone");
+}
+
+#[test]
+fn pushes_give_the_same_and_expect_each_token() {
+    each_list(|name, lines, tokens| {
+        let (mut parser, mut given) = (PushParser::new(), Vec::new());
+        let (mut loader, mut documents) = (PushLoader::new(), Vec::new());
+        let (mut error, mut load_error) = (None, None);
+        let whole = !events(lines).contains("FAULT ");
+        for (token, again) in tokens.into_iter().zip(lines.lines().map(token_of)) {
+            assert!(!whole || parser.expected().contains(token.type_()), "{name}");
+            error = error.or(parser.push(token, &mut given).err());
+            load_error = load_error.or(loader.push(again, &mut documents).err());
+        }
+        let pushed: String = given
+            .iter()
+            .map(event_line)
+            .chain(error.as_ref().map(told))
+            .collect();
+        let loaded: String = documents
+            .iter()
+            .map(document_lines)
+            .chain(load_error.as_ref().map(told))
+            .collect();
+        let no_more = |lines: String| {
+            lines
+                .lines()
+                .filter(|line| !line.contains("no more tokens"))
+                .map(|line| format!("{line}\n"))
+                .collect::<String>()
+        };
+        assert_eq!(pushed, no_more(events(lines)), "{name}");
+        assert_eq!(loaded, no_more(nodes(lines)), "{name}");
+        assert!(!whole || parser.expected().iter().next().is_none(), "{name}");
+    });
+}
+
+const ZERO: Mark = Mark {
+    index: 0,
+    line: 0,
+    column: 0,
+};
+
+fn list(data: Vec<TokenData>) -> TokenList {
+    let start = TokenData::stream_start(Encoding::UTF8);
+    let all = [start]
+        .into_iter()
+        .chain(data)
+        .chain([TokenData::StreamEnd])
+        .enumerate();
+    let at = |index: usize| Mark {
+        index: index as u64,
+        line: 0,
+        column: index as u64,
+    };
+    let tokens: Vec<Token> = all
+        .map(|(place, data)| Token::new(data, at(place), at(place + 1)))
+        .collect();
+    TokenList::from(tokens)
+}
+
+fn plain(text: &str) -> TokenData {
+    TokenData::scalar(text, ScalarStyle::PLAIN).unwrap()
+}
+
+#[test]
+fn an_error_has_words_and_places() {
+    use TokenData::*;
+    let wrong = || list(vec![FlowSequenceStart, plain("a"), plain("b")]);
+    let first_error = || -> Result<usize, Box<dyn std::error::Error>> {
+        let mut events = 0;
+        for event in Parser::new(wrong()) {
+            event?;
+            events += 1;
+        }
+        Ok(events)
+    };
+    let words = "did not find expected ',' or ']' at line 1, column 4; while parsing a flow sequence at line 1, column 2";
+    assert_eq!(first_error().unwrap_err().to_string(), words);
+    let error = Parser::new(wrong()).last().unwrap().unwrap_err();
+    assert_eq!(
+        (error.kind(), error.mark().column, error.context_mark().column),
+        (ErrorKind::PARSER, 3, 1)
+    );
+    assert!(format!("{error:?}").starts_with("Error { kind: YAML_PARSER_ERROR, problem: Some(\"did not find"));
+    assert_eq!(Parser::new(wrong()).by_ref().filter(Result::is_err).count(), 1);
+}
+
+#[test]
+fn a_source_ends_by_its_error() {
+    let fault = SourceError::scanner_error("found a tab", ZERO);
+    let mut asked = 0;
+    let source = tokens(std::iter::from_fn(|| {
+        asked += 1;
+        Some(match asked {
+            1 => Ok(Token::new(TokenData::stream_start(Encoding::UTF8), ZERO, ZERO)),
+            2 => Ok(Token::new(plain("a"), ZERO, ZERO)),
+            _ => Err(fault),
+        })
+    }));
+    let mut parser = Parser::new(source);
+    let given: Vec<_> = parser.by_ref().collect();
+    assert_eq!(given.len(), 4);
+    assert_eq!(given[3], Err(Error::from(fault)));
+    assert!(parser.next().is_none() && parser.next_into(&mut Event::default()).is_none());
+    drop(parser);
+    assert_eq!(asked, 3);
+    let none = Parser::new(tokens([])).next().unwrap().unwrap_err();
+    assert_eq!(none.to_string(), "no more tokens at line 1, column 1");
+}
+
+#[test]
+fn limits_end_a_stream() {
+    use TokenData::*;
+    let nested = || {
+        list(vec![
+            FlowSequenceStart,
+            FlowSequenceStart,
+            FlowSequenceEnd,
+            FlowSequenceEnd,
+        ])
+    };
+    let count = |max_depth| {
+        Parser::new(limited(nested(), max_depth))
+            .map(|event| event.map(drop))
+            .collect::<Result<Vec<()>, Error>>()
+    };
+    assert_eq!(count(2).unwrap().len(), 8);
+    assert_eq!(count(usize::MAX).unwrap().len(), 8);
+    let error = count(1).unwrap_err();
+    assert_eq!(
+        (error.kind(), error.problem()),
+        (ErrorKind::SCANNER, Some("found too many levels"))
+    );
+    let most = NonZeroU32::new(1).unwrap();
+    let error = Documents::new(nested())
+        .max_entries(most)
+        .next()
+        .unwrap()
+        .unwrap_err();
+    assert_eq!(error.kind(), ErrorKind::MEMORY);
+    assert_eq!(Documents::new(nested()).max_entries(NonZeroU32::MAX).count(), 1);
+}
+
+#[test]
+fn documents_have_paths_sizes_and_duplicate_keys() {
+    use TokenData::*;
+    let anchor = |name| TokenData::anchor(name).unwrap();
+    let alias = |name| TokenData::alias(name).unwrap();
+    let pair = |key, value: Vec<TokenData>| [vec![Key, plain(key), Value], value].concat_tokens();
+    let twice = vec![
+        FlowSequenceStart,
+        alias("a"),
+        FlowEntry,
+        alias("a"),
+        FlowSequenceEnd,
+    ];
+    let tokens = [
+        vec![FlowMappingStart],
+        pair(
+            "x",
+            vec![anchor("a"), FlowSequenceStart, plain("1"), FlowSequenceEnd],
+        ),
+        vec![FlowEntry],
+        pair("y", twice),
+        vec![FlowEntry],
+        pair("x", vec![plain("2")]),
+        vec![FlowMappingEnd],
+    ]
+    .concat_tokens();
+    let document = Documents::new(list(tokens)).next().unwrap().unwrap();
+    assert_eq!(document.text_at(&["y", "1", "0"]), Some("1"));
+    assert_eq!(
+        document.at(&["x"]).map(|node| (node.type_(), node.text())),
+        Some((NodeType::YAML_SEQUENCE_NODE, None))
+    );
+    assert_eq!(document.at(&["z"]), None);
+    assert_eq!(document.expanded_size(100), Ok(12));
+    let error = document.expanded_size(11).unwrap_err();
+    assert_eq!(
+        error.problem(),
+        Some("found too many nodes, with aliases written out")
+    );
+    let repeated = document.duplicate_key().unwrap().unwrap();
+    assert_eq!((repeated.mapping, repeated.first, repeated.second), (1, 0, 2));
+}
+
+/// Lists of tokens, joined.
+trait Concat {
+    fn concat_tokens(self) -> Vec<TokenData>;
+}
+
+impl<I: IntoIterator<Item = Vec<TokenData>>> Concat for I {
+    fn concat_tokens(self) -> Vec<TokenData> {
+        self.into_iter().flatten().collect()
+    }
+}
+
+#[test]
+fn a_parser_gives_its_source_back() {
+    let mut parser = Parser::new(list(vec![plain("a"), TokenData::DocumentStart, plain("b")]));
+    assert_eq!(parser.by_ref().take(4).filter(Result::is_ok).count(), 4);
+    let rest = parser.into_source();
+    let mut parser = yaml_parser_initialize(pokhvizi::kit::Global, rest);
+    // The rest has no STREAM-START.
+    assert_eq!(
+        parser.next().unwrap().unwrap_err().problem,
+        Some("did not find expected <stream-start>")
+    );
+}
+
+#[test]
+fn parsers_are_sent_and_told() {
+    fn is_sent<T: Send + Sync + std::fmt::Debug>(_: &T) {}
+    is_sent(&Parser::new(list(vec![])));
+    is_sent(&Documents::new(list(vec![])));
+    is_sent(&ComposedEvents::new(list(vec![])));
+    is_sent(&PushParser::new());
+    is_sent(&PushLoader::new());
+    let error = Documents::new(list(vec![TokenData::alias("a").unwrap()]))
+        .next()
+        .unwrap()
+        .unwrap_err();
+    is_sent(&error);
+    assert_eq!(error.to_string(), "found undefined alias at line 1, column 2");
+}

@@ -1,0 +1,168 @@
+//! Iterators over events and documents.
+
+use super::{Document, Error, Event, TokenSource};
+use crate::kit::Global;
+use crate::libyaml_events::no_event;
+use crate::libyaml_events::{
+    yaml_parser_delete, yaml_parser_initialize, yaml_parser_parse_into, yaml_parser_set_max_entries,
+    yaml_parser_t,
+};
+use crate::libyaml_loader::{event_composer_t, yaml_parser_composed_events_t, yaml_parser_documents};
+use core::fmt;
+use core::iter::FusedIterator;
+use core::num::NonZeroU32;
+
+/// The events of a source: each [`Event`], or once the [`Error`] that ends them.
+///
+/// The last event is the end of the stream. After it, or after an error, there is none. libyaml:
+/// `yaml_parser_parse`.
+pub struct Parser<S> {
+    parser: yaml_parser_t<S>,
+}
+
+impl<S: TokenSource> Parser<S> {
+    /// Returns a parser of the tokens of a source, which is at its stream's start. Takes no memory.
+    pub fn new(source: S) -> Self {
+        let parser = yaml_parser_initialize(Global, source);
+        Parser { parser }
+    }
+
+    /// Puts the next event into a variable, as the iterator returns it: the quickest loop moves no event. `None`
+    /// says that there is none; the variable then has no event, [`Event::default`].
+    pub fn next_into(&mut self, event: &mut Event) -> Option<Result<(), Error>> {
+        if self.parser.is_over() {
+            *event = no_event();
+            return None;
+        }
+        let read = yaml_parser_parse_into(&mut self.parser, event);
+        Some(read.map_err(|_| Error::from(*self.parser.prefix())))
+    }
+
+    /// Returns the source, in its state after the last token that was asked for.
+    pub fn into_source(self) -> S {
+        yaml_parser_delete(self.parser)
+    }
+}
+
+impl<S: TokenSource> Iterator for Parser<S> {
+    type Item = Result<Event, Error>;
+
+    #[inline]
+    fn next(&mut self) -> Option<Self::Item> {
+        self.parser.next().map(|event| event.map_err(Error::from))
+    }
+}
+
+impl<S: TokenSource> FusedIterator for Parser<S> {}
+
+impl<S> fmt::Debug for Parser<S> {
+    fn fmt(&self, f: &mut fmt::Formatter<'_>) -> fmt::Result {
+        f.debug_struct("Parser").finish_non_exhaustive()
+    }
+}
+
+impl Default for Event {
+    /// Returns no event: what is there before the first one.
+    fn default() -> Self {
+        no_event()
+    }
+}
+
+/// The documents of a source: each [`Document`], or once the [`Error`] that ends them. libyaml:
+/// `yaml_parser_load`.
+///
+/// Its errors are those of events, and a composer's: an alias whose anchor no node before it has, or a second
+/// node with an anchor. A document with a list of more than [`max_entries`](Self::max_entries) nodes, items or
+/// pairs is out of memory.
+pub struct Documents<S> {
+    parser: yaml_parser_t<S>,
+}
+
+impl<S: TokenSource> Documents<S> {
+    /// Returns the documents of the tokens of a source, which is at its stream's start. Takes no memory.
+    pub fn new(source: S) -> Self {
+        let parser = yaml_parser_initialize(Global, source);
+        Documents { parser }
+    }
+
+    /// Bounds the nodes of each document, and the items or pairs of each node. There are at most 2,147,483,647
+    /// in any case.
+    #[must_use]
+    pub fn max_entries(mut self, most: NonZeroU32) -> Self {
+        bound(&mut self.parser, most);
+        self
+    }
+
+    /// Returns the source, in its state after the last token that was asked for.
+    pub fn into_source(self) -> S {
+        yaml_parser_delete(self.parser)
+    }
+}
+
+impl<S: TokenSource> Iterator for Documents<S> {
+    type Item = Result<Document, Error>;
+
+    fn next(&mut self) -> Option<Self::Item> {
+        let mut documents = yaml_parser_documents(&mut self.parser);
+        documents.next().map(|document| document.map_err(Error::from))
+    }
+}
+
+impl<S: TokenSource> FusedIterator for Documents<S> {}
+
+impl<S> fmt::Debug for Documents<S> {
+    fn fmt(&self, f: &mut fmt::Formatter<'_>) -> fmt::Result {
+        f.debug_struct("Documents").finish_non_exhaustive()
+    }
+}
+
+fn bound<S>(parser: &mut yaml_parser_t<S>, most: NonZeroU32) {
+    let most = i32::try_from(most.get()).unwrap_or(i32::MAX);
+    yaml_parser_set_max_entries(parser, most);
+}
+
+/// The events of a source, up to the first with which [`Documents`] fails; that one's error is in its place.
+///
+/// It takes one pass and keeps no node: only the open collections and the anchors of a document.
+pub struct ComposedEvents<S> {
+    parser: yaml_parser_t<S>,
+    composer: event_composer_t,
+}
+
+impl<S: TokenSource> ComposedEvents<S> {
+    /// Returns the events of the tokens of a source, which is at its stream's start. Takes no memory.
+    pub fn new(source: S) -> Self {
+        let parser = yaml_parser_initialize(Global, source);
+        let composer = event_composer_t::new(Global, i32::MAX as u32);
+        ComposedEvents { parser, composer }
+    }
+
+    /// Returns the source, in its state after the last token that was asked for.
+    pub fn into_source(self) -> S {
+        yaml_parser_delete(self.parser)
+    }
+}
+
+impl<S: TokenSource> Iterator for ComposedEvents<S> {
+    type Item = Result<Event, Error>;
+
+    fn next(&mut self) -> Option<Self::Item> {
+        let kept = event_composer_t::new(Global, 0);
+        let composer = core::mem::replace(&mut self.composer, kept);
+        let mut events = yaml_parser_composed_events_t {
+            parser: &mut self.parser,
+            composer,
+        };
+        let event = events.next();
+        self.composer = events.composer;
+        event.map(|event| event.map_err(Error::from))
+    }
+}
+
+impl<S: TokenSource> FusedIterator for ComposedEvents<S> {}
+
+impl<S> fmt::Debug for ComposedEvents<S> {
+    fn fmt(&self, f: &mut fmt::Formatter<'_>) -> fmt::Result {
+        f.debug_struct("ComposedEvents").finish_non_exhaustive()
+    }
+}

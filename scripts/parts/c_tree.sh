@@ -1,0 +1,36 @@
+#!/bin/sh
+# Lays out what a user of the libraries for C installs, in TREE, with the Makefile that installs it (install.mk):
+#
+#     sh scripts/parts/c_tree.sh BUILT TREE
+#
+# BUILT has what build_c.sh or build_plain.sh made there, and libyaml_preload.so or not: then the tree lacks what preloads it.
+#
+# Run by release.sh and by bindings/c/Makefile.
+set -eu
+[ $# -eq 2 ] && [ -f "$1/libpokhvizi.a" ] || { echo "usage: sh scripts/parts/c_tree.sh BUILT TREE, where build_c.sh or build_plain.sh made BUILT" >&2; exit 2; }
+built=$(cd "$1" && pwd)
+mkdir -p "$2"
+tree=$(cd "$2" && pwd)
+cd "$(dirname "$0")/../.."
+version=$(cat VERSION)
+abi=$(cat bindings/c/ABI_VERSION)
+doc=$tree/share/doc/pokhvizi
+
+mkdir -p "$tree/bin" "$tree/include" "$tree/lib/pkgconfig" "$tree/lib/pokhvizi" "$doc/examples"
+cp -R bindings/c/include/pokhvizi "$tree/include"
+cp "$built/libpokhvizi.a" "$tree/lib"
+cp "$built/libpokhvizi.so.$abi" "$tree/lib/libpokhvizi.so.$version"
+ln -sf "libpokhvizi.so.$version" "$tree/lib/libpokhvizi.so.$abi"
+ln -sf "libpokhvizi.so.$abi" "$tree/lib/libpokhvizi.so"
+sed "s/@VERSION@/$version/" bindings/c/pokhvizi.pc.in > "$tree/lib/pkgconfig/pokhvizi.pc"
+cp bindings/c/install.mk "$tree/Makefile"
+if [ -e "$built/libyaml_preload.so" ]; then
+    install -m 755 bindings/c/proved-libyaml "$tree/bin"
+    cp "$built/libyaml_preload.so" "$tree/lib/pokhvizi"
+else
+    rm -r "$tree/bin" "$tree/lib/pokhvizi"
+    sed -i '/preload\|proved-libyaml/d' "$tree/Makefile"
+fi
+cp bindings/c/README.md "$tree"
+cp LICENSE CHANGELOG.md docs/PROVED.md docs/DEFINITIONS.md docs/DIFFERENCES.md docs/BOUNDS.md docs/HEADLINE.md bindings/c/README.md "$doc"
+cp examples/events.c examples/compose.c examples/yaml.c examples/list.yaml "$doc/examples"
