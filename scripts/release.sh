@@ -33,7 +33,6 @@ top=$PWD
 work=$(mktemp -d)
 trap 'rm -rf "$work"' EXIT
 version=$(cat VERSION)
-abi=$(cat bindings/c/ABI_VERSION)
 machines=${MACHINES-}
 if [ -z "$machines" ]; then
     machines='x86_64 aarch64'
@@ -95,32 +94,19 @@ c_archive() {
     machine=$1
     folder=$(folder_of "$machine")
     tree=$work/pokhvizi-$version-$machine-linux
-    mkdir -p "$tree/bin" "$tree/include" "$tree/lib/pkgconfig" "$tree/lib/pokhvizi" "$tree/share/doc/pokhvizi/examples"
-    cp -R bindings/c/include/pokhvizi "$tree/include"
-    cp "$folder/libpokhvizi.a" "$tree/lib"
-    cp "$folder/libpokhvizi.so.$abi" "$tree/lib/libpokhvizi.so.$version"
-    ln -s "libpokhvizi.so.$version" "$tree/lib/libpokhvizi.so.$abi"
-    ln -s "libpokhvizi.so.$abi" "$tree/lib/libpokhvizi.so"
-    sed "s/@VERSION@/$version/" bindings/c/pokhvizi.pc.in > "$tree/lib/pkgconfig/pokhvizi.pc"
-    cp bindings/c/install.mk "$tree/Makefile"
-    install -m 755 bindings/c/proved-libyaml "$tree/bin"
     tools=$(tools_of "$machine")
-    if CC="${tools}gcc" STRIP="${tools}strip" sh bindings/c/build_preload.sh "$folder" > "$work/said" 2>&1; then
-        cp "$folder/libyaml_preload.so" "$tree/lib/pokhvizi"
-    else
+    rm -f "$folder/libyaml_preload.so"
+    if ! CC="${tools}gcc" STRIP="${tools}strip" sh bindings/c/build_preload.sh "$folder" > "$work/said" 2>&1; then
         [ "$machine" != x86_64 ] || { cat "$work/said" >&2; exit 1; }
         echo "no preload library for $machine: $(tail -n 1 "$work/said")"
-        rm -r "$tree/bin" "$tree/lib/pokhvizi"
-        sed -i '/preload\|proved-libyaml/d' "$tree/Makefile"
     fi
+    sh scripts/parts/c_tree.sh "$folder" "$tree"
     glibc=$(for file in "$tree"/lib/libpokhvizi.so "$tree"/lib/pokhvizi/*.so; do
         [ ! -e "$file" ] || "$(tools_of "$machine")objdump" -T "$file"
     done | grep -o 'GLIBC_[0-9.]*' | sed s/GLIBC_// | sort -Vu | tail -n 1)
     sed "s/the GNU C library/& ($glibc or later)/" bindings/c/README.md > "$tree/README.md"
     grep -q "($glibc or later)" "$tree/README.md"
-    cp LICENSE "$work/NOTICES" CHANGELOG.md docs/PROVED.md docs/DEFINITIONS.md docs/DIFFERENCES.md docs/BOUNDS.md docs/HEADLINE.md "$tree/share/doc/pokhvizi"
-    cp "$tree/README.md" "$tree/share/doc/pokhvizi"
-    cp examples/events.c examples/compose.c examples/yaml.c examples/list.yaml "$tree/share/doc/pokhvizi/examples"
+    cp "$tree/README.md" "$work/NOTICES" "$tree/share/doc/pokhvizi"
     proof_note "$machine" > "$tree/share/doc/pokhvizi/PROOF"
     pack "$tree" "$out/pokhvizi-$version-$machine-linux.tar.gz"
 }

@@ -17,36 +17,12 @@ mkdir -p "$2"
 trees=$(cd "$2" && pwd)
 cd "$(dirname "$0")/.." || exit 2
 version=$(cat VERSION)
-export DEBIAN_FRONTEND=noninteractive LC_ALL=C.UTF-8
-wrong=0 skipped=0 right=0
+. scripts/parts/trees.sh
 
-# tree NAME PACKAGE..: a tree of that release with these packages and the archives, and nothing of this machine's.
-tree() {
-    root=$trees/$1
-    if [ ! -x "$root/bin/sh" ]; then
-        debootstrap --variant=minbase "$1" "$root" > "$root.log" 2>&1 || { tail -n 5 "$root.log"; exit 1; }
-    fi
-    cp /etc/resolv.conf "$root/etc/resolv.conf"
-    [ "$1" != bookworm ] || grep -q security "$root/etc/apt/sources.list" ||
-        echo 'deb http://deb.debian.org/debian-security bookworm-security main' >> "$root/etc/apt/sources.list"
-    shift
-    chroot "$root" sh -c 'apt-get -q update && apt-get -q -y --no-install-recommends install "$@"' sh "$@" > "$root.log" 2>&1 ||
-        { tail -n 5 "$root.log"; exit 1; }
-    rm -rf "$root/srv/use" "$root/usr/local/include/pokhvizi"
-    mkdir -p "$root/srv/use"
+# release_tree NAME PACKAGE..: a tree with the archives.
+release_tree() {
+    tree "$@"
     cp "$out"/* "$root/srv/use"
-}
-
-# want WHAT WANTED WORDS: what the words of a shell print in the tree, with a path of the system's alone.
-want() {
-    said=$(chroot "$root" env -i PATH=/usr/local/bin:/usr/bin:/bin:/usr/sbin:/sbin LC_ALL=C.UTF-8 HOME=/srv sh -c "cd /srv/use && $3" 2>&1)
-    if [ "$said" = "$2" ]; then
-        right=$((right + 1))
-        echo "as wanted: $1"
-    else
-        wrong=$((wrong + 1))
-        echo "wrong: $1: $said"
-    fi
 }
 
 # Unpacks Debian's Python for aarch64 into /srv/arm of the tree, where nothing but qemu finds it.
@@ -67,9 +43,8 @@ has() {
 
 # ---- C, C++, Ruby, Python, aarch64, the modules ----
 
-tree bookworm gcc g++ clang make pkg-config libyaml-dev python3-venv python3-yaml ruby libc6-dev xz-utils clang-22 \
+release_tree bookworm gcc g++ clang make pkg-config libyaml-dev python3-venv python3-yaml ruby libc6-dev xz-utils clang-22 \
     gcc-aarch64-linux-gnu libc6-dev-arm64-cross qemu-user
-want 'no kit' '' 'command -v rt rattle; ls -d /opt/rattle 2> /dev/null; true'
 cat > "$root/srv/use/kinds.c" << 'C'
 #include <pokhvizi/steps.h>
 #include <stdio.h>
@@ -109,14 +84,17 @@ for compiler in gcc clang 'gcc -static'; do
     done
 done
 want 'kinds.c as C++' "$kinds" "g++ -x c++ -Wall -Wextra -Werror kinds.c -o kinds \$(pkg-config --cflags --libs pokhvizi) && ./kinds"
-want 'Python over the preload library' '8' \
-    "proved-libyaml python3 -c 'import yaml; print(len(list(yaml.parse(\"a\\n...\\nb\\n\", yaml.CLoader))))'"
-want 'Ruby over the preload library' '["a", "b"]' "proved-libyaml ruby -ryaml -e 'p YAML.load_stream(\"a\\n...\\nb\\n\")'"
-want 'Ruby without it' 'refused' "ruby -ryaml -e 'begin; p YAML.load_stream(\"a\\n...\\nb\\n\"); rescue Psych::SyntaxError; puts :refused; end'"
+write_parses
+for program in 'python3 parse.py:8' 'ruby parse.rb:["a", "b"]'; do
+    want "${program%%:*}" 'refused' "${program%%:*}"
+    want "${program%%:*} over the preload library" 'refused' "proved-libyaml --check ${program%%:*} 2> /dev/null || echo unused"
+    want "${program%%:*} over it, with the fixes" "${program#*:}" "POKHVIZI_FIXES=1 proved-libyaml ${program%%:*}"
+done
 want 'pip install' '' "python3 -m venv --system-site-packages v && v/bin/pip install -q --no-index --no-deps pokhvizi-$version-*x86_64.whl"
 for loader in CSafeLoader SafeLoader; do
     want "the wheel, $loader" "{'a': [1, {'b': 'c'}]} ['a', 'b']" "v/bin/python -c 'import yaml; from pokhvizi import $loader as Loader
-print(yaml.load(\"a: [1, {b: c}]\", Loader=Loader), list(yaml.load_all(\"a\\n...\\nb\\n\", Loader=Loader)))'"
+print(yaml.load(\"a: [1, {b: c}]\", Loader=Loader),
+      list(yaml.load_all(\"a\\n...\\nb\\n\", Loader=type(\"Fixed\", (Loader,), {\"fixes\": True}))))'"
 done
 if has "pokhvizi-$version-aarch64-linux.tar.gz" aarch64; then
     arm=pokhvizi-$version-aarch64-linux
@@ -131,7 +109,8 @@ if has "pokhvizi-$version-aarch64-linux.tar.gz" aarch64; then
     for loader in CSafeLoader SafeLoader; do
         want "the wheel for aarch64, by qemu: $loader" "aarch64 {'a': [1, {'b': 'c'}]} ['a', 'b']" "qemu-aarch64 -L /srv/arm -E PYTHONHOME=/srv/arm/usr \
             -E PYTHONPATH=w:/usr/lib/python3/dist-packages /srv/arm/usr/bin/python3.11 -c 'import platform, yaml; from pokhvizi import $loader as Loader
-print(platform.machine(), yaml.load(\"a: [1, {b: c}]\", Loader=Loader), list(yaml.load_all(\"a\\n...\\nb\\n\", Loader=Loader)))'"
+print(platform.machine(), yaml.load(\"a: [1, {b: c}]\", Loader=Loader),
+      list(yaml.load_all(\"a\\n...\\nb\\n\", Loader=type(\"Fixed\", (Loader,), {\"fixes\": True}))))'"
     done
 fi
 if has "pokhvizi-$version-llvm.tar.gz" 'the LLVM modules'; then
@@ -144,24 +123,22 @@ fi
 # ---- Rust ----
 
 if has "pokhvizi-unsafe-libyaml-$version.tar.gz" 'the crate'; then
-    tree trixie cargo rustc gcc libc6-dev librust-serde-yaml-dev librust-unsafe-libyaml-dev librust-serde-derive-dev \
+    release_tree trixie cargo rustc gcc libc6-dev librust-serde-yaml-dev librust-unsafe-libyaml-dev librust-serde-derive-dev \
         librust-anyhow-dev librust-indoc-dev
-    want 'no kit' '' 'command -v rt rattle; ls -d /opt/rattle 2> /dev/null; true'
-    mkdir -p "$root/srv/use/app/src" "$root/srv/use/home"
-    printf '[source.crates-io]\nreplace-with = "debian"\n[source.debian]\ndirectory = "/usr/share/cargo/registry"\n[net]\noffline = true\n' \
-        > "$root/srv/use/home/config.toml"
-    patch="[patch.crates-io]\nunsafe-libyaml = { path = \"/srv/use/pokhvizi-unsafe-libyaml-$version\" }\n"
-    printf "[package]\nname = \"app\"\nversion = \"0.1.0\"\nedition = \"2021\"\n[dependencies]\nserde_yaml = \"0.9\"\n$patch" \
-        > "$root/srv/use/app/Cargo.toml"
-    printf 'fn main() { println!("{}", serde_yaml::Deserializer::from_str("a\\n...\\nb\\n").take(9).count()); }\n' > "$root/srv/use/app/src/main.rs"
-    want 'serde_yaml over the crate' 2 "tar xzf pokhvizi-unsafe-libyaml-$version.tar.gz && cd app &&
-        CARGO_HOME=/srv/use/home timeout 900 cargo run -q --offline"
+    crates_of_tree
+    patch="unsafe-libyaml = { path = \"/srv/use/pokhvizi-unsafe-libyaml-$version\" }"
+    for features in 'unsafe-libyaml = { version = "0.2", features = ["fixes"] }:a b ' ':a refused '; do
+        said_by=${features##*:} features=${features%:*}
+        write_app app "$patch"
+        want "serde_yaml over the crate${features:+, with the fixes}" "$said_by" "tar xzf pokhvizi-unsafe-libyaml-$version.tar.gz && cd app &&
+            CARGO_HOME=/srv/use/home timeout 900 cargo run -q --offline"
+    done
     want 'what stands on the crate' 'serde_yaml' \
         "cd app && CARGO_HOME=/srv/use/home cargo tree -q --offline -i unsafe-libyaml@0.2.12 | sed -n 's/^.── \\(serde_yaml\\) .*/\\1/p'"
     want "serde_yaml's own tests, with and without the crate" 'the same' "
         for how in plain proved; do
             rm -rf \$how && cp -RL /usr/share/cargo/registry/serde_yaml-* \$how && rm -f \$how/.cargo-checksum.json \$how/Cargo.lock
-            [ \$how = plain ] || printf '$patch' >> \$how/Cargo.toml
+            [ \$how = plain ] || printf '[patch.crates-io]\n$patch\n' >> \$how/Cargo.toml
             (cd \$how && CARGO_HOME=/srv/use/home RUSTFLAGS='--cap-lints allow' cargo test -q --offline --no-fail-fast > ../\$how.said 2>&1)
             sed -n 's/^test result: .* \\([0-9]*\\) passed; \\([0-9]*\\) failed.*/\\1 \\2/p' \$how.said | awk '{ n += \$1; m += \$2 } END { print n + 0, m + 0 }' > \$how.count
         done

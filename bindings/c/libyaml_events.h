@@ -57,7 +57,7 @@ struct kept {
     size_t document, names_count, texts_length;  /* its number, from 1 */
     uint32_t is_counted;
     uint32_t key;  /* for the hashes of anchors and handles, or 0 */
-    int has_mends;  /* events are of this project's own grammar, and not exactly libyaml's */
+    int has_fixes;  /* events are of this project's own grammar, and not exactly libyaml's */
     uint8_t tag[64];  /* the tag in full whose fact was asked for last, if it is so short */
     _Alignas(uint64_t) uint8_t states[];
 };
@@ -581,7 +581,7 @@ static int give_too_deep(yaml_parser_t *parser)
 }
 
 /* Begins a stream within bounds; 0 where memory is refused. */
-static int begin(yaml_parser_t *parser, const struct bounds *bounds, int has_mends)
+static int begin(yaml_parser_t *parser, const struct bounds *bounds, int has_fixes)
 {
     struct kept *kept = make_kept(&(struct rooms){.states = FIRST_ROOM(64)});
 
@@ -592,7 +592,7 @@ static int begin(yaml_parser_t *parser, const struct bounds *bounds, int has_men
     kept->marks_room = least(FIRST_ROOM((size_t)(parser->marks.end - parser->marks.start)), bounds->depth);
     kept->bounds = *bounds;
     kept->is_counted = bounds->nodes < ANY_NODES || bounds->expanded < ANY_EXPANDED;
-    kept->has_mends = has_mends;
+    kept->has_fixes = has_fixes;
     free(parser->tag_directives.start);
     memset(&parser->tag_directives, 0, sizeof parser->tag_directives);
     parser->state = YAML_PARSE_DOCUMENT_CONTENT_STATE;
@@ -746,7 +746,7 @@ OFTEN uint32_t step(yaml_parser_t *parser, const yaml_token_t *token, struct hel
     if (__builtin_expect(WITH_TEXT >> token->type & 1, 0))
         fact = token->type == YAML_SCALAR_TOKEN ? token->data.scalar.style == YAML_PLAIN_SCALAR_STYLE
                                                 : fact_of(parser, token, held);
-    if (__builtin_expect(kept->has_mends, 0))
+    if (__builtin_expect(kept->has_fixes, 0))
         return pokhvizi_step(&kept->steps, kept->states, kept->rooms.states, marks, kept->marks_room, token->type, fact,
                              span_of(token), made, fault);
     return pokhvizi_step_exact(&kept->steps, kept->states, kept->rooms.states, marks, kept->marks_room, token->type, fact,

@@ -20,7 +20,7 @@
  * counts for that, and keeps the anchors of its document. With the third, an alias within the node that it names is such an error,
  * "found an alias within the node that it names". A name that begins so and is unknown ends the program, like a bound that is no number.
  *
- * Events and errors are libyaml's. With POKHVIZI_MENDS=1 in the environment they are those of this project's own grammar, which
+ * Events and errors are libyaml's. With POKHVIZI_FIXES=1 in the environment they are those of this project's own grammar, which
  * differs at three places (docs/DIFFERENCES.md). */
 #include "libyaml_events.h"
 #include <stdio.h>
@@ -30,7 +30,7 @@ extern char **environ;
 /* ---- The environment ---- */
 
 static struct bounds bounds;
-static int has_mends;  /* POKHVIZI_MENDS is set, to something else than 0 */
+static int has_fixes;  /* POKHVIZI_FIXES is set, to something else than 0 */
 static const char *check_file;
 static int is_read;  /* whether the environment was read */
 
@@ -56,7 +56,7 @@ static size_t bound_of(const char *name, size_t most)
  * are of the package for Python and of the crate. */
 static void look_for_others(void)
 {
-    static const char *const names[] = {"MAX_DEPTH", "MAX_NODES", "MAX_EXPANDED", "MENDS", "CHECK", "LIBRARY", "DIR"};
+    static const char *const names[] = {"MAX_DEPTH", "MAX_NODES", "MAX_EXPANDED", "FIXES", "CHECK", "LIBRARY", "DIR"};
     enum { PREFIX = sizeof "POKHVIZI_" - 1, COUNT = sizeof names / sizeof *names };
     size_t length, i;
 
@@ -77,13 +77,13 @@ static void look_for_others(void)
  * program may be changing. */
 __attribute__((constructor)) SELDOM void read_environment(void)
 {
-    const char *mends = getenv("POKHVIZI_MENDS"), *check = getenv("POKHVIZI_CHECK");
+    const char *fixes = getenv("POKHVIZI_FIXES"), *check = getenv("POKHVIZI_CHECK");
 
     if (is_read)
         return;
     look_for_others();
     check_file = check == NULL ? NULL : strdup(check);
-    has_mends = mends != NULL && *mends != '\0' && strcmp(mends, "0") != 0;
+    has_fixes = fixes != NULL && *fixes != '\0' && strcmp(fixes, "0") != 0;
     bounds.depth = bound_of("POKHVIZI_MAX_DEPTH", ANY_DEPTH);
     bounds.nodes = bound_of("POKHVIZI_MAX_NODES", ANY_NODES);
     bounds.expanded = bound_of("POKHVIZI_MAX_EXPANDED", ANY_EXPANDED);
@@ -118,7 +118,7 @@ static int begin_here(yaml_parser_t *parser)
 {
     if (!is_read)
         read_environment();
-    if (!begin(parser, &bounds, has_mends))
+    if (!begin(parser, &bounds, has_fixes))
         return 0;
     note_use();
     return 1;

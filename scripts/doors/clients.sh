@@ -26,7 +26,7 @@
 #     pyyaml_ext         PyYAML's own tests of its C form, over the extension of bindings/python
 #     cloaders           the C loaders of bindings/python and PyYAML's over YAML files of this machine, PyYAML's test data, the
 #                        test suite and broken texts, with all fields
-#     exact_c            preloaded, over 20,000 drawn texts: libyaml's events, nodes and errors, and with the mends others; and over
+#     exact_c            preloaded, over 20,000 drawn texts: libyaml's events, nodes and errors, and with the fixes others; and over
 #                        YAML files of this machine; SEED is another draw
 #     exact_python       the same of the C loaders of bindings/python, and of PyYAML's
 #     bounds             bounds on depth, on nodes and on nodes with aliases written out, over 2,000 drawn texts: preloaded, by the crate,
@@ -34,7 +34,7 @@
 #                        words; SEED is another draw
 #     hostile_texts      texts that cost more than their length, and broken ones, at each door with its bounds and without, as
 #                        hostile_texts.py says; docs/BOUNDS.md has its figures
-#     crate              the tests of bindings/rust, over those texts, and with its feature `mends`; and over the crate `pokhvizi` in
+#     crate              the tests of bindings/rust, over those texts, and with its feature `fixes`; and over the crate `pokhvizi` in
 #                        place of the library
 #     loads_rust         nodes, memory over 7 MB and instructions of loads by that crate and by the original; of one large
 #                        document, small documents and anchors they are at most 1.11, 1.07 and .3 of the original's, or 1.13 and
@@ -293,7 +293,7 @@ python_lists() {
     return "$1"
 }
 
-# ---- Strict parsing ----
+# ---- Exact parsing ----
 
 # Draws 20,000 texts.
 exact_texts() {
@@ -302,20 +302,20 @@ exact_texts() {
     python3 "$lists/exact.py" write "$work/exact" 20000 "${SEED:-1}" > "$work/exact_names"
 }
 
-# compare_exact: of $work/plain, $work/mends and $work/exact_read; that the check sees a parser with the mends, too.
+# compare_exact: of $work/plain, $work/fixes and $work/exact_read; that the check sees a parser with the fixes, too.
 compare_exact() {
-    if python3 "$lists/exact.py" compare "$work/plain" "$work/mends" "$work/mends" > "$work/turned"; then
-        echo "a parser with the mends passes"
+    if python3 "$lists/exact.py" compare "$work/plain" "$work/fixes" "$work/fixes" > "$work/turned"; then
+        echo "a parser with the fixes passes"
         return 1
     fi
-    python3 "$lists/exact.py" compare "$work/plain" "$work/exact_read" "$work/mends"
+    python3 "$lists/exact.py" compare "$work/plain" "$work/exact_read" "$work/fixes"
 }
 
 exact_c() {
     exact_texts || return 1
     for what in files nodes; do
         "$work/events" $what < "$work/exact_names" > "$work/plain" &&
-            POKHVIZI_MENDS=1 LD_PRELOAD=$preloaded "$work/events" $what < "$work/exact_names" > "$work/mends" &&
+            POKHVIZI_FIXES=1 LD_PRELOAD=$preloaded "$work/events" $what < "$work/exact_names" > "$work/fixes" &&
             LD_PRELOAD=$preloaded "$work/events" $what < "$work/exact_names" > "$work/exact_read" || return 1
         drawn=$(compare_exact) || { echo "$drawn"; return 1; }
     done
@@ -328,7 +328,7 @@ exact_c() {
 
 exact_python() {
     exact_texts || return 1
-    for how in plain mends exact_read; do
+    for how in plain fixes exact_read; do
         PYTHONPATH="$work/python" "$python" "$lists/exact.py" ${how%_read} < "$work/exact_names" > "$work/$how" || return 1
     done
     compare_exact
@@ -398,13 +398,13 @@ bounds() {
 }
 
 hostile_texts() {
-    build_bounds bounds '"mends"' && build_bounds bounds_strict '' || return 1
+    build_bounds bounds '"fixes"' && build_bounds bounds_exact '' || return 1
     if "$python" scripts/doors/hostile_texts.py --turned "yaml=$dir/yaml" > "$work/turned"; then
         echo "what is turned passes"
         return 1
     fi
     "$python" scripts/doors/hostile_texts.py "yaml=$dir/yaml" "preload=$preloaded" "events=$work/events" "c_loader=$work/python" \
-        "loader=$work/python" "rust=$CARGO_TARGET_DIR/release/bounds" "rust_strict=$CARGO_TARGET_DIR/release/bounds_strict" \
+        "loader=$work/python" "rust=$CARGO_TARGET_DIR/release/bounds" "rust_exact=$CARGO_TARGET_DIR/release/bounds_exact" \
         "yamltokens=$top/crates/yamltokens/out/yamltokens"
 }
 
@@ -599,7 +599,7 @@ uses_patch() {
 crate() {
     prepare_cargo
     exact_texts || return 1
-    (cd "$work/unsafe_libyaml" && POKHVIZI_TEXTS="$work/exact" cargo test -q -j 1 && cargo test -q -j 1 --features mends) || return 1
+    (cd "$work/unsafe_libyaml" && POKHVIZI_TEXTS="$work/exact" cargo test -q -j 1 && cargo test -q -j 1 --features fixes) || return 1
     (cd "$work/unsafe_libyaml" && POKHVIZI_DIR='' cargo test -q -j 1) || return 1
     (cd "$work/unsafe_libyaml" && POKHVIZI_DIR=/nowhere cargo build -q -j 1) > "$work/missing" 2>&1 && return 1
     grep -q "POKHVIZI_DIR may name the folder of libpokhvizi.a" "$work/missing" || { cat "$work/missing"; return 1; }

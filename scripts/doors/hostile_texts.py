@@ -1,5 +1,5 @@
 #!/usr/bin/env python3
-"""Hostile texts through each door, with its bounds and without, with this project's own grammar and strictly with libyaml's: each
+"""Hostile texts through each door, with its bounds and without, with this project's own grammar and exactly with libyaml's: each
 ends in a result or in a named error, and in none other than hostile_texts.txt says.
 
     hostile_texts.py [--all] [--table] [--turned] DOOR=PATH..
@@ -10,7 +10,7 @@ The doors, of which those are tried that have a path:
     preload=LIBRARY           libyaml_preload.so, under a program over libyaml, which `events=PROGRAM` names (clients/events.c)
     c_loader=FOLDER           CSafeLoader of the package in that folder
     loader=FOLDER             SafeLoader of that package
-    rust=PROGRAM              clients/bounds.rs over bindings/rust; with its feature `mends`; `rust_strict=PROGRAM` is the same without it
+    rust=PROGRAM              clients/bounds.rs over bindings/rust; with its feature `fixes`; `rust_exact=PROGRAM` is the same without it
     yamltokens=PROGRAM        by examples/yaml_lines.py and PyYAML's scanner; its bound on tokens can't be set
 
 Prints each case with its time and the peak of its memory, which no check looks at; with --table also those of loads, in the lines of
@@ -61,19 +61,19 @@ NEVER = {("brackets", "free", "loader")}
 class Door:
     """A way in: its name, and what reads a file by it."""
 
-    bounded = strict = False
+    bounded = exact = False
     depth = 1000
     statuses = (0,)
 
     def __init__(self, name, path, paths):
         self.name, self.path, self.paths = name, path, paths
 
-    def run(self, what, file, bounds, strict):
+    def run(self, what, file, bounds, exact):
         """Returns a command, what it has in the environment, and its standard input."""
         raise NotImplementedError
 
     def ways(self):
-        return [(how, strict) for how in ("free", "within")[:1 + self.bounded] for strict in (False, True)[:1 + self.strict]]
+        return [(how, exact) for how in ("free", "within")[:1 + self.bounded] for exact in (False, True)[:1 + self.exact]]
 
 
 class Lines(Door):
@@ -91,13 +91,13 @@ class Lines(Door):
 
 
 class Steps(Lines):
-    def run(self, what, file, bounds, strict):
+    def run(self, what, file, bounds, exact):
         self.what = what
         return [self.path, what, file], {}, None
 
 
 class Yamltokens(Lines):
-    def run(self, what, file, bounds, strict):
+    def run(self, what, file, bounds, exact):
         self.what = what
         return [sys.executable, TOP + "/examples/yaml_lines.py", what, file, "--program", self.path], {}, None
 
@@ -105,7 +105,7 @@ class Yamltokens(Lines):
 class Counts(Door):
     """A line for an error, with libyaml's number for who found it, and a line with the count."""
 
-    bounded = strict = True
+    bounded = exact = True
     ERROR = re.compile(r"error (\d) (.*?) \d+:(\d+):(\d+) .* \d+:\d+:\d+ (\d+) -?\d+")
     FINDERS = {"1": "memory", "2": "reader", "3": "scanner", "4": "parser", "5": "composer"}
 
@@ -119,16 +119,16 @@ class Counts(Door):
 
 
 class Preload(Counts):
-    def run(self, what, file, bounds, strict):
+    def run(self, what, file, bounds, exact):
         names = "POKHVIZI_MAX_DEPTH", "POKHVIZI_MAX_NODES", "POKHVIZI_MAX_EXPANDED"
-        words = dict(zip(names, map(str, bounds)), POKHVIZI_MENDS="0" if strict else "1", LD_PRELOAD=self.path)
+        words = dict(zip(names, map(str, bounds)), POKHVIZI_FIXES="0" if exact else "1", LD_PRELOAD=self.path)
         words = ["%s=%s" % pair for pair in words.items()]
         return ["env", *words, self.paths["events"], {"events": "memory", "nodes": "loads"}[what]], {}, file
 
 
 class Rust(Counts):
-    def run(self, what, file, bounds, strict):
-        path = self.paths["rust_strict"] if strict else self.path
+    def run(self, what, file, bounds, exact):
+        path = self.paths["rust_exact"] if exact else self.path
         return [path, "count_" + what, *(str(bound) if bound else "-" for bound in bounds), file], {}, None
 
 
@@ -137,9 +137,9 @@ class Loader(Door):
 
     bounded = True
 
-    def run(self, what, file, bounds, strict):
+    def run(self, what, file, bounds, exact):
         words = [str(bound) for bound in bounds]
-        words = [sys.executable, os.path.realpath(__file__), "read", self.KIND, what, file, str(int(strict)), *words]
+        words = [sys.executable, os.path.realpath(__file__), "read", self.KIND, what, file, str(int(exact)), *words]
         return words, {"PYTHONPATH": self.path}, None
 
     def told(self, lines):
@@ -147,7 +147,7 @@ class Loader(Door):
 
 
 class InC(Loader):
-    strict, KIND = True, "CSafeLoader"
+    exact, KIND = True, "CSafeLoader"
 
 
 class InPython(Loader):
@@ -158,7 +158,7 @@ DOORS = {"yaml": Steps, "preload": Preload, "c_loader": InC, "loader": InPython,
 FINDERS = {"ReaderError": "reader", "ScannerError": "scanner", "ParserError": "parser", "ComposerError": "composer"}
 
 
-def read(kind, what, file, strict, *bounds):
+def read(kind, what, file, exact, *bounds):
     """Prints how many events or nodes a loader gives of a file, or its error."""
     import pokhvizi
     import yaml
@@ -168,7 +168,7 @@ def read(kind, what, file, strict, *bounds):
         nodes = 0
 
     if kind == "CSafeLoader":
-        Bounded.mends = strict != "1"
+        Bounded.fixes = exact != "1"
     with open(file, "rb") as opened:
         text = opened.read()
     try:
@@ -222,9 +222,9 @@ class Rows:
         return [" ".join(self.rows[number][0]) for number in range(len(self.rows)) if number not in self.used]
 
 
-def outcome_of(door, what, file, bounds, strict, most, figures):
+def outcome_of(door, what, file, bounds, exact, most, figures):
     """What a case ends in, the seconds that it takes of a processor, and its memory in KB."""
-    command, more, name = door.run(what, file, bounds, strict)
+    command, more, name = door.run(what, file, bounds, exact)
     timed = ["/usr/bin/time", "-q", "-f", "%U %S %M", "-o", figures, "timeout", "-k", "1", str(most), *command]
     with open(name or os.devnull, "rb") as into:
         run = subprocess.run(timed, stdin=into, env=dict(os.environ, **more), stdout=subprocess.PIPE, stderr=subprocess.PIPE)
@@ -239,14 +239,14 @@ def outcome_of(door, what, file, bounds, strict, most, figures):
 
 
 def cases(doors, everything):
-    """Each text at each door in each way: whether it is read by events, with which bounds, and whether strictly."""
+    """Each text at each door in each way: whether it is read by events, with which bounds, and whether exactly."""
     for text in TEXTS:
         for door in doors:
-            for how, strict in door.ways():
+            for how, exact in door.ways():
                 case = text, how, door.name
                 if case not in NEVER and (everything or case not in SLOW):
                     for what in ("events", "nodes"):
-                        yield text, door, what, how, strict
+                        yield text, door, what, how, exact
 
 
 def shown(seconds, memory):
@@ -266,7 +266,7 @@ def table(figures, doors):
 def main(words):
     options = {word for word in words if word.startswith("--")}
     paths = dict(word.partition("=")[::2] for word in words if not word.startswith("--"))
-    if options - {"--all", "--table", "--turned"} or not set(paths) & set(DOORS) or set(paths) - set(DOORS) - {"events", "rust_strict"}:
+    if options - {"--all", "--table", "--turned"} or not set(paths) & set(DOORS) or set(paths) - set(DOORS) - {"events", "rust_exact"}:
         sys.stderr.write("usage: hostile_texts.py [--all] [--table] [--turned] DOOR=PATH..; the first lines name the doors\n")
         return 2
     doors = [kind(name, paths[name], paths) for name, kind in DOORS.items() if name in paths]
@@ -275,11 +275,11 @@ def main(words):
         for name, text in TEXTS.items():
             with open("%s/%s" % (folder, name), "wb") as file:
                 file.write(text if isinstance(text, bytes) else text.encode())
-        for text, door, what, how, strict in cases(doors, "--all" in options):
+        for text, door, what, how, exact in cases(doors, "--all" in options):
             bounds = (door.depth, NODES, EXPANDED) if how == "within" else ("", "", "")
             most = MANY_SECONDS if (text, how, door.name) in SLOW else SECONDS
-            found, seconds, memory = outcome_of(door, what, "%s/%s" % (folder, text), bounds, strict, most, folder + "/figures")
-            way = how + ("_strict" if strict else "")
+            found, seconds, memory = outcome_of(door, what, "%s/%s" % (folder, text), bounds, exact, most, folder + "/figures")
+            way = how + ("_exact" if exact else "")
             wanted = rows.of(text, what, way, door.name)
             count += 1
             print(text, what, way, door.name, found, "(%s)" % shown(seconds, memory), flush=True)

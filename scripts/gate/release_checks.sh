@@ -133,8 +133,15 @@ done
 want 'the sample of documents' '1 scalar a ... 1 scalar b ...' sh -c "printf 'a\n--- b\n' | ./compose | tr '\n' ' ' | sed 's/ \$//'"
 want 'the sample of events' '8' sh -c "printf 'a\n...\nb\n' | ./events | wc -l"
 if python3 -c 'import yaml; yaml.CLoader' 2> /dev/null; then
-    want 'a program that is preloaded' 8 "$installed/bin/proved-libyaml" python3 -c \
-        'import yaml; print(len(list(yaml.parse("a\n...\nb\n", yaml.CLoader))))'
+    cat > parse.py << 'PYTHON'
+import yaml
+try:
+    print(len(list(yaml.parse("a\n...\nb\n", yaml.CLoader))))
+except yaml.parser.ParserError as failure:
+    print(failure.problem)
+PYTHON
+    want 'a program that is preloaded' 'did not find expected <document start>' "$installed/bin/proved-libyaml" python3 parse.py
+    want 'a program that is preloaded, with the fixes' 8 env POKHVIZI_FIXES=1 "$installed/bin/proved-libyaml" python3 parse.py
 else
     skip "a program that is preloaded: python3 lacks PyYAML's C part"
 fi
@@ -199,7 +206,9 @@ import sys
 import yaml
 import pokhvizi
 loader = getattr(pokhvizi, sys.argv[1])
-print(yaml.load("a: [1, {b: c}]\n", Loader=loader), [d for d in yaml.load_all("a\n...\nb\n", Loader=loader)])
+class Fixed(loader):
+    fixes = True
+print(yaml.load("a: [1, {b: c}]\n", Loader=loader), [d for d in yaml.load_all("a\n...\nb\n", Loader=Fixed)])
 PYTHON
 if python3 -c 'import yaml, venv' 2> /dev/null && python3 -m venv --system-site-packages environment > "$work/said" 2>&1; then
     environment/bin/pip install -q --no-index --no-deps "$out"/pokhvizi-*x86_64.whl > "$work/said" 2>&1 || complain "pip install: $(cat "$work/said")"
@@ -216,10 +225,27 @@ fi
 if [ -n "$cargo" ] && ls -d "$crates"/serde_yaml-* unpacked/pokhvizi-unsafe-libyaml-* > /dev/null 2>&1; then
     mkdir -p home app/src
     printf '[source.crates-io]\nreplace-with = "debian"\n[source.debian]\ndirectory = "%s"\n[net]\noffline = true\n' "$crates" > home/config.toml
-    printf '[package]\nname = "app"\nversion = "0.1.0"\nedition = "2021"\n[dependencies]\nserde_yaml = "0.9"\n[patch.crates-io]\nunsafe-libyaml = { path = "%s" }\n' \
-        "$work"/unpacked/pokhvizi-unsafe-libyaml-* > app/Cargo.toml
-    printf 'fn main() { println!("{}", serde_yaml::Deserializer::from_str("a\\n...\\nb\\n").take(9).count()); }\n' > app/src/main.rs
-    want 'the crate, below serde_yaml' 2 sh -c "cd app && PATH='${cargo%/*}:$PATH' CARGO_HOME='$work/home' timeout 600 '$cargo' run -q --offline"
+    cat > app/src/main.rs << 'RUST'
+use serde::Deserialize;
+
+fn main() {
+    for document in serde_yaml::Deserializer::from_str("a\n...\nb\n").take(2) {
+        match serde_yaml::Value::deserialize(document) {
+            Ok(value) => print!("{} ", value.as_str().unwrap()),
+            Err(_) => print!("refused "),
+        }
+    }
+}
+RUST
+    for features in 'fixes:a b ' ':a refused '; do
+        {
+            printf '[package]\nname = "app"\nversion = "0.1.0"\nedition = "2021"\n[dependencies]\nserde = "1"\nserde_yaml = "0.9"\n'
+            [ -z "${features%%:*}" ] || printf 'unsafe-libyaml = { version = "0.2", features = ["%s"] }\n' "${features%%:*}"
+            printf '[patch.crates-io]\nunsafe-libyaml = { path = "%s" }\n' "$work"/unpacked/pokhvizi-unsafe-libyaml-*
+        } > app/Cargo.toml
+        want "the crate, below serde_yaml, features: ${features%%:*}" "${features#*:}" \
+            sh -c "cd app && PATH='${cargo%/*}:$PATH' CARGO_HOME='$work/home' timeout 600 '$cargo' run -q --offline"
+    done
     for how in patched plain; do
         mkdir -p $how/src
         printf 'fn main() { println!("{}", unsafe_libyaml::POKHVIZI_VERSION); }\n' > $how/src/main.rs

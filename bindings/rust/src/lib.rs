@@ -24,7 +24,7 @@
 //! - A document with more nodes than it may have is the composer's fault `found too many nodes`, in place of one of memory.
 //! - [`POKHVIZI_VERSION`] and the module [`bounds`] are added.
 //!
-//! Events and errors are the original's. With the feature `mends` they are those of this project's own grammar.
+//! Events and errors are the original's. With the feature `fixes` they are those of this project's own grammar.
 
 #![allow(non_camel_case_types, clippy::missing_safety_doc)]
 
@@ -46,7 +46,7 @@ use std::ptr;
 pub use original::*;
 
 /// The version of this crate, which the original hasn't: a program that names it doesn't compile where cargo left the patch out.
-pub const POKHVIZI_VERSION: &str = "0.3.0";
+pub const POKHVIZI_VERSION: &str = "0.4.0";
 
 /// Whether a call succeeded.
 #[must_use]

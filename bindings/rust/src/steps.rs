@@ -179,7 +179,7 @@ impl Steps {
         let kind = token.type_ as u8;
         // SAFETY: the two marks of a token are neighbours, and laid out like a span's.
         let at = unsafe { &*ptr::addr_of!(token.start_mark).cast::<step_span_t>() };
-        let step = if cfg!(feature = "mends") { door::step } else { door::step_exact };
+        let step = if cfg!(feature = "fixes") { door::step } else { door::step_exact };
         loop {
             let (states, marks) = (&mut self.states, &mut self.marks);
             let did = step(&mut self.record, states, marks, kind, fact, at, shape, &mut self.problem);

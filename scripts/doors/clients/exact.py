@@ -1,13 +1,13 @@
 """Texts at which libyaml does something else than this project's own grammar, and the comparison of what was read of them.
 
     exact.py write DIR COUNT SEED     draws texts, and writes them as files of DIR; prints their names
-    exact.py plain|exact|mends < NAMES
-    exact.py compare PLAIN EXACT MENDS
+    exact.py plain|exact|fixes < NAMES
+    exact.py compare PLAIN EXACT FIXES
     exact.py alike PLAIN EXACT
 
-The second reads files by PyYAML's CLoader, and by that of bindings/python, without its mends or with them. PLAIN, EXACT and MENDS are
-its outputs, or those of events.c over these files: of libyaml, of a parser that is to do the same, and of one with the mends. EXACT
-must be libyaml's, byte by byte. Of `compare` the parser with the mends must differ at all three places; `alike` takes any files.
+The second reads files by PyYAML's CLoader, and by that of bindings/python, without its fixes or with them. PLAIN, EXACT and FIXES are
+its outputs, or those of events.c over these files: of libyaml, of a parser that is to do the same, and of one with the fixes. EXACT
+must be libyaml's, byte by byte. Of `compare` the parser with the fixes must differ at all three places; `alike` takes any files.
 
 Run by clients.sh.
 """
@@ -56,7 +56,7 @@ def read(how):
     import yaml
 
     class Loader(yaml.CLoader if how == "plain" else pokhvizi.CLoader):
-        mends = how == "mends"
+        fixes = how == "fixes"
 
     def mark(at):
         return at and (at.index, at.line, at.column)
@@ -100,21 +100,21 @@ def alike(plain, exact):
     return int(bool(wrong) or list(plain) != list(exact))
 
 
-def compare(plain, exact, mends):
-    plain, exact, mends = blocks(plain), blocks(exact), blocks(mends)
+def compare(plain, exact, fixes):
+    plain, exact, fixes = blocks(plain), blocks(exact), blocks(fixes)
     counts = {"alike": 0, "pair_key": 0, "value_first": 0, "bare_document": 0}
-    wrong = [] if list(plain) == list(exact) == list(mends) else ["other files"]
+    wrong = [] if list(plain) == list(exact) == list(fixes) else ["other files"]
     for name, lines in plain.items():
         if exact.get(name) != lines:
             wrong.append(name)
-        counts["alike" if mends.get(name) == lines else place_of(lines)] += 1
+        counts["alike" if fixes.get(name) == lines else place_of(lines)] += 1
     lacking = [word for word, count in counts.items() if count == 0]
     if wrong or lacking:
         print("\n".join(wrong[:20]))
-        print(f"{len(wrong)} of {len(plain)} texts are wrong; with mends none is: {' '.join(lacking) or 'nothing'}")
+        print(f"{len(wrong)} of {len(plain)} texts are wrong; with fixes none is: {' '.join(lacking) or 'nothing'}")
         return 1
     said = ", ".join(f"{count} {word}" for word, count in counts.items())
-    print(f"{len(plain)} texts are read as by libyaml; with mends {said}")
+    print(f"{len(plain)} texts are read as by libyaml; with fixes {said}")
     return 0
 
 

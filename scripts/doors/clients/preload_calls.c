@@ -407,10 +407,10 @@ static void check_environment(void)
 {
     yaml_error_type_t error;
 
-    setenv("POKHVIZI_MENDS", "1", 1);
+    setenv("POKHVIZI_FIXES", "1", 1);
     setenv("POKHVIZI_MAX_DEPTH", "0", 1);
     expect(load_text(": x", &error) == 0 && error == YAML_PARSER_ERROR, "a later environment", error);
-    unsetenv("POKHVIZI_MENDS");
+    unsetenv("POKHVIZI_FIXES");
     unsetenv("POKHVIZI_MAX_DEPTH");
 }
 

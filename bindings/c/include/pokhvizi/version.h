@@ -5,7 +5,7 @@
 #include <stdint.h>
 
 /* The version that these headers are of: CHANGELOG.md says what it changes. */
-#define POKHVIZI_VERSION "0.3.0"
+#define POKHVIZI_VERSION "0.4.0"
 
 #if SIZE_MAX != 0xFFFFFFFFFFFFFFFF
 #error "Pokhvizi is built for a size_t of 64 bits"

@@ -6,7 +6,7 @@ int begin_events(parser_object *parser)
 {
     const struct bounds bounds = {parser->max_depth, parser->max_nodes, parser->max_expanded};
 
-    if (begin(&parser->scanner, &bounds, parser->has_mends))
+    if (begin(&parser->scanner, &bounds, parser->has_fixes))
         return 0;
     PyErr_NoMemory();
     return -1;

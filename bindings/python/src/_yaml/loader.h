@@ -57,7 +57,7 @@ struct pyyaml {
     /* Names of attributes, made once, since Python's cache of attributes goes by their addresses. */
     struct {
         PyObject *read, *name, *resolve, *descend_resolver, *ascend_resolver, *yaml_path_resolvers, *function,
-            *self, *start_mark, *end_mark, *max_depth, *max_nodes, *max_expanded, *mends,
+            *self, *start_mark, *end_mark, *max_depth, *max_nodes, *max_expanded, *fixes,
             *match, *yaml_implicit_resolvers;
     } names;
     int is_new; /* Python is 3.9 or later */
@@ -136,7 +136,7 @@ typedef struct {
     PyObject *current_token, *current_event; /* what was peeked at, or NULL */
     yaml_parser_t scanner; /* whose events are those of the steps */
     yaml_event_t event; /* at hand, unless it is of no type */
-    int has_mends; /* events are of this project's own grammar, not libyaml's */
+    int has_fixes; /* events are of this project's own grammar, not libyaml's */
     size_t max_depth, max_nodes; /* what may be open at once; what each list of a document may have */
     size_t max_expanded; /* how many nodes a document may have with its aliases written out */
 } parser_object;

@@ -111,7 +111,7 @@ static int make_names(void)
         {"max_depth", &its.names.max_depth},
         {"max_nodes", &its.names.max_nodes},
         {"max_expanded", &its.names.max_expanded},
-        {"mends", &its.names.mends},
+        {"fixes", &its.names.fixes},
         {"match", &its.names.match},
         {"yaml_implicit_resolvers", &its.names.yaml_implicit_resolvers},
     };
@@ -183,7 +183,7 @@ static int add_parser_type(PyObject *module)
     PyObject *type = PyType_FromSpec(&parser_spec);
 
     if (type == NULL || add(type, "max_depth", shared(Py_None)) < 0 || add(type, "max_nodes", shared(Py_None)) < 0 ||
-        add(type, "max_expanded", shared(Py_None)) < 0 || add(type, "mends", shared(Py_False)) < 0) {
+        add(type, "max_expanded", shared(Py_None)) < 0 || add(type, "fixes", shared(Py_False)) < 0) {
         Py_XDECREF(type);
         return -1;
     }

@@ -238,16 +238,16 @@ static int find_bounds(parser_object *parser)
     return 0;
 }
 
-/* Whether the loader's attribute `mends` is there and true. */
-static int find_mends(parser_object *parser)
+/* Whether the loader's attribute `fixes` is there and true. */
+static int find_fixes(parser_object *parser)
 {
-    PyObject *mends = attribute_if_any((PyObject *)parser, its.names.mends);
+    PyObject *fixes = attribute_if_any((PyObject *)parser, its.names.fixes);
 
-    if (mends == NULL && PyErr_Occurred())
+    if (fixes == NULL && PyErr_Occurred())
         return -1;
-    parser->has_mends = mends == NULL ? 0 : PyObject_IsTrue(mends);
-    Py_XDECREF(mends);
-    return parser->has_mends < 0 ? -1 : 0;
+    parser->has_fixes = fixes == NULL ? 0 : PyObject_IsTrue(fixes);
+    Py_XDECREF(fixes);
+    return parser->has_fixes < 0 ? -1 : 0;
 }
 
 /* Begins a stream, of which nothing is there yet. */
@@ -261,7 +261,7 @@ static int begin(parser_object *parser)
     parser->stream.rest_place = 0;
     parser->stream.is_text = 0;
     memset(&parser->event, 0, sizeof parser->event);
-    return find_bounds(parser) < 0 || find_mends(parser) < 0 ? -1 : begin_events(parser);
+    return find_bounds(parser) < 0 || find_fixes(parser) < 0 ? -1 : begin_events(parser);
 }
 
 static int parser_init(PyObject *object, PyObject *arguments, PyObject *keywords)
@@ -313,7 +313,7 @@ static PyMethodDef parser_methods[] = {
 static PyType_Slot parser_slots[] = {
     {Py_tp_doc,
      "CParser(stream)\n--\n\nTokens, events and documents of a text, of bytes, or of a file, as PyYAML's CParser.\n\n"
-     "`max_depth`, `max_nodes` and `max_expanded` of its class bound what it reads. If `mends` is true,\n"
+     "`max_depth`, `max_nodes` and `max_expanded` of its class bound what it reads. If `fixes` is true,\n"
      "events are of this project's own grammar."},
     {Py_tp_new, PyType_GenericNew},
     {Py_tp_init, parser_init},

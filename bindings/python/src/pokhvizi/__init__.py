@@ -37,7 +37,7 @@ import yaml
 
 __all__ = ["LibraryError", "Loader", "Parser", "SafeLoader", "use_library"]
 
-__version__ = "0.3.0"
+__version__ = "0.4.0"
 
 
 # ---- The library ----

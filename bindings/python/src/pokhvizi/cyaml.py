@@ -4,7 +4,7 @@
 
     yaml.load(text, Loader=CSafeLoader)
 
-A loader reads exactly what libyaml reads, unless its class has `mends = True`.
+A loader reads exactly what libyaml reads, unless its class has `fixes = True`.
 
 `CParser` before a constructor and a resolver of PyYAML's makes another loader, as PyYAML's own `CParser` does.
 """
