@@ -42,6 +42,7 @@ check python3 scripts/gate/reexports.py
 check python3 scripts/gate/imports.py --check
 check python3 scripts/gate/dead_and_duplicate.py
 check python3 scripts/gate/lists.py
+check python3 scripts/gate/worked.py
 check python3 scripts/gate/proof_tables.py
 check python3 scripts/gate/plantable.py
 check python3 scripts/doors/abi.py

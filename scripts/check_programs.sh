@@ -37,6 +37,7 @@ is_there() {
     yaml.h) echo '#include <yaml.h>' | cc -E - ;;
     PyYAML) python3 -c 'import yaml; yaml.CLoader' ;;
     Python.h) [ -e "$(python3 -c 'import sysconfig; print(sysconfig.get_path("include"))')/Python.h" ] ;;
+    *-unknown-linux-gnu) ls "$(rustc --print target-libdir --target "$1")"/libcore-*.rlib ;;
     */*) [ -e "$1" ] ;;
     *) command -v "$1" ;;
     esac > /dev/null 2>&1
@@ -111,7 +112,8 @@ done
 check flat_memory /usr/bin/time crates/vectors_hostile/out/vectors_hostile -- sh scripts/gate/flat_memory.sh
 check differential python3 cc yaml.h $yamltokens -- env JOBS=4 sh scripts/differential/run.sh $lists
 
-check plain_rust cargo cc ld objcopy ar nm yaml.h -- sh scripts/gate/plain_rust.sh
+check plain_rust cargo python3 cc ld objcopy ar nm yaml.h -- sh scripts/gate/plain_rust.sh
+check same_machine cargo python3 -- python3 scripts/gate/same_machine.py
 check libraries_for_c rt cc ld objcopy ar nm yaml.h -- sh scripts/build_c.sh "$libraries" $ci
 check faults_of_yaml.c PyYAML "$yaml" -- python3 scripts/gate/compare_errors.py "$yaml"
 check fronts PyYAML $yamltokens "$yaml" -- python3 scripts/gate/compare_fronts.py "$yaml"
@@ -123,6 +125,7 @@ check extension cc nm strip PyYAML Python.h yaml.h "$libraries/libpokhvizi.a" --
 check release cc c++ make pkg-config readelf python3 yaml.h "$libraries/libpokhvizi.a" -- sh scripts/gate/release_checks.sh "$libraries" $all
 check any_processor qemu-x86_64 cc yaml.h "$libraries/libpokhvizi.a" -- sh scripts/doors/any_processor.sh "$libraries"
 if [ -n "$all" ]; then
+    check platforms cargo i686-linux-gnu-gcc qemu-i386 i686-unknown-linux-gnu -- sh scripts/gate/platforms.sh
     check_clients
 fi
 

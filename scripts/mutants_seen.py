@@ -1,5 +1,5 @@
 #!/usr/bin/env python3
-"""Tells which test vector sees each mutant of crates/*/must-fail; fails if none does and WRONG_BODIES doesn't say so.
+"""Tells which test vector sees each mutant of crates/*/must-fail; fails if none does and mutants.txt doesn't say so.
 
     python3 scripts/mutants_seen.py [--write] [CRATE | CRATE/MUTANT]..        (no such word: every mutant)
     python3 scripts/mutants_seen.py none                                    runs the programs over no mutant
@@ -7,9 +7,9 @@
 Each mutant is made in a copy. The programs of its crate's line in PROGRAMS are run over it in turn, without proof (`rt try`),
 until one doesn't end as it should: `yamltokens` over the lists of `vectors_yaml` and `vectors_lines`, the programs of test vectors table
 by table, other programs over what is stored beside them. For the Rust crate's definitions the test vectors are proved instead.
-None runs over the libraries for C. The program that WRONG_BODIES names goes first (`vectors_yaml` if it names none); `PROGRAM failing`
-runs with the allocation failed that the page names, or with each of the first 60 in turn. With --write the place goes into
-WRONG_BODIES, without the name of that program's table `productions`; if there is none, what the page says after `Seen: nowhere` stays.
+None runs over the libraries for C. The program that the mutant's line `seen:` names goes first (`vectors_yaml` if it names none);
+`PROGRAM failing` runs with the allocation failed that it names, or with each of the first 60 in turn. With --write the place goes into
+that line, without the name of that program's table `worked`; if there is none, what it says after `nowhere` stays.
 Two mutants at a time (JOBS), half a minute to three minutes a program; needs `rt`.
 
 Run by hand, after mutants or test vectors changed.
@@ -24,8 +24,8 @@ from pathlib import Path
 
 from answers import TOP, copied
 from controls import mutated
+from mutant_lines import line_of, mutants, write_line
 
-PAGE = TOP / "docs" / "WRONG_BODIES.md"
 PROGRAMS = {
     "libyaml_types": ["vectors_calls", "vectors_yaml", "example_scanner", "vectors_hostile", "example_outline"],
     "libyaml_automaton": ["yamltokens", "vectors_steps", "vectors_yaml", "vectors_calls", "vectors_lines", "vectors_hostile"],
@@ -34,7 +34,7 @@ PROGRAMS = {
     "libyaml_documents": ["vectors_calls", "vectors_yaml", "example_outline", "vectors_hostile"],
     "libyaml_composer": ["yamltokens", "vectors_steps", "vectors_yaml", "vectors_calls", "vectors_hostile"],
     "libyaml_loader": ["yamltokens", "vectors_yaml", "vectors_calls", "example_outline", "vectors_hostile"],
-    "token_limits": ["vectors_yaml", "vectors_calls", "yamltokens"],
+    "token_limits": ["vectors_calls"],
     "token_steps": ["vectors_steps"],
     "token_steps_c": [],
     "document_steps": ["vectors_steps"],
@@ -48,8 +48,10 @@ PROGRAMS = {
     "example_source": ["vectors_hostile"],
     "yaml_path": ["example_paths"],
     "yaml_expansion": ["example_sizes", "vectors_hostile"],
+    "yaml_keys": ["example_lint"],
+    "yaml_bounds": ["vectors_hostile"],
 }
-# Tables that take minutes without proof: they are tried only for a mutant of which the page names them.
+# Tables that take minutes without proof: they are tried only for a mutant whose line names them.
 SLOW = {
     "lines as long as any, and longer",
     "large lists, parsed",
@@ -57,8 +59,8 @@ SLOW = {
     "deep documents, by calls",
     "drawn lists",
 }
-# The table that the page leaves unnamed.
-VECTORS = '`vectors_yaml`, "productions": '
+# The table that a line leaves unnamed.
+VECTORS = '`vectors_yaml`, "worked": '
 SECONDS = "240"
 
 
@@ -80,7 +82,7 @@ def text_of(path):
 
 def lists():
     """The runs of `yamltokens` over each list of tokens, by the list's table and name."""
-    tables = [TOP / "crates/vectors_yaml/data" / name for name in ("productions", "completed", "loads", "libyaml_differs", "suite", "real")]
+    tables = [TOP / "crates/vectors_yaml/data" / name for name in ("worked", "productions", "loads", "libyaml_differs", "suite", "real")]
     for table in [*tables, TOP / "crates/vectors_lines/data/runs"]:
         for tokens in sorted(table.glob("*.tokens")):
             for kind in ("events", "nodes"):
@@ -92,7 +94,7 @@ def lists():
 
 
 def cases_of(program, named):
-    """The runs of a program, by what the page calls them; slow ones only where they are named."""
+    """The runs of a program, by what a line calls them; slow ones only where they are named."""
     home = TOP / "crates" / program
     if program == "yamltokens":
         return dict(lists())
@@ -202,7 +204,7 @@ def place(crate, mutant):
         copied(Path(room))
         for path, text in mutated(Path(room) / "crates" / crate, mutant).items():
             path.write_text(text)
-        named = line_of(crate, mutant.stem)[2] or ""
+        named = line_of(mutant, "seen") or ""
         failing = re.search(r"`(\w+) failing`(?:, allocation (\d+) failed)?", named)
         if failing:
             return run_failing(Path(room), failing[1], failing[2])
@@ -225,44 +227,30 @@ def run_unedited():
     sys.exit(any(seen.values()))
 
 
-def line_of(crate, mutant):
-    """The line of a mutant in WRONG_BODIES: what it gets wrong, where it is seen, and what refuses it."""
-    part = re.search(rf"(?ms)^## `{crate}`.*?(?=^## |\Z)", PAGE.read_text())
-    line = re.compile(rf"(?m)^(- `{re.escape(mutant)}`[.:].*?)( Seen: [^\n]*?\.)?( Refused: [^\n]*)?$")
-    return part and line.search(PAGE.read_text(), *part.span())
-
-
-def write(crate, mutant, seen):
-    """Puts into its line where a mutant is seen."""
-    line, page = line_of(crate, mutant), PAGE.read_text()
-    now = f"{line[1]} Seen: {(seen or 'nowhere').removeprefix(VECTORS)}.{line[3] or ''}"
-    PAGE.write_text(page[: line.start()] + now + page[line.end() :])
-
-
 def main(words):
     writes = "--write" in words
     words = [word for word in words if word != "--write"]
     if words == ["none"]:
         run_unedited()
-    mutants = [(path.parent.parent.name, path) for path in sorted(TOP.glob("crates/*/must-fail/*.edit"))]
-    unknown = sorted({crate for crate, _ in mutants} - PROGRAMS.keys())
+    tried_ones = [(path.parent.parent.name, path) for path in mutants()]
+    unknown = sorted({crate for crate, _ in tried_ones} - PROGRAMS.keys())
     if unknown:
         sys.exit(f"no line in PROGRAMS: {' '.join(unknown)}")
-    mutants = [(crate, path) for crate, path in mutants if not words or crate in words or f"{crate}/{path.stem}" in words]
-    if not mutants:
+    tried_ones = [(crate, path) for crate, path in tried_ones if not words or crate in words or f"{crate}/{path.stem}" in words]
+    if not tried_ones:
         sys.exit(__doc__)
     wrong = 0
     with ThreadPoolExecutor(int(os.environ.get("JOBS", "2"))) as pool:
-        tries = {pool.submit(tried, *mutant): mutant for mutant in mutants}
+        tries = {pool.submit(tried, *mutant): mutant for mutant in tried_ones}
         for done in as_completed(tries):
             (crate, path), seen = tries[done], done.result()
             known = not isinstance(seen, NotRun)
-            told = (line_of(crate, path.stem)[2] or "").startswith(" Seen: nowhere")
+            told = (line_of(path, "seen") or "").startswith("nowhere")
             says = "seen in " + seen if known and seen else "seen nowhere" if known else f"not known: {seen}"
             print(f"{crate}/{path.stem}: {says}", flush=True)
             wrong += not known or not seen and not told
             if writes and known and (seen or not told):
-                write(crate, path.stem, seen)
+                write_line(path, "seen", (seen or "nowhere").removeprefix(VECTORS))
     if wrong:
         sys.exit(f"{wrong} seen nowhere, or not known")
 

@@ -1,9 +1,9 @@
 #!/usr/bin/env python3
-"""Writes into docs/WRONG_BODIES.md which clause refuses each mutant, as `rt must-fail` says.
+"""Writes into mutants.txt, in its line `refused:`, which clause refuses each mutant, as `rt must-fail` says.
 
     python3 scripts/refusals.py CRATE..           (runs `rt must-fail CRATE..`)
     python3 scripts/refusals.py --from FILE       (reads what `rt must-fail` wrote, instead of running it)
-    python3 scripts/refusals.py --check ..        (changes nothing, and fails if the page says something else)
+    python3 scripts/refusals.py --check ..        (changes nothing, and fails if mutants.txt says something else)
 
 A mutant that breaks a proof by hand of a function (`proofs/**/Answers.antt`) is refused by shape, unless an equivalent mutant that
 changes the same lines (`controls/`) is proved over that file. Then the reason is a goal that stays open without the parts of the
@@ -19,8 +19,8 @@ import sys
 
 from answers import TOP, answers
 from controls import answered, is_by_shape, mutated
+from mutant_lines import line_of, write_line
 
-PAGE = TOP / "docs" / "WRONG_BODIES.md"
 SAID = re.compile(r"must-fail (\w+)/([\w.-]+)\.edit: (.*)")
 SHAPE = "by shape"
 
@@ -134,19 +134,6 @@ def reason(crate, mutant, said):
     return clause if own else re.sub(r"\bits (?!type)", "the ", clause) + f" of `{name}`"
 
 
-def written(page, reasons):
-    """The page with the reason at the end of each mutant's line that has one here."""
-    lines, crate = [], ""
-    for line in page.splitlines():
-        crate = (re.match(r"## `(\w+)`", line) or [None, crate])[1]
-        mutant = re.match(r"- `([^`]+)`[.:] ", line)
-        if mutant and (crate, mutant[1]) in reasons:
-            line = re.sub(r" Refused: (?:[^.`]|`[^`]*`)*\.$", "", line)
-            line += f" Refused: {reasons[crate, mutant[1]]}."
-        lines.append(line)
-    return "\n".join(lines) + "\n"
-
-
 def main(words):
     checks = "--check" in words
     words = [word for word in words if word != "--check"]
@@ -163,13 +150,15 @@ def main(words):
             reasons[crate, mutant] = why
         else:
             unknown.append(f"{crate}/{mutant}: {text[:200]}")
-    page = PAGE.read_text()
-    now = written(page, reasons)
-    if not checks:
-        PAGE.write_text(now)
-    elif now != page:
-        differ = [f"- {a}\n+ {b}" for a, b in zip(page.splitlines(), now.splitlines()) if a != b]
-        sys.exit("docs/WRONG_BODIES.md differs:\n" + "\n".join(differ))
+    differ = []
+    for (crate, mutant), why in reasons.items():
+        path = TOP / "crates" / crate / "must-fail" / f"{mutant}.edit"
+        if line_of(path, "refused") != why:
+            differ.append(f"{crate}/{mutant}: refused: {line_of(path, 'refused')}; and now: {why}")
+            if not checks:
+                write_line(path, "refused", why)
+    if differ and checks:
+        sys.exit("\n".join(differ))
     shapes = sum(why == SHAPE for why in reasons.values())
     print("\n".join([*unknown, f"{len(reasons) - shapes} by a clause, {shapes} by shape, {len(unknown)} not known"]))
     if unknown or not reasons:

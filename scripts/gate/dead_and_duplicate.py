@@ -5,7 +5,7 @@
 
 names: names of specs/ that stand for more than one definition. dead: definitions of specs/ and proofs/ that no
 code, contract or proof reaches, by the names that are mentioned. twice: lemmas whose statements are equal except for
-the names of their variables. unnamed: public functions and types of the libraries that docs/SURFACE.md doesn't have and
+the names of their variables. unnamed: public functions and types of the libraries that docs/surface.txt doesn't have and
 no other crate names. scripts/gate/dead_and_duplicate.txt has the four figures, which may only fall: the exit status is 1
 if one is another, and with --write it is written. A word prints what is counted.
 
@@ -134,7 +134,7 @@ def twice(proofs):
 
 
 def unnamed():
-    """Public functions and types of the libraries whose name stands neither in docs/SURFACE.md nor in another crate."""
+    """Public functions and types of the libraries whose name stands neither in docs/surface.txt nor in another crate."""
     named = set(re.findall(r"\w+", surface.PAGE.read_text()))
     of_crate = {}
     for crate in surface.crates():

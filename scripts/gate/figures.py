@@ -16,7 +16,7 @@ WORDS = "none one two three four five six seven eight nine ten eleven twelve".sp
 NUMBER = rf"(\d[\d,]*|{'|'.join(WORDS)})"
 COUNTED = re.compile(rf"\b(\d[\d,]*|{'|'.join(WORDS[4:])}) (?:crates|mutants|equivalent mutants|edits|test vectors|vectors|broken texts)\b", re.IGNORECASE)
 # made by other scripts, or of earlier states
-OTHERS = {"CHANGELOG.md", "WRONG_BODIES.md", "PERFORMANCE.md", "SURFACE.md"}
+OTHERS = {"CHANGELOG.md", "WRONG_BODIES.md", "PERFORMANCE.md"}
 MOST_WORDS = 800  # of README
 
 

@@ -51,7 +51,6 @@ ALIASES = {
     "libyaml_types.specs.declared.event.unnamed_yaml_event_t_data.TheVariants": "ev",
     "libyaml_types.specs.declared.token.unnamed_yaml_token_t_data.TheVariants": "tok",
     "rust_original.proofs.runs.UpToDifferences": "proofs",
-    "rust_original.proofs.strict.Runs": "strict_runs",
     "rust_original.specs.loader.Loader": "orig_loader",
     "rust_original.specs.parser.Parser": "orig",
     "std.specs.Cmp.Lexicographic": "lex",

@@ -6,7 +6,7 @@
 - a heading of a page, such as `docs/DEFINITIONS.md, "Runs"`, that it does not have; comments of code are read for these too;
 - a Rust block or a clause of a contract that no file of crates/ or examples/ has word for word (a block of bindings/plain is run by
   `cargo test`);
-- a mutant that WRONG_BODIES lists and no crate has, or the other way round;
+- a mutant of which scripts/mutants.txt doesn't say where it is seen and what refuses it, or the other way round;
 - a script that scripts/README.md doesn't list;
 - another version than that of the file VERSION, in CHANGELOG's first entry the macro of pokhvizi/version.h, the Python package or the Rust crate.
 
@@ -19,9 +19,13 @@ import sys
 from pathlib import Path
 
 TOP = Path(__file__).resolve().parents[2]
+sys.path.insert(0, str(TOP / "scripts"))
+
+from mutant_lines import wrong_lines  # noqa: E402
+
 PAGES = [*TOP.glob("*.md"), *TOP.glob("docs/*.md"), *TOP.glob("crates/*/README.md"), *TOP.glob("bindings/*/README.md"),
          *TOP.glob("scripts/README.md"), *TOP.glob("scripts/*/README.md")]
-MADE = re.compile(r"(^|/)(out|build|my_project)(/|$)|^(list\.tokens|vendored\.txt)$|\b(NAME|FILE|DEST)\b")
+MADE = re.compile(r"(^|/)(out|build|target|my_project)(/|$)|^(list\.tokens|vendored\.txt)$|\b(NAME|FILE|DEST)\b")
 FILE = r"rt|antt|oantt|edit|md|py|sh|c|h|txt|yaml|tokens|events|nodes"
 PATH = re.compile(rf"[\w.*-]+(/[\w.*-]+)+/?|\w+\.({FILE})")
 IN_COMMAND = re.compile(r"(?<![\w./])(?:crates|docs|scripts|examples|bindings)/[\w./*-]*[\w*/]")
@@ -100,12 +104,6 @@ def missing_blocks(text, code):
                 yield f"a clause that no file has: {clause.splitlines()[0]}"
 
 
-def wrong_mutants():
-    listed = set(re.findall(r"^- `([^`]+)`", (TOP / "docs" / "WRONG_BODIES.md").read_text(), flags=re.M))
-    there = {path.stem for path in TOP.glob("crates/*/must-fail/*.edit")}
-    yield from (f"docs/WRONG_BODIES.md: {name} is {'no mutant' if name in listed else 'not listed'}" for name in sorted(listed ^ there))
-
-
 def unlisted_scripts():
     text = (TOP / "scripts" / "README.md").read_text()
     for path in [*TOP.glob("scripts/*.sh"), *TOP.glob("scripts/*.py"), *TOP.glob("scripts/*/run.sh"), *TOP.glob("scripts/doors/*.sh"), *TOP.glob("scripts/doors/*.py"),
@@ -139,7 +137,7 @@ def problems():
         text = page.read_text()
         found = [*broken_links(page, text), *missing_paths(page, text), *missing_headings(text), *missing_blocks(text, code)]
         yield from (f"{page.relative_to(TOP)}: {problem}" for problem in found)
-    yield from [*wrong_mutants(), *unlisted_scripts(), *other_versions()]
+    yield from [*wrong_lines(), *unlisted_scripts(), *other_versions()]
     for path, text in comments():
         yield from (f"{path.relative_to(TOP)}: {problem}" for problem in missing_headings(text))
 

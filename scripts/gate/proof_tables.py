@@ -1,11 +1,11 @@
 #!/usr/bin/env python3
-"""Tables, in the README of each crate, of which file of proofs carries which clause: for each public function with parts of its
+"""Tables, in docs/proofs.txt, of which file of proofs carries which clause: for each public function with parts of its
 proof written by hand (`Answers.antt`, `Invariants.antt`, `Proof.antt`, or lemmas that an attribute hands to the search) its clauses
 by the files that they cite; "all" if the parts are of the whole contract. Laws stand together by their file of src/laws, functions
 that aren't public in one line.
 
-    python3 scripts/gate/proof_tables.py           fails if a table is stale
-    python3 scripts/gate/proof_tables.py --write   writes the tables
+    python3 scripts/gate/proof_tables.py           fails if the page is stale
+    python3 scripts/gate/proof_tables.py --write   writes it
 
 A file of the crate that only other files cite is counted in its folder. A file of another crate has that crate's name before it.
 
@@ -17,10 +17,13 @@ from collections import Counter, defaultdict
 from pathlib import Path
 
 TOP = Path(__file__).resolve().parents[2]
-HEADING = "## Proofs by hand"
-HEAD = f"""{HEADING}
+PAGE = TOP / "docs" / "proofs.txt"
+HEAD = """# Proofs by hand
 
-`scripts/gate/proof_tables.py --write` makes this table: what the search does not find alone. *Loops* stands for invariants and measures, *calls* for what a call requires, *alone* for a proof that cites no file; a number counts functions or files.
+`python3 scripts/gate/proof_tables.py --write` makes this page: what the prover's search does not find alone, crate by crate. *Loops* stands for invariants and measures, *calls* for what a call requires, *alone* for a proof that cites no file; a number counts functions or files.
+"""
+TABLE = """
+## `{crate}`
 
 | function | files of `proofs` that its clauses cite | files beneath |
 |---|---|---|
@@ -80,7 +83,7 @@ class Crate:
     def __init__(self, folder):
         self.folder = folder
         self.functions, self.lemmas, self.named = {}, defaultdict(list), defaultdict(set)
-        self.cites = {}
+        self.cites, self.traits = {}, {""}
         public = {name for path in self.sources() for name in TYPE.findall(path.read_text())}
         for path in self.sources():
             self.read(path, public)
@@ -100,6 +103,7 @@ class Crate:
                 (everywhere if found[1] else handed).extend(name.rpartition(".")[0] for name in lemmas)
             elif found := IMPL.match(line):
                 owner, is_trait = found[2], bool(found[1])
+                self.traits.add(found[1] or "")
             elif found := FN.match(line):
                 name = (owner if found[1] else None, found[3])
                 is_public = (found[2] == "pub" or is_trait and bool(found[1])) and (not found[1] or owner in public)
@@ -116,7 +120,7 @@ class Crate:
         owners = {owner for owner, other in self.functions if other == name}
         for part in reversed(place):
             for owner in owners - {None}:
-                if part.lower() in (owner.lower(), f"{owner}iterator".lower()):
+                if part.lower() in (f"{owner}{trait}".lower() for trait in self.traits):
                     return (owner, name)
         if (None, name) in self.functions:
             return (None, name)
@@ -257,28 +261,20 @@ def line(name, said, modules, crate):
     return f"| {name} | {said} | {shown_beneath(modules, crate)} |\n"
 
 
-def with_table(text, table):
-    """A README with this table in place of its own; without a table, if there is none."""
-    kept = re.sub(rf"\n*^{HEADING}\n.*?(?=^## |\Z)", "\n", text, flags=re.M | re.S)
-    return kept.rstrip("\n") + "\n" + (f"\n{HEAD}{table}" if table else "")
+def page():
+    tables = ((folder.name, "".join(rows(Crate(folder)))) for folder in sorted(TOP.glob("crates/*/")))
+    return HEAD + "".join(TABLE.format(crate=crate) + table for crate, table in tables if table)
 
 
 def main():
     if sys.argv[1:] not in ([], ["--write"]):
         sys.exit(__doc__)
-    stale = []
-    for folder in sorted(TOP.glob("crates/*")):
-        page = folder / "README.md"
-        if not page.exists():
-            continue
-        text = with_table(page.read_text(), "".join(rows(Crate(folder))))
-        if text != page.read_text():
-            stale.append(str(page.relative_to(TOP)))
-            if sys.argv[1:]:
-                page.write_text(text)
-    if stale and not sys.argv[1:]:
-        sys.exit("not as scripts/gate/proof_tables.py --write leaves them: " + ", ".join(stale))
-    print(f"{len(stale)} pages written" if sys.argv[1:] else "the tables are those of the proofs")
+    now = page()
+    if sys.argv[1:]:
+        PAGE.write_text(now)
+    elif not PAGE.exists() or PAGE.read_text() != now:
+        sys.exit("docs/proofs.txt is not as scripts/gate/proof_tables.py --write leaves it")
+    print("the tables are those of the proofs")
 
 
 if __name__ == "__main__":

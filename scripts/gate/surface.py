@@ -1,11 +1,11 @@
 #!/usr/bin/env python3
-"""Lists in docs/SURFACE.md every public item that a user of the libraries can name: first those that a program uses first, with
+"""Lists in docs/surface.txt every public item that a user of the libraries can name: first those that a program uses first, with
 what the doc of each says first if that has more than a few words and no public field or variant shows it; then the others,
 by their crates; each with its signature, its fields or its variants.
 
-    python3 scripts/gate/surface.py           fails if the page is stale, an item has no doc, one is `pub` for its crate alone, or
+    python3 scripts/gate/surface.py           fails if the list is stale, an item has no doc, one is `pub` for its crate alone, or
                                          docs/PROVED.md doesn't name a law (those of `productions` and `productions` by their module)
-    python3 scripts/gate/surface.py --write   writes the page
+    python3 scripts/gate/surface.py --write   writes the list
 
 The examples and the programs of test vectors are left out.
 
@@ -17,23 +17,26 @@ import textwrap
 from pathlib import Path
 
 TOP = Path(__file__).resolve().parents[2]
-PAGE = TOP / "docs" / "SURFACE.md"
+PAGE = TOP / "docs" / "surface.txt"
 ITEM = re.compile(r"pub (?:extern \"C\" )?(fn|struct|enum|trait|type|const) (\w+)")
 METHOD = re.compile(r"    (pub )?fn (\w+)")
 IMPL = re.compile(r"impl(<.*?>)? (?:(.+?) for )?(\w+)")
 USE = re.compile(r"pub use ([\w:]+?)(?:::\{([^}]*)\}| as (\w+))?;")
 LAWS = re.compile(r"(?:laws|vectors)::")
 NAMED = (
-    "unsafe_libyaml", "token_lines", "token_limits", "yaml_path", "yaml_expansion", "libyaml_composer", "token_steps",
+    "unsafe_libyaml", "token_lines", "token_limits", "yaml_path", "yaml_expansion", "yaml_keys", "yaml_bounds", "libyaml_composer", "token_steps",
     "token_steps_c", "document_steps", "document_sizes", "document_steps_c",
 )
 INNER = re.compile(r"putting::")  # a module for the crates above alone
 EXAMPLES = {"example_source", "example_theorems", "vectors_common"}
 WIDTH = 110
 
-HEAD = """# Every public item
+HEAD = """Every public item. `python3 scripts/gate/surface.py --write` makes this list.
 
-`python3 scripts/gate/surface.py --write` makes this page. Depend on `unsafe_libyaml`, which re-exports the crates of events, documents and loads, and on `token_lines`, which re-exports those of lines. `fn T::f` is a method or a function of the type `T`; a struct shown without fields has private ones; those of `steps_t` are the library's, of types that no program names. Comment and contract in the source say what each item does, [CALLING.md](CALLING.md) shows how to use it. The laws are in [PROVED.md](PROVED.md); items that only crates above use are left out.
+Depend on `unsafe_libyaml`, which re-exports the crates of events, documents and loads, and on `token_lines`, which re-exports
+those of lines. `fn T::f` is a method or a function of the type `T`; a struct shown without fields has private ones; those of
+`steps_t` are the library's, of types that no program names. Comment and contract in the source say what each item does,
+CALLING.md shows how to use it. The laws are in PROVED.md; items that only crates above use are left out.
 """
 
 FIRST = [
@@ -56,7 +59,7 @@ FIRST = [
         """,
     ),
     (
-        "Documents, and `text_at` of `yaml_path`",
+        "Documents, and text_at of yaml_path",
         """
         yaml_parser_documents yaml_parser_documents_t::iterator yaml_parser_load yaml_parser_load_all
         yaml_parser_set_max_entries yaml_document_t yaml_document_t::root yaml_document_t::items yaml_document_t::pairs
@@ -297,10 +300,8 @@ def unnamed_laws(laws):
 
 
 def block(items, is_brief=False):
-    yield "```rs"
     for item in items:
         yield from item.lines(is_brief)
-    yield "```"
 
 
 def page():
@@ -321,17 +322,17 @@ def page():
     without += unnamed_laws(laws)
     if without:
         return "", without
-    lines = [HEAD.rstrip(), "", "## What a program uses first"]
+    lines = [HEAD.rstrip(), "", "", "WHAT A PROGRAM USES FIRST"]
     for title, names in FIRST:
-        lines += ["", f"### {title}", "", *block(everything[name] for name in names.split())]
-    lines += ["", "## The others, by their crates"]
+        lines += ["", f"-- {title}", "", *block(everything[name] for name in names.split())]
+    lines += ["", "", "THE OTHERS, BY THEIR CRATES"]
     passing = {user: {name for _, name in names_passed_on(user)} for user in NAMED if user in listed}
     for crate, rows in listed.items():
         users = [user for user, names in passing.items() if crate != user and any(name in names for name, _ in rows)]
         can_name = [(n, i) for n, i in rows if crate in NAMED and not INNER.match(n) or any(n.split("::")[0] in passing[user] for user in users)]
         left = [(name, item) for name, item in in_order(can_name) if name not in first]
         if left:
-            title = f"### `{crate}`" + (f", re-exported by `{'` and `'.join(users)}`" if users and crate not in NAMED else "")
+            title = f"-- {crate}" + (f", re-exported by {' and '.join(users)}" if users and crate not in NAMED else "")
             lines += ["", title, "", *block(grouped(left), is_brief=True)]
     return "\n".join(lines) + "\n", without
 
@@ -343,7 +344,7 @@ def main():
     if sys.argv[1:] == ["--write"]:
         PAGE.write_text(text)
     elif not PAGE.exists() or PAGE.read_text() != text:
-        sys.exit("docs/SURFACE.md is stale: python3 scripts/gate/surface.py --write")
+        sys.exit("docs/surface.txt is stale: python3 scripts/gate/surface.py --write")
 
 
 if __name__ == "__main__":

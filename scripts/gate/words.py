@@ -4,7 +4,7 @@
     python3 scripts/gate/words.py [CRATE..]     pages, examples, and the comments of these crates, or of all if none is named
 
 The lines of a paragraph or of a comment are read as one text, so that a phrase over two of them is found; the first is named.
-Names of code, in backticks, in blocks or as the target of a link, are not words. SURFACE, which is made of comments, is left out.
+Names of code, in backticks, in blocks or as the target of a link, are not words.
 The words of a reader's own field stand in for those of OWN on each page but CHANGELOG, in names of mutants, in headers, in the
 first lines of scripts, and in the comments of the crates of RENAMED. STYLE, for examples and exceptions, holds there too, except
 in `specs` and `proofs`.
@@ -48,7 +48,6 @@ STYLE = {
     r"\bbut for\b": "except",
 }
 NAMED = re.compile(r"\w*(?:(?<![A-Za-z])(?:row|edit)s?(?![a-z])|(?:Row|Edit)s?(?![a-z]))\w*")
-LEFT_OUT = {"SURFACE.md"}
 OLD_PAGES = {"CHANGELOG.md"}
 CALL = re.compile(r"\b\w+\([^()]*\);")
 RENAMED = ["libyaml_types", "libyaml_grammar", "libyaml_documents", "libyaml_graphs", "unsafe_libyaml", "yaml_path", "line_reading", "line_writing",
@@ -104,7 +103,7 @@ def given_up(lines, words):
 
 def pages():
     for pattern in ("*.md", "docs/*.md", "crates/*/README.md", "bindings/*/README.md", "scripts/**/README.md"):
-        yield from (page for page in TOP.glob(pattern) if page.name not in LEFT_OUT)
+        yield from TOP.glob(pattern)
 
 
 def headers():
