@@ -10,6 +10,7 @@ pub mod PrefixTrees
 pub mod Headline
 pub mod Nesting
 pub mod NestingSoFar
+pub mod TokenNesting
 pub mod Orders
 pub mod Running
 pub mod Determining

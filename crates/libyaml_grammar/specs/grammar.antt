@@ -4,3 +4,4 @@ pub mod Order
 pub mod Events
 pub mod ValidLists
 pub mod Nesting
+pub mod TokenNesting

@@ -1,3 +1,2 @@
-pub mod Nesting
 pub mod Limited
 pub mod LimitedLaws

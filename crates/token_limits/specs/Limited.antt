@@ -1,11 +1,11 @@
 -- A bound on depth (docs/DEFINITIONS.md, "Limits"): what a limiter returns, and what a limited source gives and knows.
-use Rattle.std.specs.Prelude.{◌≡◌, ◌∷◌, ℕ, List, [], Option, None, Some, Ok, Err, codes, nat_lt, if◌then◌else◌}
+use Rattle.std.specs.Prelude.{◌≡◌, ◌≤◌, ◌++◌, ◌∷◌, ℕ, List, [], Option, None, Some, Ok, Err, codes, nat_lt, if◌then◌else◌}
 use Rattle.libyaml_types.specs.Fault.{Fault, SourceResult, scanner_fault}
 use Rattle.libyaml_types.specs.Source.{Coming, coming}
 use Rattle.libyaml_types.specs.Types.{token_type}
 use Rattle.libyaml_types.specs.declared.mark.yaml_mark_t.{yaml_mark_t}
 use Rattle.libyaml_types.specs.declared.token.yaml_token_t.{yaml_token_t}
-use Rattle.token_limits.specs.Nesting.{levels_after}
+use Rattle.libyaml_grammar.specs.grammar.TokenNesting.{levels_after, nesting}
 
 abbrev pub depth_fault : (mark : yaml_mark_t) → Fault
 depth_fault m = scanner_fault (codes "found too many levels") m
@@ -23,25 +23,19 @@ new_limiter max = record { max_depth = max; levels = 0; refused_at = None }
 abbrev pub within : (max n : ℕ) → Option ℕ
 within max n = if nat_lt max n then None else Some n
 
--- a token at this mark is counted or refused
-abbrev pub at_levels : Option ℕ → (mark : yaml_mark_t) → Limiter → Limiter
-at_levels None mark l = record l { refused_at = Some mark }
-at_levels (Some n) mark l = record l { levels = n }
-
--- once one was refused nothing changes
-abbrev pub counted : Option yaml_mark_t → Limiter → yaml_token_t → Limiter
-counted (Some m) l t = l
-counted None l t = at_levels (within l.max_depth (levels_after l.levels (token_type t.content))) t.start_mark l
+-- a token at this mark is counted or refused; once one was refused nothing changes
+abbrev pub counted : (refused_at : Option yaml_mark_t) → Option ℕ → (mark : yaml_mark_t) → Limiter → Limiter
+counted (Some m) n mark l = l
+counted None None mark l = record l { refused_at = Some mark }
+counted None (Some n) mark l = record l { levels = n }
 
 abbrev pub taken : Limiter → yaml_token_t → Limiter
-taken l t = counted l.refused_at l t
+taken l t = counted l.refused_at (within l.max_depth (levels_after l.levels (token_type t.content))) t.start_mark l
 
 -- the token, or the error of the one that was refused
 abbrev pub answer_at : (refused_at : Option yaml_mark_t) → yaml_token_t → SourceResult
 answer_at None t = Ok t
 answer_at (Some m) t = Err (depth_fault m)
-
--- a source
 
 pub record Limited (S : Type 0) : Type 0 where
   pub source : S
@@ -61,7 +55,9 @@ GivesAt gives None s answer t
 abbrev pub LimitedGives : {S : Type 0} → (S → SourceResult → S → Type 0) → Limited S → SourceResult → Limited S → Type 0
 LimitedGives gives s answer t = GivesAt gives s.limiter.refused_at s answer t
 
--- the list that it knows
+-- no prefix of the list nests deeper
+abbrev pub NestsWithin : (max : ℕ) → List yaml_token_t → Type 0
+NestsWithin max l = (before after : List yaml_token_t) → l ≡ before ++ after → nesting before ≤ max
 
 abbrev pub after_token : yaml_token_t → Coming → Coming
 after_token t c = coming (t ∷ c.tokens) c.fault

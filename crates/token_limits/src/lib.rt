@@ -1,7 +1,4 @@
-//! A bound on depth for tokens, before a parser takes them.
-//!
-//! A parser over a limited source reads the tokens within the bound alone. A parser that is handed its tokens
-//! is bounded by a call of the limiter before each push.
+//! A bound on depth for tokens, before a parser takes them: a source within it, and a call before each push.
 #![tactic(auto)]
 
 pub mod laws;

@@ -2,8 +2,8 @@
 ghost use Rattle.std.specs.Prelude.{◌≡◌};
 ghost use Rattle.libyaml_types.specs.Fault.{source_fault};
 ghost use Rattle.libyaml_types.specs.Source.{answer_in};
+ghost use Rattle.libyaml_grammar.specs.grammar.TokenNesting.{levels_after};
 ghost use Rattle.token_limits.specs.Limited.{answer_at, depth_fault, new_limiter, taken, within};
-ghost use Rattle.token_limits.specs.Nesting.{levels_after};
 
 use libyaml_types::{yaml_mark_t, yaml_source_fault_t, yaml_token_t, yaml_token_type_t};
 use std::marker::Model;

@@ -46,8 +46,7 @@ impl<S> yaml_limited_source_t<S> {
     pub fn into_source(self) -> S
         ensures { result ≡ self.source }
     {
-        let yaml_limited_source_t { source, .. } = self;
-        source
+        self.source
     }
 }
 
@@ -60,9 +59,9 @@ impl<S: yaml_token_source_t> yaml_token_source_t for yaml_limited_source_t<S> {
 
     ghost may_break = { λ s. S.may_break s.source };
 
-    ghost falls = { limited_falls S.bound S.gives S.falls };
+    ghost falls = { limited_falls S.gives S.bound S.falls };
 
-    ghost follows = { limited_follows S.known S.may_break S.gives S.follows };
+    ghost follows = { limited_follows S.gives S.known S.may_break S.follows };
 
     ghost repeats = { limited_repeats S.gives S.repeats };
 
@@ -72,8 +71,7 @@ impl<S: yaml_token_source_t> yaml_token_source_t for yaml_limited_source_t<S> {
     ///
     /// The source's; or the scanner error `found too many levels`.
     fn next_token(&mut self) -> Result<yaml_token_t, yaml_source_fault_t> {
-        let content = unnamed_yaml_token_t_data::NoToken;
-        let mut token = yaml_token_t::new(content, ZERO_MARK, ZERO_MARK);
+        let mut token = yaml_token_t::new(unnamed_yaml_token_t_data::NoToken, ZERO_MARK, ZERO_MARK);
         self.next_token_into(&mut token)?;
         Ok(token)
     }

@@ -4,6 +4,7 @@ pub mod Told
 pub mod Found
 pub mod Whole
 pub mod Kept
+pub mod Marks
 pub mod Tied
 pub mod Running
 pub mod Stacks

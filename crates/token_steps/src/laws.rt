@@ -10,8 +10,10 @@ ghost use Rattle.libyaml_grammar.specs.runs.Runs.{Ends, Fails, IsRun};
 ghost use Rattle.libyaml_grammar.specs.grammar.Nesting.{NestsSoFar};
 ghost use Rattle.libyaml_grammar.specs.grammar.Order.{is_accepted};
 ghost use Rattle.libyaml_grammar.specs.grammar.ValidLists.{has_end};
+ghost use Rattle.libyaml_grammar.specs.grammar.TokenNesting.{IsNestingOfTaken};
 ghost use Rattle.libyaml_grammar.specs.grammar.Tokens.{Token};
-ghost use Rattle.libyaml_events.specs.machine.Config.{Handles, no_handles};
+ghost use Rattle.libyaml_automaton.specs.Config.{Within};
+ghost use Rattle.libyaml_events.specs.machine.Config.{Handles, Machine, no_handles};
 ghost use Rattle.libyaml_events.specs.machine.Machine.{declared_by, resolve};
 ghost use Rattle.libyaml_events.specs.parsers.Stages.{open_collections, stage_of};
 ghost use Rattle.libyaml_events.specs.sources.Parsing.{IsWhole, StopsShort};
@@ -20,11 +22,12 @@ ghost use Rattle.token_steps.specs.declared.tags.handles.handle_t.{handle_t};
 ghost use Rattle.token_steps.specs.Handles.{AreHandlesWithin, bytes_at, handles_at};
 ghost use Rattle.token_steps.specs.RunLaws.{BetweenTokens, FailsInHand, ForFailed, ForRuns, ForStacks};
 ghost use Rattle.token_steps.specs.RunLaws.{ForExactRuns, ForExactStacks, NextTypes, RunIsFed};
-ghost use Rattle.token_steps.specs.Runs.{ExactRun};
-ghost use Rattle.token_steps.specs.SeenRuns.{SeenRun};
+ghost use Rattle.token_steps.specs.Runs.{ExactRun, Run};
+ghost use Rattle.token_steps.specs.SeenRuns.{SeenRun, seen_in_hand};
 ghost use Rattle.token_steps.specs.declared.steps.steps_t.{steps_t};
 ghost use Rattle.libyaml_types.specs.declared.mark.yaml_mark_t.{yaml_mark_t};
-ghost use Rattle.libyaml_events.specs.machine.Want.{Texts};
+ghost use Rattle.libyaml_events.specs.machine.Want.{Texts, Want};
+ghost use Rattle.libyaml_events.specs.sources.Pushed.{Fed};
 ghost use Rattle.libyaml_grammar.specs.grammar.Events.{Event};
 
 /// Some parser was handed what a caller passed in, and gave what the caller was given, with the texts that it
@@ -79,6 +82,21 @@ pub fn exact_runs()
     ensures at_most_four { ForExactRuns (λ tokens events. length events ≤ 4 * length tokens) }
     ensures states { ForExactStacks (λ states _ events. states ≤ open_collections (stage_of events) + 1) }
     ensures marks { ForExactStacks (λ _ marks events. marks ≤ open_collections (stage_of events)) }
+{}
+
+/// The stack of marks of a machine, which is a parser's or that of a caller's steps, holds as many as the tokens
+/// that it took nest deep. So a bound on their nesting is one on the size of that stack. Of exact steps these
+/// are the tokens as they are seen, with an empty scalar in the place of one that is lost.
+pub fn marks_are_nesting()
+    ensures machine { (w : Want) (c : Machine) (o : Option Token) (l : List Token) (g : List Event)
+        → Fed w c o l g → IsNestingOfTaken o l (length c.marks) }
+    ensures steps { (d : steps_t) (ss : List ℕ) (ms : List yaml_mark_t) (hs : Handles) (kept : Texts)
+        (o : Option Token) (l : List Token) (g : List Event) → Run d ss ms hs kept o l g
+        → Within d.machine ss ms → IsNestingOfTaken o l d.machine.marks_count }
+    ensures exact_steps { (d : steps_t) (ss : List ℕ) (ms : List yaml_mark_t) (hs : Handles) (kept : Texts)
+        (o : Option Token) (l : List Token) (g : List Event) → ExactRun d ss ms hs kept o l g
+        → Within d.machine ss ms → (seen : SeenRun d ss ms hs kept o l g)
+        × IsNestingOfTaken (seen_in_hand d o) seen.tokens d.machine.marks_count }
 {}
 
 /// The functions over a table of handles return the facts of tokens, if the table stands for the document's

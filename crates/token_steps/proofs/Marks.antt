@@ -3,12 +3,12 @@ use Rattle.std.proofs.Common.{◌≡◌, ◌∷◌, ◌++◌, ◌∙◌, ℕ, Li
 use Rattle.libyaml_types.specs.Types.{token_type}
 use Rattle.libyaml_types.specs.declared.token.yaml_token_t.{yaml_token_t}
 use Rattle.libyaml_grammar.specs.grammar.Events.{Event}
+use Rattle.libyaml_grammar.specs.grammar.TokenNesting.{IsNestingOfTaken, levels_after, nesting}
+use Rattle.libyaml_grammar.proofs.exported.TokenNesting.{nesting_on}
 use Rattle.libyaml_events.specs.machine.Config.{Machine}
 use Rattle.libyaml_events.specs.machine.Machine.{Progressed, step}
 use Rattle.libyaml_events.specs.machine.Want.{Given, Want, Wants}
 use Rattle.libyaml_events.specs.sources.Trace.{Moment, Next, Reached, StepLeads, Trace, after_event, amid, goes_on, here}
-use Rattle.token_limits.specs.Nesting.{IsNestingOfTaken, levels_after, nesting}
-use Rattle.token_limits.proofs.Lists.{nesting_on}
 
 -- n marks before a step with the token t, and m after it: it was taken, or is in hand
 

@@ -2,6 +2,7 @@ use Rattle.std.proofs.Common.{◌≡◌, ◌≤◌, ℕ, List, Option, length, s
 use Rattle.std.proofs.lemmas.List.{length-reverse, length-take-le}
 use Rattle.libyaml_types.specs.declared.mark.yaml_mark_t.{yaml_mark_t}
 use Rattle.libyaml_grammar.specs.grammar.Events.{Event}
+use Rattle.libyaml_grammar.specs.grammar.TokenNesting.{IsNestingOfTaken}
 use Rattle.libyaml_grammar.specs.grammar.Tokens.{Token}
 use Rattle.libyaml_automaton.specs.Config.{Within, marks_of}
 use Rattle.libyaml_events.specs.machine.Config.{Handles}
@@ -9,9 +10,8 @@ use Rattle.libyaml_events.specs.machine.Want.{Texts}
 use Rattle.token_steps.specs.Runs.{Run}
 use Rattle.token_steps.specs.declared.steps.steps_t.{steps_t}
 use Rattle.token_steps.proofs.exported.Runs.{fed, seen_run}
-use Rattle.token_limits.specs.Nesting.{IsNestingOfTaken}
-use Rattle.token_limits.proofs.Marks.{counted}
-use Rattle.token_limits.proofs.laws.marks.Goals as goal
+use Rattle.token_steps.proofs.Marks.{counted}
+use Rattle.token_steps.proofs.laws.marks_are_nesting.Goals as goal
 
 count_of_marks : (n : ℕ) (ms : List yaml_mark_t) → n ≤ length ms → length (marks_of n ms) ≡ n
 unfolding marks_of

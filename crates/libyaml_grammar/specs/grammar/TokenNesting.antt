@@ -1,5 +1,5 @@
 -- How deep tokens nest (docs/DEFINITIONS.md, "Limits"): the collections that they open, less those that they close.
-use Rattle.std.specs.Prelude.{◌≡◌, ◌≤◌, ◌-◌, ◌++◌, ◌∷◌, ℕ, suc, List, [], Option, None, Some}
+use Rattle.std.specs.Prelude.{◌≡◌, ◌-◌, ◌++◌, ◌∷◌, ℕ, suc, List, [], Option, None, Some}
 use Rattle.libyaml_types.specs.Types.{token_type}
 use Rattle.libyaml_types.specs.declared.enums.yaml_token_type_t.{yaml_token_type_t}
 use Rattle.libyaml_types.specs.declared.enums.yaml_token_type_t.TheVariants as kinds
@@ -22,10 +22,6 @@ nesting_from n (t ∷ l) = nesting_from (levels_after n (token_type t.content)) 
 
 abbrev pub nesting : List yaml_token_t → ℕ
 nesting l = nesting_from 0 l
-
--- no prefix of the list nests deeper
-abbrev pub NestsWithin : (max : ℕ) → List yaml_token_t → Type 0
-NestsWithin max l = (before after : List yaml_token_t) → l ≡ before ++ after → nesting before ≤ max
 
 -- the nesting of the tokens that were taken: of all but the one in hand, if one is
 abbrev pub IsNestingOfTaken : Option yaml_token_t → List yaml_token_t → (n : ℕ) → Type 0
