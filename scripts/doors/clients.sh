@@ -236,13 +236,13 @@ preload() {
 # Each short list of tokens, through the preload's source and libyaml's own parser. A library that frees no anchor is seen.
 all_lists() {
     words='-O1 -g -D_GNU_SOURCE -Wall -Wextra -Werror -Ibindings/c/include -fsanitize=address,undefined -fno-sanitize-recover=all'
-    mkdir -p "$work/turned/scripts/doors/clients" "$work/turned/bindings/c"
-    cp scripts/doors/clients/all_lists.c scripts/doors/clients/token_lists.h "$work/turned/scripts/doors/clients"
-    cp bindings/c/libyaml_preload.c "$work/turned/bindings/c"
-    sed 's/^        free(held->anchor);$//' bindings/c/libyaml_events.h > "$work/turned/bindings/c/libyaml_events.h"
-    ! cmp -s bindings/c/libyaml_events.h "$work/turned/bindings/c/libyaml_events.h" || { echo "nothing is turned"; return 1; }
+    mkdir -p "$work/turned_c/scripts/doors/clients" "$work/turned_c/bindings/c"
+    cp scripts/doors/clients/all_lists.c scripts/doors/clients/token_lists.h "$work/turned_c/scripts/doors/clients"
+    cp bindings/c/libyaml_preload.c "$work/turned_c/bindings/c"
+    sed 's/^        free(held->anchor);$//' bindings/c/libyaml_events.h > "$work/turned_c/bindings/c/libyaml_events.h"
+    ! cmp -s bindings/c/libyaml_events.h "$work/turned_c/bindings/c/libyaml_events.h" || { echo "nothing is turned"; return 1; }
     cc $words -o "$work/all_lists" scripts/doors/clients/all_lists.c "$dir/libpokhvizi.a" -lyaml -ldl &&
-        cc $words -o "$work/all_lists_turned" "$work/turned/scripts/doors/clients/all_lists.c" "$dir/libpokhvizi.a" -lyaml -ldl || return 1
+        cc $words -o "$work/all_lists_turned" "$work/turned_c/scripts/doors/clients/all_lists.c" "$dir/libpokhvizi.a" -lyaml -ldl || return 1
     if ASAN_OPTIONS=detect_leaks=0 "$work/all_lists_turned" 3 2 1 > "$work/calls" 2>&1; then
         echo "a library that frees no anchor should be seen"
         return 1
@@ -275,14 +275,14 @@ python_lists() {
     cc -O1 -g -D_GNU_SOURCE -Wall -Wextra -Werror -fPIC -shared -o "$work/python_lists.so" scripts/doors/clients/python_lists.c &&
         lists_extension "$work/lists" bindings/python/src/_yaml bindings/c || return 1
     for turned in bindings/python/src/_yaml/documents.c bindings/c/libyaml_events.h; do
-        rm -rf "$work/turned"
-        mkdir -p "$work/turned"
-        cp -R bindings/python/src/_yaml bindings/c "$work/turned"
-        at=$work/turned/$(basename "$(dirname "$turned")")/$(basename "$turned")
+        rm -rf "$work/turned_python"
+        mkdir -p "$work/turned_python"
+        cp -R bindings/python/src/_yaml bindings/c "$work/turned_python"
+        at=$work/turned_python/$(basename "$(dirname "$turned")")/$(basename "$turned")
         sed -i -e '/^    Py_XDECREF(anchor);$/d' -e '/^        free(held->anchor);$/d' "$at"
         ! cmp -s "$turned" "$at" || { echo "nothing is turned"; return 1; }
-        lists_extension "$work/turned/lists" "$work/turned/_yaml" "$work/turned/c" || return 1
-        if lists_run "$work/turned/lists" 3 0 0 || ! grep -q '^wrong: ' "$work/calls"; then
+        lists_extension "$work/turned_python/lists" "$work/turned_python/_yaml" "$work/turned_python/c" || return 1
+        if lists_run "$work/turned_python/lists" 3 0 0 || ! grep -q '^wrong: ' "$work/calls"; then
             echo "what is turned should be seen: $turned"
             return 1
         fi
