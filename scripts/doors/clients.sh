@@ -3,29 +3,29 @@
 #
 #     sh scripts/doors/clients.sh DIR [CHECK..]
 #
-# DIR has the libraries that build_c.sh, or build_plain.sh, made there. Each check compares the two; what differs is listed by name, with its
-# reason, in a file of scripts/doors/clients/, and anything else fails, as does a name that is listed and doesn't differ. The
-# checks, of which all are run if none is named:
+# DIR has the libraries that build_c.sh, or build_plain.sh, made there. Each check compares the two. With the fixes, where it tries
+# them too, and in loaders in Python some things differ: these are listed by name, with a reason, in a file of scripts/doors/clients/.
+# Anything else that differs fails, as does a name that is listed and doesn't. The checks, of which all are run if none is named:
 #
 #     preload            this parser by LD_PRELOAD (bindings/c/libyaml_preload.c): each of its allocations refused, parsers deleted,
-#                        moved, used after a fault and by threads; bounds; libyaml's memory over 7 MB, for events and for documents; and
-#                        if valgrind is there, the instructions of loads, which are at most libyaml's, or 1.03 of them if
-#                        build_plain.sh made the library
+#                        moved, used after a fault and by threads, also with the fixes; bounds; libyaml's memory over 7 MB, for
+#                        events and for documents; and if valgrind is there, the instructions of loads, which are at most
+#                        libyaml's, or 1.03 of them if build_plain.sh made the library
 #     all_lists          each list of up to five tokens, through the preload's source and libyaml's own parser: events, documents
 #                        and errors, each allocation failed in turn, bounds, parses and loads and scans in each order, under sanitizers
 #     python_lists       each list of up to four tokens, through the extension of bindings/python and PyYAML's C loaders: tokens, events,
 #                        nodes and errors, each allocation of libyaml_events.h failed in turn, bounds, calls in each order
 #     events             libyaml's events and nodes of YAML files of this machine, broken texts and the YAML test suite,
-#                        preloaded, with all fields
+#                        preloaded, with all fields, and with the fixes
 #     pipe_c             events before a slow pipe's end, preloaded
-#     pyyaml_c           PyYAML's own tests of its C form, preloaded
-#     psych              Ruby's psych over YAML files of this machine and the YAML test suite, preloaded
+#     pyyaml_c           PyYAML's own tests of its C form, preloaded, and with the fixes
+#     psych              Ruby's psych over YAML files of this machine and the YAML test suite, preloaded, and with the fixes
 #     pyyaml_pure        PyYAML's own tests of its form in Python, over bindings/python
 #     loaders            the SafeLoader of bindings/python and PyYAML's over the test suite, PyYAML's test data and broken texts
 #     pipe_python        events before a slow pipe's end, by that SafeLoader
-#     pyyaml_ext         PyYAML's own tests of its C form, over the extension of bindings/python
+#     pyyaml_ext         PyYAML's own tests of its C form, over the extension of bindings/python, and with the fixes
 #     cloaders           the C loaders of bindings/python and PyYAML's over YAML files of this machine, PyYAML's test data, the
-#                        test suite and broken texts, with all fields
+#                        test suite and broken texts, with all fields, and with the fixes
 #     exact_c            preloaded, over 20,000 drawn texts: libyaml's events, nodes and errors, and with the fixes others; and over
 #                        YAML files of this machine; SEED is another draw
 #     exact_python       the same of the C loaders of bindings/python, and of PyYAML's
@@ -40,7 +40,7 @@
 #                        document, small documents and anchors they are at most 1.11, 1.07 and .3 of the original's, or 1.13 and
 #                        1.09 if build_plain.sh made the library
 #     pipe_rust          events before a slow pipe's end, by that crate
-#     yaml_test_suite    the parser of unsafe-libyaml's own tests over the YAML test suite
+#     yaml_test_suite    the parser of unsafe-libyaml's own tests over the YAML test suite, and with the fixes
 #     serde_yaml         serde_yaml's own tests
 #
 # Sources are those of Debian's packages pyyaml (6.0.2 or later) and libyaml-pp-perl (which has the YAML test suite), by
@@ -130,11 +130,12 @@ check() {
     fi
 }
 
-# Fails where the names in a file are not those of a list; a line of a list is a name, two spaces and a reason.
+# as_listed NAMES LIST WHAT [HOW]: fails where the names in a file are not those of a list, whose lines are a name, two spaces and a
+# reason; says of what and how they differ.
 as_listed() {
     grep -v '^#' "$lists/$2.txt" | sed 's/  .*//' | sort -u > "$work/listed"
     sort -u "$1" | diff "$work/listed" - || { echo "< listed and alike, > differs and not listed"; return 1; }
-    echo "$3, of which $(wc -l < "$work/listed") differ as scripts/doors/clients/$2.txt says"
+    echo "$3, of which $(wc -l < "$work/listed") differ${4:+ $4} as scripts/doors/clients/$2.txt says"
 }
 
 # ---- libyaml, preloaded ----
@@ -207,7 +208,7 @@ preload() {
     cc -O1 -g -Wall -Wextra -Werror -fPIC -shared -o "$work/libconstructor.so" scripts/doors/clients/constructor.c -lyaml &&
         cc -O1 -g -Wall -Wextra -Werror -Ibindings/c/include -o "$work/preload_calls" scripts/doors/clients/preload_calls.c \
             "$dir/libpokhvizi.a" -L"$work" -Wl,-rpath,"$work" -lconstructor -lyaml -lpthread || return 1
-    if "$work/preload_calls" > "$work/calls" 2>&1; then
+    if POKHVIZI_FIXES=1 "$work/preload_calls" > "$work/calls" 2>&1; then
         echo "without the preload, the calls should differ"
         return 1
     fi
@@ -230,7 +231,8 @@ preload() {
     done
     within 20 30 40 || return 1
     said=$(LD_PRELOAD=$preloaded "$work/preload_calls") || { echo "$said"; return 1; }
-    echo "$said$memory"
+    with=$(POKHVIZI_FIXES=1 LD_PRELOAD=$preloaded "$work/preload_calls") || { echo "with the fixes: $with"; return 1; }
+    echo "$said; with the fixes $with$memory"
 }
 
 # Each short list of tokens, through the preload's source and libyaml's own parser. A library that frees no anchor is seen.
@@ -431,17 +433,19 @@ events() {
         for list in files cases texts; do
             (cd "$suite" && "$work/events" $what < "$work/$list") > "$work/plain_$list" || return 1
             (cd "$suite" && LD_PRELOAD=$preloaded "$work/events" $what < "$work/$list") > "$work/proved_$list" || return 1
-            differing_files "$work/plain_$list" "$work/proved_$list" | sed -E 's#^\./(.*)/in.yaml$#\1#' >> "$work/differ"
+            (cd "$suite" && POKHVIZI_FIXES=1 LD_PRELOAD=$preloaded "$work/events" $what < "$work/$list") > "$work/fixes_$list" || return 1
+            cmp "$work/plain_$list" "$work/proved_$list" || { differing_files "$work/plain_$list" "$work/proved_$list"; return 1; }
+            differing_files "$work/plain_$list" "$work/fixes_$list" | sed -E 's#^\./(.*)/in.yaml$#\1#' >> "$work/differ"
         done
     done
     grep -x -F -f "$work/files" "$work/differ" > "$work/differ_files"
     while read -r file; do
-        # A file of the machine may be read only where libyaml refuses what docs/DIFFERENCES.md says is read here.
+        # With the fixes a file of the machine may be read where libyaml refuses what docs/DIFFERENCES.md says is read so.
         echo "$file" | "$work/events" files 2>&1 | grep -q -E "^error 4 did not find expected (key|<document start>)" ||
             { echo "$file is read otherwise"; return 1; }
     done < "$work/differ_files"
     grep -v -x -F -f "$work/files" "$work/differ" > "$work/differ_cases"
-    as_listed "$work/differ_cases" psych "$(wc -l < "$work/files") files, of which $(sort -u "$work/differ_files" | wc -l) that libyaml refuses differ; $(cat "$work/cases" "$work/texts" | wc -l) cases and texts"
+    as_listed "$work/differ_cases" psych "$(wc -l < "$work/files") files as by libyaml, and $(sort -u "$work/differ_files" | wc -l) that it refuses read with the fixes; $(cat "$work/cases" "$work/texts" | wc -l) cases and texts as by it" 'with the fixes'
 }
 
 # pipe WORD.. -- WORD..: the events of the first command come with their lines; those of the second, which reads to the end, don't.
@@ -486,28 +490,32 @@ pyyaml_tests() {
 }
 
 pyyaml_c() {
-    said=$(cd / && LD_PRELOAD=$preloaded "$python" -c 'import yaml; print(len(list(yaml.parse("a\n...\nb\n", yaml.CLoader))))')
+    said=$(cd / && POKHVIZI_FIXES=1 LD_PRELOAD=$preloaded "$python" -c 'import yaml; print(len(list(yaml.parse("a\n...\nb\n", yaml.CLoader))))')
     [ "$said" = 8 ] || { echo "$python doesn't take libyaml from its shared library: $said"; return 1; }
-    pyyaml_tests "$python test_yaml_ext.py" "env LD_PRELOAD=$preloaded $python test_yaml_ext.py" pyyaml_c
+    for fixes in 0 1; do
+        pyyaml_tests "$python test_yaml_ext.py" "env POKHVIZI_FIXES=$fixes LD_PRELOAD=$preloaded $python test_yaml_ext.py" pyyaml_c || return 1
+    done
 }
 
 psych() {
-    [ "$($ruby scripts/doors/clients/psych.rb --bare) $(LD_PRELOAD=$preloaded $ruby scripts/doors/clients/psych.rb --bare)" = "refused read" ] ||
+    [ "$($ruby "$lists/psych.rb" --bare) $(POKHVIZI_FIXES=1 LD_PRELOAD=$preloaded $ruby "$lists/psych.rb" --bare)" = "refused read" ] ||
         { echo "$ruby doesn't take libyaml from its shared library"; return 1; }
     name_files > "$work/files"
     (cd "$suite" && find . -name in.yaml | sort) > "$work/cases"
     for list in files cases; do
         (cd "$suite" && $ruby "$lists/psych.rb" < "$work/$list") > "$work/plain_$list" || return 1
         (cd "$suite" && LD_PRELOAD=$preloaded $ruby "$lists/psych.rb" < "$work/$list") > "$work/proved_$list" || return 1
-        diff "$work/plain_$list" "$work/proved_$list" | sed -n 's/^< //p' > "$work/differ_$list"
+        (cd "$suite" && POKHVIZI_FIXES=1 LD_PRELOAD=$preloaded $ruby "$lists/psych.rb" < "$work/$list") > "$work/fixes_$list" || return 1
+        diff "$work/plain_$list" "$work/proved_$list" || return 1
+        diff "$work/plain_$list" "$work/fixes_$list" | sed -n 's/^< //p' > "$work/differ_$list"
     done
-    # A file of the machine may be read only where libyaml refuses what docs/DIFFERENCES.md says is read here.
+    # With the fixes a file of the machine may be read where libyaml refuses what docs/DIFFERENCES.md says is read so.
     if grep -v -E "refused: did not find expected (key|<document start>)" "$work/differ_files"; then
         echo "files of this machine are read otherwise"
         return 1
     fi
     sed -E 's#^\./(.*)/in.yaml\t.*#\1#' "$work/differ_cases" > "$work/differ"
-    as_listed "$work/differ" psych "$(wc -l < "$work/files") files, of which $(wc -l < "$work/differ_files") that libyaml refuses differ; $(wc -l < "$work/cases") cases"
+    as_listed "$work/differ" psych "$(wc -l < "$work/files") files as by libyaml, and $(wc -l < "$work/differ_files") that it refuses read with the fixes; $(wc -l < "$work/cases") cases as by it" 'with the fixes'
 }
 
 # ---- PyYAML in Python ----
@@ -536,7 +544,9 @@ build_extension() {
 }
 
 pyyaml_ext() {
-    pyyaml_tests "$python $lists/pyyaml_ext.py plain" "$python $lists/pyyaml_ext.py proved" pyyaml_c
+    for how in proved fixes; do
+        pyyaml_tests "$python $lists/pyyaml_ext.py plain" "$python $lists/pyyaml_ext.py $how" pyyaml_c || return 1
+    done
 }
 
 cloaders() {
@@ -545,13 +555,17 @@ cloaders() {
     find "$tests/data" "$top/scripts/parts/broken" "$top/scripts/parts/whole" "$top/examples" -type f ! -name '*.py' | sort > "$work/texts"
     : > "$work/differ"
     for list in files cases texts; do
-        (cd "$suite" && PYTHONPATH=$work/python "$python" "$lists/cloaders.py" < "$work/$list") > "$work/made" 2> "$work/count" ||
-            { cat "$work/count"; return 1; }
-        cut -f 1 "$work/made" | sed -E 's#^\./(.*)/in.yaml$#\1#; s#^/.*/##' >> "$work/differ"
+        for how in '' --fixes; do
+            (cd "$suite" && PYTHONPATH=$work/python "$python" "$lists/cloaders.py" $how < "$work/$list") > "$work/made" 2> "$work/count" ||
+                { cat "$work/count"; return 1; }
+            [ -n "$how" ] || [ ! -s "$work/made" ] || { cat "$work/made"; return 1; }
+            cut -f 1 "$work/made" | sed -E 's#^\./(.*)/in.yaml$#\1#; s#^/.*/##' >> "$work/differ"
+        done
     done
     tail -n 1 "$work/texts" | PYTHONPATH=$work/python "$python" "$lists/cloaders.py" --turned > "$work/turned" 2> "$work/count"
     [ -s "$work/turned" ] || { echo "what is turned doesn't differ"; return 1; }
-    as_listed "$work/differ" cloaders "$(wc -l < "$work/files") files, $(cat "$work/cases" "$work/texts" | wc -l) cases and texts"
+    as_listed "$work/differ" cloaders "$(wc -l < "$work/files") files, $(cat "$work/cases" "$work/texts" | wc -l) cases and texts as by libyaml" \
+        'with the fixes'
 }
 
 # ---- Rust ----
@@ -645,27 +659,29 @@ pipe_rust() {
 yaml_test_suite() {
     prepare_cargo
     set -- "$crates"/unsafe-libyaml-*
-    for how in plain proved; do
+    for how in plain proved fixes; do
         runner=$work/runner_$how
         mkdir -p "$runner/src"
         cp -R "$1/src/bin/." "$runner/src"
         printf '[package]\nname = "runner"\nversion = "0.0.0"\nedition = "2021"\n[[bin]]\nname = "runner_%s"\n' $how > "$runner/Cargo.toml"
-        printf 'path = "src/run-parser-test-suite.rs"\n[dependencies]\nunsafe-libyaml = "0.2"\n' >> "$runner/Cargo.toml"
+        printf 'path = "src/run-parser-test-suite.rs"\n[dependencies.unsafe-libyaml]\nversion = "0.2"\n' >> "$runner/Cargo.toml"
+        [ $how != fixes ] || echo 'features = ["fixes"]' >> "$runner/Cargo.toml"
         copy_crate "$runner" "$work/built_$how" $how
         (cd "$work/built_$how" && cargo build -q -j 1) || return 1
     done
-    uses_patch "$work/built_proved" || return 1
+    uses_patch "$work/built_proved" && uses_patch "$work/built_fixes" || return 1
     (cd "$suite" && find . -name in.yaml | sort) > "$work/cases"
     : > "$work/differ"
     while read -r case; do
         folder=$(dirname "${case#./}")
-        for how in plain proved; do
+        for how in plain proved fixes; do
             "$CARGO_TARGET_DIR/debug/runner_$how" "$suite/$case" > "$work/$how" 2>&1
             echo "status $?" >> "$work/$how"
         done
-        cmp -s "$work/plain" "$work/proved" || echo "$folder" >> "$work/differ"
+        diff "$work/plain" "$work/proved" || { echo "$folder is read otherwise"; return 1; }
+        cmp -s "$work/plain" "$work/fixes" || echo "$folder" >> "$work/differ"
     done < "$work/cases"
-    as_listed "$work/differ" yaml_test_suite "$(wc -l < "$work/cases") cases"
+    as_listed "$work/differ" yaml_test_suite "$(wc -l < "$work/cases") cases as by the original" 'with the fixes'
 }
 
 serde_yaml() {

@@ -1,11 +1,11 @@
 """Names the texts that a C loader of PyYAML and one of this package read differently: other tokens, events, nodes, values or errors.
 
-    cloaders.py [--turned] < NAMES
+    cloaders.py [--turned | --fixes] < NAMES
 
 NAMES are of files, a line each. All fields are compared, and all marks. Each text is read as bytes, from a file that gives few
 bytes at a time, and as a string if it is UTF-8. Prints a line for each file that differs: its name, how it was read, and what
-PyYAML's reading ended with. With `--turned` the proved loaders read another text, so all have to differ. The last line, on standard
-error, has how many were read.
+PyYAML's reading ended with. With `--turned` the proved loaders read another text, so all have to differ; with `--fixes` they have the
+fixes. The last line, on standard error, has how many were read.
 
 Run by clients.sh.
 """
@@ -103,6 +103,14 @@ READINGS = {
 }
 
 
+class Fixed:
+    """The loaders of this package with the fixes, by the names that the readings take."""
+
+
+for loader in "CBaseLoader", "CSafeLoader", "CFullLoader", "CLoader":
+    setattr(Fixed, loader, type(loader, (getattr(pokhvizi, loader),), {"fixes": True}))
+
+
 def sources(text):
     yield bytes
     yield Slow
@@ -115,15 +123,16 @@ def sources(text):
 
 def main(words):
     count = 0
+    proved_loaders = Fixed if words == ["--fixes"] else pokhvizi
     for name in sys.stdin.read().splitlines():
         with open(name, "rb") as file:
             text = file.read()
         count += 1
         for source in sources(text):
             for reading, read in READINGS.items():
-                proved = text + b"\n---\nturned: [" if words else text
+                proved = text + b"\n---\nturned: [" if words == ["--turned"] else text
                 plain = read(source(text), yaml)
-                if plain != read(source(proved), pokhvizi):
+                if plain != read(source(proved), proved_loaders):
                     print(name, source.__name__, reading, " ".join(str(plain[-1:]).split())[:500], sep="\t")
     print("%d texts" % count, file=sys.stderr)
 
