@@ -113,9 +113,8 @@ fn pushes_give_the_same_and_expect_each_token() {
             .collect();
         let no_more = |lines: String| {
             lines
-                .lines()
+                .split_inclusive('\n')
                 .filter(|line| !line.contains("no more tokens"))
-                .map(|line| format!("{line}\n"))
                 .collect::<String>()
         };
         assert_eq!(pushed, no_more(events(lines)), "{name}");
