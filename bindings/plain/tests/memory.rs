@@ -98,7 +98,7 @@ fn outcome_of<T>(values: impl Iterator<Item = Result<T, Error>>) -> Outcome {
 }
 
 /// The tokens of lines, made one by one: no copy of the list is needed, and each text is an allocation.
-fn made_anew<'a>(tokens: &'a [Token]) -> impl Iterator<Item = Result<Token, SourceError>> + 'a {
+fn made_anew(tokens: &[Token]) -> impl Iterator<Item = Result<Token, SourceError>> + '_ {
     tokens.iter().map(|token| {
         let data = match &token.content {
             TokenData::Scalar(scalar) => TokenData::scalar(&scalar.value, scalar.style)?,
