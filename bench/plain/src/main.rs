@@ -8,7 +8,7 @@
 #[path = "../../../bindings/plain/tests/lines/mod.rs"]
 mod lines;
 
-use pokhvizi::kit::{AllocError, Global, String as Text};
+use pokhvizi::kit::{Global, String as Text};
 use pokhvizi::libyaml_types::{
     unnamed_yaml_token_t_data_alias, unnamed_yaml_token_t_data_anchor, unnamed_yaml_token_t_data_scalar,
     unnamed_yaml_token_t_data_tag, unnamed_yaml_token_t_data_tag_directive,
@@ -38,53 +38,129 @@ impl TokenSource for Copies<'_> {
             return Err(SourceError::scanner_error("no more tokens", slot.end_mark));
         };
         self.0 = others;
-        (slot.start_mark, slot.end_mark) = (token.start_mark, token.end_mark);
-        copy_into(&token.content, &mut slot.content)?;
+        slot.start_mark = token.start_mark;
+        slot.end_mark = token.end_mark;
+        copy_into(&token.content, &mut slot.content);
         Ok(())
     }
 }
 
+/// A copy of a text by Rust's own means, as a scanner in Rust makes its texts. The peers' copies don't ask for an
+/// error either if there is no memory.
+#[inline(always)]
+fn copy(text: &str) -> Text {
+    Text::from(String::from(text))
+}
+
+/// Returns whether a content has texts.
+#[inline(always)]
+fn has_texts(data: &TokenData) -> bool {
+    use TokenData::*;
+    matches!(data, Scalar(_) | Alias(_) | Anchor(_) | Tag(_) | TagDirective(_))
+}
+
+/// Puts a content in the place of another, of which only texts are dropped.
+#[inline(always)]
+fn put(data: TokenData, slot: &mut TokenData) {
+    if has_texts(slot) {
+        drop_texts(slot);
+    }
+    std::mem::forget(std::mem::replace(slot, data));
+}
+
+#[inline(always)]
+fn drop_texts(slot: &mut TokenData) {
+    let text = match slot {
+        TokenData::Scalar(scalar) => &mut scalar.value,
+        TokenData::Alias(alias) => &mut alias.value,
+        TokenData::Anchor(anchor) => &mut anchor.value,
+        _ => return drop_two(slot),
+    };
+    *text = Text::default();
+}
+
+#[inline(never)]
+fn drop_two(slot: &mut TokenData) {
+    *slot = TokenData::NoToken;
+}
+
 /// Puts a copy of a content in the place of another.
 #[inline(always)]
-fn copy_into(data: &TokenData, slot: &mut TokenData) -> Result<(), AllocError> {
-    match data {
-        TokenData::Scalar(scalar) => {
-            let value = Text::from_str(Global, &scalar.value)?;
-            let style = scalar.style;
-            *slot = TokenData::Scalar(unnamed_yaml_token_t_data_scalar { value, style });
-            Ok(())
-        }
-        _ => copy_other(data, slot),
+fn copy_into(data: &TokenData, slot: &mut TokenData) {
+    if let TokenData::Scalar(scalar) = data {
+        copy_scalar(scalar, slot);
+    } else if is_bare(data) {
+        put(bare(data), slot);
+    } else {
+        copy_other(data, slot);
     }
 }
 
 #[inline(never)]
-fn copy_other(data: &TokenData, slot: &mut TokenData) -> Result<(), AllocError> {
-    use TokenData::*;
-    let copy = |text: &str| Text::from_str(Global, text);
+fn copy_scalar(scalar: &unnamed_yaml_token_t_data_scalar, slot: &mut TokenData) {
+    let (value, style) = (copy(&scalar.value), scalar.style);
+    put(
+        TokenData::Scalar(unnamed_yaml_token_t_data_scalar { value, style }),
+        slot,
+    );
+}
+
+#[inline(never)]
+fn copy_other(data: &TokenData, slot: &mut TokenData) {
+    match data {
+        TokenData::Tag(tag) => copy_tag(tag, slot),
+        TokenData::Anchor(anchor) => copy_anchor(anchor, slot),
+        TokenData::Alias(alias) => copy_alias(alias, slot),
+        _ => copy_rare(data, slot),
+    }
+}
+
+#[inline(never)]
+fn copy_tag(tag: &unnamed_yaml_token_t_data_tag, slot: &mut TokenData) {
+    let (handle, suffix) = (copy(&tag.handle), copy(&tag.suffix));
+    put(
+        TokenData::Tag(unnamed_yaml_token_t_data_tag { handle, suffix }),
+        slot,
+    );
+}
+
+#[inline(never)]
+fn copy_anchor(anchor: &unnamed_yaml_token_t_data_anchor, slot: &mut TokenData) {
+    let value = copy(&anchor.value);
+    put(
+        TokenData::Anchor(unnamed_yaml_token_t_data_anchor { value }),
+        slot,
+    );
+}
+
+#[inline(never)]
+fn copy_alias(alias: &unnamed_yaml_token_t_data_alias, slot: &mut TokenData) {
+    let value = copy(&alias.value);
+    put(TokenData::Alias(unnamed_yaml_token_t_data_alias { value }), slot);
+}
+
+#[inline(never)]
+fn copy_rare(data: &TokenData, slot: &mut TokenData) {
     *slot = match data {
-        StreamStart(start) => TokenData::stream_start(start.encoding),
-        VersionDirective(version) => TokenData::version_directive(version.major, version.minor),
-        TagDirective(tag) => {
-            let (handle, prefix) = (copy(&tag.handle)?, copy(&tag.prefix)?);
-            TagDirective(unnamed_yaml_token_t_data_tag_directive { handle, prefix })
+        TokenData::StreamStart(start) => TokenData::stream_start(start.encoding),
+        TokenData::VersionDirective(version) => TokenData::version_directive(version.major, version.minor),
+        TokenData::TagDirective(tag) => {
+            let (handle, prefix) = (copy(&tag.handle), copy(&tag.prefix));
+            TokenData::TagDirective(unnamed_yaml_token_t_data_tag_directive { handle, prefix })
         }
-        Alias(alias) => Alias(unnamed_yaml_token_t_data_alias {
-            value: copy(&alias.value)?,
-        }),
-        Anchor(anchor) => Anchor(unnamed_yaml_token_t_data_anchor {
-            value: copy(&anchor.value)?,
-        }),
-        Tag(tag) => {
-            let (handle, suffix) = (copy(&tag.handle)?, copy(&tag.suffix)?);
-            Tag(unnamed_yaml_token_t_data_tag { handle, suffix })
-        }
-        other => bare(other),
+        _ => TokenData::NoToken,
     };
-    Ok(())
+}
+
+/// Returns whether a content has no fields.
+#[inline(always)]
+fn is_bare(data: &TokenData) -> bool {
+    use TokenData::*;
+    !matches!(data, NoToken | StreamStart(_) | VersionDirective(_)) && !has_texts(data)
 }
 
 /// A copy of a content without fields.
+#[inline(always)]
 fn bare(data: &TokenData) -> TokenData {
     use TokenData::*;
     match data {
