@@ -2,10 +2,9 @@
 
 use super::{Document, Error, Event, TokenSource};
 use crate::kit::Global;
-use crate::libyaml_events::no_event;
 use crate::libyaml_events::{
-    yaml_parser_delete, yaml_parser_initialize, yaml_parser_parse_into, yaml_parser_set_max_entries,
-    yaml_parser_t,
+    is_event, no_event, yaml_parser_delete, yaml_parser_initialize, yaml_parser_parse_into,
+    yaml_parser_set_max_entries, yaml_parser_t,
 };
 use crate::libyaml_loader::{event_composer_t, yaml_parser_composed_events_t, yaml_parser_documents};
 use core::fmt;
@@ -29,13 +28,14 @@ impl<S: TokenSource> Parser<S> {
 
     /// Puts the next event into a variable, as the iterator returns it: the quickest loop moves no event. `None`
     /// says that there is none; the variable then has no event, [`Event::default`].
+    #[inline]
     pub fn next_into(&mut self, event: &mut Event) -> Option<Result<(), Error>> {
-        if self.parser.is_over() {
-            *event = no_event();
-            return None;
+        match yaml_parser_parse_into(&mut self.parser, event) {
+            Ok(()) if is_event(event) => Some(Ok(())),
+            // No event is put if the run is over, and only then.
+            Ok(()) => None,
+            Err(_) => Some(Err(Error::from(*self.parser.prefix()))),
         }
-        let read = yaml_parser_parse_into(&mut self.parser, event);
-        Some(read.map_err(|_| Error::from(*self.parser.prefix())))
     }
 
     /// Returns the source, in its state after the last token that was asked for.
@@ -49,7 +49,12 @@ impl<S: TokenSource> Iterator for Parser<S> {
 
     #[inline]
     fn next(&mut self) -> Option<Self::Item> {
-        self.parser.next().map(|event| event.map_err(Error::from))
+        let mut event = no_event();
+        match yaml_parser_parse_into(&mut self.parser, &mut event) {
+            Ok(()) if is_event(&event) => Some(Ok(event)),
+            Ok(()) => None,
+            Err(_) => Some(Err(Error::from(*self.parser.prefix()))),
+        }
     }
 }
 
