@@ -8,6 +8,7 @@ mod map;
 use alloc::{string, vec};
 use core::borrow::Borrow;
 use core::fmt;
+use core::mem::{self, ManuallyDrop};
 use core::ops::{Deref, DerefMut};
 
 pub use map::BTreeMap;
@@ -35,15 +36,16 @@ impl core::error::Error for AllocError {}
 
 /// A list that grows.
 #[derive(PartialEq, Eq, PartialOrd, Ord, Hash)]
-pub struct Vec<T>(vec::Vec<T>);
+pub struct Vec<T>(ManuallyDrop<vec::Vec<T>>);
 
 /// An iterator that moves the values of a list out.
 pub type IntoIter<T> = vec::IntoIter<T>;
 
 impl<T> Vec<T> {
     /// Returns an empty list. Takes no memory.
+    #[inline]
     pub const fn new(_: Global) -> Self {
-        Vec(vec::Vec::new())
+        Vec(ManuallyDrop::new(vec::Vec::new()))
     }
 
     /// Returns an empty list with this much room.
@@ -51,6 +53,7 @@ impl<T> Vec<T> {
     /// # Errors
     ///
     /// There is no memory.
+    #[inline]
     pub fn with_capacity(alloc: Global, room: usize) -> Result<Self, AllocError> {
         let mut made = Vec::new(alloc);
         made.0.try_reserve_exact(room).map_err(|_| AllocError)?;
@@ -64,6 +67,15 @@ impl<T> Vec<T> {
     /// There is no memory.
     #[inline]
     pub fn reserve(&mut self, more: usize) -> Result<(), AllocError> {
+        if more > self.0.capacity() - self.0.len() {
+            return self.grow(more);
+        }
+        Ok(())
+    }
+
+    #[cold]
+    #[inline(never)]
+    fn grow(&mut self, more: usize) -> Result<(), AllocError> {
         self.0.try_reserve(more).map_err(|_| AllocError)
     }
 
@@ -74,9 +86,13 @@ impl<T> Vec<T> {
     /// There is no memory.
     #[inline]
     pub fn push(&mut self, value: T) -> Result<(), AllocError> {
-        self.reserve(1)?;
-        self.0.push(value);
-        Ok(())
+        match self.reserve(1) {
+            Ok(()) => {
+                self.0.push(value);
+                Ok(())
+            }
+            Err(error) => refuse(value, error),
+        }
     }
 
     /// Appends a value for which there is room.
@@ -103,11 +119,13 @@ impl<T> Vec<T> {
     }
 
     /// Returns for how many values, or bytes, there is room.
+    #[inline]
     pub fn capacity(&self) -> usize {
         self.0.capacity()
     }
 
     /// Takes everything off. The room stays.
+    #[inline]
     pub fn clear(&mut self) {
         self.0.clear();
     }
@@ -125,6 +143,7 @@ impl<T> Vec<T> {
     }
 
     /// Returns the allocator.
+    #[inline]
     pub fn allocator(&self) -> &Global {
         &Global
     }
@@ -166,33 +185,67 @@ impl<T: fmt::Debug> fmt::Debug for Vec<T> {
 }
 
 impl<T> Default for Vec<T> {
+    #[inline]
     fn default() -> Self {
         Vec::new(Global)
     }
 }
 
 impl<T> AsRef<[T]> for Vec<T> {
+    #[inline]
     fn as_ref(&self) -> &[T] {
         &self.0
     }
 }
 
 impl<T> From<vec::Vec<T>> for Vec<T> {
+    #[inline]
     fn from(values: vec::Vec<T>) -> Self {
-        Vec(values)
+        Vec(ManuallyDrop::new(values))
     }
 }
 
 impl<T> From<Vec<T>> for vec::Vec<T> {
-    fn from(values: Vec<T>) -> Self {
-        values.0
+    #[inline]
+    fn from(mut values: Vec<T>) -> Self {
+        mem::take(&mut *values.0)
     }
+}
+
+/// A list of values that have something to be dropped is dropped by a function of its own: among the variants
+/// of an event one has such a list, and the others need no registers for it.
+impl<T> Drop for Vec<T> {
+    #[inline]
+    fn drop(&mut self) {
+        if self.0.capacity() == 0 {
+            return;
+        }
+        match mem::needs_drop::<T>() {
+            true => drop_values(&mut self.0),
+            false => drop(mem::take(&mut *self.0)),
+        }
+    }
+}
+
+#[inline(never)]
+fn drop_values<T>(values: &mut vec::Vec<T>) {
+    drop(mem::take(values));
+}
+
+/// Drops a value for which there is no room. As a part of `push` it would need the value in memory, and a copy
+/// to the list from there.
+#[cold]
+#[inline(never)]
+fn refuse<T>(value: T, error: AllocError) -> Result<(), AllocError> {
+    drop(value);
+    Err(error)
 }
 
 impl<'a, T> IntoIterator for &'a Vec<T> {
     type Item = &'a T;
     type IntoIter = core::slice::Iter<'a, T>;
 
+    #[inline]
     fn into_iter(self) -> Self::IntoIter {
         self.0.iter()
     }
@@ -202,8 +255,9 @@ impl<T> IntoIterator for Vec<T> {
     type Item = T;
     type IntoIter = IntoIter<T>;
 
-    fn into_iter(self) -> IntoIter<T> {
-        self.0.into_iter()
+    #[inline]
+    fn into_iter(mut self) -> IntoIter<T> {
+        mem::take(&mut *self.0).into_iter()
     }
 }
 
@@ -215,6 +269,7 @@ pub struct String(string::String);
 
 impl String {
     /// Returns an empty text. Takes no memory.
+    #[inline]
     pub const fn new(_: Global) -> Self {
         String(string::String::new())
     }
@@ -224,6 +279,7 @@ impl String {
     /// # Errors
     ///
     /// There is no memory.
+    #[inline]
     pub fn with_capacity(alloc: Global, room: usize) -> Result<Self, AllocError> {
         let mut made = String::new(alloc);
         made.0.try_reserve_exact(room).map_err(|_| AllocError)?;
@@ -236,6 +292,7 @@ impl String {
     ///
     /// There is no memory.
     #[allow(clippy::should_implement_trait)]
+    #[inline]
     pub fn from_str(alloc: Global, text: &str) -> Result<Self, AllocError> {
         let mut made = String::with_capacity(alloc, text.len())?;
         made.0.push_str(text);
@@ -247,10 +304,19 @@ impl String {
     /// # Errors
     ///
     /// There is no memory.
+    #[inline]
     pub fn push_str(&mut self, text: &str) -> Result<(), AllocError> {
-        self.0.try_reserve(text.len()).map_err(|_| AllocError)?;
+        if text.len() > self.0.capacity() - self.0.len() {
+            self.grow(text.len())?;
+        }
         self.0.push_str(text);
         Ok(())
+    }
+
+    #[cold]
+    #[inline(never)]
+    fn grow(&mut self, more: usize) -> Result<(), AllocError> {
+        self.0.try_reserve(more).map_err(|_| AllocError)
     }
 
     /// Returns the text.
@@ -260,16 +326,19 @@ impl String {
     }
 
     /// Returns for how many values, or bytes, there is room.
+    #[inline]
     pub fn capacity(&self) -> usize {
         self.0.capacity()
     }
 
     /// Takes everything off. The room stays.
+    #[inline]
     pub fn clear(&mut self) {
         self.0.clear();
     }
 
     /// Returns the allocator.
+    #[inline]
     pub fn allocator(&self) -> &Global {
         &Global
     }
@@ -285,42 +354,49 @@ impl Deref for String {
 }
 
 impl Borrow<str> for String {
+    #[inline]
     fn borrow(&self) -> &str {
         &self.0
     }
 }
 
 impl Default for String {
+    #[inline]
     fn default() -> Self {
         String::new(Global)
     }
 }
 
 impl AsRef<str> for String {
+    #[inline]
     fn as_ref(&self) -> &str {
         &self.0
     }
 }
 
 impl From<string::String> for String {
+    #[inline]
     fn from(text: string::String) -> Self {
         String(text)
     }
 }
 
 impl From<String> for string::String {
+    #[inline]
     fn from(text: String) -> Self {
         text.0
     }
 }
 
 impl PartialEq<str> for String {
+    #[inline]
     fn eq(&self, other: &str) -> bool {
         self.0 == other
     }
 }
 
 impl PartialEq<&str> for String {
+    #[inline]
     fn eq(&self, other: &&str) -> bool {
         self.0 == *other
     }
