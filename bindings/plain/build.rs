@@ -29,6 +29,11 @@ const WITH_TEXTS: [&str; 8] = [
     "token_limits",
 ];
 
+/// Enums with fields that are looked at for each token or event. Without a tag of their own rustc says their
+/// variant by what another field never is, and computes it at each look, or packs it into a number with the
+/// fields and no longer sees which variant a caller is given.
+const TAGS: [(&str, &str); 2] = [("Taken", "u8"), ("unnamed_yaml_event_t_data", "u64")];
+
 /// What rustc would warn of in the proved crates, which another compiler checks.
 const ALLOWED: &str = "#[allow(non_camel_case_types, missing_docs, unused, clippy::all)]\n";
 
@@ -83,6 +88,7 @@ fn main() {
             all: &all,
             takes,
             has_kit,
+            tags: &TAGS,
         };
         write(&of, &from.join("lib.rt"), &to.join("mod.rs"), (&from, &to));
         modules += ALLOWED;

@@ -5,8 +5,9 @@
 //! the attributes `#[tactic(..)]`, the mark `Drop` of types whose values may be let go, and modules of laws.
 //! What is written otherwise: paths that begin at a crate begin at its module, `std` is `core` or this
 //! crate's `kit`, a `Display` has no type parameter for its writer, an error has its `Display` without
-//! `thiserror`, `drop` takes a reference, and a function for C is one for Rust. Everything else is left as it
-//! is. Whatever this doesn't know ends the build, with its line.
+//! `thiserror`, `drop` takes a reference, and a function for C is one for Rust. What is added: the type of an
+//! enum's tag, which changes where rustc puts it, and nothing else. Everything else is left as it is. Whatever
+//! this doesn't know ends the build, with its line.
 
 /// What is made of a crate.
 pub struct Crate<'a> {
@@ -18,6 +19,8 @@ pub struct Crate<'a> {
     pub takes: fn(&str) -> bool,
     /// Whether texts and lists are those of the module `kit`.
     pub has_kit: bool,
+    /// Enums with fields, each with the type of the tag that says its variant.
+    pub tags: &'a [(&'a str, &'a str)],
 }
 
 /// Plain Rust, and the modules of other files that it declares.
@@ -501,6 +504,18 @@ impl<'b> Writer<'_, 'b> {
         Ok(false)
     }
 
+    /// An enum's head: whether it is one of errors is kept, and the type of its tag is written before it.
+    fn enumeration(&mut self) {
+        let name = self.ahead(1);
+        if self.is_error {
+            self.error = Some((name, Vec::new()));
+        }
+        if let Some((_, tag)) = self.of.tags.iter().find(|(of, _)| *of == name) {
+            let start = self.out.rfind('\n').map_or(0, |before| before + 1);
+            self.out.insert_str(start, &format!("#[repr({tag})] "));
+        }
+    }
+
     fn piece(&mut self) -> Result<(), Unknown> {
         let piece = self.pieces[self.place];
         let (before, is_path) = (self.before(), self.ahead(1) == ":" && self.ahead(2) == ":");
@@ -525,7 +540,7 @@ impl<'b> Writer<'_, 'b> {
                 self.out.push_str("::");
                 return Ok(());
             }
-            "enum" if self.is_error => self.error = Some((self.ahead(1), Vec::new())),
+            "enum" => self.enumeration(),
             "laws" if self.ahead(1) == "as" && ["{", ","].contains(&before) && self.ahead(3) == "," => {
                 self.take(4, false);
                 return Ok(());

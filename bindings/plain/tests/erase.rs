@@ -10,6 +10,7 @@ const OF: Crate<'static> = Crate {
     all: &["lower", "upper"],
     takes: |module| module != "laws",
     has_kit: false,
+    tags: &[("A", "u8")],
 };
 
 fn plain(text: &str) -> String {
@@ -90,6 +91,13 @@ fn types_traits_and_errors_are_those_of_rust() {
         plain("pub use lower::{\n    laws as lower_laws, a,\n};\npub use other::laws as b;\n"),
         "pub use crate::lower::{\n     a,\n};\n\n"
     );
+}
+
+#[test]
+fn enums_get_the_tags_that_are_asked_for() {
+    let text = "/// An enum A.\n#[derive(Debug, Drop)]\npub(crate) enum A {\n    B(u8),\n}\n\npub enum B {\n    A,\n}\n";
+    let wanted = "/// An enum A.\n#[derive(Debug)]\n#[repr(u8)] pub(crate) enum A {\n    B(u8),\n}\n\npub enum B {\n    A,\n}\n";
+    assert_eq!(plain(text), wanted);
 }
 
 #[test]
