@@ -81,7 +81,12 @@ fn drop_texts(slot: &mut TokenData) {
 
 #[inline(never)]
 fn drop_two(slot: &mut TokenData) {
-    *slot = TokenData::NoToken;
+    let (first, second) = match slot {
+        TokenData::Tag(tag) => (&mut tag.handle, &mut tag.suffix),
+        TokenData::TagDirective(tag) => (&mut tag.handle, &mut tag.prefix),
+        _ => return,
+    };
+    (*first, *second) = (Text::default(), Text::default());
 }
 
 /// Puts a copy of a content in the place of another.
@@ -105,7 +110,7 @@ fn copy_scalar(scalar: &unnamed_yaml_token_t_data_scalar, slot: &mut TokenData) 
     );
 }
 
-#[inline(never)]
+#[inline(always)]
 fn copy_other(data: &TokenData, slot: &mut TokenData) {
     match data {
         TokenData::Tag(tag) => copy_tag(tag, slot),
