@@ -60,6 +60,9 @@ pub(crate) const NO_FAULT: step_fault_t = step_fault_t {
 #[derive(Drop)]
 pub struct Parser {
     steps: steps_t,
+    is_exact: bool,
+    /// Whether libyaml does something else with a token.
+    differs: bool,
     states: Vec<u8>,
     marks: Vec<yaml_mark_t>,
     /// The tag directives of the document.
@@ -80,6 +83,8 @@ impl Parser {
     pub fn new(alloc: Global, max: u64) -> Self {
         Parser {
             steps: steps_t::new(),
+            is_exact: false,
+            differs: false,
             states: Vec::new(alloc),
             marks: Vec::new(alloc),
             handles: Vec::new(alloc),
@@ -91,6 +96,18 @@ impl Parser {
             lines: Vec::new(alloc),
             documents: Documents::new(alloc, max),
         }
+    }
+
+    /// Returns a parser by exact steps before a stream.
+    pub fn exact(alloc: Global) -> Self {
+        let mut parser = Parser::new(alloc, u64::MAX);
+        parser.is_exact = true;
+        parser
+    }
+
+    /// Whether libyaml did something else with a token than steps that aren't exact.
+    pub fn differs(&self) -> bool {
+        self.differs
     }
 
     /// Returns the lines of the events, and of the fault that ended them.
@@ -151,22 +168,22 @@ impl Parser {
             self.lines
                 .extend_from_slice(b"stacks that are too short are taken\n")?;
         }
-        let kind = token_kind(byte_of(token.kind));
-        let differs = self.steps.differs(kind).number();
-        let did = self
-            .steps
-            .step(
-                self.states.as_mut_slice(),
-                self.marks.as_mut_slice(),
-                kind,
-                fact,
-                &span_of(token),
-                &mut event,
-                &mut fault,
-            )
-            .number();
+        let differs = self.steps.differs(token_kind(byte_of(token.kind))).number();
+        let did = step_over(
+            &mut self.steps,
+            self.is_exact,
+            self.states.as_mut_slice(),
+            self.marks.as_mut_slice(),
+            token,
+            fact,
+            &mut event,
+            &mut fault,
+        );
         if differs != 0 && did != FULL_STATES && did != FULL_MARKS {
-            self.write_difference(differs, &mark_of(&token.start_mark))?;
+            self.differs = true;
+            if !self.is_exact {
+                self.write_difference(differs, &mark_of(&token.start_mark))?;
+            }
         }
         match did {
             WANTS => self.hold(token)?,
@@ -200,17 +217,16 @@ impl Parser {
         let mut steps = self.steps;
         let states = states.min(self.states.len());
         let marks = marks.min(self.marks.len());
-        steps
-            .step(
-                &mut self.states.as_mut_slice()[..states],
-                &mut self.marks.as_mut_slice()[..marks],
-                token_kind(byte_of(token.kind)),
-                fact,
-                &span_of(token),
-                &mut NO_EVENT,
-                &mut NO_FAULT,
-            )
-            .number()
+        step_over(
+            &mut steps,
+            self.is_exact,
+            &mut self.states.as_mut_slice()[..states],
+            &mut self.marks.as_mut_slice()[..marks],
+            token,
+            fact,
+            &mut NO_EVENT,
+            &mut NO_FAULT,
+        )
     }
 
     /// Returns the fact of a token, and makes a tag in full.
@@ -421,6 +437,27 @@ impl Parser {
         }
         Ok(yaml_document_start_event_initialize(alloc, self.version, pairs.as_slice(), implicit)?)
     }
+}
+
+/// Steps over these stacks, and returns the number of what that did.
+fn step_over(
+    steps: &mut steps_t,
+    is_exact: bool,
+    states: &mut [u8],
+    marks: &mut [yaml_mark_t],
+    token: &token_record_t,
+    fact: u8,
+    event: &mut step_event_t,
+    fault: &mut step_fault_t,
+) -> u32 {
+    let kind = token_kind(byte_of(token.kind));
+    let span = span_of(token);
+    let did = if is_exact {
+        steps.step_exact(states, marks, kind, fact, &span, event, fault)
+    } else {
+        steps.step(states, marks, kind, fact, &span, event, fault)
+    };
+    did.number()
 }
 
 /// The largest value of each flag of an event: of `has_anchor`, `has_tag`, `implicit`, `quoted_implicit` and

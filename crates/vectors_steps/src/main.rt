@@ -4,8 +4,9 @@
 //! over these give the lines of its events, and the number and the marks of the fault that ends them. The
 //! composer's steps over the same events give what is done to each document, and the count of each deed how
 //! many nodes it has with its aliases written out, within each bound that `NAME.sizes` names. The program
-//! compares these with `NAME.steps`, `NAME.deeds` and `NAME.sizes`, and counts. `vectors_steps TABLE [NAME]`
-//! compares one table, or a list of it.
+//! compares these with `NAME.steps`, `NAME.deeds` and `NAME.sizes`, and counts. Exact steps must give the same
+//! lines over a list that libyaml reads alike; the others stand in `data/exact`, with libyaml's events and error
+//! in `NAME.exact`. `vectors_steps TABLE [NAME]` compares one table, or a list of it.
 #![tactic(auto)]
 
 mod deeds;
@@ -30,6 +31,7 @@ const MAX_TOKENS: u64 = 100_000;
 #[derive(Copy, Clone)]
 enum View {
     Events,
+    Exact,
     Deeds,
     Sizes,
 }
@@ -39,15 +41,25 @@ impl View {
     fn ending(self) -> &'static str {
         match self {
             View::Events => "steps",
+            View::Exact => "exact",
             View::Deeds => "deeds",
             View::Sizes => "sizes",
+        }
+    }
+
+    /// The folder of its lists.
+    fn folder(self) -> &'static str {
+        match self {
+            View::Exact => "exact",
+            View::Events | View::Deeds | View::Sizes => "lists",
         }
     }
 
     /// Returns the lines of these tokens, of which these are wanted.
     fn lines(self, alloc: Global, tokens: &Tokens, wanted: &str) -> Result<Vec<u8>> {
         match self {
-            View::Events => Ok(parsed(alloc, tokens, NO_BOUND)?.into_lines()),
+            View::Events => event_lines(alloc, tokens),
+            View::Exact => Ok(exactly_parsed(alloc, tokens)?.into_lines()),
             View::Deeds => Ok(parsed(alloc, tokens, NO_BOUND)?.into_deeds()),
             View::Sizes => counted(alloc, tokens, wanted),
         }
@@ -62,6 +74,27 @@ fn parsed(alloc: Global, tokens: &Tokens, max: u64) -> Result<Parser> {
     let mut parser = Parser::new(alloc, max);
     parser.take_all(alloc, tokens)?;
     Ok(parser)
+}
+
+/// Returns the parser that took these tokens by exact steps.
+fn exactly_parsed(alloc: Global, tokens: &Tokens) -> Result<Parser> {
+    let mut parser = Parser::exact(alloc);
+    parser.take_all(alloc, tokens)?;
+    Ok(parser)
+}
+
+/// Returns the lines of the events of these tokens. Exact steps give the same, unless libyaml does something else.
+fn event_lines(alloc: Global, tokens: &Tokens) -> Result<Vec<u8>> {
+    let parser = parsed(alloc, tokens, NO_BOUND)?;
+    let differs = parser.differs();
+    let mut lines = parser.into_lines();
+    let is_same = exactly_parsed(alloc, tokens)?.into_lines().as_slice() == lines.as_slice();
+    if is_same == differs {
+        lines.extend_from_slice(
+            b"exact steps give the same only where libyaml does something else\n",
+        )?;
+    }
+    Ok(lines)
 }
 
 /// Returns the lines of the counts of these tokens within each bound that the wanted lines name.
@@ -90,9 +123,10 @@ fn tokens_of(alloc: Global, lines: &str) -> Result<Tokens> {
 /// Compares the lines of a list with those that are wanted, and prints the first that differs.
 fn is_right(rt: &(impl Files + Print + AllocGlobal), name: &str, view: View) -> Result<bool> {
     let alloc = rt.alloc();
-    let tokens = read_text(rt, format!(in alloc; "lists/{name}.tokens")?.as_str())?;
+    let folder = view.folder();
+    let tokens = read_text(rt, format!(in alloc; "{folder}/{name}.tokens")?.as_str())?;
     let ending = view.ending();
-    let wanted = read_text(rt, format!(in alloc; "lists/{name}.{ending}")?.as_str())?;
+    let wanted = read_text(rt, format!(in alloc; "{folder}/{name}.{ending}")?.as_str())?;
     let tokens = tokens_of(alloc, tokens.as_str())?;
     let given = view.lines(alloc, &tokens, wanted.as_str())?;
     if given.as_slice() == wanted.as_bytes() {
@@ -131,7 +165,8 @@ fn show_table(
         return Ok(());
     };
     let mut table = table;
-    let index = read_text(rt, "lists/index")?;
+    let folder = view.folder();
+    let index = read_text(rt, format!(in rt.alloc(); "{folder}/index")?.as_str())?;
     for line in index.as_str().lines() {
         show_list(rt, &mut table, line, view)?;
     }
@@ -143,6 +178,7 @@ fn main(rt: HostRuntime) -> Result<()> {
     let words = read_words(&rt)?;
     let mut tables = Tables::asked(words.as_slice())?;
     show_table(&rt, &mut tables, "events", View::Events)?;
+    show_table(&rt, &mut tables, "exact", View::Exact)?;
     show_table(&rt, &mut tables, "deeds", View::Deeds)?;
     show_table(&rt, &mut tables, "sizes", View::Sizes)?;
     tables.end()
