@@ -1,5 +1,5 @@
 -- A place where a node may be nothing, after an entry's token.
-use Rattle.std.proofs.Common.{◌≡◌, Bool, Some, refl, arith}
+use Rattle.std.proofs.Common.{◌≡◌, Bool, Some, arith}
 use Rattle.libyaml_types.specs.declared.enums.yaml_token_type_t.{yaml_token_type_t}
 use Rattle.libyaml_automaton.specs.Automaton.{KindAndMarks, at_slot, step}
 use Rattle.libyaml_automaton.specs.Config.{Stacks}

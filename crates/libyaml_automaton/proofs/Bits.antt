@@ -1,6 +1,6 @@
 -- Sets as bits.
 use Rattle.std.specs.Prelude.{◌==◌, ◌||◌, ◌<◌, Bool, true, false}
-use Rattle.std.proofs.Common.{◌≡◌, ℕ, ◌*◌, ◌/◌, ◌%◌, ◌^◌, refl, sym, ap, ◌∙◌, arith, max}
+use Rattle.std.proofs.Common.{◌≡◌, ℕ, ◌*◌, ◌/◌, ◌%◌, ◌^◌, refl, ap, ◌∙◌, arith, max}
 use Rattle.std.specs.Int.{bit_at, w32}
 use Rattle.libyaml_automaton.specs.Acceptable.{is_same}
 use Rattle.std.specs.Int.RustNames.{bit_and, bit_or}

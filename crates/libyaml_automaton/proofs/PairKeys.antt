@@ -1,5 +1,5 @@
 -- The tokens that libyaml loses after a pair's KEY are those before which the key is nothing.
-use Rattle.std.proofs.Common.{◌≡◌, true, false, refl, arith}
+use Rattle.std.proofs.Common.{◌≡◌, true, false, arith}
 use Rattle.libyaml_types.specs.declared.enums.yaml_token_type_t.{yaml_token_type_t}
 use Rattle.libyaml_automaton.specs.Differing.{differs_after_pair_key}
 use Rattle.libyaml_automaton.specs.Slots.{is_nothing_before}

@@ -1,6 +1,6 @@
 -- Which types of token may come next (docs/DEFINITIONS.md, "Acceptable tokens"). In each function k is the type of the
 -- token.
-use Rattle.std.specs.Prelude.{◌==◌, ◌||◌, ◌∷◌, ℕ, List, [], Bool, true, false, not}
+use Rattle.std.specs.Prelude.{◌==◌, ◌||◌, List, Bool, true, false, not}
 use Rattle.std.specs.Int.{bit_at}
 use Rattle.libyaml_types.specs.Numbers.{token_type_number}
 use Rattle.libyaml_types.specs.declared.enums.yaml_token_type_t.{yaml_token_type_t}

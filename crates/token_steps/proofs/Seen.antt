@@ -15,12 +15,12 @@ use Rattle.libyaml_automaton.specs.declared.node_place.NodePlace.{NodePlace}
 use Rattle.libyaml_automaton.specs.declared.slot.Slot.{Slot}
 use Rattle.libyaml_automaton.specs.Automaton as automaton
 use Rattle.libyaml_automaton.specs.Automaton.{KindAndMarks, PropertiesRead, Purpose, Step}
-use Rattle.libyaml_automaton.specs.Config.{Stacks, below, first_stacks, stacks_of, top}
+use Rattle.libyaml_automaton.specs.Config.{Stacks, below, stacks_of, top}
 use Rattle.libyaml_automaton.specs.Differing.{differs}
 use Rattle.libyaml_automaton.specs.Numbers.{flag, state_of}
 use Rattle.libyaml_automaton.specs.Purposes.{purpose_of}
 use Rattle.libyaml_automaton.specs.Slots.{entered, slot_place, state_after}
-use Rattle.libyaml_events.specs.machine.Config.{Handles, no_handles}
+use Rattle.libyaml_events.specs.machine.Config.{Handles}
 use Rattle.libyaml_events.specs.machine.Machine.{declared_by}
 use Rattle.libyaml_events.specs.machine.Want.{Texts, no_texts}
 use Rattle.token_steps.specs.declared.did.Did.{Did}
@@ -29,12 +29,12 @@ use Rattle.token_steps.specs.declared.records.step_event_t.{step_event_t}
 use Rattle.token_steps.specs.declared.records.step_fault_t.{step_fault_t}
 use Rattle.token_steps.specs.Differing.{differs_in}
 use Rattle.token_steps.specs.Exact.{exact_step_by_fact, step_there}
-use Rattle.token_steps.specs.Facts.{Given, StepEvent, StepResult, StepToken, StepWant, TagRead, Wants, content_by_fact, put_by_fact, step_by_fact, with_facts, without_fact}
+use Rattle.token_steps.specs.Facts.{Given, StepResult, StepToken, StepWant, TagRead, Wants, content_by_fact, put_by_fact, step_by_fact, with_facts, without_fact}
 use Rattle.token_steps.specs.Numbers.{number}
 use Rattle.token_steps.specs.Records.{event_of, shape_of}
-use Rattle.token_steps.specs.Runs.{CallsBy, ExactCalls, ExactRun, Run, StepCalls, begins, gave, moves, stays, takes, wants}
+use Rattle.token_steps.specs.Runs.{ExactCalls, ExactRun, Run, StepCalls, begins, gave, moves, stays, takes, wants}
 use Rattle.token_steps.specs.SeenRuns.{SeenRun, seen_as, seen_in_hand, token_seen}
-use Rattle.token_steps.specs.Tells.{Tells, want_in, tag_in}
+use Rattle.token_steps.specs.Tells.{Tells, want_in}
 use Rattle.token_steps.specs.Texts.{event_with, handles_past, texts_kept_after, token_of}
 
 -- no state on the stack is the one where a pair's key is due

@@ -1,5 +1,5 @@
 -- What a call of a run is of the machine's steps.
-use Rattle.std.proofs.Common.{◌≡◌, ◌∙◌, List, ℕ, None, Some, Ok, true, false, ap, arith}
+use Rattle.std.proofs.Common.{◌≡◌, ◌∙◌, List, ℕ, Some, Ok, true, false, ap, arith}
 use Rattle.libyaml_types.specs.Fault.{no_fault}
 use Rattle.libyaml_types.specs.declared.mark.yaml_mark_t.{yaml_mark_t}
 use Rattle.libyaml_grammar.specs.grammar.Events.{Event}

@@ -3,7 +3,6 @@ use Rattle.std.proofs.Common.{◌≡◌, List, [], ◌∷◌, ◌++◌, refl, sy
 use Rattle.libyaml_types.specs.Fault.{Fault}
 use Rattle.libyaml_grammar.specs.grammar.Tokens.{Anchor, Content, Marks, StreamEnd, Tag, Token, tok}
 use Rattle.libyaml_grammar.specs.grammar.Trees.{Directives, tokens}
-use Rattle.libyaml_grammar.specs.grammar.Events.{events}
 use Rattle.libyaml_grammar.specs.partial.PartialTrees.{PartialTree, at_tag, at_tag_after, declared}
 use Rattle.libyaml_grammar.specs.partial.Fits.{Fits, IsUnknown}
 use Rattle.libyaml_grammar.specs.grammar.ValidLists.{is_end, has_end}

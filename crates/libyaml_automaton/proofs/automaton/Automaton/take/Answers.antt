@@ -1,4 +1,4 @@
-use Rattle.std.proofs.Common.{◌≡◌, ◌∙◌, Some, sym, ap}
+use Rattle.std.proofs.Common.{◌∙◌, sym, ap}
 use Rattle.libyaml_automaton.specs.Numbers.{next_of}
 use Rattle.libyaml_automaton.specs.Purposes.{slot_at}
 use Rattle.libyaml_automaton.proofs.AfterToken.{slot_exact_step, slot_goes, slot_step}
