@@ -1,6 +1,6 @@
 //! The anchors of a document on the way.
 
-ghost use Rattle.std.specs.Prelude.{◌≡◌, pos, IfOk, OnOk, string_bytes};
+ghost use Rattle.std.specs.Prelude.{◌≡◌, pos, IfOk, None, OnErr, OnOk, string_bytes};
 ghost use Rattle.std.specs.Option.{option_map};
 ghost use Rattle.std.specs.FinMap.{get, insert};
 ghost use Rattle.libyaml_graphs.specs.graphs.Graphs.{id_or};
@@ -42,6 +42,7 @@ impl Anchors {
     }
 
     /// Returns the anchored node of this anchor.
+    #[inline(always)]
     #[tactic(auto, using(crate::proofs::document::AnchorLemmas::get_anchor))]
     pub(crate) fn find(&self, anchor: &str) -> Option<AnchoredNode>
         ensures { option_map anchored_node_of result ≡ get self.now anchor.now }
@@ -53,12 +54,13 @@ impl Anchors {
     ///
     /// # Errors
     ///
-    /// An allocation failed.
+    /// An allocation failed, which only a new anchor needs.
     pub(crate) fn register(
         &mut self,
         anchor: String,
         anchored_node: AnchoredNode,
     ) -> Result<Option<AnchoredNode>, AllocError>
+        ensures new { OnErr result (get self.old (string_bytes anchor) ≡ None) }
         ensures earlier { IfOk result (λ earlier. option_map anchored_node_of earlier ≡
             get self.old (string_bytes anchor)) }
         ensures registered { OnOk result (self.new

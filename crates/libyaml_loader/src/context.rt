@@ -2,7 +2,7 @@
 //!
 //! A function that fails may leave the document half changed. The load then fails, and drops it.
 
-ghost use Rattle.std.specs.Prelude.{◌≡◌, ◌++◌, ◌∷◌, [], length, suc, false, true, Some, None};
+ghost use Rattle.std.specs.Prelude.{◌≡◌, ◌++◌, ◌∷◌, [], length, false, true, Some, None};
 ghost use Rattle.std.specs.Prelude.{IfOk, IfErr, OnOk, option_map, string_bytes};
 ghost use Rattle.libyaml_documents.specs.Documents.{empty_document};
 ghost use Rattle.libyaml_documents.specs.LoadedNodes.{begun_document, ended_document};
@@ -12,7 +12,7 @@ ghost use Rattle.libyaml_graphs.specs.graphs.GraphParts.{alias_part, closing_of,
 ghost use Rattle.libyaml_graphs.specs.graphs.GraphParts.{part_of, start_part};
 ghost use Rattle.libyaml_grammar.specs.grammar.Events.{Event};
 ghost use Rattle.libyaml_composer.specs.Composing.{most_of};
-ghost use Rattle.libyaml_composer.specs.DocumentSoFar.{IsRefused, anchored, anchored_node_named, placed};
+ghost use Rattle.libyaml_composer.specs.DocumentSoFar.{IsRefused, placed};
 ghost use Rattle.libyaml_composer.specs.Represents.{FitsParent, IsNode};
 ghost use Rattle.libyaml_loader.specs.document.Context.{Composed, Decided, IsEvent, IsListed, Named, Refuses};
 ghost use Rattle.libyaml_loader.specs.document.Context.{ComposerMatches, refusal_of, with_nodes};
@@ -255,8 +255,7 @@ impl loader_ctx {
     }
 
     /// If there is an anchor, makes the next node, which starts at `mark`, its anchored node.
-    /// Returns 0, or if a node has that anchor already, its id, and nothing is registered. A new anchor is
-    /// moved out.
+    /// Returns 0, or if a node has that anchor already, its id, and the load ends. The anchor is moved out.
     ///
     /// libyaml: `yaml_parser_register_anchor`.
     ///
@@ -284,48 +283,39 @@ impl loader_ctx {
         ensures err { IfErr result (λ r. (r ≡ Refusal.Memory)
             × (is_new (option_map string_bytes anchor.old) self.old.anchors ≡ true)) }
     {
-        if let Some(first) = self.first_named(anchor) {
-            self.first_mark = first.mark;
-            return Ok(first.node);
-        }
-        self.add_anchor(anchor, mark)?;
-        Ok(0)
-    }
-
-    /// Returns the node that has this anchor, if there is one.
-    fn first_named(&self, anchor: &Option<String>) -> Option<AnchoredNode>
-        ensures { option_map anchored_node_of result
-            ≡ anchored_node_named self.now.anchors (option_map string_bytes anchor.now) }
-    {
-        match anchor {
-            Some(anchor) => self.anchors.find(anchor.as_str()),
-            None => None,
-        }
-    }
-
-    /// Makes the next node, which starts at `mark`, the anchored node of this anchor, which is moved out.
-    ///
-    /// # Errors
-    ///
-    /// `Memory`.
-    fn add_anchor(&mut self, anchor: &mut Option<String>, mark: &yaml_mark_t) -> Result<(), Refusal>
-        ensures ok { OnOk result (self.new ≡ record self.old {
-          anchors = anchored (option_map string_bytes anchor.old) (suc (length self.old.document.nodes))
-              mark.now self.old.anchors;
-        }) }
-        ensures err { IfErr result (λ r. r ≡ Refusal.Memory) }
-    {
         let Some(anchor) = anchor.take() else {
-            return Ok(());
+            return Ok(0);
         };
         let count = self.document.nodes().len();
         if count >= 2147483647 {
-            return Err(Refusal::Memory);
+            return self.register_beyond(anchor.as_str());
         }
         let node = count as i32 + 1;
-        self.anchors
-            .register(anchor, AnchoredNode { node, mark: *mark })?;
-        Ok(())
+        match self
+            .anchors
+            .register(anchor, AnchoredNode { node, mark: *mark })?
+        {
+            None => Ok(0),
+            Some(first) => {
+                self.first_mark = first.mark;
+                Ok(first.node)
+            }
+        }
+    }
+
+    /// As `register`, where the list has as many nodes as it may have.
+    #[cold]
+    #[inline(never)]
+    fn register_beyond(&mut self, anchor: &str) -> Result<i32, Refusal>
+        ensures ok { (mark : yaml_mark_t) → IfOk result (λ id. Named self.old self.new (Some anchor.now) mark id) }
+        ensures err { IfErr result (λ r. (r ≡ Refusal.Memory)
+            × (is_new (Some anchor.now) self.old.anchors ≡ true)) }
+    {
+        let Some(earlier) = self.anchors.find(anchor) else {
+            return Err(Refusal::Memory);
+        };
+        self.first_mark = earlier.mark;
+        Ok(earlier.node)
     }
 
     /// Decides what is to be done with a node of an event of this kind, with this anchor, that starts here.

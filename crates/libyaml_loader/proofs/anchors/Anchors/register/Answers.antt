@@ -7,3 +7,6 @@ returns-clause-earlier c = grind (arith, get_anchor)
 
 pub returns-clause-registered : goal.returns-clause-registered
 returns-clause-registered c = grind (arith, one_registered)
+
+pub returns-in_err-insert-clause-new : goal.returns-in_err-insert-clause-new
+returns-in_err-insert-clause-new c = grind (arith, get_anchor)
