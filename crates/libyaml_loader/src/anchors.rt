@@ -42,7 +42,6 @@ impl Anchors {
     }
 
     /// Returns the anchored node of this anchor.
-    #[inline(always)]
     #[tactic(auto, using(crate::proofs::document::AnchorLemmas::get_anchor))]
     pub(crate) fn find(&self, anchor: &str) -> Option<AnchoredNode>
         ensures { option_map anchored_node_of result ≡ get self.now anchor.now }

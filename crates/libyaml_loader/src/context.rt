@@ -287,35 +287,23 @@ impl loader_ctx {
             return Ok(0);
         };
         let count = self.document.nodes().len();
-        if count >= 2147483647 {
-            return self.register_beyond(anchor.as_str());
-        }
-        let node = count as i32 + 1;
+        let is_beyond = count >= 2147483647;
+        let node = if is_beyond {
+            2147483647
+        } else {
+            count as i32 + 1
+        };
         match self
             .anchors
             .register(anchor, AnchoredNode { node, mark: *mark })?
         {
+            None if is_beyond => Err(Refusal::Memory),
             None => Ok(0),
             Some(first) => {
                 self.first_mark = first.mark;
                 Ok(first.node)
             }
         }
-    }
-
-    /// As `register`, where the list has as many nodes as it may have.
-    #[cold]
-    #[inline(never)]
-    fn register_beyond(&mut self, anchor: &str) -> Result<i32, Refusal>
-        ensures ok { (mark : yaml_mark_t) → IfOk result (λ id. Named self.old self.new (Some anchor.now) mark id) }
-        ensures err { IfErr result (λ r. (r ≡ Refusal.Memory)
-            × (is_new (Some anchor.now) self.old.anchors ≡ true)) }
-    {
-        let Some(earlier) = self.anchors.find(anchor) else {
-            return Err(Refusal::Memory);
-        };
-        self.first_mark = earlier.mark;
-        Ok(earlier.node)
     }
 
     /// Decides what is to be done with a node of an event of this kind, with this anchor, that starts here.
