@@ -1,5 +1,5 @@
 #!/usr/bin/env python3
-"""Draws the layers of crates.txt at the head of docs/ARCHITECTURE.md.
+"""Draws the layers of crates.txt: docs/layers.mmd.
 
     python3 scripts/gate/layers.py           fails if the picture is not as crates.txt has it, or a crate has no README.md
     python3 scripts/gate/layers.py --write   writes the picture
@@ -14,8 +14,7 @@ import sys
 from pathlib import Path
 
 TOP = Path(__file__).resolve().parents[2]
-PAGE = TOP / "docs" / "ARCHITECTURE.md"
-PICTURE = re.compile(r"^```mermaid\nflowchart BT\n.*?^```\n", re.MULTILINE | re.DOTALL)
+PAGE = TOP / "docs" / "layers.mmd"
 
 
 def layers():
@@ -40,22 +39,21 @@ def direct(listed):
 
 
 def picture(found, needed):
-    lines = ["```mermaid", "flowchart BT"]
+    lines = ["flowchart BT"]
     for number, (title, layer) in enumerate(found[:-2]):
         lines += [f'    subgraph layer{number}["{title}"]', *(f"        {name}" for name in layer), "    end"]
     lines += [f"    {name} --> {below}" for _, layer in found[:-2] for name in layer for below in sorted(needed[name])]
-    return "\n".join([*lines, "```", ""])
+    return "\n".join([*lines, ""])
 
 
 def main():
     found = layers()
     needed = direct({name: below for _, layer in found for name, below in layer.items()})
-    text = PAGE.read_text()
+    made = picture(found, needed)
     wrong = [f"crates/{name} has no README.md" for name in needed if not (TOP / "crates" / name / "README.md").exists()]
-    made = PICTURE.sub(lambda _: picture(found, needed), text)
     if "--write" in sys.argv[1:]:
         PAGE.write_text(made)
-    elif made != text:
+    elif PAGE.read_text() != made:
         wrong.append(f"{PAGE.name}: the layers are not as crates.txt has them; run python3 scripts/gate/layers.py --write")
     print("\n".join(wrong), end="\n" if wrong else "")
     return 1 if wrong else 0
