@@ -33,7 +33,7 @@
 #                        by the C loaders of bindings/python and by those in Python each refuses the same token or event, in the same
 #                        words; SEED is another draw
 #     hostile_texts      texts that cost more than their length, and broken ones, at each door with its bounds and without, as
-#                        hostile_texts.py says; docs/BOUNDS.md has its figures
+#                        hostile_texts.py says; bench/results/hostile.md has its figures
 #     crate              the tests of bindings/rust, over those texts, and with its feature `fixes`; and over the crate `pokhvizi` in
 #                        place of the library
 #     loads_rust         nodes, memory over 7 MB and instructions of loads by that crate and by the original; of one large

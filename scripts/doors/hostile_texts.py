@@ -13,9 +13,10 @@ The doors, of which those are tried that have a path:
     rust=PROGRAM              clients/bounds.rs over bindings/rust; with its feature `fixes`; `rust_exact=PROGRAM` is the same without it
     yamltokens=PROGRAM        by examples/yaml_lines.py and PyYAML's scanner; its bound on tokens can't be set
 
-Prints each case with its time and the peak of its memory, which no check looks at; with --table also those of loads, in the lines of
-the table of docs/BOUNDS.md. A case may take 60 seconds; those that may take more are tried with --all alone, and have 300. With
---turned each wants another outcome, so all have to be wrong. The status is 0 if each outcome is the one that is listed.
+Prints each case with its time and the peak of its memory, which no check looks at; with --table also those of loads,
+in the lines of the table of bench/results/hostile.md. A case may take 60 seconds; those that may take more are tried with
+--all alone, and have 300. With --turned each wants another outcome, so all have to be wrong. The status is 0 if each
+outcome is the one that is listed.
 
 Run by clients.sh. Needs GNU time.
 """
