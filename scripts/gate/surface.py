@@ -1,11 +1,12 @@
 #!/usr/bin/env python3
 """Lists in docs/surface.txt every public item that a user of the libraries can name: first those that a program uses first, with
 what the doc of each says first if that has more than a few words and no public field or variant shows it; then the others,
-by their crates; each with its signature, its fields or its variants.
+by their crates; each with its signature, its fields or its variants. Lists in docs/laws.txt every law, with its comment, which is
+its statement, and the names of its clauses.
 
-    python3 scripts/gate/surface.py           fails if the list is stale, an item has no doc, one is `pub` for its crate alone, or
-                                         docs/PROVED.md doesn't name a law (those of `productions` and `productions` by their module)
-    python3 scripts/gate/surface.py --write   writes the list
+    python3 scripts/gate/surface.py           fails if a list is stale, an item has no doc, one is `pub` for its crate alone, or
+                                         docs/PROVED.md doesn't name a law (those of `vectors` and `productions` by their module)
+    python3 scripts/gate/surface.py --write   writes the lists
 
 The examples and the programs of test vectors are left out.
 
@@ -18,11 +19,14 @@ from pathlib import Path
 
 TOP = Path(__file__).resolve().parents[2]
 PAGE = TOP / "docs" / "surface.txt"
+LAWS_PAGE = TOP / "docs" / "laws.txt"
+CLAUSE = re.compile(r"^ +ensures (\w+) \{", re.M)
 ITEM = re.compile(r"pub (?:extern \"C\" )?(fn|struct|enum|trait|type|const) (\w+)")
 METHOD = re.compile(r"    (pub )?fn (\w+)")
 IMPL = re.compile(r"impl(<.*?>)? (?:(.+?) for )?(\w+)")
 USE = re.compile(r"pub use ([\w:]+?)(?:::\{([^}]*)\}| as (\w+))?;")
 LAWS = re.compile(r"(?:laws|vectors)::")
+OF_ENUM = re.compile(r"(order|equality|hash)_of_")
 NAMED = (
     "unsafe_libyaml", "token_lines", "token_limits", "yaml_path", "yaml_expansion", "yaml_keys", "yaml_bounds", "libyaml_composer", "token_steps",
     "token_steps_c", "document_steps", "document_sizes", "document_steps_c",
@@ -36,7 +40,14 @@ HEAD = """Every public item. `python3 scripts/gate/surface.py --write` makes thi
 Depend on `unsafe_libyaml`, which re-exports the crates of events, documents and loads, and on `token_lines`, which re-exports
 those of lines. `fn T::f` is a method or a function of the type `T`; a struct shown without fields has private ones; those of
 `steps_t` are the library's, of types that no program names. Comment and contract in the source say what each item does,
-CALLING.md shows how to use it. The laws are in PROVED.md; items that only crates above use are left out.
+CALLING.md shows how to use it. The laws are in laws.txt; items that only crates above use are left out.
+"""
+
+LAWS_HEAD = """Every law. `python3 scripts/gate/surface.py --write` makes this list.
+
+A law is a function that does nothing and whose contract is a theorem. Its comment is its statement; the names of its
+clauses, if they have some, stand after its name. PROVED.md says which belong together, and has those of the enums' order,
+equality and hashes.
 """
 
 FIRST = [
@@ -112,6 +123,7 @@ class Item:
 
     def __init__(self, kind, name, docs, code):
         self.kind, self.name, self.says, self.code = kind, name, sentence(docs), code
+        self.docs, self.clauses = [doc for doc in docs if doc.strip()], []
 
     def says_itself(self):
         """Whether the code says enough: parts of a content, public fields and variants, names of types, and what a few words say."""
@@ -167,6 +179,7 @@ def items_of(path):
         text = "\n".join(lines[number : number + 60])
         if match := ITEM.match(line):
             found.append(Item(match[1], match[2], docs, code_of(match[1], match[2], text)))
+            found[-1].clauses = CLAUSE.findall(text.split("\n{")[0])
             owner, bounds, is_trait = (match[2], "", True) if match[1] == "trait" else (None, "", False)
         elif match := IMPL.match(line):
             owner, bounds, is_trait = (None if match[2] else match[3]), match[1] or "", False
@@ -295,8 +308,19 @@ def unnamed_laws(laws):
     for crate, names in laws:
         for name in names:
             *modules, law = name.split("::")
-            if not {"vectors", "productions", law} & {*modules, *(proved & {law})} and not re.match(r"(order|equality|hash)_of_", law):
+            if not {"vectors", "productions", law} & {*modules, *(proved & {law})} and not OF_ENUM.match(law):
                 yield f"{crate}: docs/PROVED.md doesn't name the law {name}"
+
+
+def law_lines(laws):
+    """The lines of laws, pairs of a crate and its rows: each law's name and clauses, and what its comment says."""
+    for crate, rows in laws:
+        shown = [(name, item) for name, item in rows if not OF_ENUM.match(name.split("::")[-1])]
+        yield from ["", f"-- {crate}"] if shown else []
+        for name, item in shown:
+            clauses = f" ({', '.join(item.clauses)})" if item.clauses else ""
+            yield from ["", *textwrap.wrap(name + clauses, WIDTH, subsequent_indent="    ")]
+            yield from textwrap.wrap(" ".join(item.docs), WIDTH, initial_indent="/// ", subsequent_indent="/// ", break_on_hyphens=False)
 
 
 def block(items, is_brief=False):
@@ -305,7 +329,7 @@ def block(items, is_brief=False):
 
 
 def page():
-    """The page, and what is wrong with an item."""
+    """The two lists, and what is wrong with an item."""
     listed, laws, without, everything = {}, [], [], {}
     for crate in crates():
         if root(crate) is None or root(crate).name == "main.rt" or crate in EXAMPLES:
@@ -313,15 +337,15 @@ def page():
         rows = [(name, item) for name, item in public_of(crate).items() if item is not None]
         without += [f"{crate}: {name} has no doc" for name, item in rows if not item.says and item.kind != "impl"]
         without += [f"{crate}: {name} is no public item, so `pub(crate)`" for _, _, name in hidden(crate)]
-        of_crate = [name for name, _ in rows if LAWS.match(name)]
+        of_crate = [(name, item) for name, item in rows if LAWS.match(name)]
         laws += [(crate, of_crate)] if of_crate else []
         listed[crate] = [(name, item) for name, item in rows if not LAWS.match(name)]
         everything.update(listed[crate])
     first = {name for _, names in FIRST for name in names.split()}
     without += [f"{name}, which surface.py puts first, is no item" for name in sorted(first - set(everything))]
-    without += unnamed_laws(laws)
+    without += unnamed_laws((crate, [name for name, _ in rows]) for crate, rows in laws)
     if without:
-        return "", without
+        return "", "", without
     lines = [HEAD.rstrip(), "", "", "WHAT A PROGRAM USES FIRST"]
     for title, names in FIRST:
         lines += ["", f"-- {title}", "", *block(everything[name] for name in names.split())]
@@ -334,17 +358,18 @@ def page():
         if left:
             title = f"-- {crate}" + (f", re-exported by {' and '.join(users)}" if users and crate not in NAMED else "")
             lines += ["", title, "", *block(grouped(left), is_brief=True)]
-    return "\n".join(lines) + "\n", without
+    return "\n".join(lines) + "\n", "\n".join([LAWS_HEAD.rstrip(), *law_lines(laws)]) + "\n", without
 
 
 def main():
-    text, without = page()
+    text, of_laws, without = page()
     if without:
         sys.exit("\n".join(without))
-    if sys.argv[1:] == ["--write"]:
-        PAGE.write_text(text)
-    elif not PAGE.exists() or PAGE.read_text() != text:
-        sys.exit("docs/surface.txt is stale: python3 scripts/gate/surface.py --write")
+    for path, made in [(PAGE, text), (LAWS_PAGE, of_laws)]:
+        if sys.argv[1:] == ["--write"]:
+            path.write_text(made)
+        elif not path.exists() or path.read_text() != made:
+            sys.exit(f"docs/{path.name} is stale: python3 scripts/gate/surface.py --write")
 
 
 if __name__ == "__main__":

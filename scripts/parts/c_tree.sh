@@ -32,5 +32,5 @@ else
     sed -i '/preload\|proved-libyaml/d' "$tree/Makefile"
 fi
 cp bindings/c/README.md "$tree"
-cp LICENSE CHANGELOG.md docs/PROVED.md docs/DEFINITIONS.md docs/DIFFERENCES.md docs/BOUNDS.md docs/HEADLINE.md bindings/c/README.md "$doc"
+cp LICENSE CHANGELOG.md docs/PROVED.md docs/laws.txt docs/DEFINITIONS.md docs/DIFFERENCES.md docs/BOUNDS.md docs/HEADLINE.md bindings/c/README.md "$doc"
 cp examples/events.c examples/compose.c examples/yaml.c examples/list.yaml "$doc/examples"
