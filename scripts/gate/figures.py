@@ -5,7 +5,8 @@
     python3 scripts/gate/figures.py --write    writes the numbers into the pages
 
 FIGURES has each number that stands in a page: the page, the words around it with N in its place, and how it is counted. A number
-before one of the words of COUNTED that has no line there fails too, on every page but those of OTHERS.
+before one of the words of COUNTED that has no line there fails too, on every page but those of OTHERS. So do more words than
+README, and all pages together, may have.
 """
 import re
 import sys
@@ -18,6 +19,8 @@ COUNTED = re.compile(rf"\b(\d[\d,]*|{'|'.join(WORDS[4:])}) (?:crates|mutants|equ
 # made by other scripts, or of earlier states
 OTHERS = {"CHANGELOG.md", "WRONG_BODIES.md", "PERFORMANCE.md"}
 MOST_WORDS = 800  # of README
+MOST_OF_ALL = 25_000  # of all pages together, as `wc -w` counts; CHANGELOG and LICENSES aside
+ALL = ("README.md", "CONTRIBUTING.md", "SECURITY.md", "docs/*.md", "bindings/**/README.md", "crates/*/README.md")
 
 
 def files(pattern):
@@ -105,11 +108,20 @@ def unknown_figures():
                 yield f'{name}: scripts/gate/figures.py has no line of "{match[0]}"'
 
 
+def words_of(*patterns):
+    """How many words these pages have together."""
+    pages = {page for pattern in patterns for page in TOP.glob(pattern) if not {"out", "build", "target"} & set(page.relative_to(TOP).parts)}
+    return sum(len(page.read_text().split()) for page in pages)
+
+
+def too_many_words():
+    for names, patterns, most in [("README.md has", ["README.md"], MOST_WORDS), ("all pages together have", ALL, MOST_OF_ALL)]:
+        if (words := words_of(*patterns)) > most:
+            yield f"{names} {words} words, of {most}"
+
+
 def main():
-    wrong = [*wrong_figures("--write" in sys.argv[1:]), *wrong_bytes(), *unknown_figures()]
-    words = len((TOP / "README.md").read_text().split())
-    if words > MOST_WORDS:
-        wrong.append(f"README.md has {words} words, of {MOST_WORDS}")
+    wrong = [*wrong_figures("--write" in sys.argv[1:]), *wrong_bytes(), *unknown_figures(), *too_many_words()]
     print("\n".join(wrong), end="\n" if wrong else "")
     return 1 if wrong else 0
 
