@@ -3,7 +3,8 @@
 A core's speed changes by up to half for tens of milliseconds at a time, with what its neighbours do. So runs are short
 (`RUN_TOKENS`) and many, on one core: in each turn all programs run once, in a random order. A program's time is the 20th percentile
 of its times less that of a run of no rounds. A cell is the peer's time divided by ours, with the least and the largest of that
-ratio over the four quarters of the turns. $TURNS is the number of turns (24), $CORE the core (the last)."""
+ratio over the four quarters of the turns; a ratio outside of these is left out, but for the means. $TURNS is the number of turns
+(24), $CORE the core (the last)."""
 import math
 import os
 import random
@@ -73,6 +74,11 @@ def ratio(peer, ours):
     return lower_fifth(peer) / lower_fifth(ours), min(parts), max(parts)
 
 
+def shown_ratio(middle, low, high):
+    """A cell: a dash for a ratio outside of its range."""
+    return f"{middle:.2f} ({low:.2f}–{high:.2f})" if low <= middle <= high else f"– ({low:.2f}–{high:.2f})"
+
+
 def measured(bench, kind, ours, theirs, settings):
     """Nanoseconds a token of ours over a kind of list, and each peer's ratio."""
     count, turns = bench.token_count(kind), int(os.environ.get("TURNS", "24"))
@@ -101,10 +107,7 @@ def print_lists(bench, kinds):
         if bench.has(peer):
             places = [place for place, (_, _, theirs, _) in enumerate(COLUMNS) if peer in theirs]
             ratios = {kind: [cells[place][1][peer] for place in places] for kind, cells in found.items()}
-            shown = {
-                kind: [f"{middle:.2f} ({low:.2f}–{high:.2f})" for middle, low, high in cells]
-                for kind, cells in ratios.items()
-            }
+            shown = {kind: [shown_ratio(*cell) for cell in cells] for kind, cells in ratios.items()}
             columns = [[middle for middle, _, _ in column] for column in zip(*ratios.values())]
             shown["geometric mean"] = [f"{math.exp(sum(map(math.log, column)) / len(column)):.2f}" for column in columns]
             print_table(f"how many times as long {peer.replace('_', '-')} takes", [heads[place] for place in places], shown)

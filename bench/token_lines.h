@@ -1,4 +1,8 @@
-/* Token lines on standard input, read into libyaml's tokens. A line that is none ends the program with status 3. */
+/* Token lines on standard input, read into libyaml's tokens. A line that is none ends the program (status 3).
+ *
+ * A line is read once, from the left: each reader takes the place where its field begins, and returns where
+ * it ended. A line stands in the buffer with its line feed, which is in no field, so readers stop there by
+ * themselves. `SLACK` bytes follow the lines, so words of a fixed length can be looked at anywhere. */
 #include <stdint.h>
 #include <stdio.h>
 #include <stdlib.h>
@@ -6,18 +10,9 @@
 #include <unistd.h>
 #include <yaml.h>
 
-enum { MAX_LINE = 1048576 };
+enum { MAX_LINE = 1048576, MOST_READ = 1 << 16, SLACK = 32 };
 
-static const char *const TOKEN_NAMES[] = {
-    "NO-TOKEN", "STREAM-START", "STREAM-END", "VERSION-DIRECTIVE", "TAG-DIRECTIVE", "DOCUMENT-START",
-    "DOCUMENT-END", "BLOCK-SEQUENCE-START", "BLOCK-MAPPING-START", "BLOCK-END", "FLOW-SEQUENCE-START",
-    "FLOW-SEQUENCE-END", "FLOW-MAPPING-START", "FLOW-MAPPING-END", "BLOCK-ENTRY", "FLOW-ENTRY", "KEY",
-    "VALUE", "ALIAS", "ANCHOR", "TAG", "SCALAR",
-};
-static const char *const ENCODINGS[] = {"any", "utf8", "utf16le", "utf16be"};
-static const char *const SCALAR_STYLES[] = {"any", "plain", "single", "double", "literal", "folded"};
-
-#define WORDS(table) table, sizeof table / sizeof *table
+_Static_assert(__BYTE_ORDER__ == __ORDER_LITTLE_ENDIAN__, "a word's lowest byte comes first");
 
 static void quit(const char *why)
 {
@@ -25,80 +20,126 @@ static void quit(const char *why)
     exit(3);
 }
 
+/* ---- Words of eight bytes ---- */
+
+#define EACH_BYTE(byte) (UINT64_C(0x0101010101010101) * (byte))
+
+static inline uint64_t load_word(const yaml_char_t *at)
+{
+    uint64_t word;
+
+    memcpy(&word, at, sizeof word);
+    return word;
+}
+
+/* The highest bit of each byte that isn't clean: up to hexadecimal 20, `%`, or above 7E. */
+static inline uint64_t unclean_bytes(uint64_t word)
+{
+    uint64_t low = word & EACH_BYTE(0x7F);
+    uint64_t above_space = low + EACH_BYTE(0x7F - 0x20);
+    uint64_t no_percent = (low ^ EACH_BYTE('%')) + EACH_BYTE(0x7F);
+    uint64_t above_tilde = (low + EACH_BYTE(1)) | word;
+
+    return ~(above_space & no_percent & ~above_tilde) & EACH_BYTE(0x80);
+}
+
 /* ---- Fields ---- */
 
-typedef struct {
-    const unsigned char *at, *end;
-} field_t;
-
-/* The next field of a line, after which `rest` begins; `rest->at` is NULL after the last. */
-static field_t next_field(field_t *rest)
+static inline int is_field_end(yaml_char_t c)
 {
-    field_t field = *rest;
-
-    if (rest->at == NULL)
-        quit("a token line with too few fields");
-    const unsigned char *space = memchr(rest->at, ' ', (size_t)(rest->end - rest->at));
-    if (space != NULL)
-        field.end = space;
-    rest->at = space != NULL ? space + 1 : NULL;
-    return field;
+    return c == ' ' || c == '\n';
 }
 
-/* The number up to a byte, or up to the field's end where there is none. */
-static uint64_t read_number(field_t *field, unsigned char stop)
+static inline const yaml_char_t *next_field(const yaml_char_t *at)
 {
-    uint64_t number = 0;
+    if (*at != ' ')
+        quit(*at == '\n' ? "a token line with too few fields" : "a token line with a bad number");
+    return at + 1;
+}
 
-    if (field->at == field->end)
-        quit("a token line without a number");
-    while (field->at < field->end && *field->at != stop) {
-        unsigned digit = *field->at++ - '0';
-        if (digit > 9 || number > (UINT64_MAX - digit) / 10)
+/* A number of any length; it is looked at by digits. */
+static const yaml_char_t *read_long_number(const yaml_char_t *at, uint64_t *number)
+{
+    unsigned digit = *at - (unsigned)'0';
+
+    if (digit > 9)
+        quit(is_field_end(*at) ? "a token line without a number" : "a token line with a bad number");
+    for (*number = 0; digit <= 9; digit = *++at - (unsigned)'0') {
+        if (*number > (UINT64_MAX - digit) / 10)
             quit("a token line with a bad number");
-        number = number * 10 + digit;
+        *number = *number * 10 + digit;
     }
-    field->at += field->at < field->end;
-    return number;
+    return at;
 }
 
-static yaml_mark_t read_mark(field_t field)
+/* A number. Up to seven digits become the last ones of a word of eight, joined by two and then by four. */
+static inline const yaml_char_t *read_number(const yaml_char_t *at, uint64_t *number)
 {
-    yaml_mark_t mark;
+    uint64_t word = load_word(at) ^ EACH_BYTE('0');
+    uint64_t others = ((word + EACH_BYTE(0x7F - 9)) | word) & EACH_BYTE(0x80);
+    int count = others == 0 ? 0 : __builtin_ctzll(others) / 8;
 
-    mark.index = read_number(&field, ':');
-    mark.line = read_number(&field, ':');
-    mark.column = read_number(&field, ' ');
-    return mark;
+    if (count == 0)
+        return read_long_number(at, number);
+    word <<= 64 - 8 * count;
+    word = (word * 10 + (word >> 8)) & UINT64_C(0x00FF00FF00FF00FF);
+    word = (word * 100 + (word >> 16)) & UINT64_C(0x0000FFFF0000FFFF);
+    *number = (word * 10000 + (word >> 32)) & UINT32_MAX;
+    return at + count;
 }
 
-static int read_word(field_t field, const char *const *words, size_t count)
+/* A number and the byte after it. */
+static inline const yaml_char_t *read_part(const yaml_char_t *at, yaml_char_t stop, uint64_t *number)
 {
-    size_t length = (size_t)(field.end - field.at);
-
-    for (size_t i = 0; i < count; i++)
-        if (strlen(words[i]) == length && memcmp(words[i], field.at, length) == 0)
-            return (int)i;
-    quit("a token line with an unknown word");
-    return -1;
+    at = read_number(at, number);
+    if (*at != stop)
+        quit(is_field_end(*at) ? "a token line without a number" : "a token line with a bad number");
+    return at + 1;
 }
 
-static int hex_digit(unsigned char c)
+static inline const yaml_char_t *read_mark(const yaml_char_t *at, yaml_mark_t *mark)
 {
-    return c >= '0' && c <= '9' ? c - '0' : c >= 'A' && c <= 'F' ? c - 'A' + 10 : c >= 'a' && c <= 'f' ? c - 'a' + 10 : -1;
+    uint64_t index, line, column;
+
+    at = read_part(at, ':', &index);
+    at = read_part(at, ':', &line);
+    at = read_number(at, &column);
+    *mark = (yaml_mark_t){index, line, column};
+    return at;
 }
 
-static int is_utf8(const unsigned char *text, size_t length)
+static const yaml_char_t *read_int(const yaml_char_t *at, int *number)
+{
+    int is_negative = *at == '-';
+    uint64_t value;
+
+    at = read_number(at + is_negative, &value);
+    if (value > INT32_MAX + (uint64_t)is_negative || (is_negative && value == 0))
+        quit("a token line with a bad number");
+    *number = (int)(is_negative ? -(int64_t)value : (int64_t)value);
+    return at;
+}
+
+static int hex_digit(yaml_char_t c)
+{
+    if (c >= '0' && c <= '9')
+        return c - '0';
+    c |= 0x20;
+    return c >= 'a' && c <= 'f' ? c - 'a' + 10 : -1;
+}
+
+static int is_utf8(const yaml_char_t *text, size_t length)
 {
     for (size_t i = 0; i < length;) {
-        unsigned char c = text[i++];
+        yaml_char_t c = text[i++];
         if (c < 0x80)
             continue;
-        size_t more = c >= 0xC2 && c <= 0xDF ? 1 : c >= 0xE0 && c <= 0xEF ? 2 : c >= 0xF0 && c <= 0xF4 ? 3 : 0;
+        size_t more = c < 0xC2 ? 0 : c < 0xE0 ? 1 : c < 0xF0 ? 2 : c < 0xF5 ? 3 : 0;
         if (more == 0 || length - i < more)
             return 0;
-        unsigned char d = text[i];
-        if ((c == 0xE0 && d < 0xA0) || (c == 0xED && d > 0x9F) || (c == 0xF0 && d < 0x90) || (c == 0xF4 && d > 0x8F))
+        yaml_char_t d = text[i];
+        if ((c == 0xE0 && d < 0xA0) || (c == 0xED && d > 0x9F) || (c == 0xF0 && d < 0x90)
+            || (c == 0xF4 && d > 0x8F))
             return 0;
         while (more--)
             if ((text[i++] & 0xC0) != 0x80)
@@ -107,119 +148,198 @@ static int is_utf8(const unsigned char *text, size_t length)
     return 1;
 }
 
-/* The text of a field, made by malloc and ended by a zero byte, and its length. */
-static yaml_char_t *read_text(field_t field, size_t *length)
+/* Room for a text of that size and the zero byte after it, whose first bytes are those of a field. */
+static inline yaml_char_t *new_text(size_t size, const yaml_char_t *at, size_t length)
 {
-    if (field.at == field.end || *field.at++ != '=')
-        quit("a token line without a text");
-    yaml_char_t *text = malloc((size_t)(field.end - field.at) + 1);
+    yaml_char_t *text = malloc(size + 1);
+
     if (text == NULL)
         quit("out of memory");
-    *length = 0;
-    while (field.at < field.end) {
-        int high, low;
-        if (*field.at == '%' && field.end - field.at > 2 && (high = hex_digit(field.at[1])) >= 0
-            && (low = hex_digit(field.at[2])) >= 0) {
-            text[(*length)++] = (yaml_char_t)(high << 4 | low);
-            field.at += 3;
-        } else {
-            text[(*length)++] = *field.at++;
-        }
-    }
-    text[*length] = 0;
-    if (!is_utf8(text, *length))
-        quit("a token line with a text that is not UTF-8");
+    memcpy(text, at, length);
     return text;
+}
+
+/* A text with bytes that aren't clean, the first of them at `odd`. */
+static const yaml_char_t *read_escaped(const yaml_char_t *at, const yaml_char_t *odd, yaml_char_t **text,
+                                       size_t *length)
+{
+    const yaml_char_t *end = odd;
+    size_t count = (size_t)(odd - at);
+    int high, low, seen = 0;
+
+    while (!is_field_end(*end))
+        end++;
+    *text = new_text((size_t)(end - at), at, count);
+    for (at = odd; at < end; at++) {
+        yaml_char_t c = *at;
+        if (c == '%' && (high = hex_digit(at[1])) >= 0 && (low = hex_digit(at[2])) >= 0) {
+            c = (yaml_char_t)(high << 4 | low);
+            at += 2;
+        }
+        (*text)[count++] = c;
+        seen |= c;
+    }
+    (*text)[count] = '\0';
+    if (seen >= 0x80 && !is_utf8(*text, count))
+        quit("a token line with a text that is not UTF-8");
+    *length = count;
+    return end;
+}
+
+/* The text of a field, made by malloc and ended by a zero byte, and its length. */
+static const yaml_char_t *read_text(const yaml_char_t *at, yaml_char_t **text, size_t *length)
+{
+    uint64_t unclean;
+
+    if (*at++ != '=')
+        quit("a token line without a text");
+    const yaml_char_t *end = at;
+    while ((unclean = unclean_bytes(load_word(end))) == 0)
+        end += sizeof unclean;
+    end += __builtin_ctzll(unclean) / 8;
+    if (!is_field_end(*end))
+        return read_escaped(at, end, text, length);
+    *length = (size_t)(end - at);
+    *text = new_text(*length, at, *length);
+    (*text)[*length] = '\0';
+    return end;
 }
 
 /* ---- Tokens ---- */
 
+/* Returns from the function that it stands in if a field is a word, whose value goes to `*value`. */
+#define IF_WORD(word, its_value)                                                                    \
+    if (memcmp(at, word, sizeof word - 1) == 0 && is_field_end(at[sizeof word - 1]))                \
+        return *value = its_value, at + sizeof word - 1
+
+static inline const yaml_char_t *read_name(const yaml_char_t *at, yaml_token_type_t *value)
+{
+    IF_WORD("SCALAR", YAML_SCALAR_TOKEN);
+    IF_WORD("KEY", YAML_KEY_TOKEN);
+    IF_WORD("VALUE", YAML_VALUE_TOKEN);
+    IF_WORD("BLOCK-END", YAML_BLOCK_END_TOKEN);
+    IF_WORD("BLOCK-ENTRY", YAML_BLOCK_ENTRY_TOKEN);
+    IF_WORD("BLOCK-MAPPING-START", YAML_BLOCK_MAPPING_START_TOKEN);
+    IF_WORD("BLOCK-SEQUENCE-START", YAML_BLOCK_SEQUENCE_START_TOKEN);
+    IF_WORD("FLOW-ENTRY", YAML_FLOW_ENTRY_TOKEN);
+    IF_WORD("FLOW-SEQUENCE-START", YAML_FLOW_SEQUENCE_START_TOKEN);
+    IF_WORD("FLOW-SEQUENCE-END", YAML_FLOW_SEQUENCE_END_TOKEN);
+    IF_WORD("FLOW-MAPPING-START", YAML_FLOW_MAPPING_START_TOKEN);
+    IF_WORD("FLOW-MAPPING-END", YAML_FLOW_MAPPING_END_TOKEN);
+    IF_WORD("DOCUMENT-START", YAML_DOCUMENT_START_TOKEN);
+    IF_WORD("DOCUMENT-END", YAML_DOCUMENT_END_TOKEN);
+    IF_WORD("TAG", YAML_TAG_TOKEN);
+    IF_WORD("ANCHOR", YAML_ANCHOR_TOKEN);
+    IF_WORD("ALIAS", YAML_ALIAS_TOKEN);
+    IF_WORD("VERSION-DIRECTIVE", YAML_VERSION_DIRECTIVE_TOKEN);
+    IF_WORD("TAG-DIRECTIVE", YAML_TAG_DIRECTIVE_TOKEN);
+    IF_WORD("STREAM-START", YAML_STREAM_START_TOKEN);
+    IF_WORD("STREAM-END", YAML_STREAM_END_TOKEN);
+    IF_WORD("NO-TOKEN", YAML_NO_TOKEN);
+    quit("a token line with an unknown word");
+    return at;
+}
+
+static inline const yaml_char_t *read_style(const yaml_char_t *at, yaml_scalar_style_t *value)
+{
+    IF_WORD("plain", YAML_PLAIN_SCALAR_STYLE);
+    IF_WORD("double", YAML_DOUBLE_QUOTED_SCALAR_STYLE);
+    IF_WORD("single", YAML_SINGLE_QUOTED_SCALAR_STYLE);
+    IF_WORD("literal", YAML_LITERAL_SCALAR_STYLE);
+    IF_WORD("folded", YAML_FOLDED_SCALAR_STYLE);
+    IF_WORD("any", YAML_ANY_SCALAR_STYLE);
+    quit("a token line with an unknown word");
+    return at;
+}
+
+static const yaml_char_t *read_encoding(const yaml_char_t *at, yaml_encoding_t *value)
+{
+    IF_WORD("utf8", YAML_UTF8_ENCODING);
+    IF_WORD("utf16le", YAML_UTF16LE_ENCODING);
+    IF_WORD("utf16be", YAML_UTF16BE_ENCODING);
+    IF_WORD("any", YAML_ANY_ENCODING);
+    quit("a token line with an unknown word");
+    return at;
+}
+
 /* What follows a token's marks. */
-static void read_fields(yaml_token_t *token, field_t *rest)
+static inline const yaml_char_t *read_fields(const yaml_char_t *at, yaml_token_t *token)
 {
     size_t length;
-    field_t field;
 
     switch (token->type) {
     case YAML_STREAM_START_TOKEN:
-        token->data.stream_start.encoding = (yaml_encoding_t)read_word(next_field(rest), WORDS(ENCODINGS));
-        break;
+        return read_encoding(next_field(at), &token->data.stream_start.encoding);
     case YAML_VERSION_DIRECTIVE_TOKEN:
-        field = next_field(rest);
-        token->data.version_directive.major = (int)read_number(&field, '.');
-        token->data.version_directive.minor = (int)read_number(&field, ' ');
-        break;
+        at = read_int(next_field(at), &token->data.version_directive.major);
+        if (*at != '.')
+            quit("a token line without a number");
+        return read_int(at + 1, &token->data.version_directive.minor);
     case YAML_TAG_DIRECTIVE_TOKEN:
-        token->data.tag_directive.handle = read_text(next_field(rest), &length);
-        token->data.tag_directive.prefix = read_text(next_field(rest), &length);
-        break;
+        at = read_text(next_field(at), &token->data.tag_directive.handle, &length);
+        return read_text(next_field(at), &token->data.tag_directive.prefix, &length);
     case YAML_ALIAS_TOKEN:
-        token->data.alias.value = read_text(next_field(rest), &length);
-        break;
+        return read_text(next_field(at), &token->data.alias.value, &length);
     case YAML_ANCHOR_TOKEN:
-        token->data.anchor.value = read_text(next_field(rest), &length);
-        break;
+        return read_text(next_field(at), &token->data.anchor.value, &length);
     case YAML_TAG_TOKEN:
-        token->data.tag.handle = read_text(next_field(rest), &length);
-        token->data.tag.suffix = read_text(next_field(rest), &length);
-        break;
+        at = read_text(next_field(at), &token->data.tag.handle, &length);
+        return read_text(next_field(at), &token->data.tag.suffix, &length);
     case YAML_SCALAR_TOKEN:
-        token->data.scalar.value = read_text(next_field(rest), &token->data.scalar.length);
-        token->data.scalar.style = (yaml_scalar_style_t)read_word(next_field(rest), WORDS(SCALAR_STYLES));
-        break;
+        at = read_text(next_field(at), &token->data.scalar.value, &token->data.scalar.length);
+        return read_style(next_field(at), &token->data.scalar.style);
     default:
-        break;
+        return at;
     }
 }
 
-static void read_token(field_t line, yaml_token_t *token)
+/* ---- Lines ---- */
+
+static yaml_char_t input[MAX_LINE + MOST_READ + SLACK];
+/* The lines that aren't taken yet lie between the first two; what was read of the next one follows. */
+static const yaml_char_t *input_at = input, *lines_end = input, *input_end = input;
+
+/* Reads until a line has its end; 0 at the end of the input. */
+static int read_lines(void)
 {
-    memset(token, 0, sizeof *token);
-    token->type = (yaml_token_type_t)read_word(next_field(&line), WORDS(TOKEN_NAMES));
-    token->start_mark = read_mark(next_field(&line));
-    token->end_mark = read_mark(next_field(&line));
-    read_fields(token, &line);
-    if (line.at != NULL)
-        quit("a token line with too many fields");
-}
+    size_t length = (size_t)(input_end - lines_end), end = 0;
 
-static unsigned char input[MAX_LINE + (1 << 20)];
-static size_t input_at, input_end;
-
-/* Takes the next line; 0 at the end of the input. */
-static int next_line(field_t *line)
-{
-    size_t seen = 0;
-    const unsigned char *end;
-
-    while ((end = memchr(input + input_at + seen, '\n', input_end - input_at - seen)) == NULL) {
-        seen = input_end - input_at;
-        if (seen > MAX_LINE)
+    memmove(input, lines_end, length);
+    while (end == 0) {
+        size_t before = length;
+        if (before > MAX_LINE)
             quit("a line too long");
-        memmove(input, input + input_at, seen);
-        input_at = 0;
-        ssize_t count = read(0, input + seen, sizeof input - seen);
+        ssize_t count = read(0, input + before, MOST_READ);
         if (count < 0)
             quit("standard input can't be read");
-        input_end = seen + (size_t)count;
-        if (count == 0 && seen > 0)
-            quit("a last line without its end");
-        if (count == 0)
+        if (count == 0 && before == 0)
             return 0;
+        if (count == 0)
+            input[length++] = '\n';
+        length += (size_t)count;
+        for (end = length; end > before && input[end - 1] != '\n';)
+            end--;
+        if (end == before)
+            end = 0;
     }
-    line->at = input + input_at;
-    line->end = end;
-    input_at = (size_t)(end - input) + 1;
+    input_at = input;
+    lines_end = input + end;
+    input_end = input + length;
     return 1;
 }
 
 /* Takes the next token; 0 at the end of the input. */
 static int next_token(yaml_token_t *token)
 {
-    field_t line;
-
-    if (!next_line(&line))
+    if (input_at == lines_end && !read_lines())
         return 0;
-    read_token(line, token);
+    memset(token, 0, sizeof *token);
+    const yaml_char_t *at = read_name(input_at, &token->type);
+    at = read_mark(next_field(at), &token->start_mark);
+    at = read_mark(next_field(at), &token->end_mark);
+    at = read_fields(at, token);
+    if (*at != '\n')
+        quit(*at == ' ' ? "a token line with too many fields" : "a token line with a bad number");
+    input_at = at + 1;
     return 1;
 }
