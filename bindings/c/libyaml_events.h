@@ -45,6 +45,10 @@ struct rooms {
     size_t states, sizes, names, open, texts;
 };
 
+/* pokhvizi_step_exact or pokhvizi_step. */
+typedef uint32_t one_step(pokhvizi_steps_t *, uint8_t *, size_t, pokhvizi_mark_t *, size_t, uint8_t, uint8_t, const pokhvizi_span_t *,
+                          pokhvizi_event_t *, pokhvizi_fault_t *);
+
 /* The steps and their stack of states, in the place of `parser->states`. Their stack of marks is `parser->marks`. */
 struct kept {
     pokhvizi_steps_t steps;
@@ -57,7 +61,7 @@ struct kept {
     size_t document, names_count, texts_length;  /* its number, from 1 */
     uint32_t is_counted;
     uint32_t key;  /* for the hashes of anchors and handles, or 0 */
-    int has_fixes;  /* events are of this project's own grammar, and not exactly libyaml's */
+    one_step *step;  /* exactly libyaml's, or this project's own grammar's */
     uint8_t tag[64];  /* the tag in full whose fact was asked for last, if it is so short */
     _Alignas(uint64_t) uint8_t states[];
 };
@@ -592,7 +596,7 @@ static int begin(yaml_parser_t *parser, const struct bounds *bounds, int has_fix
     kept->marks_room = least(FIRST_ROOM((size_t)(parser->marks.end - parser->marks.start)), bounds->depth);
     kept->bounds = *bounds;
     kept->is_counted = bounds->nodes < ANY_NODES || bounds->expanded < ANY_EXPANDED;
-    kept->has_fixes = has_fixes;
+    kept->step = has_fixes ? pokhvizi_step : pokhvizi_step_exact;
     free(parser->tag_directives.start);
     memset(&parser->tag_directives, 0, sizeof parser->tag_directives);
     parser->state = YAML_PARSE_DOCUMENT_CONTENT_STATE;
@@ -746,11 +750,8 @@ OFTEN uint32_t step(yaml_parser_t *parser, const yaml_token_t *token, struct hel
     if (__builtin_expect(WITH_TEXT >> token->type & 1, 0))
         fact = token->type == YAML_SCALAR_TOKEN ? token->data.scalar.style == YAML_PLAIN_SCALAR_STYLE
                                                 : fact_of(parser, token, held);
-    if (__builtin_expect(kept->has_fixes, 0))
-        return pokhvizi_step(&kept->steps, kept->states, kept->rooms.states, marks, kept->marks_room, token->type, fact,
-                             span_of(token), made, fault);
-    return pokhvizi_step_exact(&kept->steps, kept->states, kept->rooms.states, marks, kept->marks_room, token->type, fact,
-                               span_of(token), made, fault);
+    return kept->step(&kept->steps, kept->states, kept->rooms.states, marks, kept->marks_room, token->type, fact, span_of(token),
+                      made, fault);
 }
 
 /* Does what a step asks for that gave no event, and wants no other token; 0 where there is an error. */
