@@ -17,7 +17,7 @@ use libyaml_types::yaml_event_type_t;
 
 /// What is kept between two calls, beside the stack: plain numbers, each with any value.
 ///
-/// libyaml: `loader_ctx`, without its stack.
+/// libyaml keeps the stack alone, `loader_ctx`.
 #[repr(C)]
 #[derive(Copy, Clone)]
 pub struct composer_t {

@@ -2,7 +2,7 @@
 //!
 //! If that is of the same kind, it is written over field by field. If it is of another kind and has nothing
 //! to be dropped, such as the empty event of a call by value, an arm of its own lets the compiler see it.
-//! Else it is dropped, which functions of their own do (`any_by_..`): to drop a content takes six registers,
+//! Else it is dropped, which functions of their own do (`replace_by_..`): to drop a content takes six registers,
 //! which the function then needn't save.
 ghost use Rattle.std.specs.Prelude.{◌≡◌, [], None, false, true, option_map, string_bytes};
 ghost use Rattle.libyaml_types.specs.declared.event.unnamed_yaml_event_t_data.TheVariants.{Alias, MappingEnd};

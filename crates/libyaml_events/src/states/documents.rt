@@ -73,13 +73,13 @@ fn put_document_start(alloc: Global, content: &mut unnamed_yaml_event_t_data)
         unnamed_yaml_event_t_data::NoEvent => {
             *content = document_start(alloc);
         }
-        _ => any_by_document_start(alloc, content),
+        _ => replace_by_document_start(alloc, content),
     }
 }
 
 /// Puts the start of a document without directives in place of a content that is to be dropped.
 #[inline(never)]
-fn any_by_document_start(alloc: Global, content: &mut unnamed_yaml_event_t_data)
+fn replace_by_document_start(alloc: Global, content: &mut unnamed_yaml_event_t_data)
     ensures { content.new ≡ document_start None [] true }
 {
     *content = document_start(alloc);
