@@ -3,7 +3,7 @@
 
     python3 bench/plain.py [KIND..]
 
-KIND is a kind of list of lists.py, MOST if none is named. UNSAFE_LIBYAML=DIR is the folder of the crate unsafe-libyaml 0.2.11, with
+KIND is a kind of list of lists.py; without one all are measured. UNSAFE_LIBYAML=DIR is the folder of the crate unsafe-libyaml 0.2.11, with
 its src; without it its columns are missing. JOBS counts go on at a time (2). All programs must agree in their counts and checksums.
 
 Needs cargo, valgrind, a C compiler and Debian's libyaml-dev; not the kit."""
@@ -17,7 +17,6 @@ import measure
 from lists import KINDS
 
 HERE = Path(__file__).resolve().parent
-MOST = ["mix", "services", "documents", "sequence", "mapping", "flow", "anchors", "tags"]
 measure.MEASURES.update({
     "plain place events": ("plain", "place-events"),
     "plain iterate events": ("plain", "iterate-events"),
@@ -61,7 +60,7 @@ def build(work):
 
 
 def main():
-    kinds = sys.argv[1:] or MOST
+    kinds = sys.argv[1:] or list(KINDS)
     if any(kind not in KINDS for kind in kinds):
         sys.exit(f"usage: plain.py KIND.., of {' '.join(KINDS)}")
     with tempfile.TemporaryDirectory() as work:
