@@ -1,5 +1,6 @@
 //! What holds of a caller's run of calls. Each function does nothing when it runs: its contract is the law.
-ghost use Rattle.std.specs.Prelude.{◌≡◌, ◌≤◌, ◌+◌, ◌*◌, ◌++◌, ◌∷◌, List, [], ℕ, Option, length, is_some, true, false};
+ghost use Rattle.std.specs.Prelude.{◌≡◌, ◌≤◌, ◌+◌, ◌*◌, ◌++◌, ◌∷◌, List, [], ℕ, Option};
+ghost use Rattle.std.specs.Prelude.{length, is_some, true, false};
 ghost use Rattle.std.specs.FinMap.{get};
 ghost use Rattle.libyaml_types.specs.declared.token.unnamed_yaml_token_t_data.TheVariants as tok;
 ghost use Rattle.libyaml_types.specs.declared.token.unnamed_yaml_token_t_data_version_directive as version;
@@ -51,8 +52,8 @@ pub fn run_is_right()
     ensures at_most_four { ForRuns (λ tokens events. length events ≤ 4 * length tokens) }
 {}
 
-/// Between two tokens, before STREAM-END, the types that `steps_t::expected` returns are those of a token with
-/// which the tokens handed in still begin a valid list, if they begin one.
+/// Between two tokens, before STREAM-END, the types that `steps_t::expected` returns are those of a token
+/// with which the tokens handed in still begin a valid list, if they begin one.
 pub fn next_types()
     ensures { NextTypes }
 {}
@@ -72,8 +73,9 @@ pub fn run_fails()
         → IsRun (tokens ++ more) source events (Fails fault)) }
 {}
 
-/// A run of exact calls is one of the other calls over tokens in which an empty plain scalar stands for each that
-/// is lost, at its end. So its events nest, and are at most four for each token, and its stacks get no larger.
+/// A run of exact calls is one of the other calls over tokens in which an empty plain scalar stands for
+/// each that is lost, at its end. So its events nest, and are at most four for each token, and its stacks
+/// get no larger.
 pub fn exact_runs()
     ensures seen { (d : steps_t) (ss : List ℕ) (ms : List yaml_mark_t) (hs : Handles) (kept : Texts)
         (o : Option Token) (l : List Token) (g : List Event) → ExactRun d ss ms hs kept o l g
@@ -84,9 +86,9 @@ pub fn exact_runs()
     ensures marks { ForExactStacks (λ _ marks events. marks ≤ open_collections (stage_of events)) }
 {}
 
-/// The stack of marks of a machine, which is a parser's or that of a caller's steps, holds as many as the tokens
-/// that it took nest deep. So a bound on their nesting is one on the size of that stack. Of exact steps these
-/// are the tokens as they are seen, with an empty scalar in the place of one that is lost.
+/// The stack of marks of a machine, which is a parser's or that of a caller's steps, holds as many as the
+/// tokens that it took nest deep. So a bound on their nesting is one on the size of that stack. Of exact
+/// steps these are the tokens as they are seen, with an empty scalar in the place of one that is lost.
 pub fn marks_are_nesting()
     ensures machine { (w : Want) (c : Machine) (o : Option Token) (l : List Token) (g : List Event)
         → Fed w c o l g → IsNestingOfTaken o l (length c.marks) }

@@ -1,12 +1,12 @@
 //! Vectors of lines: token lines that are read, lines of events and documents that are written, and readers
 //! and writers that fail.
 //!
-//! The program makes each run that a line of the file `worked` gives, by words of a command line, and names it. It
-//! makes each check of `Check` for each run that the file `names` names, and for each line of `good_lines` and
-//! `bad_lines`; it counts the test vectors of each table and names those that differ. It also runs over more
-//! lines than are read. `vectors_lines TABLE` makes the checks of one table, `vectors_lines TABLE VECTOR` those
-//! of one test vector, and `vectors_lines failing` those of `failing`, for
-//! `scripts/gate/allocation_failures.sh`.
+//! The program makes each run that a line of the file `worked` gives, by words of a command line, and names
+//! it. It makes each check of `Check` for each run that the file `names` names, and for each line of
+//! `good_lines` and `bad_lines`; it counts the test vectors of each table and names those that differ. It
+//! also runs over more lines than are read. `vectors_lines TABLE` makes the checks of one table,
+//! `vectors_lines TABLE VECTOR` those of one test vector, and `vectors_lines failing` those of `failing`,
+//! for `scripts/gate/allocation_failures.sh`.
 #![tactic(auto)]
 
 mod failing;

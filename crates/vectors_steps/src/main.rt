@@ -1,12 +1,13 @@
 //! Lists of tokens, each with what steps over it give, which stand as files in `data`.
 //!
-//! Each line of `data/lists/index` names a list and says what it shows. Its tokens become records, and steps
-//! over these give the lines of its events, and the number and the marks of the fault that ends them. The
-//! composer's steps over the same events give what is done to each document, and the count of each deed how
-//! many nodes it has with its aliases written out, within each bound that `NAME.sizes` names. The program
-//! compares these with `NAME.steps`, `NAME.deeds` and `NAME.sizes`, and counts. Exact steps must give the same
-//! lines over a list that libyaml reads alike; the others stand in `data/exact`, with libyaml's events and error
-//! in `NAME.exact`. `vectors_steps TABLE [NAME]` compares one table, or a list of it.
+//! Each line of `data/lists/index` names a list and says what it shows. Its tokens become records, and
+//! steps over these give the lines of its events, and the number and the marks of the fault that ends them.
+//! The composer's steps over the same events give what is done to each document, and the count of each deed
+//! how many nodes it has with its aliases written out, within each bound that `NAME.sizes` names. The
+//! program compares these with `NAME.steps`, `NAME.deeds` and `NAME.sizes`, and counts. Exact steps must
+//! give the same lines over a list that libyaml reads alike; the others stand in `data/exact`, with
+//! libyaml's events and error in `NAME.exact`. `vectors_steps TABLE [NAME]` compares one table, or a list
+//! of it.
 #![tactic(auto)]
 
 mod deeds;
@@ -83,7 +84,8 @@ fn exactly_parsed(alloc: Global, tokens: &Tokens) -> Result<Parser> {
     Ok(parser)
 }
 
-/// Returns the lines of the events of these tokens. Exact steps give the same, unless libyaml does something else.
+/// Returns the lines of the events of these tokens. Exact steps give the same, unless libyaml does
+/// something else.
 fn event_lines(alloc: Global, tokens: &Tokens) -> Result<Vec<u8>> {
     let parser = parsed(alloc, tokens, NO_BOUND)?;
     let differs = parser.differs();

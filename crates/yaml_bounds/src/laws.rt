@@ -1,4 +1,5 @@
-//! The law of a loop over events within bounds. The function does nothing when it runs: its contract is the law.
+//! The law of a loop over events within bounds. The function does nothing when it runs: its contract is the
+//! law.
 ghost use Rattle.std.specs.Prelude.{◌≡◌, ℕ, List, [], Option, Some};
 ghost use Rattle.libyaml_types.specs.Fault.{Fault};
 ghost use Rattle.libyaml_types.specs.Source.{coming};
@@ -13,10 +14,10 @@ ghost use Rattle.yaml_bounds.specs.BoundedLoops.{AreBoundedOf, LoopBounded};
 
 use libyaml_events::yaml_token_source_t;
 
-/// What a whole loop over the events of a parser within bounds yielded, over a list of tokens from the start:
-/// exactly the run's events up to the first with which a load fails, or a document has too many nodes, whatever
-/// comes after it, and each document that ended is within the bounds; or memory ran out, or the source failed
-/// early, after a prefix of these events.
+/// What a whole loop over the events of a parser within bounds yielded, over a list of tokens from the
+/// start: exactly the run's events up to the first with which a load fails, or a document has too many
+/// nodes, whatever comes after it, and each document that ended is within the bounds; or memory ran out, or
+/// the source failed early, after a prefix of these events.
 pub fn bounded_events_are_loads<S: yaml_token_source_t>()
     ensures of_list { (n : ℕ) (max : Option ℕ) (old new : BoundedEvents S) (yielded : List Event)
         (ending : Ending) (l : List Token) (f : Fault) (e : List Event) (x : Ending)
