@@ -5,6 +5,5 @@ pub mod Texts
 pub mod WholeNumbers
 pub mod Marks
 pub mod Names
-pub mod PrefixTokens
 pub mod Digits
 pub mod Repeats

@@ -1,7 +1,8 @@
 pub mod Number
+pub mod Prefixes
 pub mod Field
 pub mod Pieces
 pub mod TokenName
 pub mod TokenLine
-pub mod Prefixes
+pub mod ReadAt
 pub mod Reading

@@ -8,8 +8,10 @@
 //! 16 bytes and is returned in two registers, while an `Option` of it would have 24 and be returned in
 //! memory. Outside this file the 0 becomes an `Option` (`number.rt`) or an error (`token_line.rt`).
 ghost use Rattle.std.specs.Prelude.{◌≡◌, ◌+◌, ◌≤◌, ◌<◌, Some, None, true, false, length, drop, slice_index};
-ghost use Rattle.line_reading.specs.tokens.Prefixes.{after_first, after_field, further, mark_at};
-ghost use Rattle.line_reading.specs.tokens.Prefixes.{HasDigits, IsNumberRead, IsRowRead, BeginsWithNoDigit};
+ghost use Rattle.line_reading.specs.tokens.Field.{mark_at};
+ghost use Rattle.line_reading.specs.tokens.Prefixes.{after_first, after_field};
+ghost use Rattle.line_reading.specs.tokens.ReadAt.{further};
+ghost use Rattle.line_reading.specs.tokens.ReadAt.{HasDigits, IsNumberRead, IsRowRead, BeginsWithNoDigit};
 ghost use Rattle.std.specs.Char.{is_ascii_digit};
 
 use crate::bytes::end_alike;

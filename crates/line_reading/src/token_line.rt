@@ -3,7 +3,7 @@ ghost use Rattle.std.specs.Prelude.{◌≡◌, ◌≤◌, [], ◌∷◌, All, If
 ghost use Rattle.libyaml_types.specs.declared.enums.yaml_token_type_t.TheVariants.{YAML_SCALAR_TOKEN};
 ghost use Rattle.line_reading.specs.Clean.{IsClean};
 ghost use Rattle.line_reading.specs.tokens.Pieces.{pieces_of};
-ghost use Rattle.line_reading.specs.tokens.Prefixes.{further, line_token_at};
+ghost use Rattle.line_reading.specs.tokens.ReadAt.{further};
 ghost use Rattle.line_reading.specs.tokens.TokenLine.{bare_content, content_of_one, content_of_two};
 ghost use Rattle.line_reading.specs.tokens.TokenLine.{content_of, token_of_line};
 ghost use Rattle.line_reading.specs.tokens.Reading.{IsReadInto};
@@ -35,13 +35,6 @@ pub(crate) fn read_token_line(
     token: &mut yaml_token_t,
 ) -> Result<(), LineProblem>
     ensures { IsReadInto result token.new (token_of_line line.now) }
-{
-    take_token(alloc, line, token)
-}
-
-/// Reads the token; this contract follows the code, prefix by prefix.
-fn take_token(alloc: Global, line: &[u8], token: &mut yaml_token_t) -> Result<(), LineProblem>
-    ensures { IsReadInto result token.new (line_token_at line.now) }
 {
     let Some(NameRead { type_, end: name }) = read_name(line) else {
         return Err(LineProblem::BadTokenLine);

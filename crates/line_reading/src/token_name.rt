@@ -1,6 +1,7 @@
 //! The names of tokens.
 ghost use Rattle.std.specs.Prelude.{◌≡◌, Some, None, true, IfSome, IfNone, length, take};
-ghost use Rattle.line_reading.specs.tokens.Prefixes.{IsNameRead, line_token_at};
+ghost use Rattle.line_reading.specs.tokens.ReadAt.{IsNameRead};
+ghost use Rattle.line_reading.specs.tokens.TokenLine.{token_of_line};
 ghost use Rattle.line_reading.specs.tokens.TokenName.{token_type_of};
 
 use crate::search::len_before;
@@ -27,7 +28,7 @@ fn name_read(type_: yaml_token_type_t, end: usize) -> Option<NameRead>
 #[inline(always)]
 pub(crate) fn read_name(line: &[u8]) -> Option<NameRead>
     ensures some { IfSome result (λ read. IsNameRead line.now read) }
-    ensures none { IfNone result (line_token_at line.now ≡ None) }
+    ensures none { IfNone result (token_of_line line.now ≡ None) }
 {
     if begins_with(line, b"SCALAR ") {
         return name_read(yaml_token_type_t::YAML_SCALAR_TOKEN, 6);
@@ -76,7 +77,7 @@ fn begins_with(line: &[u8], start: &[u8]) -> bool
 #[inline(never)]
 fn read_any_name(line: &[u8]) -> Option<NameRead>
     ensures some { IfSome result (λ read. IsNameRead line.now read) }
-    ensures none { IfNone result (line_token_at line.now ≡ None) }
+    ensures none { IfNone result (token_of_line line.now ≡ None) }
 {
     let end = len_before(line, b' ');
     if end == line.len() {

@@ -1,10 +1,10 @@
 -- What a line that is read, or the lack of one, says of a result (`ReadsNext`).
-use Rattle.std.proofs.Common.{◌≡◌, ◌≢◌, ◌≤◌, ◌<◌, ◌+◌, ◌++◌, ℕ, All, List, [], ◌∷◌, length, Option, Some, OnSome, Result, take, take-take, take_all, length-take, slice_index, Err, ap, subst, sym, ◌∙◌, arith}
+use Rattle.std.proofs.Common.{◌≡◌, ◌≢◌, ◌≤◌, ◌<◌, ◌+◌, ◌++◌, ℕ, All, List, [], ◌∷◌, length, Option, Some, OnSome, Result, take, take-take, take_all, length-take, slice_index, Err, refl, ap, subst, sym, ◌∙◌, arith}
 use Rattle.std.proofs.lemmas.List.{length-append, take_more}
 use Rattle.std.specs.Io.KnownBytes.{Consumes, IsAtEnd}
 use Rattle.libyaml_types.specs.declared.token.yaml_token_t.{yaml_token_t}
 use Rattle.line_reading.specs.declared.line.LineEnd.{LineEnd}
-use Rattle.line_reading.specs.declared.line.LineEnd.TheVariants.{End}
+use Rattle.line_reading.specs.declared.line.LineEnd.TheVariants.{LineFeed, End}
 use Rattle.line_reading.specs.declared.line_problem.LineProblem.{LineProblem}
 use Rattle.line_reading.specs.declared.line_problem.LineProblem.TheVariants.{LineTooLong, BadTokenLine}
 use Rattle.line_reading.specs.sources.Line.{line_feed}
@@ -71,7 +71,8 @@ pub ended_read : (before after : Option (List ℕ)) (l : List ℕ) (end : LineEn
     (token : yaml_token_t) → All (λ x. x ≢ 10) l → 0 < length l → length l ≤ longest_line
     → Consumes before after (l ++ line_feed (Some end)) → (end ≡ End → OnSome before (IsAtEnd after))
     → IsReadInto result token (token_of_line l) → ReadsNext before result token after
-ended_read before after l end result token clean some fits h end' r = grind (arith, line_read, last_read)
+ended_read before after l LineFeed result token clean some fits h at_end r = line_read before after l result token clean fits h r
+ended_read before after l End result token clean some fits h at_end r = last_read before after l result token clean some fits h (at_end refl) r
 
 pub fits_unless : (n : ℕ) → n ≤ longest_line + 1 → (n ≡ longest_line + 1 → ⊥) → n ≤ longest_line
 fits_unless n h k = grind arith

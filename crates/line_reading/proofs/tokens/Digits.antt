@@ -5,7 +5,9 @@ use Rattle.std.proofs.Math.Nat.{pow-suc, pow-le-pow_right}
 use Rattle.std.proofs.Math.Numerals.{add-one}
 use Rattle.std.specs.Char.{is_ascii_digit}
 use Rattle.line_reading.specs.tokens.Number.{value_after, value_of, number_of}
-use Rattle.line_reading.specs.tokens.Prefixes.{digits_of, after_digits, number_at, HasDigits, IsNumberRead}
+use Rattle.line_reading.specs.tokens.Field.{number_at}
+use Rattle.line_reading.specs.tokens.Prefixes.{digits_of, after_digits}
+use Rattle.line_reading.specs.tokens.ReadAt.{HasDigits, IsNumberRead}
 use Rattle.line_reading.specs.declared.marks.NumberRead.{NumberRead}
 use Rattle.line_reading.proofs.tokens.Numerals.{value_after-end, value_after-digit, value_after-large}
 

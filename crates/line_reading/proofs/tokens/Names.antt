@@ -2,7 +2,8 @@
 use Rattle.std.proofs.Common.{◌≡◌, ◌+◌, ◌∙◌, ℕ, List, ◌++◌, length, length-append, take, drop, Some, ap, sym, arith}
 use Rattle.std.proofs.lemmas.List.{take-append-drop}
 use Rattle.line_reading.specs.declared.token_name.NameRead.{NameRead}
-use Rattle.line_reading.specs.tokens.Prefixes.{before_byte, after_byte, IsNameRead}
+use Rattle.line_reading.specs.tokens.Prefixes.{before_byte, after_byte}
+use Rattle.line_reading.specs.tokens.ReadAt.{IsNameRead}
 use Rattle.line_reading.specs.tokens.TokenName.{token_type_of}
 
 begun : (line start : List ℕ) → take (length start) line ≡ start → line ≡ start ++ drop (length start) line

@@ -3,7 +3,9 @@ use Rattle.std.proofs.Common.{◌≡◌, ℕ, zero, suc, ◌+◌, ◌-◌, ◌<�
 use Rattle.std.proofs.lemmas.List.{drop-drop, drop-take, length-take}
 use Rattle.std.specs.Char.{is_ascii_digit}
 use Rattle.line_reading.specs.tokens.Number.{number_of}
-use Rattle.line_reading.specs.tokens.Prefixes.{digits_of, after_digits, number_at, IsNumberRead, IsRowRead}
+use Rattle.line_reading.specs.tokens.Field.{number_at}
+use Rattle.line_reading.specs.tokens.Prefixes.{digits_of, after_digits}
+use Rattle.line_reading.specs.tokens.ReadAt.{IsNumberRead, IsRowRead}
 use Rattle.line_reading.specs.declared.marks.NumberRead.{NumberRead}
 use Rattle.line_reading.specs.declared.marks.RowRead.{RowRead}
 

@@ -1,5 +1,5 @@
 -- The fields of a token line (docs/DEFINITIONS.md, "Lines").
-use Rattle.std.specs.Prelude.{ℕ, List, [], ◌∷◌, ◌==◌, Option, Some, None, option_and_then, if◌then◌else◌, codes, bytes_eq}
+use Rattle.std.specs.Prelude.{ℕ, List, [], ◌∷◌, ◌==◌, Option, Some, None, option_and_then, option_map, if◌then◌else◌, codes, bytes_eq}
 use Rattle.std.specs.List.{slice_split}
 use Rattle.std.specs.Str.{is_utf8}
 use Rattle.percent_encoding.specs.Percent.{percent_decode}
@@ -10,22 +10,26 @@ use Rattle.libyaml_types.specs.declared.enums.yaml_encoding_t.TheVariants.{YAML_
 use Rattle.libyaml_types.specs.declared.enums.yaml_scalar_style_t.{yaml_scalar_style_t}
 use Rattle.libyaml_types.specs.declared.enums.yaml_scalar_style_t.TheVariants.{YAML_ANY_SCALAR_STYLE, YAML_PLAIN_SCALAR_STYLE, YAML_SINGLE_QUOTED_SCALAR_STYLE, YAML_DOUBLE_QUOTED_SCALAR_STYLE, YAML_LITERAL_SCALAR_STYLE, YAML_FOLDED_SCALAR_STYLE}
 use Rattle.line_reading.specs.tokens.Number.{number_of, signed_of}
+use Rattle.line_reading.specs.tokens.Prefixes.{digits_of, after_digits, after_first, after_field}
 
 infixl 10 ◌>>=◌
 abbrev pub ◌>>=◌ : {A B : Type 0} → Option A → (A → Option B) → Option B
 o >>= f = option_and_then f o
 
--- a mark: index, line and column between colons
-abbrev pub mark_of_numbers : List (List ℕ) → Option yaml_mark_t
-mark_of_numbers (i ∷ l ∷ c ∷ []) = do
-  index ← number_of i
-  line ← number_of l
-  column ← number_of c
-  Some (record { index = index; line = line; column = column })
-mark_of_numbers _ = None
+-- a number that begins the bytes, and what follows its digits
+abbrev pub number_at : List ℕ → Option (ℕ × List ℕ)
+number_at bytes = option_map (λ n. (n, after_digits bytes)) (number_of (digits_of bytes))
 
-abbrev pub mark_of : List ℕ → Option yaml_mark_t
-mark_of field = mark_of_numbers (slice_split (λ b. b == 58) field)
+-- a mark that begins the bytes: index, line and column between colons; and the further fields, if there are some
+abbrev pub mark_at : List ℕ → Option (yaml_mark_t × Option (List ℕ))
+mark_at bytes = do
+  index ← number_at bytes
+  after_index ← after_first 58 index.1
+  line ← number_at after_index
+  after_line ← after_first 58 line.1
+  column ← number_at after_line
+  further ← after_field column.1
+  Some (record { index = index.0; line = line.0; column = column.0 }, further)
 
 -- a version: major and minor with a point between them
 abbrev pub version_of_numbers : List (List ℕ) → Option unnamed_yaml_token_t_data_version_directive

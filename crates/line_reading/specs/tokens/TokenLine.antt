@@ -1,6 +1,5 @@
 -- Tokens as lines (docs/DEFINITIONS.md, "Lines").
-use Rattle.std.specs.Prelude.{ℕ, List, [], ◌∷◌, ◌==◌, Option, Some, None}
-use Rattle.std.specs.List.{slice_split}
+use Rattle.std.specs.Prelude.{ℕ, List, [], ◌∷◌, Option, Some, None}
 use Rattle.libyaml_types.specs.declared.enums.yaml_token_type_t.{yaml_token_type_t}
 use Rattle.libyaml_types.specs.declared.enums.yaml_token_type_t.TheVariants.{YAML_NO_TOKEN, YAML_STREAM_START_TOKEN, YAML_STREAM_END_TOKEN, YAML_VERSION_DIRECTIVE_TOKEN, YAML_TAG_DIRECTIVE_TOKEN, YAML_DOCUMENT_START_TOKEN, YAML_DOCUMENT_END_TOKEN, YAML_BLOCK_SEQUENCE_START_TOKEN}
 use Rattle.libyaml_types.specs.declared.enums.yaml_token_type_t.TheVariants.{YAML_BLOCK_MAPPING_START_TOKEN, YAML_BLOCK_END_TOKEN, YAML_FLOW_SEQUENCE_START_TOKEN, YAML_FLOW_SEQUENCE_END_TOKEN, YAML_FLOW_MAPPING_START_TOKEN, YAML_FLOW_MAPPING_END_TOKEN, YAML_BLOCK_ENTRY_TOKEN, YAML_FLOW_ENTRY_TOKEN}
@@ -8,7 +7,9 @@ use Rattle.libyaml_types.specs.declared.enums.yaml_token_type_t.TheVariants.{YAM
 use Rattle.libyaml_types.specs.declared.token.unnamed_yaml_token_t_data.{unnamed_yaml_token_t_data}
 use Rattle.libyaml_types.specs.declared.token.unnamed_yaml_token_t_data.TheVariants as tok
 use Rattle.libyaml_types.specs.declared.token.yaml_token_t.{yaml_token_t}
-use Rattle.line_reading.specs.tokens.Field.{◌>>=◌, mark_of, version_in_field, text_of, encoding_of, scalar_style_of}
+use Rattle.line_reading.specs.tokens.Field.{◌>>=◌, mark_at, version_in_field, text_of, encoding_of, scalar_style_of}
+use Rattle.line_reading.specs.tokens.Pieces.{pieces_of}
+use Rattle.line_reading.specs.tokens.Prefixes.{before_byte, after_byte}
 use Rattle.line_reading.specs.tokens.TokenName.{token_type_of}
 
 -- the content of a token without payload
@@ -69,16 +70,13 @@ content_of type (field ∷ []) = content_of_one type field
 content_of type (first ∷ second ∷ []) = content_of_two type first second
 content_of type _ = None
 
--- the token of a line's fields: its name, its start and its end, and what its type holds
-abbrev pub token_of_fields : List (List ℕ) → Option yaml_token_t
-token_of_fields (name ∷ start ∷ end ∷ payload) = do
-  type ← token_type_of name
-  start_mark ← mark_of start
-  end_mark ← mark_of end
-  content ← content_of type payload
-  Some (record { content = content; start_mark = start_mark; end_mark = end_mark })
-token_of_fields _ = None
-
--- the token of a line, whose fields have one space between two neighbours
+-- the token of a line: its name, which ends at the first space, its start and its end, and what its type holds in further fields
 abbrev pub token_of_line : List ℕ → Option yaml_token_t
-token_of_line line = token_of_fields (slice_split (λ b. b == 32) line)
+token_of_line line = do
+  marks ← after_byte 32 line
+  type ← token_type_of (before_byte 32 line)
+  start ← mark_at marks
+  after_start ← start.1
+  end ← mark_at after_start
+  content ← content_of type (pieces_of 32 end.1)
+  Some (record { content = content; start_mark = start.0; end_mark = end.0 })

@@ -9,4 +9,8 @@ returns-in-None g c = λ before h.
     ((rw c.in-None.is at c.in_ok-take_rest.ensures.consumes) before h)
 
 pub returns-in-Some : goal.returns-in-Some
-returns-in-Some g c = grind (arith, fits_unless, ended_read)
+returns-in-Some g c = λ before h.
+    let taken = c.in_ok-take_rest.ensures in
+    let read = c.read_token_line in
+    ended_read before _ c.take_rest.new.line.items _ read.result read.new.token c.take_rest.ensures.clean (grind arith)
+    (grind (arith, fits_unless)) ((rw c.in-Some.is at taken.consumes) before h) (grind (arith, taken, h)) (rw c.deref.ensures.value at read.ensures)
