@@ -1,23 +1,25 @@
 #!/bin/sh
 # Builds and uses what a clone gives without the kit, in a Debian tree that has stock tools alone:
 #
-#     sh scripts/clone_trees.sh TREES [all]
+#     sh scripts/clone_trees.sh TREES [all|arm64]
 #
 #     Rust      plain_rust.sh: tests, pages, package, a user's crate, the scanner; a program over serde_yaml and bindings/rust
 #     C         make, make install; programs in C and C++, shared and static; programs in Python and Ruby that are preloaded
 #     Python    a wheel of the clone, a wheel of its archive of sources, and loads over both
 #     machines  with the word `all`, platforms.sh: i686, aarch64, riscv64, s390x and wasm32
 #
+# With the word `arm64` the tree is one of aarch64, whose programs qemu runs: there C and Python, and of Rust the package alone.
+#
 # It types what README's table says, and reads a text that libyaml refuses, with the fixes and without. The clone is the last commit.
 # The original of `unsafe-libyaml` is that of Debian's package, in place of the one by its commit, which is on the network. TREES has
-# the folder `trixie`; one that isn't there is made by debootstrap. Needs root, debootstrap, git and Debian's packages over the
-# network; ten minutes, and with `all` half an hour. The last line counts; the status is 1 if something is wrong.
+# the folder `trixie` or `trixie-arm64`; one that isn't there is made by debootstrap. Needs root, debootstrap, git and Debian's
+# packages over the network, for arm64 also qemu-user-static with binfmt_misc; ten minutes, otherwise half an hour or more. The last line counts; the status is 1 if something is wrong.
 #
 # Run by hand, for a release.
 set -u
-usage='usage: sh scripts/clone_trees.sh TREES [all]'
+usage='usage: sh scripts/clone_trees.sh TREES [all|arm64]'
 case ${1-} in '' | -*) echo "$usage" >&2; exit 2 ;; esac
-case $#${2-} in 1 | 2all) ;; *) echo "$usage" >&2; exit 2 ;; esac
+case $#${2-} in 1 | 2all | 2arm64) ;; *) echo "$usage" >&2; exit 2 ;; esac
 [ "$(id -u)" = 0 ] || { echo "clone_trees.sh: needs root" >&2; exit 2; }
 mkdir -p "$1"
 trees=$(cd "$1" && pwd)
@@ -25,26 +27,40 @@ cd "$(dirname "$0")/.." || exit 2
 version=$(cat VERSION)
 . scripts/parts/trees.sh
 
-tree trixie rustc cargo rust-clippy gcc g++ make pkg-config binutils libyaml-dev python3-dev python3-venv python3-pip python3-yaml ruby git \
-    librust-unsafe-libyaml-dev librust-serde-yaml-dev librust-serde-derive-dev
+tools='rustc cargo gcc g++ make pkg-config binutils libyaml-dev python3-dev python3-venv python3-pip python3-yaml ruby git'
+case ${2-} in
+    # shellcheck disable=SC2086
+    arm64) arch=arm64 tree trixie-arm64 $tools ;;
+    # shellcheck disable=SC2086
+    *) arch='' tree trixie $tools rust-clippy librust-unsafe-libyaml-dev librust-serde-yaml-dev librust-serde-derive-dev ;;
+esac
+machine=$(chroot "$root" uname -m)
 git clone -q --no-hardlinks . "$root/srv/use/clone"
 
 # ---- Rust ----
 
-want 'the crate, by plain_rust.sh' '0 wrong' "cd clone && sh scripts/gate/plain_rust.sh > ../said 2>&1; tail -n 1 ../said | grep -o -w '0 wrong' || cat ../said"
+rust_over_the_clone() {
+    want 'the crate, by plain_rust.sh' '0 wrong' "cd clone && sh scripts/gate/plain_rust.sh > ../said 2>&1; tail -n 1 ../said | grep -o -w '0 wrong' || cat ../said"
 
-crates_of_tree
-want 'the original from a folder' '' "sh clone/scripts/parts/rust_manifest.sh /usr/share/cargo/registry/unsafe-libyaml-0.2.11 ../.. > Cargo.toml &&
-    cp clone/bindings/rust/Cargo.toml kept && mv Cargo.toml clone/bindings/rust"
-for features in 'unsafe-libyaml = { version = "0.2", features = ["fixes"] }:a b ' ':a refused '; do
-    said_by=${features##*:} features=${features%:*}
-    write_app app 'unsafe-libyaml = { path = "/srv/use/clone/bindings/rust" }'
-    want "serde_yaml over the clone${features:+, with the fixes}" "$said_by" \
-        "cd app && CARGO_HOME=/srv/use/home timeout 900 cargo run -q --offline"
-done
-want 'the patch is taken' 'serde_yaml' \
-    "cd app && CARGO_HOME=/srv/use/home cargo tree -q --offline -i unsafe-libyaml@0.2.12 | sed -n 's/^.── \\(serde_yaml\\) .*/\\1/p'"
-want 'the original by its commit again' '' 'mv kept clone/bindings/rust/Cargo.toml'
+    crates_of_tree
+    want 'the original from a folder' '' "sh clone/scripts/parts/rust_manifest.sh /usr/share/cargo/registry/unsafe-libyaml-0.2.11 ../.. > Cargo.toml &&
+        cp clone/bindings/rust/Cargo.toml kept && mv Cargo.toml clone/bindings/rust"
+    for features in 'unsafe-libyaml = { version = "0.2", features = ["fixes"] }:a b ' ':a refused '; do
+        said_by=${features##*:} features=${features%:*}
+        write_app app 'unsafe-libyaml = { path = "/srv/use/clone/bindings/rust" }'
+        want "serde_yaml over the clone${features:+, with the fixes}" "$said_by" \
+            "cd app && CARGO_HOME=/srv/use/home timeout 900 cargo run -q --offline"
+    done
+    want 'the patch is taken' 'serde_yaml' \
+        "cd app && CARGO_HOME=/srv/use/home cargo tree -q --offline -i unsafe-libyaml@0.2.12 | sed -n 's/^.── \\(serde_yaml\\) .*/\\1/p'"
+    want 'the original by its commit again' '' 'mv kept clone/bindings/rust/Cargo.toml'
+}
+
+if [ "${2-}" = arm64 ]; then
+    want 'a package of the crate' '' 'cd clone && cargo package -q --offline --allow-dirty --target-dir /srv/use/package'
+else
+    rust_over_the_clone
+fi
 
 # ---- C ----
 
@@ -77,10 +93,10 @@ want 'the front program' 'DOCUMENT 0:0:0 2:1:0 1 1 - 0
 
 want 'pip install, on a machine without git' "$version" "mv /usr/bin/git /srv/use/git; python3 -m venv --system-site-packages env && cd clone &&
     ../env/bin/pip install -q --no-index ./bindings/python; cd ..; mv git /usr/bin/git; env/bin/python -c 'import pokhvizi; print(pokhvizi.__version__)'"
-want 'a wheel of the clone' "pokhvizi-$version-cp38-abi3-linux_x86_64.whl" \
+want 'a wheel of the clone' "pokhvizi-$version-cp38-abi3-linux_$machine.whl" \
     "python3 -m venv --system-site-packages v && v/bin/pip wheel -q --no-index --no-deps -w wheels ./clone/bindings/python && ls wheels"
 want 'an archive of its sources' "pokhvizi-$version.tar.gz" "cd clone/bindings/python && python3 -c 'import backend; print(backend.build_sdist(\"/srv/use\"))'"
-want 'a wheel of that archive' "pokhvizi-$version-cp38-abi3-linux_x86_64.whl" \
+want 'a wheel of that archive' "pokhvizi-$version-cp38-abi3-linux_$machine.whl" \
     "v/bin/pip wheel -q --no-index --no-deps -w others pokhvizi-$version.tar.gz && ls others"
 for wheels in wheels others; do
     for loader in CSafeLoader SafeLoader; do
@@ -109,7 +125,7 @@ unpack_libraries() {
         for package in *.deb; do dpkg -x "$package" /; done' > "$root.log" 2>&1 || { tail -n 5 "$root.log"; exit 1; }
 }
 
-if [ $# -eq 2 ]; then
+if [ "${2-}" = all ]; then
     unpack_libraries
     want 'other machines' '0 wrong, 0 skipped' "cd clone && sh scripts/gate/platforms.sh > ../said 2>&1; tail -n 1 ../said | grep -o '[0-9]* wrong.*'"
     sed 's/^/    /' "$root/srv/use/said"

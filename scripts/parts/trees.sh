@@ -8,15 +8,16 @@ export DEBIAN_FRONTEND=noninteractive LC_ALL=C.UTF-8
 wrong=0 skipped=0 right=0
 trap 'for proc in "$trees"/*/proc; do ! mountpoint -q "$proc" || umount "$proc"; done' EXIT
 
-# tree NAME PACKAGE..: a tree of that release with these packages, and nothing of this machine's.
+# tree NAME PACKAGE..: a tree of that release with these packages, and nothing of this machine's. A name may have more words after
+# the release, and $arch is its processor, if it isn't this machine's.
 tree() {
     root=$trees/$1
     if [ ! -x "$root/bin/sh" ]; then
-        debootstrap --variant=minbase "$1" "$root" > "$root.log" 2>&1 || { tail -n 5 "$root.log"; exit 1; }
+        debootstrap ${arch:+--arch="$arch"} --variant=minbase "${1%%-*}" "$root" > "$root.log" 2>&1 || { tail -n 5 "$root.log"; exit 1; }
     fi
     cp /etc/resolv.conf "$root/etc/resolv.conf"
     mountpoint -q "$root/proc" || mount -t proc proc "$root/proc"
-    [ "$1" != bookworm ] || grep -q security "$root/etc/apt/sources.list" ||
+    [ "${1%%-*}" != bookworm ] || grep -q security "$root/etc/apt/sources.list" ||
         echo 'deb http://deb.debian.org/debian-security bookworm-security main' >> "$root/etc/apt/sources.list"
     shift
     chroot "$root" sh -c 'apt-get -q update && apt-get -q -y --no-install-recommends install "$@"' sh "$@" > "$root.log" 2>&1 ||
