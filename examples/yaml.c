@@ -14,7 +14,8 @@ static const char USAGE[] =
     "usage: yaml tokens|events|nodes FILE\n"
     "Writes the lines of a YAML file's tokens, events, or documents and nodes; FILE may be -, for standard input.\n"
     "A fault of the YAML is the last of the events or nodes: FAULT, who found it, its mark and its words, and maybe a\n"
-    "line CONTEXT. Marks are index:line:column, counted in characters from 0. A fault is told on standard error too.\n"
+    "line CONTEXT. Marks are index:line:column, counted in characters from 0. A fault is told on standard error too,\n"
+    "with what was expected where it is a token's kind.\n"
     "Exit status: 0 the file was read to its end, 1 it has a fault, 2 wrong words, 3 the file can't be read, the\n"
     "output can't be written, or there is no memory.\n";
 
@@ -269,6 +270,7 @@ struct run {
     struct text nodes, anchors, texts;  /* of the document */
     struct text start;                  /* the rest of its line */
     pokhvizi_event_t opening;
+    uint32_t expected;                  /* in the place of the token that was refused, or 0 */
 };
 
 #define ENTRIES(type, text) ((type *)(void *)(text).bytes)
@@ -624,6 +626,7 @@ static int take_token(struct run *run, const yaml_token_t *token)
     pokhvizi_fault_t fault;
     const yaml_mark_t start = token->start_mark, end = token->end_mark;
     const pokhvizi_span_t at = {{start.index, start.line, start.column}, {end.index, end.line, end.column}};
+    const pokhvizi_steps_t before = run->steps;
     const char *context;
     int status = ENDED;
 
@@ -652,6 +655,8 @@ static int take_token(struct run *run, const yaml_token_t *token)
             pokhvizi_problem(fault.problem, &context);
             put_fault(&run->out, "FAULT parser", mark_of(fault.problem_mark), pokhvizi_problem(fault.problem, &context),
                       mark_of(fault.context_mark), context);
+            if (pokhvizi_is_unexpected(fault.problem))
+                run->expected = pokhvizi_expected(&before, run->states.bytes, run->states.room);
             return FAULTED;
         }
     }
@@ -749,6 +754,15 @@ static int say_fault(const char *name, struct text *text)
     return FAULTED;
 }
 
+/* Says on standard error what was expected where the error is, if anything was. */
+static void say_expected(uint32_t expected)
+{
+    char words[512];
+
+    if (expected != 0 && pokhvizi_expected_words(expected, words, sizeof words) > 0)
+        fprintf(stderr, "yaml: expected: %s\n", words);
+}
+
 /* Reads a whole file. */
 static int read_text(const char *name, struct text *yaml)
 {
@@ -790,6 +804,7 @@ static int show(const char *mode, const char *name)
     } else if (is_read) {
         int written = write_out(&run.out);
         status = written != ENDED || status == ENDED ? written : say_fault(name, told);
+        say_expected(run.expected);
     }
     free(yaml.bytes);
     free(fault.bytes);

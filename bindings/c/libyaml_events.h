@@ -1,6 +1,8 @@
 /* Events of libyaml's tokens by the proved steps, in a yaml_parser_t: what libyaml_preload.c and Python's extension share. Each
  * includes it once.
  *
+ * Where the includer defines WITH_EXPECTED, an error says what was expected (`expected_in`).
+ *
  * What is kept between two calls stands in the yaml_parser_t, in the place of what libyaml's own parser keeps there: its states,
  * the marks of open collections, and the tag directives of the document. */
 #include <pokhvizi/compose.h>
@@ -49,6 +51,9 @@ struct rooms {
 typedef uint32_t one_step(pokhvizi_steps_t *, uint8_t *, size_t, pokhvizi_mark_t *, size_t, uint8_t, uint8_t, const pokhvizi_span_t *,
                           pokhvizi_event_t *, pokhvizi_fault_t *);
 
+/* How many bytes of the steps pokhvizi_expected reads. */
+enum { BEFORE = offsetof(pokhvizi_steps_t, read.problem) + 1 };
+
 /* The steps and their stack of states, in the place of `parser->states`. Their stack of marks is `parser->marks`. */
 struct kept {
     pokhvizi_steps_t steps;
@@ -62,6 +67,10 @@ struct kept {
     uint32_t is_counted;
     uint32_t key;  /* for the hashes of anchors and handles, or 0 */
     one_step *step;  /* exactly libyaml's, or this project's own grammar's */
+#ifdef WITH_EXPECTED
+    uint8_t before[BEFORE];  /* what the steps began with, before the token that was taken last */
+    uint8_t is_unexpected;   /* the error is that a token of its kind came */
+#endif
     uint8_t tag[64];  /* the tag in full whose fact was asked for last, if it is so short */
     _Alignas(uint64_t) uint8_t states[];
 };
@@ -754,6 +763,23 @@ OFTEN uint32_t step(yaml_parser_t *parser, const yaml_token_t *token, struct hel
                       made, fault);
 }
 
+#ifdef WITH_EXPECTED
+/* The kinds of token that could have stood in the place of one that was refused for its kind, a bit for each; of another error
+ * or without one 0. */
+static uint32_t expected_in(const yaml_parser_t *parser)
+{
+    struct kept *kept = kept_of(parser);
+    pokhvizi_mark_t *marks = (pokhvizi_mark_t *)(void *)parser->marks.start;
+    pokhvizi_steps_t before = {0};
+
+    if (parser->error != YAML_PARSER_ERROR || kept == NULL || !kept->is_unexpected)
+        return 0;
+    memcpy(&before, kept->before, BEFORE);
+    return kept->step == pokhvizi_step ? pokhvizi_expected(&before, kept->states, kept->rooms.states)
+                                       : pokhvizi_expected_exact(&before, kept->states, kept->rooms.states, marks, kept->marks_room);
+}
+#endif
+
 /* Does what a step asks for that gave no event, and wants no other token; 0 where there is an error. */
 SELDOM int follow(yaml_parser_t *parser, uint32_t did, const pokhvizi_fault_t *fault)
 {
@@ -765,6 +791,9 @@ SELDOM int follow(yaml_parser_t *parser, uint32_t did, const pokhvizi_fault_t *f
             return give_too_deep(parser);
         return grow_marks(parser) || out_of_memory(parser);
     case POKHVIZI_FAULT:
+#ifdef WITH_EXPECTED
+        kept_of(parser)->is_unexpected = pokhvizi_is_unexpected(fault->problem);
+#endif
         return give_fault(parser, fault);
     default:
         parser->error = YAML_PARSER_ERROR;
@@ -784,6 +813,9 @@ OFTEN uint32_t advance(yaml_parser_t *parser, yaml_token_t **token, struct held 
             if (!yaml_parser_fetch_more_tokens(parser))
                 return no_token(parser);
             *token = parser->tokens.head;
+#ifdef WITH_EXPECTED
+            memcpy(kept_of(parser)->before, &kept_of(parser)->steps, BEFORE);
+#endif
         }
         uint32_t did = step(parser, *token, held, made, &fault);
         if (did == POKHVIZI_WANTS) {

@@ -150,6 +150,11 @@ check_steps() {
     ! "$work/plain" "$work/exact"/*.yaml > /dev/null || complain "the other steps give libyaml's events, too"
     check_three "bad calls" bad "$@"
     check_threads examples/*.yaml
+    for flags in -O2 "$sanitized"; do
+        $cc $flags $strict -o "$work/expected" scripts/doors/expected_driver.c "$library" || exit 2
+        check "what may come next" "$work/expected" 20000 1
+    done
+    ! "$work/expected" 10 1 turned > /dev/null || complain "sets that are turned are not seen"
 }
 
 # ---- Documents by steps ----
@@ -193,10 +198,10 @@ expect() {
     [ "$got" = "$status" ] || complain "$* has status $got, not $status"
 }
 
-# Wants status and one message line, and the message on standard error.
+# Wants status and one message line, and the message on standard error; what was expected may be said there, too.
 expect_message() {
     expect "$@"
-    [ "$(wc -l < "$work/err")" -eq 1 ] || complain "$*: $(wc -l < "$work/err") lines on standard error"
+    [ "$(grep -c -v '^yaml: expected: ' "$work/err")" -eq 1 ] || complain "$*: $(wc -l < "$work/err") lines on standard error"
 }
 
 # Samples and broken texts, by a program that is named and the words before it.
@@ -275,6 +280,8 @@ check_yaml() {
     $build -o "$work/plain_yaml" || exit 2
     $build -fsanitize=address,undefined -fno-sanitize-recover=all -o "$work/sanitized_yaml" || exit 2
     $cc -O2 -Wall -Wextra -fPIC -shared -o "$work/fail_allocation.so" scripts/doors/fail_allocation.c || exit 2
+    said=$(printf '[a }' | "$work/plain_yaml" events - 2>&1 > /dev/null | tail -n 1)
+    [ "$said" = "yaml: expected: ',' or ']'" ] || complain "examples/yaml.c says: $said"
     check_texts plain "$work/plain_yaml"
     check_texts sanitizers "$work/sanitized_yaml"
     check_texts valgrind $memory "$work/plain_yaml"

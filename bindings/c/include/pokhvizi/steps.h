@@ -148,8 +148,8 @@ uint8_t pokhvizi_differs(const pokhvizi_steps_t *steps, uint8_t kind);
 
 /* Which tokens may come next: bit N is set if a token of kind N may be handed in and be no error, with some fact. It is exact: no
  * stream goes on from the tokens so far with a token of another kind. Ask before a token is handed in for the first time, and
- * keep the result until it is taken: at POKHVIZI_FAULT it says what was expected in the token's place, in words
- * pokhvizi_expected_words. */
+ * keep the result until it is taken: at POKHVIZI_FAULT it says what was expected in the token's place. Or copy `steps` there, and
+ * ask with the copy at POKHVIZI_FAULT: the token hasn't changed what the copy needs of the stack. */
 uint32_t pokhvizi_expected(const pokhvizi_steps_t *steps, const uint8_t *states, size_t states_room);
 
 /* ---- Directives and tags ---- */
@@ -206,9 +206,41 @@ static __inline const char *pokhvizi_problem(uint8_t problem, const char **conte
     return words[problem < 14 ? problem : 0][0];
 }
 
-/* Writes what `expected` allows in words, such as "a node, a key or the end of the block mapping", and returns their length, as
- * snprintf does: the text is cut at `room`, and ends with a zero byte if `room` isn't 0. */
-static __inline size_t pokhvizi_expected_words(uint32_t expected, char *text, size_t room)
+/* Whether an error is that a token of its kind came, and not what stands in a directive or a tag: only then something else was
+ * expected in its place. */
+static __inline int pokhvizi_is_unexpected(uint8_t problem)
+{
+    return problem >= 1 && problem <= 12 && problem != 4 && problem != 5 && problem != 8;
+}
+
+/* What may come next by exact steps: as pokhvizi_expected, without what libyaml refuses there. Of the stacks nothing changes: a
+ * VALUE, which is tried on a copy of the record, takes entries from them and puts none. */
+static __inline uint32_t pokhvizi_expected_exact(const pokhvizi_steps_t *steps, uint8_t *states, size_t states_room,
+                                                 pokhvizi_mark_t *marks, size_t marks_room)
+{
+    uint32_t expected = pokhvizi_expected(steps, states, states_room), did;
+    pokhvizi_steps_t copy = *steps;
+    pokhvizi_span_t at = {{0, 0, 0}, {0, 0, 0}};
+    pokhvizi_event_t event;
+    pokhvizi_fault_t fault;
+    uint8_t kind;
+
+    for (kind = 1; kind < 22; kind++)
+        if (expected >> kind & 1 && pokhvizi_differs(steps, kind) == POKHVIZI_BARE_DOCUMENT)
+            expected &= ~((uint32_t)1 << kind);
+    if (expected >> 17 & 1) {
+        copy.tag = 3; /* pokhvizi_expected, too, takes a handle as declared */
+        do
+            did = pokhvizi_step_exact(&copy, states, states_room, marks, marks_room, 17, 0, &at, &event, &fault);
+        while (did == POKHVIZI_STAYS);
+        if (did == POKHVIZI_FAULT)
+            expected &= ~((uint32_t)1 << 17);
+    }
+    return expected;
+}
+
+/* Puts the words of each that `expected` allows, such as "a node" or "','", and returns how many they are. */
+static __inline size_t pokhvizi_expected_list(uint32_t expected, const char *told[22])
 {
     static const uint8_t order[20] = {1, 21, 18, 19, 20, 10, 12, 7, 8, 14, 16, 17, 15, 11, 13, 9, 3, 4, 5, 6};
     static const char *const words[22] = {
@@ -217,8 +249,7 @@ static __inline size_t pokhvizi_expected_words(uint32_t expected, char *text, si
         "an alias", "an anchor", "a tag", "a scalar",
     };
     const uint32_t flow = 1u << 18 | 1u << 19 | 1u << 20 | 1u << 21 | 1u << 10 | 1u << 12, block = 3u << 7;
-    const char *told[22], *from;
-    size_t count = 0, length = 0, i;
+    size_t count = 0, i;
 
     if ((expected & flow) == flow) {
         told[count++] = (expected & block) == block ? "a node" : "a flow node";
@@ -229,6 +260,16 @@ static __inline size_t pokhvizi_expected_words(uint32_t expected, char *text, si
         if (expected >> kind & 1)
             told[count++] = kind == 9 && expected >> 16 & 1 ? "the end of the block mapping" : words[kind];
     }
+    return count;
+}
+
+/* Writes what `expected` allows in words, such as "a node, a key or the end of the block mapping", and returns their length, as
+ * snprintf does: the text is cut at `room`, and ends with a zero byte if `room` isn't 0. */
+static __inline size_t pokhvizi_expected_words(uint32_t expected, char *text, size_t room)
+{
+    const char *told[22], *from;
+    size_t count = pokhvizi_expected_list(expected, told), length = 0, i;
+
     for (i = 0; i < count; i++) {
         for (from = i == 0 ? "" : i + 1 < count ? ", " : " or "; *from; from++, length++)
             if (length + 1 < room)

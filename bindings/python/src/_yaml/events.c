@@ -1,5 +1,6 @@
 /* Events by the steps, and PyYAML's objects. */
 #include "loader.h"
+#define WITH_EXPECTED
 #include "libyaml_events.h"
 
 int begin_events(parser_object *parser)
@@ -23,6 +24,21 @@ int take_event(parser_object *parser, int is_counted)
     parser->event.type = YAML_NO_EVENT;
     forget(&held);
     return raise_failure(parser);
+}
+
+PyObject *expected_words(const parser_object *parser)
+{
+    const char *told[22];
+    size_t count = pokhvizi_expected_list(expected_in(&parser->scanner), told);
+    PyObject *made = PyTuple_New((Py_ssize_t)count), *word;
+
+    for (size_t i = 0; i < count && made != NULL; i++) {
+        if ((word = PyUnicode_FromString(told[i])) != NULL)
+            PyTuple_SetItem(made, (Py_ssize_t)i, word);
+        else
+            Py_CLEAR(made);
+    }
+    return made;
 }
 
 void leave_event(parser_object *parser)

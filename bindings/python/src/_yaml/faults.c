@@ -28,6 +28,17 @@ static PyObject *marked_error(const parser_object *parser, PyObject *class)
                 mark_or_none(parser, &at->problem_mark, at->problem != NULL));
 }
 
+/* The error of the parser: it says what was expected in the place of a token that was refused for its kind. */
+static PyObject *parser_error(const parser_object *parser)
+{
+    PyObject *error = marked_error(parser, its.parser_error), *words = error == NULL ? NULL : expected_words(parser);
+
+    if (words == NULL || PyObject_SetAttrString(error, "expected", words) < 0)
+        Py_CLEAR(error);
+    Py_XDECREF(words);
+    return error;
+}
+
 /* Raises an error of a class, which it takes; one that is NULL is an error that is set. */
 static int raise(PyObject *class, PyObject *error)
 {
@@ -49,7 +60,7 @@ int raise_fault(const parser_object *parser)
     case YAML_SCANNER_ERROR:
         return raise(its.scanner_error, marked_error(parser, its.scanner_error));
     case YAML_PARSER_ERROR:
-        return raise(its.parser_error, marked_error(parser, its.parser_error));
+        return raise(its.parser_error, parser_error(parser));
     default:
         return raise(its.composer_error, marked_error(parser, its.composer_error));
     }

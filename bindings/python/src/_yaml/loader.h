@@ -200,6 +200,9 @@ int take_event(parser_object *parser, int is_counted);
 /* Lets the event go that is at hand. */
 void leave_event(parser_object *parser);
 
+/* What was expected in the place of a token that was refused for its kind, in words; for another error nothing. */
+PyObject *expected_words(const parser_object *parser);
+
 /* The event that is at hand, as PyYAML has it, or None. */
 PyObject *event_object(const parser_object *parser);
 

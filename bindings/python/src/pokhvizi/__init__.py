@@ -24,6 +24,9 @@ A loader is for one thread; several loaders may be used at once. An error is rai
 `max_depth` of a loader's class bounds the collections that are open at once, `max_nodes` the nodes of a document and the items or
 pairs of a node, and `max_expanded` the nodes of a document with its aliases written out; None, the default, is no bound.
 
+A `ParserError` has `expected`, a tuple that says what could have stood in the place of the token, such as `("','", "']'")`. It is empty
+if the token's kind was right.
+
 `CSafeLoader` and the others of `pokhvizi.cyaml` are PyYAML's loaders in C, over an extension that is in the wheels.
 """
 import ctypes
@@ -49,7 +52,9 @@ class LibraryError(Exception):
 class Library:
     """libpokhvizi.so, as pokhvizi/steps.h declares it."""
 
-    NAMES = ("pokhvizi_steps_new", "pokhvizi_step", "pokhvizi_tag", "pokhvizi_directive_fact", "pokhvizi_version_fact")
+    NAMES = (
+        "pokhvizi_steps_new", "pokhvizi_step", "pokhvizi_expected", "pokhvizi_tag", "pokhvizi_directive_fact", "pokhvizi_version_fact",
+    )
     PLACE = os.path.join(os.path.dirname(os.path.realpath(__file__)), "libpokhvizi.so")
     used = None
 
@@ -58,10 +63,12 @@ class Library:
         array, text = (address, size), (ctypes.c_char_p, size)
         try:
             library = ctypes.CDLL(path)
-            self.new, self.step, self.tag, self.directive_fact, self.version_fact = [library[name] for name in self.NAMES]
+            functions = [library[name] for name in self.NAMES]
+            self.new, self.step, self.expected, self.tag, self.directive_fact, self.version_fact = functions
         except (OSError, AttributeError) as error:
             raise LibraryError("cannot use %s: %s; POKHVIZI_LIBRARY may name the library" % (path, error)) from None
         # The step has no argtypes: its arguments are made once, and are not converted at each call.
+        self.expected.argtypes, self.expected.restype = (address, *array), ctypes.c_uint32
         self.tag.argtypes = array * 2 + text * 2 + (address, size, ctypes.POINTER(size))
         self.directive_fact.argtypes = array * 2 + text
         self.version_fact.argtypes = ctypes.c_int32, ctypes.c_int32
@@ -92,6 +99,33 @@ def bound_of(loader, name, most):
     if bound is not None and (not isinstance(bound, int) or isinstance(bound, bool) or bound < 0):
         raise ValueError("%s has to be None or a whole number from 0 on, and is %r" % (name, bound))
     return most if bound is None else min(bound, most)
+
+
+def parser_error(context, context_mark, problem, problem_mark, expected=()):
+    """Returns an error of a parser; what was expected are the words of these."""
+    error = yaml.parser.ParserError(context, context_mark, problem, problem_mark)
+    error.expected = expected
+    return error
+
+
+def expected_words(expected):
+    """Returns the words of each kind of token in a set of pokhvizi_expected, as pokhvizi/steps.h has them."""
+    told = []
+    if expected & FLOW_NODE == FLOW_NODE:
+        told.append("a node" if expected & BLOCK_NODE == BLOCK_NODE else "a flow node")
+        expected &= ~(FLOW_NODE | BLOCK_NODE)
+    ends = "the end of the block mapping" if expected >> 16 & 1 else "the end of the block sequence"
+    return (*told, *(WORDS[kind] or ends for kind in WORDS if expected >> kind & 1))
+
+
+# By their kinds; what a block ends with depends on the others.
+WORDS = {
+    1: "the start of the stream", 21: "a scalar", 18: "an alias", 19: "an anchor", 20: "a tag", 10: "'['", 12: "'{'",
+    7: "a block sequence", 8: "a block mapping", 14: "'-'", 16: "a key", 17: "a value", 15: "','", 11: "']'", 13: "'}'", 9: None,
+    3: "%YAML", 4: "%TAG", 5: "'---'", 6: "'...'", 2: "the end of the stream",
+}
+FLOW_NODE = sum(1 << kind for kind in (10, 12, 18, 19, 20, 21))
+BLOCK_NODE = 1 << 7 | 1 << 8
 
 
 # ---- Tag directives ----
@@ -223,7 +257,7 @@ class Count:
 
     @staticmethod
     def refuse(problem, event):
-        raise yaml.parser.ParserError(None, None, problem, event.start_mark)
+        raise parser_error(None, None, problem, event.start_mark)
 
 
 def is_of_next(failure):
@@ -275,7 +309,7 @@ class Steps:
         ("while parsing a flow sequence", "expected ',' or ']', but got %r"),
         ("while parsing a flow mapping", "expected ',' or '}', but got %r"),
     )
-    INCOMPATIBLE, DUPLICATE_HANDLE, UNDECLARED_HANDLE = 4, 5, 8
+    OF_TEXTS = INCOMPATIBLE, DUPLICATE_HANDLE, UNDECLARED_HANDLE = 4, 5, 8  # no token's kind is wrong
 
     def __init__(self, scanner):
         self.scanner, self.library, self.marks = scanner, Library.get(), Marks()
@@ -336,7 +370,7 @@ class Steps:
             self.states = self.states + bytes(len(self.states))
         elif did == self.FULL_MARKS:
             if len(self.mark_stack) // 3 >= self.max_depth:
-                raise yaml.parser.ParserError(None, None, "found too many levels", self.token.start_mark)
+                raise parser_error(None, None, "found too many levels", self.token.start_mark)
             self.mark_stack = memoryview(bytearray(self.mark_stack) + bytes(self.mark_stack.nbytes)).cast("Q")
         else:
             raise RuntimeError("the stacks were overwritten")
@@ -347,6 +381,7 @@ class Steps:
     def take(self):
         """Takes the scanner's next token in hand, with its kind, fact and marks."""
         self.token = token = self.scanner.get_token()
+        self.before = bytes(self.record)
         # A directive that is neither YAML nor TAG stands where a tag directive may, and nothing of it is held.
         self.kind = self.KINDS[type(token)] or self.DIRECTIVES.get(token.name, self.TAG_DIRECTIVE)
         self.at[0], self.at[3] = self.marks.put(token)
@@ -455,7 +490,13 @@ class Steps:
             problem += " (version 1.* is required)"
         elif "%r" in problem:
             problem %= token.id
-        return yaml.parser.ParserError(context, marks[context_mark] if context else None, problem, marks[problem_mark])
+        expected = () if number in self.OF_TEXTS else self.expected()
+        return parser_error(context, marks[context_mark] if context else None, problem, marks[problem_mark], expected)
+
+    def expected(self):
+        """Returns what could have stood in the place of the token in hand: the steps haven't changed what that needs of the stack."""
+        record = bytearray(self.before)
+        return expected_words(self.library.expected(pointer(record), pointer(self.states), len(self.states)))
 
 
 # ---- Loaders ----
