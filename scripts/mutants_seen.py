@@ -44,7 +44,6 @@ PROGRAMS = {
     "line_reading": ["yamltokens", "vectors_lines", "vectors_hostile"],
     "line_writing": ["yamltokens", "vectors_lines"],
     "token_lines": ["yamltokens", "vectors_lines"],
-    "yamltokens_program": ["yamltokens", "vectors_lines"],
     "example_source": ["vectors_hostile"],
     "yaml_path": ["example_paths"],
     "yaml_expansion": ["example_sizes", "vectors_hostile"],

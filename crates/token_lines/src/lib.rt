@@ -3,6 +3,7 @@
 //! You only name this crate: it re-exports the crates below it, for reading and for writing a line.
 #![tactic(auto)]
 
+pub mod command;
 pub mod laws;
 pub mod memory;
 mod run;

@@ -3,8 +3,8 @@
 use std::alloc::{AllocError, Global};
 use std::io;
 use std::io::Write;
+use token_lines::command::{no_memory, refuse_words, run_words};
 use vectors_common::{PieceWriter, Tables};
-use yamltokens_program::{no_memory, refuse_words, run_words};
 
 /// A line that is not read.
 const LINE: &[u8] = b"STREAM-START 0:0:0 0:0:0 utf8\n";

@@ -7,10 +7,10 @@ use anyhow::{Context, Result};
 use std::alloc::{AllocError, Global};
 use std::io;
 use std::rt::Files;
+use token_lines::command::run_words;
 use vectors_common::{
     EVERY_CALL, PieceWriter, Table, Tables, read_data, read_text, show_difference,
 };
-use yamltokens_program::run_words;
 
 /// The exit status of words that ask for no run, for which nothing is read.
 const REFUSED: u8 = 2;

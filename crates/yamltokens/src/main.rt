@@ -3,7 +3,7 @@
 #![tactic(auto)]
 
 use std::process::ExitCode;
-use yamltokens_program::program;
+use token_lines::command::program;
 
 fn main(rt: HostRuntime) -> ExitCode {
     program(rt)

@@ -1,6 +1,6 @@
-//! The program `yamltokens`.
+//! The program over the input and the output of its process.
 
-use crate::words::{no_memory, refuse_words, run_words};
+use crate::command::words::{no_memory, refuse_words, run_words};
 use std::io::{BufReader, BufWriter};
 use std::process::ExitCode;
 use std::rt::Env;

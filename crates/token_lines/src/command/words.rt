@@ -1,10 +1,10 @@
 //! What the words of the command line ask for.
 ghost use Rattle.std.specs.Prelude.{◌≡◌, ◌<◌, Some, None, map, string_bytes};
-ghost use Rattle.yamltokens_program.specs.Arguments.{run_of, asked_run, RunsWith, WasOver};
+ghost use Rattle.token_lines.specs.Arguments.{run_of, asked_run, RunsWith, WasOver};
 
+use crate::{Outcome, run_events, run_nodes};
 use std::alloc::Global;
 use std::io::{BufRead, Write};
-use token_lines::{Outcome, run_events, run_nodes};
 
 /// The exit status of words that ask for nothing, or that can't be read.
 const WRONG_WORDS: u8 = 2;

@@ -1,6 +1,6 @@
 use Rattle.std.proofs.Common.{◌≡◌, ◌≤◌, ◌<◌, List, [], ◌∷◌, length, get_or, map, string_bytes, ap, sym, ◌∙◌, arith}
-use Rattle.yamltokens_program.specs.Arguments.{asked_run}
-use Rattle.yamltokens_program.proofs.words.asked_run.Goals as goal
+use Rattle.token_lines.specs.Arguments.{asked_run}
+use Rattle.token_lines.proofs.command.words.asked_run.Goals as goal
 
 -- a list of length one is its first element
 one_element : {A : Type 0} (xs : List A) (x : A) → 1 ≤ length xs → length xs < 2 → x ≡ get_or xs 0 x → xs ≡ x ∷ []

@@ -4,8 +4,8 @@ use Rattle.token_lines.specs.declared.run.Outcome.{Outcome}
 use Rattle.token_lines.specs.declared.run.Outcome.TheVariants.{Ended, Faulted, OutputFailed}
 use Rattle.token_lines.specs.events.LastCall.{RunsOver}
 use Rattle.token_lines.specs.nodes.LastLoad.{NodesOver}
-use Rattle.yamltokens_program.specs.declared.words.Run.{Run}
-use Rattle.yamltokens_program.specs.declared.words.Run.TheVariants.{Events, Nodes}
+use Rattle.token_lines.specs.declared.command.words.Run.{Run}
+use Rattle.token_lines.specs.declared.command.words.Run.TheVariants.{Events, Nodes}
 
 -- the run that one word asks for
 abbrev pub run_of : List ℕ → Option Run

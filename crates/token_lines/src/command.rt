@@ -1,8 +1,7 @@
 //! The program `yamltokens` except its `main`: what the words of its command line ask for.
-#![tactic(auto)]
 
-mod command;
+mod host;
 mod words;
 
-pub use command::program;
+pub use host::program;
 pub use words::{Run, no_memory, refuse_words, run_words};

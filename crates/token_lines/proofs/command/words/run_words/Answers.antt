@@ -1,8 +1,8 @@
 use Rattle.std.proofs.Common.{◌≡◌, ◌∙◌, ℕ, List, Option, Some, ap, subst, sym}
 use Rattle.token_lines.specs.declared.run.Outcome.{Outcome}
-use Rattle.yamltokens_program.specs.Arguments.{RunsWith, WasOver, exit_status_of}
-use Rattle.yamltokens_program.specs.declared.words.Run.{Run}
-use Rattle.yamltokens_program.proofs.words.run_words.Goals as goal
+use Rattle.token_lines.specs.Arguments.{RunsWith, WasOver, exit_status_of}
+use Rattle.token_lines.specs.declared.command.words.Run.{Run}
+use Rattle.token_lines.proofs.command.words.run_words.Goals as goal
 
 one_run : (a b : Run) → Some a ≡ Some b → a ≡ b
 one_run a b e = cc
