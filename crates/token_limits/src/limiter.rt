@@ -1,9 +1,8 @@
 //! The call before each token is handed in.
-ghost use Rattle.std.specs.Prelude.{◌≡◌};
+ghost use Rattle.std.specs.Prelude.{◌≡◌, None, Some};
 ghost use Rattle.libyaml_types.specs.Fault.{source_fault};
 ghost use Rattle.libyaml_types.specs.Source.{answer_in};
-ghost use Rattle.libyaml_grammar.specs.grammar.TokenNesting.{levels_after};
-ghost use Rattle.token_limits.specs.Limited.{answer_at, depth_fault, new_limiter, taken, within};
+ghost use Rattle.token_limits.specs.Limited.{answer_at, depth_fault, new_limiter, taken};
 
 use libyaml_types::{yaml_mark_t, yaml_source_fault_t, yaml_token_t, yaml_token_type_t};
 use std::marker::Model;
@@ -15,7 +14,7 @@ pub struct token_limiter_t {
     /// How many collections are open, of those that a token opened.
     levels: usize,
     /// The start of the token that was refused: each call returns its error.
-    refused_at: Option<yaml_mark_t>,
+    pub(crate) refused_at: Option<yaml_mark_t>,
 }
 
 impl Model for token_limiter_t {
@@ -54,52 +53,57 @@ impl token_limiter_t {
         ensures moves { self.new ≡ taken self.old token.now }
         ensures answers { answer_in result token.now ≡ answer_at self.new.refused_at token.now }
     {
-        if let Some(mark) = self.refused_at {
-            return Err(too_many_levels(mark));
-        }
-        match self.levels_after(token.type_()) {
-            Some(levels) => {
-                self.levels = levels;
-                Ok(())
-            }
-            None => {
-                self.refused_at = Some(token.start_mark);
-                Err(too_many_levels(token.start_mark))
-            }
+        match self.refused_at {
+            Some(mark) => Err(too_many_levels(mark)),
+            None => self.count(token),
         }
     }
 
-    /// Returns how many levels are open after a token of this type, if so many may be.
-    fn levels_after(&self, kind: yaml_token_type_t) -> Option<usize>
-        ensures { result ≡ within self.now.max_depth (levels_after self.now.levels kind) }
+    /// Does what `take` does where no token was refused.
+    #[inline(always)]
+    pub(crate) fn count(&mut self, token: &yaml_token_t) -> Result<(), yaml_source_fault_t>
+        requires { self.old.refused_at ≡ None }
+        ensures moves { self.new ≡ taken self.old token.now }
+        ensures answers { answer_in result token.now ≡ answer_at self.new.refused_at token.now }
     {
-        match kind {
+        let levels = self.levels;
+        match token.type_() {
             yaml_token_type_t::YAML_BLOCK_SEQUENCE_START_TOKEN
             | yaml_token_type_t::YAML_BLOCK_MAPPING_START_TOKEN
             | yaml_token_type_t::YAML_FLOW_SEQUENCE_START_TOKEN
             | yaml_token_type_t::YAML_FLOW_MAPPING_START_TOKEN => {
-                if self.levels < self.max_depth {
-                    Some(self.levels + 1)
+                if levels < self.max_depth {
+                    self.levels = levels + 1;
+                    Ok(())
                 } else {
-                    None
+                    Err(self.refuse(token))
                 }
             }
             yaml_token_type_t::YAML_BLOCK_END_TOKEN
             | yaml_token_type_t::YAML_FLOW_SEQUENCE_END_TOKEN
-            | yaml_token_type_t::YAML_FLOW_MAPPING_END_TOKEN => Some(self.levels.saturating_sub(1)),
-            _ => Some(self.levels),
+            | yaml_token_type_t::YAML_FLOW_MAPPING_END_TOKEN => {
+                self.levels = levels.saturating_sub(1);
+                Ok(())
+            }
+            _ => Ok(()),
         }
     }
 
-    /// Returns the start of the token that was refused, if one was.
-    pub(crate) fn refused_at(&self) -> Option<yaml_mark_t>
-        ensures { result ≡ self.now.refused_at }
+    /// Refuses a token, and keeps its error.
+    #[cold]
+    #[inline(never)]
+    fn refuse(&mut self, token: &yaml_token_t) -> yaml_source_fault_t
+        ensures refused { self.new ≡ record self.old { refused_at = Some token.now.start_mark } }
+        ensures fault { source_fault result ≡ depth_fault token.now.start_mark }
     {
-        self.refused_at
+        self.refused_at = Some(token.start_mark);
+        too_many_levels(token.start_mark)
     }
 }
 
 /// Returns the error of a token that opens one collection too many.
+#[cold]
+#[inline(never)]
 pub(crate) fn too_many_levels(mark: yaml_mark_t) -> yaml_source_fault_t
     ensures { source_fault result ≡ depth_fault mark }
 {

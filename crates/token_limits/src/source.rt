@@ -77,12 +77,13 @@ impl<S: yaml_token_source_t> yaml_token_source_t for yaml_limited_source_t<S> {
     }
 
     /// Puts the token that `next_token` would return into `token`.
+    #[inline(always)]
     fn next_token_into(&mut self, token: &mut yaml_token_t) -> Result<(), yaml_source_fault_t> {
-        match self.limiter.refused_at() {
+        match self.limiter.refused_at {
             Some(mark) => Err(too_many_levels(mark)),
             None => {
                 self.source.next_token_into(token)?;
-                self.limiter.take(token)
+                self.limiter.count(token)
             }
         }
     }
