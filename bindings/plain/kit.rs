@@ -91,7 +91,7 @@ impl<T> Vec<T> {
                 self.0.push(value);
                 Ok(())
             }
-            Err(error) => refuse(value, error),
+            Err(error) => refuse((value, true), error),
         }
     }
 
@@ -232,11 +232,11 @@ fn drop_values<T>(values: &mut vec::Vec<T>) {
     drop(mem::take(values));
 }
 
-/// Drops a value for which there is no room. As a part of `push` it would need the value in memory, and a copy
-/// to the list from there.
+/// Drops a value for which there is no room. As a part of `push`, or with the value as an argument by itself, it
+/// would need the value in memory, and a copy to the list from there. A pair is made only here.
 #[cold]
 #[inline(never)]
-fn refuse<T>(value: T, error: AllocError) -> Result<(), AllocError> {
+fn refuse<T>(value: (T, bool), error: AllocError) -> Result<(), AllocError> {
     drop(value);
     Err(error)
 }

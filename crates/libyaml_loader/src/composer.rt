@@ -180,10 +180,9 @@ impl DocumentBuilder {
         if let Some(closing) = closing_of(&event.content, event.end_mark) {
             return Ok(Some(closing));
         }
-        let mark = event.start_mark;
         match self.ctx.add_event(event) {
             Ok(()) => Ok(None),
-            Err(refusal) => Err(self.refuse(refusal, mark)),
+            Err(refusal) => Err(self.refuse(refusal, event.start_mark)),
         }
     }
 

@@ -111,6 +111,7 @@ impl loader_ctx {
         ensures stands { OnOk result (ComposerMatches self.new) }
         ensures err { IfErr result (λ r. Refuses self.old self.new (part_of event.old)
             event.old.start_mark r) }
+        ensures mark { event.new.start_mark ≡ event.old.start_mark }
     {
         match &mut event.content {
             unnamed_yaml_event_t_data::Alias(alias) => {

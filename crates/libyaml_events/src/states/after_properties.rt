@@ -185,11 +185,10 @@ impl TokenParser {
         if pending.reading.has_tag == 0 {
             return Ok(None);
         }
-        let start_mark = pending.reading.start_mark;
-        let tag_mark = pending.reading.tag_mark;
+        let reading = &pending.reading;
         match &mut pending.properties.tag {
             None => Ok(None),
-            Some(read) => Ok(Some(self.resolve_tag(read, &start_mark, &tag_mark)?)),
+            Some(read) => Ok(Some(self.resolve_tag(read, &reading.start_mark, &reading.tag_mark)?)),
         }
     }
 

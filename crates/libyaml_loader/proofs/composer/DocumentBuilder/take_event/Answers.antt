@@ -8,4 +8,4 @@ returns-in-Ok-clause-sound c = grind arith
 pub returns-in-Err-clause-composes : goal.returns-in-Err-clause-composes
 returns-in-Err-clause-composes c =
     refused c.args.self.now c.add_event.new.self c.args.event.now c.requires.sound c.if-not-self.false c.in-Err.refusal _
-    (sym c.in_default.ensures) c.in-Err.ensures.err c.refuse.ensures.fault
+    (sym c.in_default.ensures) c.in-Err.ensures.err (rw c.in-Err.ensures.mark at c.refuse.ensures.fault)
