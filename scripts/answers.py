@@ -25,8 +25,8 @@ LIMIT = int(os.environ.get("LIMIT", "900"))
 
 
 def copied(room):
-    """A copy of the crates, without what was built of them."""
-    shutil.copytree(TOP / "crates", room / "crates", ignore=shutil.ignore_patterns("out"))
+    """A copy of the crates with what was proved and built of them, so that `rt` proves again only what changes in it."""
+    shutil.copytree(TOP / "crates", room / "crates", symlinks=True)
     for name in ("crates.txt", "HANDLES"):
         shutil.copy2(TOP / name, room / name)
 
