@@ -36,7 +36,7 @@ use crate::step::Step;
 use libyaml_automaton::{
     Action, DUPLICATE_TAG, DUPLICATE_VERSION, INCOMPATIBLE_VERSION, NO_BLOCK_CONTENT,
     NO_DOCUMENT_START, NO_FLOW_CONTENT, NO_ITEM, NO_KEY, NO_SEQUENCE_SEPARATOR, NO_STREAM_START,
-    UNDEFINED_HANDLE,
+    Token, UNDEFINED_HANDLE,
 };
 use libyaml_types::{
     unnamed_yaml_event_t_data, unnamed_yaml_token_t_data, yaml_error_type_t, yaml_event_t,
@@ -136,9 +136,11 @@ impl TokenParser {
             &mut pending.reading,
             self.automaton.states.as_mut_slice(),
             self.automaton.marks.as_mut_slice(),
-            token.type_(),
-            &token.start_mark,
-            &token.end_mark,
+            &Token {
+                kind: token.type_(),
+                start_mark: &token.start_mark,
+                end_mark: &token.end_mark,
+            },
         )
     }
 

@@ -19,7 +19,7 @@ use crate::did::Did;
 use crate::head::{Head, NO_HEAD};
 use crate::records::{step_event_t, step_fault_t, step_span_t};
 use crate::steps::steps_t;
-use libyaml_automaton::{Action, UNDEFINED_HANDLE};
+use libyaml_automaton::{Action, Token, UNDEFINED_HANDLE};
 use libyaml_types::{yaml_mark_t, yaml_token_type_t};
 
 impl steps_t {
@@ -144,9 +144,11 @@ impl steps_t {
             &mut self.read,
             states,
             marks,
-            kind,
-            &at.start_mark,
-            &at.end_mark,
+            &Token {
+                kind,
+                start_mark: &at.start_mark,
+                end_mark: &at.end_mark,
+            },
         ) {
             Action::FullMarks => Did::FullMarks,
             led => self.tell(led, &head, &start, &end, kind, fact, at, event, fault),

@@ -18,7 +18,7 @@ ghost use Rattle.token_steps.specs.Tells.{Tells, want_in, IsGiven, IsUntold};
 use crate::did::Did;
 use crate::head::NO_HEAD;
 use crate::records::{step_event_t, step_fault_t, step_span_t};
-use libyaml_automaton::{Action, Automaton, Difference, Reading, TokenTypes};
+use libyaml_automaton::{Action, Automaton, Difference, Reading, Token, TokenTypes};
 use libyaml_types::{yaml_mark_t, yaml_token_type_t};
 
 /// What is kept between two calls, beside the two stacks: plain numbers, each with any value.
@@ -193,9 +193,11 @@ impl steps_t {
             &mut self.read,
             states,
             marks,
-            kind,
-            &at.start_mark,
-            &at.end_mark,
+            &Token {
+                kind,
+                start_mark: &at.start_mark,
+                end_mark: &at.end_mark,
+            },
         ) {
             Action::FullStates => Did::FullStates,
             Action::FullMarks => Did::FullMarks,

@@ -21,7 +21,7 @@ use crate::states::contents::{make_light, put_anchored_scalar, put_over, put_sca
 use crate::states::node_events::{collection_start, is_missing, plain_scalar, sequence_start};
 use crate::states::properties::{forget_earlier, take_anchor};
 use crate::step::Step;
-use libyaml_automaton::Action;
+use libyaml_automaton::{Action, Token};
 use libyaml_types::yaml_token_type_t::*;
 use libyaml_types::{
     unnamed_yaml_event_t_data, unnamed_yaml_token_t_data, yaml_error_type_t, yaml_event_t,
@@ -214,9 +214,11 @@ impl TokenParser {
             &mut pending.reading,
             self.automaton.states.as_slice(),
             self.automaton.marks.as_mut_slice(),
-            kind,
-            &token.start_mark,
-            &token.end_mark,
+            &Token {
+                kind,
+                start_mark: &token.start_mark,
+                end_mark: &token.end_mark,
+            },
         )
     }
 

@@ -20,13 +20,13 @@ returns-in-YAML_TAG_TOKEN-clause-undone _ c = λ u.
 pub returns-in_default-clause-full_states : goal.returns-in_default-clause-full_states
 returns-in_default-clause-full_states _ c =
     let g = c.in-Enter.ensures.goes in
-    full_states_where (next_of c.args.read.now.next) c.args.kind _ c.enter-in_default.result c.args.self.now _
+    full_states_where (next_of c.args.read.now.next) c.args.token.now.kind _ c.enter-in_default.result c.args.self.now _
     c.args.states.now c.args.marks.now g.0 g.1.1.1.0 g.1.1.1.1.1.0 c.enter-in_default.ensures.full_states
 
 pub returns-in_default-clause-full_marks : goal.returns-in_default-clause-full_marks
 returns-in_default-clause-full_marks _ c =
     let g = c.in-Enter.ensures.goes in
-    full_marks_where (next_of c.args.read.now.next) c.args.kind _ c.enter-in_default.result c.args.self.now _
+    full_marks_where (next_of c.args.read.now.next) c.args.token.now.kind _ c.enter-in_default.result c.args.self.now _
     c.args.marks.now g.1.1.1.0 g.1.1.1.1.1.0 c.enter-in_default.ensures.full_marks
 
 pub returns-in_default-clause-undone : goal.returns-in_default-clause-undone
@@ -34,13 +34,13 @@ returns-in_default-clause-undone _ c = λ u.
     let g = c.in-Enter.ensures.goes in
     let e = c.enter-in_default in
     undone_at _ _ _ _ _ _ _ _ _ _ _ g.1.1.1.1.1.0 g.1.1.1.1.1.1
-    (full_of e.result c.args.kind e.new.read e.ensures.fits u) (e.ensures.undone)
+    (full_of e.result c.args.token.now.kind e.new.read e.ensures.fits u) (e.ensures.undone)
 
 pub returns-in-Node-clause-undone : goal.returns-in-Node-clause-undone
 returns-in-Node-clause-undone _ c = λ u.
     let g = c.in-Node.ensures.goes in
     undone_at _ _ _ _ _ _ _ _ _ _ _ g.1.1.1.1.0 g.1.1.1.1.1
-    (full_of c.bare_content.result c.args.kind c.bare_content.new.read (inl c.bare_content.ensures.fits) u)
+    (full_of c.bare_content.result c.args.token.now.kind c.bare_content.new.read (inl c.bare_content.ensures.fits) u)
     (λ e. let w = c.bare_content.ensures.undone
-    (bare_full c.bare_content.result c.args.kind c.bare_content.new.read c.bare_content.ensures.fits e) in
+    (bare_full c.bare_content.result c.args.token.now.kind c.bare_content.new.read c.bare_content.ensures.fits e) in
     (w.0, (refl, w.1)))
