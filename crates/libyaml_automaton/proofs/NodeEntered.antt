@@ -1,29 +1,12 @@
 -- A node that begins at a step, where the step goes on in another function.
-use Rattle.std.proofs.Common.{◌≡◌, ◌⊎◌, inl, inr, ◌↔◌, ◌∙◌, ℕ, List, Some, refl, sym}
+use Rattle.std.proofs.Common.{◌≡◌, ◌⊎◌, inl, inr, ◌∙◌, ℕ, List, refl}
 use Rattle.libyaml_types.specs.declared.mark.yaml_mark_t.{yaml_mark_t}
 use Rattle.libyaml_types.specs.declared.enums.yaml_token_type_t.{yaml_token_type_t}
 use Rattle.libyaml_automaton.specs.declared.action.Action.{Action}
 use Rattle.libyaml_automaton.specs.declared.action.Action.TheVariants as action
 use Rattle.libyaml_automaton.specs.declared.automaton.Automaton.{Automaton}
 use Rattle.libyaml_automaton.specs.declared.reading.Reading.{Reading}
-use Rattle.libyaml_automaton.specs.declared.next.Next.{Next}
-use Rattle.libyaml_automaton.specs.declared.node_place.NodePlace.{NodePlace}
-use Rattle.libyaml_automaton.specs.Fits.{FitsBare, IsFull, IsNothingDone, Stays, begins_at, opens_at}
-use Rattle.libyaml_automaton.specs.Growth.{pushes, begun_place, opens, HasNoRoom}
-
--- it is full where a stack that it pushes on is
-pub full_states_where : (n : Next) (k : yaml_token_type_t) (p : NodePlace) (a : Action) (m d : Automaton)
-    (states : List ℕ) (marks : List yaml_mark_t) → pushes n k ≡ begins_at p k → begun_place n k ≡ Some p → d ≡ m
-    → (a ≡ action.FullStates) ↔ (HasNoRoom (begins_at p k) states d.states_count × (HasNoRoom (opens_at p k) marks d.marks_count → ⊥))
-    → (a ≡ action.FullStates) ↔ (HasNoRoom (pushes n k) states m.states_count
-    × (HasNoRoom (opens n k) marks m.marks_count → ⊥))
-full_states_where n k p a m d states marks e b s f = rw (e, b, sym s) f
-
-pub full_marks_where : (n : Next) (k : yaml_token_type_t) (p : NodePlace) (a : Action) (m d : Automaton)
-    (marks : List yaml_mark_t) → begun_place n k ≡ Some p → d ≡ m
-    → (a ≡ action.FullMarks) ↔ HasNoRoom (opens_at p k) marks d.marks_count
-    → (a ≡ action.FullMarks) ↔ HasNoRoom (opens n k) marks m.marks_count
-full_marks_where n k p a m d marks b s f = rw (b, sym s) f
+use Rattle.libyaml_automaton.specs.Fits.{FitsBare, IsFull, IsNothingDone, Stays}
 
 -- nothing else is undone
 pub full_of : (a : Action) (k : yaml_token_type_t) (r : Reading) → FitsBare a k r ⊎ IsFull a → IsNothingDone a → IsFull a
