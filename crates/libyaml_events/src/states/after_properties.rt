@@ -2,6 +2,9 @@
 ghost use Rattle.std.specs.Prelude.{◌≡◌, ◌⊎◌, ℕ, None, Ok, IfErr, IfOk, List, Option, OnOk, option_map};
 ghost use Rattle.std.specs.Prelude.{string_bytes, true};
 ghost use Rattle.libyaml_types.specs.Types.{token_type};
+ghost use Rattle.libyaml_types.specs.declared.mark.yaml_mark_t.{yaml_mark_t};
+ghost use Rattle.libyaml_types.specs.declared.token.yaml_token_t.{yaml_token_t};
+ghost use Rattle.libyaml_automaton.specs.declared.action.Action.{Action};
 ghost use Rattle.libyaml_grammar.specs.grammar.Events.{event};
 ghost use Rattle.libyaml_types.specs.declared.enums.yaml_token_type_t.TheVariants.{YAML_SCALAR_TOKEN};
 ghost use Rattle.libyaml_automaton.specs.Numbers.{flag, place_of};
@@ -87,8 +90,8 @@ impl TokenParser {
         forget_earlier(pending);
         out.start_mark = pending.reading.start_mark;
         match token.type_() {
-            YAML_SCALAR_TOKEN => self.put_content_of(YAML_SCALAR_TOKEN, tag, token, pending, out),
-            kind => self.put_other_content(kind, tag, token, pending, out),
+            YAML_SCALAR_TOKEN => self.put_content_of::<true>(tag, token, pending, out),
+            _ => self.put_other_content(tag, token, pending, out),
         }
     }
 
@@ -96,13 +99,11 @@ impl TokenParser {
     #[inline(never)]
     fn put_other_content(
         &mut self,
-        kind: yaml_token_type_t,
         tag: Option<String>,
         token: &mut yaml_token_t,
         pending: &mut Pending,
         out: &mut yaml_event_t,
     ) -> Step
-        requires kind { kind ≡ token_type token.old.content }
         requires start { out.old.start_mark ≡ pending.old.reading.start_mark }
         ensures puts { (o : Progressed) (h : Texts) → IsContent o h pending.old.properties.anchor
             (option_map string_bytes tag) token.old pending.old.reading self.old
@@ -111,20 +112,20 @@ impl TokenParser {
         ensures grows { result ≡ Step.Failed → self.new.fault.error ≡ yaml_error_type_t.YAML_MEMORY_ERROR
             → opens_at (place_of pending.old.reading.place) (token_type token.old.content) ≡ true }
     {
-        self.put_content_of(kind, tag, token, pending, out)
+        self.put_content_of::<false>(tag, token, pending, out)
     }
 
-    /// Puts the content that begins with a token of this kind. Its start is in the event already.
+    /// Puts the content that begins with this token, a scalar if `IS_SCALAR`. Its start is in the event
+    /// already.
     #[inline(always)]
-    fn put_content_of(
+    fn put_content_of<const IS_SCALAR: bool>(
         &mut self,
-        kind: yaml_token_type_t,
         tag: Option<String>,
         token: &mut yaml_token_t,
         pending: &mut Pending,
         out: &mut yaml_event_t,
     ) -> Step
-        requires kind { kind ≡ token_type token.old.content }
+        requires scalar { IS_SCALAR ≡ true → token_type token.old.content ≡ YAML_SCALAR_TOKEN }
         requires start { out.old.start_mark ≡ pending.old.reading.start_mark }
         ensures puts { (o : Progressed) (h : Texts) → IsContent o h pending.old.properties.anchor
             (option_map string_bytes tag) token.old pending.old.reading self.old
@@ -134,38 +135,29 @@ impl TokenParser {
             → opens_at (place_of pending.old.reading.place) (token_type token.old.content) ≡ true }
     {
         let end_mark = pending.reading.end_mark;
-        match self.lead_content(kind, token, pending) {
-            Action::FullMarks => self.put_content_again(kind, tag, &end_mark, token, pending, out),
-            led => self.put_head(led, tag, &end_mark, token, pending, out),
-        }
-    }
-
-    /// Puts the content of a node for which the stack of marks had no room, once it has grown.
-    #[cold]
-    #[inline(never)]
-    fn put_content_again(
-        &mut self,
-        kind: yaml_token_type_t,
-        tag: Option<String>,
-        end_mark: &yaml_mark_t,
-        token: &mut yaml_token_t,
-        pending: &mut Pending,
-        out: &mut yaml_event_t,
-    ) -> Step
-        requires kind { kind ≡ token_type token.old.content }
-        requires start { out.old.start_mark ≡ pending.old.reading.start_mark }
-        requires end { end_mark.now ≡ pending.old.reading.end_mark }
-        ensures puts { (o : Progressed) (h : Texts) → IsContent o h pending.old.properties.anchor
-            (option_map string_bytes tag) token.old pending.old.reading self.old
-            → Steps o (result_of result pending.new out.new token.new self.new) self.new
-            × (result ≡ Step.Wants → ⊥) }
-    {
-        if !self.automaton.grow(Action::FullMarks) {
-            return self.fail_out_of_memory();
-        }
-        match self.lead_content(kind, token, pending) {
+        match self.lead_content::<IS_SCALAR>(token, pending) {
+            Action::Scalar => {
+                self.put_scalar_after(tag, token, pending, out);
+                Step::Given
+            }
+            Action::EmptyHead => {
+                self.put_empty_after(tag, &end_mark, pending, out);
+                Step::GivenBefore
+            }
+            Action::IndentlessSequence => {
+                self.put_indentless(tag, token, pending, out);
+                Step::GivenBefore
+            }
             Action::FullMarks => self.fail_out_of_memory(),
-            led => self.put_head(led, tag, end_mark, token, pending, out),
+            Action::Failed => self.set_problem(
+                pending.reading.problem,
+                &token.start_mark,
+                &token.start_mark,
+            ),
+            _ => {
+                self.put_opening(tag, token, pending, out);
+                Step::Given
+            }
         }
     }
 
@@ -192,9 +184,59 @@ impl TokenParser {
         }
     }
 
-    /// Does a step of the parser without texts, after a node's properties.
+    /// Does a step of the parser without texts, after a node's properties. Returns `FullMarks` if there is no
+    /// memory for a mark.
     #[inline(always)]
-    fn lead_content(
+    fn lead_content<const IS_SCALAR: bool>(
+        &mut self,
+        token: &yaml_token_t,
+        pending: &mut Pending,
+    ) -> Action
+        requires scalar { IS_SCALAR ≡ true → token_type token.now.content ≡ YAML_SCALAR_TOKEN }
+        ensures led { (o : Progressed) (h : Texts) (a g : Option (List ℕ))
+            → IsContent o h a g token.now pending.old.reading self.old
+            → SaysContent o h a g token.now result pending.old.reading pending.new.reading self.new }
+        ensures fits { FitsContent result (token_type token.now.content) pending.new.reading }
+        ensures texts { pending.new ≡ record pending.old { reading = pending.new.reading } }
+        ensures full { result ≡ Action.FullMarks
+            → opens_at (place_of pending.old.reading.place) (token_type token.now.content) ≡ true }
+        ensures undone { result ≡ Action.FullMarks → (self.new ≡ self.old) × (pending.new ≡ pending.old) }
+    {
+        let kind = if IS_SCALAR {
+            YAML_SCALAR_TOKEN
+        } else {
+            token.type_()
+        };
+        match self.lead_content_within(kind, token, pending) {
+            Action::FullMarks => self.lead_content_again(token, pending),
+            led => led,
+        }
+    }
+
+    /// Does the step for which the stack of marks had no room, once it has grown.
+    #[cold]
+    #[inline(never)]
+    fn lead_content_again(&mut self, token: &yaml_token_t, pending: &mut Pending) -> Action
+        requires full { opens_at (place_of pending.old.reading.place) (token_type token.now.content) ≡ true }
+        requires fits { FitsContent Action.FullMarks (token_type token.now.content) pending.old.reading }
+        ensures led { (o : Progressed) (h : Texts) (a g : Option (List ℕ))
+            → IsContent o h a g token.now pending.old.reading self.old
+            → SaysContent o h a g token.now result pending.old.reading pending.new.reading self.new }
+        ensures fits { FitsContent result (token_type token.now.content) pending.new.reading }
+        ensures texts { pending.new ≡ record pending.old { reading = pending.new.reading } }
+        ensures full { result ≡ Action.FullMarks
+            → opens_at (place_of pending.old.reading.place) (token_type token.now.content) ≡ true }
+        ensures undone { result ≡ Action.FullMarks → (self.new ≡ self.old) × (pending.new ≡ pending.old) }
+    {
+        if !self.automaton.grow(Action::FullMarks) {
+            return Action::FullMarks;
+        }
+        self.lead_content_within(token.type_(), token, pending)
+    }
+
+    /// Does the step, or nothing if the stack of marks has no room.
+    #[inline(always)]
+    fn lead_content_within(
         &mut self,
         kind: yaml_token_type_t,
         token: &yaml_token_t,
@@ -222,63 +264,19 @@ impl TokenParser {
         )
     }
 
-    /// Puts the event that it led to.
-    #[inline(always)]
-    fn put_head(
-        &mut self,
-        led: Action,
-        tag: Option<String>,
-        end_mark: &yaml_mark_t,
-        token: &mut yaml_token_t,
-        pending: &mut Pending,
-        out: &mut yaml_event_t,
-    ) -> Step
-        requires fits { FitsContent led (token_type token.old.content) pending.old.reading }
-        requires done { IsFull led → ⊥ }
-        ensures puts { PutsContent pending.old.properties.anchor (option_map string_bytes tag)
-            out.old.start_mark end_mark.now led token.old pending.old.reading self.old result token.new
-            pending.new out.new self.new }
-        ensures error { result ≡ Step.Failed → self.new.fault.error ≡ yaml_error_type_t.YAML_PARSER_ERROR }
-    {
-        match led {
-            Action::Scalar => {
-                self.put_scalar_after(tag, end_mark, token, pending, out);
-                Step::Given
-            }
-            Action::EmptyHead => {
-                self.put_empty_after(tag, end_mark, token, pending, out);
-                Step::GivenBefore
-            }
-            Action::IndentlessSequence => {
-                self.put_indentless(tag, end_mark, token, pending, out);
-                Step::GivenBefore
-            }
-            Action::Failed => self.set_problem(
-                pending.reading.problem,
-                &token.start_mark,
-                &token.start_mark,
-            ),
-            _ => {
-                self.put_opening(led, tag, end_mark, token, pending, out);
-                Step::Given
-            }
-        }
-    }
-
     /// Puts a scalar after properties.
     #[inline(always)]
     fn put_scalar_after(
         &mut self,
         tag: Option<String>,
-        end_mark: &yaml_mark_t,
         token: &mut yaml_token_t,
         pending: &mut Pending,
         out: &mut yaml_event_t,
     )
         requires scalar { token_type token.old.content ≡ YAML_SCALAR_TOKEN }
-        ensures puts { PutsContent pending.old.properties.anchor (option_map string_bytes tag)
-            out.old.start_mark end_mark.now Action.Scalar token.old pending.old.reading self.old Step.Given
-            token.new pending.new out.new self.new }
+        ensures puts { (end : yaml_mark_t) → PutsContent pending.old.properties.anchor (option_map
+            string_bytes tag) out.old.start_mark end Action.Scalar token.old pending.old.reading self.old
+            Step.Given token.new pending.new out.new self.new }
     {
         out.end_mark = token.end_mark;
         if let unnamed_yaml_token_t_data::Scalar(scalar) = &mut token.content {
@@ -313,13 +311,12 @@ impl TokenParser {
         &mut self,
         tag: Option<String>,
         end_mark: &yaml_mark_t,
-        token: &yaml_token_t,
         pending: &mut Pending,
         out: &mut yaml_event_t,
     )
-        ensures puts { PutsContent pending.old.properties.anchor (option_map string_bytes tag)
-            out.old.start_mark end_mark.now Action.EmptyHead token.now pending.old.reading self.old
-            Step.GivenBefore token.now pending.new out.new self.new }
+        ensures puts { (t : yaml_token_t) → PutsContent pending.old.properties.anchor (option_map string_bytes
+            tag) out.old.start_mark end_mark.now Action.EmptyHead t pending.old.reading self.old
+            Step.GivenBefore t pending.new out.new self.new }
     {
         let implicit = is_missing(&tag);
         let text = String::new(self.allocator());
@@ -333,14 +330,13 @@ impl TokenParser {
     fn put_indentless(
         &mut self,
         tag: Option<String>,
-        end_mark: &yaml_mark_t,
         token: &yaml_token_t,
         pending: &mut Pending,
         out: &mut yaml_event_t,
     )
-        ensures puts { PutsContent pending.old.properties.anchor (option_map string_bytes tag)
-            out.old.start_mark end_mark.now Action.IndentlessSequence token.now pending.old.reading self.old
-            Step.GivenBefore token.now pending.new out.new self.new }
+        ensures puts { (end : yaml_mark_t) → PutsContent pending.old.properties.anchor (option_map
+            string_bytes tag) out.old.start_mark end Action.IndentlessSequence token.now pending.old.reading
+            self.old Step.GivenBefore token.now pending.new out.new self.new }
     {
         let style = yaml_sequence_style_t::YAML_BLOCK_SEQUENCE_STYLE;
         let anchor = take_anchor(pending);
@@ -352,18 +348,15 @@ impl TokenParser {
     #[inline(never)]
     fn put_opening(
         &mut self,
-        led: Action,
         tag: Option<String>,
-        end_mark: &yaml_mark_t,
         token: &yaml_token_t,
         pending: &mut Pending,
         out: &mut yaml_event_t,
     )
-        requires fits { FitsContent led (token_type token.now.content) pending.old.reading }
-        requires opening { IsOpening led }
-        ensures puts { PutsContent pending.old.properties.anchor (option_map string_bytes tag)
-            out.old.start_mark end_mark.now led token.now pending.old.reading self.old Step.Given token.now
-            pending.new out.new self.new }
+        ensures puts { (led : Action) (end : yaml_mark_t) → IsOpening led → FitsContent led (token_type
+            token.now.content) pending.old.reading → PutsContent pending.old.properties.anchor (option_map
+            string_bytes tag) out.old.start_mark end led token.now pending.old.reading self.old Step.Given
+            token.now pending.new out.new self.new }
     {
         let anchor = take_anchor(pending);
         let content = collection_start(anchor, tag, &token.content);

@@ -9,9 +9,9 @@ use Rattle.libyaml_events.proofs.parser.TokenParser.put_opening.Goals as goal
 
 pub returns : goal.returns
 returns c = record {
-  puts = λ out h r es ee s. (
-    opening_put out h c.args.pending.now.properties.anchor (option_map string_bytes c.args.tag) c.args.token.now c.args.led r c.args.pending.now.reading c.args.self.now
-        c.args.out.now.start_mark c.requires.opening c.requires.fits es s ∙ (ap (λ (e : Event). Ok (Given e (holding None c.args.self.now)))
+  puts = λ led end opening fits out h r es ee s. (
+    opening_put out h c.args.pending.now.properties.anchor (option_map string_bytes c.args.tag) c.args.token.now led r c.args.pending.now.reading c.args.self.now
+        c.args.out.now.start_mark opening fits es s ∙ (ap (λ (e : Event). Ok (Given e (holding None c.args.self.now)))
         (sym (c.put_node.ensures.put ∙ ap (λ (x : unnamed_yaml_event_t_data). event x c.args.out.now.start_mark c.args.token.now.end_mark)
         (c.collection_start-content.ensures
         ∙ ap (λ (a : Option (List ℕ)). collection_start a (option_map string_bytes c.args.tag) c.args.token.now.content)
