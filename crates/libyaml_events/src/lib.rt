@@ -32,20 +32,10 @@ pub use libyaml_types::{
 };
 // The tokens, events and other types of the calls.
 pub use libyaml_types::{
-    ZERO_MARK, unnamed_yaml_event_t_data, unnamed_yaml_event_t_data_alias,
-    unnamed_yaml_event_t_data_document_end, unnamed_yaml_event_t_data_document_start,
-    unnamed_yaml_event_t_data_mapping_start, unnamed_yaml_event_t_data_scalar,
-    unnamed_yaml_event_t_data_sequence_start, unnamed_yaml_event_t_data_stream_start,
-    unnamed_yaml_token_t_data, unnamed_yaml_token_t_data_alias, unnamed_yaml_token_t_data_anchor,
-    unnamed_yaml_token_t_data_scalar, unnamed_yaml_token_t_data_stream_start,
-    unnamed_yaml_token_t_data_tag, unnamed_yaml_token_t_data_tag_directive,
-    unnamed_yaml_token_t_data_version_directive, yaml_alias_event_initialize, yaml_break_t,
-    yaml_document_end_event_initialize, yaml_document_start_event_initialize, yaml_encoding_t,
-    yaml_error_type_t, yaml_error_words, yaml_event_delete, yaml_event_t, yaml_event_type_t,
-    yaml_mapping_end_event_initialize, yaml_mapping_start_event_initialize, yaml_mapping_style_t,
-    yaml_mark_t, yaml_node_type_t, yaml_parser_state_t, yaml_refusal_t,
-    yaml_scalar_event_initialize, yaml_scalar_style_t, yaml_sequence_end_event_initialize,
-    yaml_sequence_start_event_initialize, yaml_sequence_style_t, yaml_stream_end_event_initialize,
-    yaml_stream_start_event_initialize, yaml_tag_directive_t, yaml_token_delete, yaml_token_t,
-    yaml_token_type_t, yaml_version_directive_t,
+    ZERO_MARK, unnamed_yaml_token_t_data, unnamed_yaml_token_t_data_alias,
+    unnamed_yaml_token_t_data_anchor, unnamed_yaml_token_t_data_scalar,
+    unnamed_yaml_token_t_data_stream_start, unnamed_yaml_token_t_data_tag,
+    unnamed_yaml_token_t_data_tag_directive, unnamed_yaml_token_t_data_version_directive,
+    yaml_error_type_t, yaml_event_t, yaml_event_type_t, yaml_mark_t, yaml_node_type_t,
+    yaml_token_t,
 };
