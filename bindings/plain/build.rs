@@ -31,13 +31,8 @@ const WITH_TEXTS: [&str; 8] = [
 
 /// Enums with fields that are looked at for each token or event. Without a tag of their own rustc says their
 /// variant by what another field never is, and computes it at each look, or packs it into a number with the
-/// fields and no longer sees which variant a caller is given. And the kind of an error: in a result it lies where
-/// else a text's address does, and if it takes a byte of it, rustc moves the text in pieces.
-const TAGS: [(&str, &str); 3] = [
-    ("Taken", "u8"),
-    ("unnamed_yaml_event_t_data", "u64"),
-    ("yaml_error_type_t", "usize"),
-];
+/// fields and no longer sees which variant a caller is given.
+const TAGS: [(&str, &str); 2] = [("Taken", "u8"), ("unnamed_yaml_event_t_data", "u64")];
 
 /// What rustc would warn of in the proved crates, which another compiler checks.
 const ALLOWED: &str = "#[allow(non_camel_case_types, missing_docs, unused, clippy::all)]\n";

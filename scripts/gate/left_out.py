@@ -28,7 +28,7 @@ KINDS = {
     "drop": "`Drop` in the bounds and derived traits of a type, which the prover's compiler asks for",
     "error": "`derive(Error)` and the words of its variants, from which the Display at the file's end is made",
     "path": "a path that begins otherwise: `crate::NAME::`, `core` or `crate::kit` in place of `std`",
-    "tag": "`#[repr(..)]` before an enum, which says where rustc puts its tag, and how wide it is",
+    "tag": "`#[repr(..)]` before an enum with fields, which says where rustc puts its tag",
     "form": "the form of `Display`, of `drop` and of functions for C",
     "module": "a module of the types with texts, which the crate without `alloc` lacks, and names from it",
 }
@@ -49,7 +49,6 @@ WRONG = [
     ("mod a;\n", "\n"),
     ("pub enum A {\n", "#[repr(u8)] pub enum A {\n"),
     ("pub(crate) enum Taken {\n", "#[repr(C)] pub(crate) enum Taken {\n"),
-    ("pub enum yaml_error_type_t {\n", "#[repr(u8)] pub enum yaml_error_type_t {\n"),
     ("fn f() {}\n", "fn f() {}\nfn g() {}\n"),
 ]
 
@@ -120,7 +119,6 @@ def rewritten(line, name, crates):
     change("laws", r"\blaws as \w+,", "")
     change("tag", r"^(pub\(crate\) enum Taken\b)", r"#[repr(u8)] \1")
     change("tag", r"^(pub enum unnamed_yaml_event_t_data\b)", r"#[repr(u64)] \1")
-    change("tag", r"^(pub enum yaml_error_type_t\b)", r"#[repr(usize)] \1")
     change("form", r"#\[unsafe\(no_mangle\)\]", "")
     change("form", r'extern "C" fn', "fn")
     change("form", r"fn fmt<W: fmt::Write>\(&self, f: &mut fmt::Formatter<W>\)", "fn fmt(&self, f: &mut fmt::Formatter<'_>)")

@@ -2,7 +2,7 @@
 
 use super::{Mark, SourceError};
 use crate::kit::AllocError;
-use crate::libyaml_types::{yaml_error_type_t, yaml_parser_t_prefix, MEMORY_FAULT, NO_FAULT};
+use crate::libyaml_types::{yaml_error_type_t, yaml_parser_t_prefix, MEMORY_FAULT};
 use core::fmt;
 
 /// Which part refused the input. libyaml: `yaml_error_type_t`.
@@ -27,62 +27,50 @@ impl yaml_error_type_t {
 /// As text it is the problem and its place, or the kind if there is no problem, and then the context and its
 /// place, if there is one. Lines and columns count from 1 there, and from 0 in marks.
 #[derive(Clone, Copy, PartialEq, Eq)]
-pub struct Error {
-    kind: ErrorKind,
-    problem: Option<&'static str>,
-    mark: Mark,
-    context: Option<&'static str>,
-    context_mark: Mark,
-}
+pub struct Error(yaml_parser_t_prefix);
 
 impl Error {
     /// Returns which part refused the input.
     pub fn kind(&self) -> ErrorKind {
-        self.kind
+        self.0.error
     }
 
     /// Returns what went wrong, in words. Out of memory has none.
     pub fn problem(&self) -> Option<&'static str> {
-        self.problem
+        self.0.problem
     }
 
     /// Returns where it went wrong.
     pub fn mark(&self) -> Mark {
-        self.mark
+        self.0.problem_mark
     }
 
     /// Returns what was being read, in words.
     pub fn context(&self) -> Option<&'static str> {
-        self.context
+        self.0.context
     }
 
     /// Returns where what was being read begins. It says something only if there is a context.
     pub fn context_mark(&self) -> Mark {
-        self.context_mark
+        self.0.context_mark
     }
 }
 
 impl From<yaml_parser_t_prefix> for Error {
     fn from(fault: yaml_parser_t_prefix) -> Self {
-        Error {
-            kind: fault.error,
-            problem: fault.problem,
-            mark: fault.problem_mark,
-            context: fault.context,
-            context_mark: fault.context_mark,
-        }
+        Error(fault)
     }
 }
 
 impl From<SourceError> for Error {
     fn from(fault: SourceError) -> Self {
-        Error::from(fault.prefix())
+        Error(fault.prefix())
     }
 }
 
 impl From<AllocError> for Error {
     fn from(_: AllocError) -> Self {
-        Error::from(MEMORY_FAULT)
+        Error(MEMORY_FAULT)
     }
 }
 
@@ -95,12 +83,12 @@ impl From<AllocError> for SourceError {
 impl fmt::Debug for Error {
     fn fmt(&self, f: &mut fmt::Formatter<'_>) -> fmt::Result {
         let mut told = f.debug_struct("Error");
-        told.field("kind", &self.kind);
-        told.field("problem", &self.problem)
-            .field("mark", &self.mark);
-        if self.context.is_some() {
-            told.field("context", &self.context)
-                .field("context_mark", &self.context_mark);
+        told.field("kind", &self.0.error);
+        told.field("problem", &self.0.problem)
+            .field("mark", &self.0.problem_mark);
+        if self.0.context.is_some() {
+            told.field("context", &self.0.context)
+                .field("context_mark", &self.0.context_mark);
         }
         told.finish()
     }
@@ -108,15 +96,7 @@ impl fmt::Debug for Error {
 
 impl fmt::Display for Error {
     fn fmt(&self, f: &mut fmt::Formatter<'_>) -> fmt::Result {
-        let fault = yaml_parser_t_prefix {
-            error: self.kind,
-            problem: self.problem,
-            problem_mark: self.mark,
-            context: self.context,
-            context_mark: self.context_mark,
-            ..NO_FAULT
-        };
-        fault.fmt(f)
+        self.0.fmt(f)
     }
 }
 

@@ -218,6 +218,7 @@ impl DocumentBuilder {
     }
 
     /// Ends the document that is open, and returns it.
+    #[inline(always)]
     pub(crate) fn into_document(self, closing: Closing) -> yaml_document_t
         ensures { result ≡ ended_by (closing_by closing) self.ctx }
     {
