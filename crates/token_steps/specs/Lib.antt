@@ -2,6 +2,7 @@ pub mod Differing
 pub mod Facts
 pub mod Numbers
 pub mod Records
+pub mod Handed
 pub mod Growth
 pub mod Exact
 pub mod Tells

@@ -9,18 +9,20 @@ ghost use Rattle.libyaml_automaton.specs.Purposes.{IsAt, properties};
 ghost use Rattle.token_steps.specs.Differing.{differs_in};
 ghost use Rattle.token_steps.specs.Exact.{step_by_fact_if, where_same_if};
 ghost use Rattle.token_steps.specs.Facts as facts;
+ghost use Rattle.token_steps.specs.Handed.{handed_token};
 ghost use Rattle.token_steps.specs.Facts.{tag_if};
 ghost use Rattle.token_steps.specs.Growth.{content_opens};
-ghost use Rattle.token_steps.specs.Records.{AreFlags, AreUnused, span_token};
+ghost use Rattle.token_steps.specs.Records.{AreFlags, AreUnused};
 ghost use Rattle.token_steps.specs.Numbers.{IsEventNumber};
 ghost use Rattle.token_steps.specs.Tells.{Tells, want_in, IsDone, IsGiven};
 
 use crate::did::Did;
-use crate::head::{Head, NO_HEAD};
-use crate::records::{step_event_t, step_fault_t, step_span_t};
+use crate::handed::Handed;
+use crate::head::Head;
+use crate::records::{step_event_t, step_fault_t};
 use crate::steps::steps_t;
 use libyaml_automaton::{Action, Token, UNDEFINED_HANDLE};
-use libyaml_types::{yaml_mark_t, yaml_token_type_t};
+use libyaml_types::yaml_mark_t;
 
 impl steps_t {
     /// Takes a token that is the stream's or a document's.
@@ -28,9 +30,7 @@ impl steps_t {
     pub(crate) fn document<const IS_EXACT: bool>(
         &mut self,
         states: &mut [u8],
-        kind: yaml_token_type_t,
-        fact: u8,
-        at: &step_span_t,
+        token: &Handed,
         event: &mut step_event_t,
         fault: &mut step_fault_t,
     ) -> Did
@@ -38,13 +38,14 @@ impl steps_t {
         requires at { IsAt (next_of self.old.read.next) (state_of self.old.machine.state) }
         requires documents { stack_part_of (next_of self.old.read.next) ≡ Documents }
         ensures tells { (marks : List yaml_mark_t) → Tells result (step_by_fact_if IS_EXACT (want_in self.old)
-            (stacks_of self.old.machine states.old marks) (span_token kind fact at.now))
+            (stacks_of self.old.machine states.old marks) (handed_token token.now))
             self.new event.new fault.new (stacks_of self.new.machine states.new marks) }
         ensures within { self.new.machine.states_count ≤ length states.new }
         ensures marks { self.new.machine.marks_count ≡ self.old.machine.marks_count }
         ensures full { (result ≡ Did.FullStates) ↔ HasNoRoom (where_same_if IS_EXACT
-            (differs_in self.old kind) (pushes_in_documents (next_of self.old.read.next)
-            (flag self.old.machine.behind_document_end) kind)) states.old self.old.machine.states_count }
+            (differs_in self.old token.now.kind) (pushes_in_documents (next_of self.old.read.next)
+            (flag self.old.machine.behind_document_end) token.now.kind)) states.old
+            self.old.machine.states_count }
         ensures undone { result ≡ Did.FullStates → (self.new.machine ≡ self.old.machine)
             × ((states.new ≡ states.old) × (want_in self.new ≡ want_in self.old)) }
         ensures done { (result ≡ Did.FullStates → ⊥) → IsDone result }
@@ -56,48 +57,20 @@ impl steps_t {
     {
         match self
             .machine
-            .document_step::<IS_EXACT>(&mut self.read, states, kind, &at.start_mark)
+            .document_step::<IS_EXACT>(&mut self.read, states, token.kind, &token.at.start_mark)
         {
             Action::FullStates => Did::FullStates,
             Action::AsksVersion => {
-                let led = self.machine.version_directive(&mut self.read, fact != 0);
-                self.tell(
-                    led,
-                    &NO_HEAD,
-                    &at.start_mark,
-                    &at.end_mark,
-                    kind,
-                    fact,
-                    at,
-                    event,
-                    fault,
-                )
+                let led = self
+                    .machine
+                    .version_directive(&mut self.read, token.fact != 0);
+                self.tell_bare(led, token, event, fault)
             }
             Action::AsksHandle => {
-                let led = self.machine.tag_directive(&mut self.read, fact != 0);
-                self.tell(
-                    led,
-                    &NO_HEAD,
-                    &at.start_mark,
-                    &at.end_mark,
-                    kind,
-                    fact,
-                    at,
-                    event,
-                    fault,
-                )
+                let led = self.machine.tag_directive(&mut self.read, token.fact != 0);
+                self.tell_bare(led, token, event, fault)
             }
-            led => self.tell(
-                led,
-                &NO_HEAD,
-                &at.start_mark,
-                &at.end_mark,
-                kind,
-                fact,
-                at,
-                event,
-                fault,
-            ),
+            led => self.tell_bare(led, token, event, fault),
         }
     }
 
@@ -107,21 +80,19 @@ impl steps_t {
         &mut self,
         states: &[u8],
         marks: &mut [yaml_mark_t],
-        kind: yaml_token_type_t,
-        fact: u8,
-        at: &step_span_t,
+        token: &Handed,
         event: &mut step_event_t,
         fault: &mut step_fault_t,
     ) -> Did
         requires within { Within self.old.machine states.now marks.old }
         ensures tells { Tells result (facts.content_by_fact (tag_if (flag self.old.read.has_tag) self.old.tag)
             self.old.tag (place_of self.old.read.place) (properties self.old.read)
-            (stacks_of self.old.machine states.now marks.old) (span_token kind fact at.now))
+            (stacks_of self.old.machine states.now marks.old) (handed_token token.now))
             self.new event.new fault.new (stacks_of self.new.machine states.now marks.new) }
         ensures within { Within self.new.machine states.now marks.new }
         ensures full { (result ≡ Did.FullMarks) ↔ HasNoRoom (content_opens
-            (tag_if (flag self.old.read.has_tag) self.old.tag) (place_of self.old.read.place) kind) marks.old
-            self.old.machine.marks_count }
+            (tag_if (flag self.old.read.has_tag) self.old.tag) (place_of self.old.read.place) token.now.kind)
+            marks.old self.old.machine.marks_count }
         ensures undone { result ≡ Did.FullMarks → (self.new ≡ self.old) × (marks.new ≡ marks.old) }
         ensures done { (result ≡ Did.FullMarks → ⊥) → IsDone result }
         ensures event_number { IsGiven result → IsEventNumber event.new.kind }
@@ -145,13 +116,13 @@ impl steps_t {
             states,
             marks,
             &Token {
-                kind,
-                start_mark: &at.start_mark,
-                end_mark: &at.end_mark,
+                kind: token.kind,
+                start_mark: &token.at.start_mark,
+                end_mark: &token.at.end_mark,
             },
         ) {
             Action::FullMarks => Did::FullMarks,
-            led => self.tell(led, &head, &start, &end, kind, fact, at, event, fault),
+            led => self.tell(led, &head, &start, &end, token, event, fault),
         }
     }
 }

@@ -8,6 +8,7 @@
 mod asking;
 mod did;
 mod exact;
+mod handed;
 mod head;
 pub mod laws;
 mod records;

@@ -10,13 +10,14 @@ ghost use Rattle.libyaml_automaton.specs.Purposes.{purpose_of};
 ghost use Rattle.token_steps.specs.Differing.{differs_in};
 ghost use Rattle.token_steps.specs.Exact.{step_by_fact_if, where_same_if};
 ghost use Rattle.token_steps.specs.Facts as facts;
+ghost use Rattle.token_steps.specs.Handed.{handed_token};
 ghost use Rattle.token_steps.specs.Growth.{grows_states, grows_marks};
 ghost use Rattle.token_steps.specs.Records.{AreFlags, AreUnused, kind_of, span_token};
 ghost use Rattle.token_steps.specs.Numbers.{IsEventNumber, IsFaultNumber};
 ghost use Rattle.token_steps.specs.Tells.{Tells, want_in, IsGiven, IsUntold};
 
 use crate::did::Did;
-use crate::head::NO_HEAD;
+use crate::handed::Handed;
 use crate::records::{step_event_t, step_fault_t, step_span_t};
 use libyaml_automaton::{Action, Automaton, Difference, Reading, Token, TokenTypes};
 use libyaml_types::{yaml_mark_t, yaml_token_type_t};
@@ -146,7 +147,7 @@ impl steps_t {
         ensures event_kept { (IsGiven result → ⊥) → event.new ≡ event.old }
         ensures fault_kept { (result ≡ Did.Failed → ⊥) → fault.new ≡ fault.old }
     {
-        self.step_as::<false>(states, marks, kind, fact, at, event, fault)
+        self.step_as::<false>(states, marks, &Handed { kind, fact, at }, event, fault)
     }
 
     /// Takes a token in the way of `step`, or of `step_exact`.
@@ -155,26 +156,24 @@ impl steps_t {
         &mut self,
         states: &mut [u8],
         marks: &mut [yaml_mark_t],
-        kind: yaml_token_type_t,
-        fact: u8,
-        at: &step_span_t,
+        token: &Handed,
         event: &mut step_event_t,
         fault: &mut step_fault_t,
     ) -> Did
         ensures tells { Tells result (step_by_fact_if IS_EXACT (want_in self.old)
-            (stacks_of self.old.machine states.old marks.old) (span_token kind fact at.now))
+            (stacks_of self.old.machine states.old marks.old) (handed_token token.now))
             self.new event.new fault.new (stacks_of self.new.machine states.new marks.new) }
         ensures within { Within self.old.machine states.old marks.old
             → Within self.new.machine states.new marks.new }
         ensures bad { (result ≡ Did.Bad) ↔ (Within self.old.machine states.old marks.old → ⊥) }
         ensures full_states { Within self.old.machine states.old marks.old → (result ≡ Did.FullStates)
-            ↔ (HasNoRoom (where_same_if IS_EXACT (differs_in self.old kind) (grows_states self.old kind))
-            states.old self.old.machine.states_count
-            × (HasNoRoom (where_same_if IS_EXACT (differs_in self.old kind) (grows_marks self.old kind))
-            marks.old self.old.machine.marks_count → ⊥)) }
+            ↔ (HasNoRoom (where_same_if IS_EXACT (differs_in self.old token.now.kind) (grows_states self.old
+            token.now.kind)) states.old self.old.machine.states_count
+            × (HasNoRoom (where_same_if IS_EXACT (differs_in self.old token.now.kind) (grows_marks self.old
+            token.now.kind)) marks.old self.old.machine.marks_count → ⊥)) }
         ensures full_marks { Within self.old.machine states.old marks.old → (result ≡ Did.FullMarks)
-            ↔ HasNoRoom (where_same_if IS_EXACT (differs_in self.old kind) (grows_marks self.old kind))
-            marks.old self.old.machine.marks_count }
+            ↔ HasNoRoom (where_same_if IS_EXACT (differs_in self.old token.now.kind) (grows_marks self.old
+            token.now.kind)) marks.old self.old.machine.marks_count }
         ensures undone { IsUntold result → (self.new.machine ≡ self.old.machine) × ((states.new ≡ states.old)
             × ((marks.new ≡ marks.old) × (want_in self.new ≡ want_in self.old))) }
         ensures holds_nothing { IsGiven result → purpose_of self.new.read ≡ AtState }
@@ -194,26 +193,16 @@ impl steps_t {
             states,
             marks,
             &Token {
-                kind,
-                start_mark: &at.start_mark,
-                end_mark: &at.end_mark,
+                kind: token.kind,
+                start_mark: &token.at.start_mark,
+                end_mark: &token.at.end_mark,
             },
         ) {
             Action::FullStates => Did::FullStates,
             Action::FullMarks => Did::FullMarks,
-            Action::Document => self.document::<IS_EXACT>(states, kind, fact, at, event, fault),
-            Action::AsksContent => self.content(states, marks, kind, fact, at, event, fault),
-            led => self.tell(
-                led,
-                &NO_HEAD,
-                &at.start_mark,
-                &at.end_mark,
-                kind,
-                fact,
-                at,
-                event,
-                fault,
-            ),
+            Action::Document => self.document::<IS_EXACT>(states, token, event, fault),
+            Action::AsksContent => self.content(states, marks, token, event, fault),
+            led => self.tell_bare(led, token, event, fault),
         }
     }
 }

@@ -1,22 +1,25 @@
 //! Tells the caller what a step led to.
 ghost use Rattle.std.specs.Prelude.{◌≡◌, ◌≤◌, ℕ, List, Bool, true, false};
 ghost use Rattle.libyaml_types.specs.declared.mark.yaml_mark_t.{yaml_mark_t};
-ghost use Rattle.libyaml_automaton.specs.Outcomes.{IsOutcome, outcome};
+ghost use Rattle.libyaml_automaton.specs.Outcomes.{IsOutcome, IsStep, outcome};
 ghost use Rattle.libyaml_automaton.specs.Automaton.{AtState, Step};
 ghost use Rattle.libyaml_automaton.specs.Config.{stacks_of};
 ghost use Rattle.libyaml_automaton.specs.Numbers.{flag};
 ghost use Rattle.libyaml_automaton.specs.Purposes.{kind_and_marks, purpose_of};
 ghost use Rattle.token_steps.specs.Facts as facts;
-ghost use Rattle.token_steps.specs.Records.{AreFlags, AreUnused, head_of, head_tag, span_token};
+ghost use Rattle.token_steps.specs.Facts.{NoTag};
+ghost use Rattle.token_steps.specs.Handed.{handed_token};
+ghost use Rattle.token_steps.specs.Records.{AreFlags, AreUnused, head_of, head_tag};
 ghost use Rattle.token_steps.specs.Numbers.{IsEventNumber};
 ghost use Rattle.token_steps.specs.Tells.{FitsTold, Tells, IsTold, IsDone, IsGiven};
 
 use crate::did::Did;
+use crate::handed::Handed;
 use crate::head::{Head, NO_HEAD};
-use crate::records::{step_event_t, step_fault_t, step_span_t};
+use crate::records::{step_event_t, step_fault_t};
 use crate::steps::steps_t;
 use libyaml_automaton::Action;
-use libyaml_types::{ZERO_MARK, yaml_mark_t, yaml_token_type_t};
+use libyaml_types::{ZERO_MARK, yaml_mark_t};
 
 /// Returns 1 if this is set, and else 0.
 #[inline(always)]
@@ -58,36 +61,78 @@ pub(crate) fn put_event(
     event.end_mark = *end;
 }
 
+/// What the event of a node says beside its properties and marks.
+#[derive(Copy, Clone)]
+struct Node {
+    kind: u8,
+    is_implicit: bool,
+    is_quoted_implicit: bool,
+    is_flow: bool,
+}
+
+/// Returns what the event of a scalar says.
+#[inline(always)]
+fn scalar(is_implicit: bool, is_quoted_implicit: bool) -> Node
+    ensures { result ≡ record {
+      kind = SCALAR;
+      is_implicit = is_implicit;
+      is_quoted_implicit = is_quoted_implicit;
+      is_flow = false;
+    } }
+{
+    Node {
+        kind: SCALAR,
+        is_implicit,
+        is_quoted_implicit,
+        is_flow: false,
+    }
+}
+
+/// Returns what the event of a collection's start says.
+#[inline(always)]
+fn collection(kind: u8, is_implicit: bool, is_flow: bool) -> Node
+    ensures { result ≡ record {
+      kind = kind;
+      is_implicit = is_implicit;
+      is_quoted_implicit = false;
+      is_flow = is_flow;
+    } }
+{
+    Node {
+        kind,
+        is_implicit,
+        is_quoted_implicit: false,
+        is_flow,
+    }
+}
+
 /// Puts the event of a node with these properties.
 #[inline(never)]
 fn put_node(
     event: &mut step_event_t,
-    kind: u8,
+    node: Node,
     head: &Head,
-    is_implicit: bool,
-    is_quoted_implicit: bool,
-    is_flow: bool,
     start: &yaml_mark_t,
     end: &yaml_mark_t,
 )
-    ensures kind { event.new.kind ≡ kind }
+    ensures kind { event.new.kind ≡ node.kind }
     ensures anchor { flag event.new.has_anchor ≡ flag head.now.has_anchor }
     ensures tag { flag event.new.has_tag ≡ flag head.now.has_tag }
-    ensures implicit { flag event.new.implicit ≡ is_implicit }
-    ensures quoted { flag event.new.quoted_implicit ≡ is_quoted_implicit }
-    ensures flow { flag event.new.is_flow ≡ is_flow }
-    ensures unquoted { is_quoted_implicit ≡ false → event.new.quoted_implicit ≡ 0 }
-    ensures block { is_flow ≡ false → event.new.is_flow ≡ 0 }
+    ensures implicit { flag event.new.implicit ≡ node.is_implicit }
+    ensures quoted { flag event.new.quoted_implicit ≡ node.is_quoted_implicit }
+    ensures flow { flag event.new.is_flow ≡ node.is_flow }
+    ensures unquoted { node.is_quoted_implicit ≡ false → event.new.quoted_implicit ≡ 0 }
+    ensures block { node.is_flow ≡ false → event.new.is_flow ≡ 0 }
     ensures flags { AreFlags event.new }
     ensures start { event.new.start_mark ≡ start.now }
     ensures end { event.new.end_mark ≡ end.now }
 {
-    event.kind = kind;
+    event.kind = node.kind;
     event.has_anchor = byte(head.has_anchor != 0);
     event.has_tag = byte(head.has_tag != 0);
-    event.implicit = byte(is_implicit);
-    event.quoted_implicit = byte(is_quoted_implicit);
-    event.is_flow = byte(is_flow);
+    event.implicit = byte(node.is_implicit);
+    event.quoted_implicit = byte(node.is_quoted_implicit);
+    event.is_flow = byte(node.is_flow);
     event.start_mark = *start;
     event.end_mark = *end;
 }
@@ -149,7 +194,43 @@ impl steps_t {
         Did::Failed
     }
 
-    /// Puts the event or the error of a step that asks nothing further. Returns what the call did.
+    /// Puts the event or the error of a step that asks nothing further, of a node without properties or of
+    /// none. Returns what the call did.
+    #[inline(always)]
+    pub(crate) fn tell_bare(
+        &mut self,
+        led: Action,
+        token: &Handed,
+        event: &mut step_event_t,
+        fault: &mut step_fault_t,
+    ) -> Did
+        requires fits { FitsTold led token.now.kind self.old.read NoTag }
+        ensures tells { (p : Step) (states : List ℕ) (marks : List yaml_mark_t) → IsStep p (kind_and_marks
+            token.now.kind token.now.at.now.start_mark token.now.at.now.end_mark) led self.old.machine
+            self.old.read states marks → Tells result (facts.put_by_fact NoTag self.old.tag (handed_token
+            token.now) p) self.new event.new fault.new (stacks_of self.new.machine states marks) }
+        ensures machine { self.new.machine ≡ self.old.machine }
+        ensures done { IsTold led → IsDone result }
+        ensures event_number { IsGiven result → IsEventNumber event.new.kind }
+        ensures event_flags { IsGiven result → AreFlags event.new }
+        ensures event_unused { IsGiven result → AreUnused event.new }
+        ensures event_kept { (IsGiven result → ⊥) → event.new ≡ event.old }
+        ensures fault_kept { (result ≡ Did.Failed → ⊥) → fault.new ≡ fault.old }
+    {
+        let at = token.at;
+        self.tell(
+            led,
+            &NO_HEAD,
+            &at.start_mark,
+            &at.end_mark,
+            token,
+            event,
+            fault,
+        )
+    }
+
+    /// Puts the event or the error of a step that asks nothing further, of a node with these
+    /// properties. Returns what the call did.
     #[inline(always)]
     pub(crate) fn tell(
         &mut self,
@@ -157,18 +238,16 @@ impl steps_t {
         head: &Head,
         start: &yaml_mark_t,
         end: &yaml_mark_t,
-        kind: yaml_token_type_t,
-        fact: u8,
-        at: &step_span_t,
+        token: &Handed,
         event: &mut step_event_t,
         fault: &mut step_fault_t,
     ) -> Did
-        requires fits { FitsTold led kind self.old.read (head_tag head.now) }
+        requires fits { FitsTold led token.now.kind self.old.read (head_tag head.now) }
         ensures tells { (p : Step) (g : yaml_mark_t) (states : List ℕ) (marks : List yaml_mark_t)
             → IsOutcome p (outcome led (head_of head.now start.now end.now g)
-            (kind_and_marks kind at.now.start_mark at.now.end_mark) self.old.read (stacks_of
-            self.old.machine states marks)) → Tells result (facts.put_by_fact (head_tag head.now)
-            self.old.tag (span_token kind fact at.now) p) self.new event.new fault.new (stacks_of
+            (kind_and_marks token.now.kind token.now.at.now.start_mark token.now.at.now.end_mark)
+            self.old.read (stacks_of self.old.machine states marks)) → Tells result (facts.put_by_fact (head_tag head.now)
+            self.old.tag (handed_token token.now) p) self.new event.new fault.new (stacks_of
             self.new.machine states marks) }
         ensures machine { self.new.machine ≡ self.old.machine }
         ensures done { IsTold led → IsDone result }
@@ -178,11 +257,12 @@ impl steps_t {
         ensures event_kept { (IsGiven result → ⊥) → event.new ≡ event.old }
         ensures fault_kept { (result ≡ Did.Failed → ⊥) → fault.new ≡ fault.old }
     {
+        let at = token.at;
         match led {
             Action::Wants => Did::Wants,
             Action::WantsAnchor => Did::Wants,
             Action::WantsTag => {
-                self.tag = fact;
+                self.tag = token.fact;
                 Did::Wants
             }
             Action::StreamStart => {
@@ -220,16 +300,13 @@ impl steps_t {
                 self.rest(Did::Gave)
             }
             Action::Scalar => {
-                let is_plain = fact != 0;
+                let is_plain = token.fact != 0;
                 let is_implicit = head.plain_flag(is_plain);
                 let is_quoted_implicit = head.quoted_flag(is_plain);
                 put_node(
                     event,
-                    SCALAR,
+                    scalar(is_implicit, is_quoted_implicit),
                     head,
-                    is_implicit,
-                    is_quoted_implicit,
-                    false,
                     start,
                     &at.end_mark,
                 );
@@ -248,75 +325,54 @@ impl steps_t {
                 self.rest(Did::Gave)
             }
             Action::EmptyHead => {
-                let is_missing = head.is_missing();
-                put_node(event, SCALAR, head, is_missing, false, false, start, end);
+                put_node(event, scalar(head.is_missing(), false), head, start, end);
                 self.rest(Did::Stays)
             }
             Action::BlockSequence => {
-                let is_missing = head.is_missing();
                 put_node(
                     event,
-                    SEQUENCE_START,
+                    collection(SEQUENCE_START, head.is_missing(), false),
                     head,
-                    is_missing,
-                    false,
-                    false,
                     start,
                     &at.end_mark,
                 );
                 self.rest(Did::Gave)
             }
             Action::BlockMapping => {
-                let is_missing = head.is_missing();
                 put_node(
                     event,
-                    MAPPING_START,
+                    collection(MAPPING_START, head.is_missing(), false),
                     head,
-                    is_missing,
-                    false,
-                    false,
                     start,
                     &at.end_mark,
                 );
                 self.rest(Did::Gave)
             }
             Action::FlowSequence => {
-                let is_missing = head.is_missing();
                 put_node(
                     event,
-                    SEQUENCE_START,
+                    collection(SEQUENCE_START, head.is_missing(), true),
                     head,
-                    is_missing,
-                    false,
-                    true,
                     start,
                     &at.end_mark,
                 );
                 self.rest(Did::Gave)
             }
             Action::FlowMapping => {
-                let is_missing = head.is_missing();
                 put_node(
                     event,
-                    MAPPING_START,
+                    collection(MAPPING_START, head.is_missing(), true),
                     head,
-                    is_missing,
-                    false,
-                    true,
                     start,
                     &at.end_mark,
                 );
                 self.rest(Did::Gave)
             }
             Action::IndentlessSequence => {
-                let is_missing = head.is_missing();
                 put_node(
                     event,
-                    SEQUENCE_START,
+                    collection(SEQUENCE_START, head.is_missing(), false),
                     head,
-                    is_missing,
-                    false,
-                    false,
                     start,
                     &at.end_mark,
                 );
@@ -325,11 +381,8 @@ impl steps_t {
             Action::Pair => {
                 put_node(
                     event,
-                    MAPPING_START,
+                    collection(MAPPING_START, true, true),
                     &NO_HEAD,
-                    true,
-                    false,
-                    true,
                     &at.start_mark,
                     &at.end_mark,
                 );
