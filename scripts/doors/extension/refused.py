@@ -28,15 +28,23 @@ TEXTS = [
     "- " * 70 + "x",
     "&a [&a b]",
     "a: b: c",
+    "{a: [], b: {c: d}, [e]: f, a: g}",
     "\xff\xff",
     "a\n--- b",
     "\x00",
     "x: |\n  a\n  b\ny: >\n  c\n",
     "'" + "x " * 20000 + "'",
 ]
+
+
+class Unique(pokhvizi.CSafeLoader):
+    unique_keys = True
+
+
 READINGS = {
     "node": (lambda source: [pokhvizi.CBaseLoader(source).get_single_node()], nodes),
     "tags": (lambda source: [pokhvizi.CSafeLoader(source).get_single_node()], nodes),
+    "keys": (lambda source: [Unique(source).get_single_node()], nodes),
     "events": (lambda source: list(iter(pokhvizi.CBaseLoader(source).get_event, None)), fields),
     "tokens": (lambda source: list(iter(pokhvizi.CBaseLoader(source).get_token, None)), fields),
 }

@@ -15,6 +15,7 @@ static void forget_nodes(struct document *document)
     for (i = 0; i < document->count; i++) {
         Py_DECREF(document->entries[i].node);
         Py_XDECREF(document->entries[i].children);
+        Py_XDECREF(document->entries[i].keys);
     }
     document->count = 0;
 }
@@ -103,7 +104,7 @@ static int put_node(struct document *document, int deed, const pokhvizi_place_t 
         Py_XDECREF(children);
         return -1;
     }
-    document->entries[document->count++] = (struct entry){node, children};
+    document->entries[document->count++] = (struct entry){node, children, NULL};
     if (anchor_of(&document->parser->event) != NULL && carry(document, place->node) < 0)
         return -1;
     return children == NULL ? ascend(document) : 0;
@@ -138,6 +139,52 @@ static int put(struct document *document, int deed, const pokhvizi_place_t *plac
     }
 }
 
+/* ---- Keys ---- */
+
+/* What tells a key apart: of a scalar its tag and its text, of a collection which node it is. */
+static PyObject *name_of_key(const struct entry *key)
+{
+    PyObject *tag, *value, *name;
+
+    if (key->children != NULL)
+        return PyLong_FromVoidPtr(key->node);
+    tag = PyObject_GetAttr(key->node, its.names.tag);
+    value = tag == NULL ? NULL : PyObject_GetAttr(key->node, its.names.value);
+    name = value == NULL ? NULL : PyTuple_Pack(2, tag, value);
+    Py_XDECREF(tag);
+    Py_XDECREF(value);
+    return name;
+}
+
+/* Adds a key to those of its mapping, unless it is there. */
+static int add_key(const struct document *document, PyObject *keys, PyObject *name, PyObject *node)
+{
+    PyObject *first = PyDict_GetItemWithError(keys, name); /* borrowed */
+
+    if (first != NULL)
+        return refuse_event(document->parser, first, "first occurrence", "found duplicate key");
+    return PyErr_Occurred() ? -1 : PyDict_SetItem(keys, name, node);
+}
+
+/* Refuses a key that its mapping has, if keys have to differ. */
+static int put_key(struct document *document, const pokhvizi_place_t *place)
+{
+    struct entry *mapping = entry_of(document, place->parent);
+    PyObject *name;
+    int done;
+
+    if (!document->parser->has_unique_keys)
+        return 0;
+    if (mapping->keys == NULL && (mapping->keys = PyDict_New()) == NULL)
+        return -1;
+    name = name_of_key(entry_of(document, place->child));
+    done = name == NULL ? -1 : add_key(document, mapping->keys, name, entry_of(document, place->child)->node);
+    Py_XDECREF(name);
+    return done;
+}
+
+/* ---- Ends ---- */
+
 /* A collection ends where the event at hand ends. */
 static int close_node(const struct document *document, int32_t id)
 {
@@ -170,9 +217,10 @@ static int follow(struct document *document, int deed, int32_t fact, const pokhv
         return 0;
     case POKHVIZI_ROOT:
     case POKHVIZI_ITEM:
-    case POKHVIZI_KEY:
     case POKHVIZI_VALUE:
         return put(document, deed, place);
+    case POKHVIZI_KEY:
+        return put(document, deed, place) < 0 ? -1 : put_key(document, place);
     case POKHVIZI_CLOSES:
         return close_node(document, place->parent);
     default:

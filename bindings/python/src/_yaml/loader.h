@@ -58,7 +58,7 @@ struct pyyaml {
     struct {
         PyObject *read, *name, *resolve, *descend_resolver, *ascend_resolver, *yaml_path_resolvers, *function,
             *self, *start_mark, *end_mark, *max_depth, *max_nodes, *max_expanded, *fixes,
-            *match, *yaml_implicit_resolvers;
+            *unique_keys, *tag, *value, *match, *yaml_implicit_resolvers;
     } names;
     int is_new; /* Python is 3.9 or later */
 };
@@ -137,6 +137,7 @@ typedef struct {
     yaml_parser_t scanner; /* whose events are those of the steps */
     yaml_event_t event; /* at hand, unless it is of no type */
     int has_fixes; /* events are of this project's own grammar, not libyaml's */
+    int has_unique_keys; /* two keys of a mapping have to differ */
     size_t max_depth, max_nodes; /* what may be open at once; what each list of a document may have */
     size_t max_expanded; /* how many nodes a document may have with its aliases written out */
 } parser_object;
@@ -219,7 +220,7 @@ int is_implicit(const yaml_event_t *event);
 
 /* A node, and the list of its children where it is a collection. */
 struct entry {
-    PyObject *node, *children;
+    PyObject *node, *children, *keys; /* keys: nodes by what tells keys apart, of a mapping whose keys have to differ, or NULL */
 };
 
 /* What the loader does about nodes. */

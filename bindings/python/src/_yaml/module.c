@@ -112,6 +112,9 @@ static int make_names(void)
         {"max_nodes", &its.names.max_nodes},
         {"max_expanded", &its.names.max_expanded},
         {"fixes", &its.names.fixes},
+        {"unique_keys", &its.names.unique_keys},
+        {"tag", &its.names.tag},
+        {"value", &its.names.value},
         {"match", &its.names.match},
         {"yaml_implicit_resolvers", &its.names.yaml_implicit_resolvers},
     };
@@ -177,13 +180,15 @@ static int make_mark_type(void)
     return add(type, "pointer", shared(Py_None));
 }
 
-/* What a loader's class may set: its bounds, of which None is none, and whether it reads libyaml's language alone. */
+/* What a loader's class may set: its bounds, of which None is none, whether it reads libyaml's language alone, and whether the keys
+ * of a mapping have to differ. */
 static int add_parser_type(PyObject *module)
 {
     PyObject *type = PyType_FromSpec(&parser_spec);
 
     if (type == NULL || add(type, "max_depth", shared(Py_None)) < 0 || add(type, "max_nodes", shared(Py_None)) < 0 ||
-        add(type, "max_expanded", shared(Py_None)) < 0 || add(type, "fixes", shared(Py_False)) < 0) {
+        add(type, "max_expanded", shared(Py_None)) < 0 || add(type, "fixes", shared(Py_False)) < 0 ||
+        add(type, "unique_keys", shared(Py_False)) < 0) {
         Py_XDECREF(type);
         return -1;
     }

@@ -238,16 +238,23 @@ static int find_bounds(parser_object *parser)
     return 0;
 }
 
-/* Whether the loader's attribute `fixes` is there and true. */
-static int find_fixes(parser_object *parser)
+/* Whether an attribute of the loader is there and true. */
+static int find_flag(parser_object *parser, PyObject *name, int *flag)
 {
-    PyObject *fixes = attribute_if_any((PyObject *)parser, its.names.fixes);
+    PyObject *found = attribute_if_any((PyObject *)parser, name);
 
-    if (fixes == NULL && PyErr_Occurred())
+    if (found == NULL && PyErr_Occurred())
         return -1;
-    parser->has_fixes = fixes == NULL ? 0 : PyObject_IsTrue(fixes);
-    Py_XDECREF(fixes);
-    return parser->has_fixes < 0 ? -1 : 0;
+    *flag = found == NULL ? 0 : PyObject_IsTrue(found);
+    Py_XDECREF(found);
+    return *flag < 0 ? -1 : 0;
+}
+
+static int find_flags(parser_object *parser)
+{
+    if (find_flag(parser, its.names.fixes, &parser->has_fixes) < 0)
+        return -1;
+    return find_flag(parser, its.names.unique_keys, &parser->has_unique_keys);
 }
 
 /* Begins a stream, of which nothing is there yet. */
@@ -261,7 +268,7 @@ static int begin(parser_object *parser)
     parser->stream.rest_place = 0;
     parser->stream.is_text = 0;
     memset(&parser->event, 0, sizeof parser->event);
-    return find_bounds(parser) < 0 || find_fixes(parser) < 0 ? -1 : begin_events(parser);
+    return find_bounds(parser) < 0 || find_flags(parser) < 0 ? -1 : begin_events(parser);
 }
 
 static int parser_init(PyObject *object, PyObject *arguments, PyObject *keywords)
@@ -314,7 +321,7 @@ static PyType_Slot parser_slots[] = {
     {Py_tp_doc,
      "CParser(stream)\n--\n\nTokens, events and documents of a text, of bytes, or of a file, as PyYAML's CParser.\n\n"
      "`max_depth`, `max_nodes` and `max_expanded` of its class bound what it reads. If `fixes` is true,\n"
-     "events are of this project's own grammar."},
+     "events are of this project's own grammar; if `unique_keys` is, a repeated key is an error."},
     {Py_tp_new, PyType_GenericNew},
     {Py_tp_init, parser_init},
     {Py_tp_dealloc, parser_dealloc},

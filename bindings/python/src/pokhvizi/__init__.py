@@ -22,7 +22,8 @@ Each event takes as many tokens of the scanner as PyYAML's parser takes. These d
 A loader is for one thread; several loaders may be used at once. An error is raised again by each later call for an event.
 
 `max_depth` of a loader's class bounds the collections that are open at once, `max_nodes` the nodes of a document and the items or
-pairs of a node, and `max_expanded` the nodes of a document with its aliases written out; None, the default, is no bound.
+pairs of a node, and `max_expanded` the nodes of a document with its aliases written out; None, the default, is no bound. With
+`unique_keys = True` a key that its mapping has is a `ComposerError`: a scalar with the same tag and text, or the same node.
 
 A `ParserError` has `expected`, a tuple that says what could have stood in the place of the token, such as `("','", "']'")`. It is empty
 if the token's kind was right.
@@ -524,6 +525,7 @@ class Parser:
     """This parser with the methods of `yaml.parser.Parser`, over the scanner of the same loader."""
 
     max_depth = max_nodes = max_expanded = None
+    unique_keys = False
     current_event = None
     failure = None
     events = None
@@ -564,9 +566,11 @@ class Parser:
             raise self.failure from None
 
     def compose_document(self):
-        """As PyYAML's. Its composer calls itself, so nothing stands between its calls unless there is a bound."""
-        if self.max_nodes is None and self.max_expanded is None:
+        """As PyYAML's. Its composer calls itself, so nothing stands between its calls unless there is a bound, or keys have to
+        differ."""
+        if self.max_nodes is None and self.max_expanded is None and not self.unique_keys:
             return super().compose_document()
+        self.keys = {}
         self.max_entries = self.nodes_left = bound_of(self, "max_nodes", (1 << 31) - 1)
         self.expansion = Expansion(bound_of(self, "max_expanded", sys.maxsize))
         kept = vars(self).get("compose_node")  # a method that was put on the loader
@@ -596,9 +600,20 @@ class Parser:
             self.expansion.put(event)
         self.nodes_left -= not is_alias
         node = compose(parent, index)
+        if self.unique_keys and is_entry and isinstance(parent, yaml.MappingNode):
+            self.put_key(self.keys.setdefault(id(parent), {}), node, event)
         if not is_alias and event.anchor is not None:
             self.expansion.sizes[event.anchor] = self.expansion.total - before
         return node
+
+    @staticmethod
+    def put_key(keys, node, event):
+        """Adds a key to those of its mapping, unless it is there."""
+        name = (node.tag, node.value) if isinstance(node, yaml.ScalarNode) else id(node)
+        if name in keys:
+            first = keys[name].start_mark
+            raise yaml.composer.ComposerError("first occurrence", first, "found duplicate key", event.start_mark)
+        keys[name] = node
 
     def dispose(self):
         """Gives back what the parser holds; it then has no further event."""

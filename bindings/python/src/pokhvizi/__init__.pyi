@@ -15,6 +15,7 @@ class Parser(_Parser):
     max_depth: Optional[int]
     max_nodes: Optional[int]
     max_expanded: Optional[int]
+    unique_keys: bool
 
 class Loader(Parser, yaml.Loader): ...
 
