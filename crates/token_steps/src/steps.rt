@@ -200,7 +200,13 @@ impl steps_t {
         ) {
             Action::FullStates => Did::FullStates,
             Action::FullMarks => Did::FullMarks,
-            Action::Document => self.document::<IS_EXACT>(states, token, event, fault),
+            // a copy, so that the token itself needs no place in memory
+            Action::Document => self.document::<IS_EXACT>(
+                states,
+                &Handed { ..*token },
+                event,
+                fault,
+            ),
             Action::AsksContent => self.content(states, marks, token, event, fault),
             led => self.tell_bare(led, token, event, fault),
         }
