@@ -48,7 +48,8 @@ impl token_limiter_t {
     ///
     /// # Errors
     ///
-    /// The scanner error `found too many levels` at the first token that opens one collection too many, for good.
+    /// The scanner error `found too many levels` at the first token that opens one collection too many, for
+    /// good.
     pub fn take(&mut self, token: &yaml_token_t) -> Result<(), yaml_source_fault_t>
         ensures moves { self.new ≡ taken self.old token.now }
         ensures answers { answer_in result token.now ≡ answer_at self.new.refused_at token.now }

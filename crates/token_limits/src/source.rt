@@ -28,8 +28,8 @@ impl<S> Model for yaml_limited_source_t<S> {
 }
 
 impl<S> yaml_limited_source_t<S> {
-    /// Returns a source of the tokens that this one still gives, with at most so many collections open at once
-    /// that they open.
+    /// Returns a source of the tokens that this one still gives, with at most so many collections open at
+    /// once that they open.
     pub fn new(source: S, max_depth: usize) -> Self
         ensures { result ≡ record {
           source = source;

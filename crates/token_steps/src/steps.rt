@@ -90,8 +90,8 @@ impl steps_t {
         self.machine.differs(&self.read, kind)
     }
 
-    /// Returns which types of token may be handed in next, in a run of calls (`laws::next_types`). If the record
-    /// counts more states than their stack has room for, it returns none.
+    /// Returns which types of token may be handed in next, in a run of calls (`laws::next_types`). If the
+    /// record counts more states than their stack has room for, it returns none.
     ///
     /// The states that the record counts lie at the start of their slice.
     #[inline(always)]

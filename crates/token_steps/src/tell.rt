@@ -246,7 +246,8 @@ impl steps_t {
         ensures tells { (p : Step) (g : yaml_mark_t) (states : List ℕ) (marks : List yaml_mark_t)
             → IsOutcome p (outcome led (head_of head.now start.now end.now g)
             (kind_and_marks token.now.kind token.now.at.now.start_mark token.now.at.now.end_mark)
-            self.old.read (stacks_of self.old.machine states marks)) → Tells result (facts.put_by_fact (head_tag head.now)
+            self.old.read (stacks_of self.old.machine states marks))
+            → Tells result (facts.put_by_fact (head_tag head.now)
             self.old.tag (handed_token token.now) p) self.new event.new fault.new (stacks_of
             self.new.machine states marks) }
         ensures machine { self.new.machine ≡ self.old.machine }
