@@ -18,7 +18,8 @@ ghost use Rattle.token_steps.specs.Tells.{Tells, want_in, IsDone, IsGiven};
 
 use crate::did::Did;
 use crate::handed::Handed;
-use crate::head::Head;
+use crate::head::{Head, Properties};
+use crate::out::Out;
 use crate::records::{step_event_t, step_fault_t};
 use crate::steps::steps_t;
 use libyaml_automaton::{Action, Token, UNDEFINED_HANDLE};
@@ -81,25 +82,26 @@ impl steps_t {
         states: &[u8],
         marks: &mut [yaml_mark_t],
         token: &Handed,
-        event: &mut step_event_t,
-        fault: &mut step_fault_t,
+        out: &mut Out,
     ) -> Did
         requires within { Within self.old.machine states.now marks.old }
         ensures tells { Tells result (facts.content_by_fact (tag_if (flag self.old.read.has_tag) self.old.tag)
             self.old.tag (place_of self.old.read.place) (properties self.old.read)
             (stacks_of self.old.machine states.now marks.old) (handed_token token.now))
-            self.new event.new fault.new (stacks_of self.new.machine states.now marks.new) }
+            self.new out.new.event.now out.new.fault.now (stacks_of self.new.machine states.now marks.new) }
         ensures within { Within self.new.machine states.now marks.new }
         ensures full { (result ≡ Did.FullMarks) ↔ HasNoRoom (content_opens
             (tag_if (flag self.old.read.has_tag) self.old.tag) (place_of self.old.read.place) token.now.kind)
             marks.old self.old.machine.marks_count }
         ensures undone { result ≡ Did.FullMarks → (self.new ≡ self.old) × (marks.new ≡ marks.old) }
         ensures done { (result ≡ Did.FullMarks → ⊥) → IsDone result }
-        ensures event_number { IsGiven result → IsEventNumber event.new.kind }
-        ensures event_flags { IsGiven result → AreFlags event.new }
-        ensures event_unused { IsGiven result → AreUnused event.new }
-        ensures event_kept { (IsGiven result → ⊥) → event.new ≡ event.old }
-        ensures fault_kept { (result ≡ Did.Failed → ⊥) → fault.new ≡ fault.old }
+        ensures event_number { IsGiven result → IsEventNumber out.new.event.now.kind }
+        ensures event_flags { IsGiven result → AreFlags out.new.event.now }
+        ensures event_unused { IsGiven result → AreUnused out.new.event.now }
+        ensures event_kept { (IsGiven result → ⊥) → out.new.event.now ≡ out.old.event.now }
+        ensures fault_kept { (result ≡ Did.Failed → ⊥) → out.new.fault.now ≡ out.old.fault.now }
+        ensures same_event { out.new.event.ghost_name ≡ out.old.event.ghost_name }
+        ensures same_fault { out.new.fault.ghost_name ≡ out.old.fault.ghost_name }
     {
         let head = Head {
             has_anchor: self.read.has_anchor,
@@ -109,7 +111,7 @@ impl steps_t {
         let start = self.read.start_mark;
         let end = self.read.end_mark;
         if head.is_undefined() {
-            return self.fail(&start, &self.read.tag_mark, UNDEFINED_HANDLE, fault);
+            return self.fail(&start, &self.read.tag_mark, UNDEFINED_HANDLE, out.fault);
         }
         match self.machine.content_after(
             &mut self.read,
@@ -122,7 +124,14 @@ impl steps_t {
             },
         ) {
             Action::FullMarks => Did::FullMarks,
-            led => self.tell(led, &head, &start, &end, token, event, fault),
+            led => {
+                let read = Properties {
+                    head: &head,
+                    start_mark: &start,
+                    end_mark: &end,
+                };
+                self.tell(led, &read, token, out)
+            }
         }
     }
 }

@@ -12,6 +12,7 @@ ghost use Rattle.token_steps.specs.Tells.{Tells, want_in, IsGiven, IsUntold};
 
 use crate::did::Did;
 use crate::handed::Handed;
+use crate::out::Out;
 use crate::records::{step_event_t, step_fault_t, step_span_t};
 use crate::steps::steps_t;
 use libyaml_types::{yaml_mark_t, yaml_token_type_t};
@@ -54,6 +55,11 @@ impl steps_t {
         ensures event_kept { (IsGiven result → ⊥) → event.new ≡ event.old }
         ensures fault_kept { (result ≡ Did.Failed → ⊥) → fault.new ≡ fault.old }
     {
-        self.step_as::<true>(states, marks, &Handed { kind, fact, at }, event, fault)
+        self.step_as::<true>(
+            states,
+            marks,
+            &Handed { kind, fact, at },
+            &mut Out { event, fault },
+        )
     }
 }

@@ -3,12 +3,22 @@ ghost use Rattle.std.specs.Prelude.{◌≡◌};
 ghost use Rattle.token_steps.specs.Facts as facts;
 ghost use Rattle.token_steps.specs.Records.{head_tag, is_undefined};
 
+use libyaml_types::yaml_mark_t;
+
 /// What is known of a node's properties. If there is a tag, `tag` is the fact of its token.
 #[derive(Copy, Clone)]
 pub(crate) struct Head {
     pub has_anchor: u8,
     pub has_tag: u8,
     pub tag: u8,
+}
+
+/// A node's properties: what is known of them, and where they begin and end.
+#[derive(Copy, Clone)]
+pub(crate) struct Properties<'a> {
+    pub(crate) head: &'a Head,
+    pub(crate) start_mark: &'a yaml_mark_t,
+    pub(crate) end_mark: &'a yaml_mark_t,
 }
 
 /// No property.

@@ -11,6 +11,7 @@ mod exact;
 mod handed;
 mod head;
 pub mod laws;
+mod out;
 mod records;
 mod steps;
 mod tags;

@@ -18,6 +18,7 @@ ghost use Rattle.token_steps.specs.Tells.{Tells, want_in, IsGiven, IsUntold};
 
 use crate::did::Did;
 use crate::handed::Handed;
+use crate::out::Out;
 use crate::records::{step_event_t, step_fault_t, step_span_t};
 use libyaml_automaton::{Action, Automaton, Difference, Reading, Token, TokenTypes};
 use libyaml_types::{yaml_mark_t, yaml_token_type_t};
@@ -147,7 +148,12 @@ impl steps_t {
         ensures event_kept { (IsGiven result → ⊥) → event.new ≡ event.old }
         ensures fault_kept { (result ≡ Did.Failed → ⊥) → fault.new ≡ fault.old }
     {
-        self.step_as::<false>(states, marks, &Handed { kind, fact, at }, event, fault)
+        self.step_as::<false>(
+            states,
+            marks,
+            &Handed { kind, fact, at },
+            &mut Out { event, fault },
+        )
     }
 
     /// Takes a token in the way of `step`, or of `step_exact`.
@@ -157,12 +163,11 @@ impl steps_t {
         states: &mut [u8],
         marks: &mut [yaml_mark_t],
         token: &Handed,
-        event: &mut step_event_t,
-        fault: &mut step_fault_t,
+        out: &mut Out,
     ) -> Did
         ensures tells { Tells result (step_by_fact_if IS_EXACT (want_in self.old)
             (stacks_of self.old.machine states.old marks.old) (handed_token token.now))
-            self.new event.new fault.new (stacks_of self.new.machine states.new marks.new) }
+            self.new out.new.event.now out.new.fault.now (stacks_of self.new.machine states.new marks.new) }
         ensures within { Within self.old.machine states.old marks.old
             → Within self.new.machine states.new marks.new }
         ensures bad { (result ≡ Did.Bad) ↔ (Within self.old.machine states.old marks.old → ⊥) }
@@ -177,12 +182,14 @@ impl steps_t {
         ensures undone { IsUntold result → (self.new.machine ≡ self.old.machine) × ((states.new ≡ states.old)
             × ((marks.new ≡ marks.old) × (want_in self.new ≡ want_in self.old))) }
         ensures holds_nothing { IsGiven result → purpose_of self.new.read ≡ AtState }
-        ensures event_number { IsGiven result → IsEventNumber event.new.kind }
-        ensures event_flags { IsGiven result → AreFlags event.new }
-        ensures event_unused { IsGiven result → AreUnused event.new }
-        ensures fault_number { result ≡ Did.Failed → IsFaultNumber fault.new.problem }
-        ensures event_kept { (IsGiven result → ⊥) → event.new ≡ event.old }
-        ensures fault_kept { (result ≡ Did.Failed → ⊥) → fault.new ≡ fault.old }
+        ensures event_number { IsGiven result → IsEventNumber out.new.event.now.kind }
+        ensures event_flags { IsGiven result → AreFlags out.new.event.now }
+        ensures event_unused { IsGiven result → AreUnused out.new.event.now }
+        ensures fault_number { result ≡ Did.Failed → IsFaultNumber out.new.fault.now.problem }
+        ensures event_kept { (IsGiven result → ⊥) → out.new.event.now ≡ out.old.event.now }
+        ensures fault_kept { (result ≡ Did.Failed → ⊥) → out.new.fault.now ≡ out.old.fault.now }
+        ensures same_event { out.new.event.ghost_name ≡ out.old.event.ghost_name }
+        ensures same_fault { out.new.fault.ghost_name ≡ out.old.fault.ghost_name }
     {
         if self.machine.states_count > states.len() || self.machine.marks_count > marks.len() {
             return Did::Bad;
@@ -204,11 +211,11 @@ impl steps_t {
             Action::Document => self.document::<IS_EXACT>(
                 states,
                 &Handed { ..*token },
-                event,
-                fault,
+                out.event,
+                out.fault,
             ),
-            Action::AsksContent => self.content(states, marks, token, event, fault),
-            led => self.tell_bare(led, token, event, fault),
+            Action::AsksContent => self.content(states, marks, token, out),
+            led => self.tell_bare(led, token, out.event, out.fault),
         }
     }
 }

@@ -15,7 +15,8 @@ ghost use Rattle.token_steps.specs.Tells.{FitsTold, Tells, IsTold, IsDone, IsGiv
 
 use crate::did::Did;
 use crate::handed::Handed;
-use crate::head::{Head, NO_HEAD};
+use crate::head::{Head, NO_HEAD, Properties};
+use crate::out::Out;
 use crate::records::{step_event_t, step_fault_t};
 use crate::steps::steps_t;
 use libyaml_automaton::Action;
@@ -217,16 +218,12 @@ impl steps_t {
         ensures event_kept { (IsGiven result → ⊥) → event.new ≡ event.old }
         ensures fault_kept { (result ≡ Did.Failed → ⊥) → fault.new ≡ fault.old }
     {
-        let at = token.at;
-        self.tell(
-            led,
-            &NO_HEAD,
-            &at.start_mark,
-            &at.end_mark,
-            token,
-            event,
-            fault,
-        )
+        let none = Properties {
+            head: &NO_HEAD,
+            start_mark: &token.at.start_mark,
+            end_mark: &token.at.end_mark,
+        };
+        self.tell(led, &none, token, &mut Out { event, fault })
     }
 
     /// Puts the event or the error of a step that asks nothing further, of a node with these
@@ -235,30 +232,31 @@ impl steps_t {
     pub(crate) fn tell(
         &mut self,
         led: Action,
-        head: &Head,
-        start: &yaml_mark_t,
-        end: &yaml_mark_t,
+        properties: &Properties,
         token: &Handed,
-        event: &mut step_event_t,
-        fault: &mut step_fault_t,
+        out: &mut Out,
     ) -> Did
-        requires fits { FitsTold led token.now.kind self.old.read (head_tag head.now) }
+        requires fits { FitsTold led token.now.kind self.old.read (head_tag properties.now.head.now) }
         ensures tells { (p : Step) (g : yaml_mark_t) (states : List ℕ) (marks : List yaml_mark_t)
-            → IsOutcome p (outcome led (head_of head.now start.now end.now g)
-            (kind_and_marks token.now.kind token.now.at.now.start_mark token.now.at.now.end_mark)
-            self.old.read (stacks_of self.old.machine states marks))
-            → Tells result (facts.put_by_fact (head_tag head.now)
-            self.old.tag (handed_token token.now) p) self.new event.new fault.new (stacks_of
+            → IsOutcome p (outcome led (head_of properties.now.head.now properties.now.start_mark.now
+            properties.now.end_mark.now g) (kind_and_marks token.now.kind token.now.at.now.start_mark
+            token.now.at.now.end_mark) self.old.read (stacks_of self.old.machine states marks))
+            → Tells result (facts.put_by_fact (head_tag properties.now.head.now)
+            self.old.tag (handed_token token.now) p) self.new out.new.event.now out.new.fault.now (stacks_of
             self.new.machine states marks) }
         ensures machine { self.new.machine ≡ self.old.machine }
         ensures done { IsTold led → IsDone result }
-        ensures event_number { IsGiven result → IsEventNumber event.new.kind }
-        ensures event_flags { IsGiven result → AreFlags event.new }
-        ensures event_unused { IsGiven result → AreUnused event.new }
-        ensures event_kept { (IsGiven result → ⊥) → event.new ≡ event.old }
-        ensures fault_kept { (result ≡ Did.Failed → ⊥) → fault.new ≡ fault.old }
+        ensures event_number { IsGiven result → IsEventNumber out.new.event.now.kind }
+        ensures event_flags { IsGiven result → AreFlags out.new.event.now }
+        ensures event_unused { IsGiven result → AreUnused out.new.event.now }
+        ensures event_kept { (IsGiven result → ⊥) → out.new.event.now ≡ out.old.event.now }
+        ensures fault_kept { (result ≡ Did.Failed → ⊥) → out.new.fault.now ≡ out.old.fault.now }
+        ensures same_event { out.new.event.ghost_name ≡ out.old.event.ghost_name }
+        ensures same_fault { out.new.fault.ghost_name ≡ out.old.fault.ghost_name }
     {
         let at = token.at;
+        let head = properties.head;
+        let event = &mut *out.event;
         match led {
             Action::Wants => Did::Wants,
             Action::WantsAnchor => Did::Wants,
@@ -308,7 +306,7 @@ impl steps_t {
                     event,
                     scalar(is_implicit, is_quoted_implicit),
                     head,
-                    start,
+                    properties.start_mark,
                     &at.end_mark,
                 );
                 self.rest(Did::Gave)
@@ -326,7 +324,13 @@ impl steps_t {
                 self.rest(Did::Gave)
             }
             Action::EmptyHead => {
-                put_node(event, scalar(head.is_missing(), false), head, start, end);
+                put_node(
+                    event,
+                    scalar(head.is_missing(), false),
+                    head,
+                    properties.start_mark,
+                    properties.end_mark,
+                );
                 self.rest(Did::Stays)
             }
             Action::BlockSequence => {
@@ -334,7 +338,7 @@ impl steps_t {
                     event,
                     collection(SEQUENCE_START, head.is_missing(), false),
                     head,
-                    start,
+                    properties.start_mark,
                     &at.end_mark,
                 );
                 self.rest(Did::Gave)
@@ -344,7 +348,7 @@ impl steps_t {
                     event,
                     collection(MAPPING_START, head.is_missing(), false),
                     head,
-                    start,
+                    properties.start_mark,
                     &at.end_mark,
                 );
                 self.rest(Did::Gave)
@@ -354,7 +358,7 @@ impl steps_t {
                     event,
                     collection(SEQUENCE_START, head.is_missing(), true),
                     head,
-                    start,
+                    properties.start_mark,
                     &at.end_mark,
                 );
                 self.rest(Did::Gave)
@@ -364,7 +368,7 @@ impl steps_t {
                     event,
                     collection(MAPPING_START, head.is_missing(), true),
                     head,
-                    start,
+                    properties.start_mark,
                     &at.end_mark,
                 );
                 self.rest(Did::Gave)
@@ -374,7 +378,7 @@ impl steps_t {
                     event,
                     collection(SEQUENCE_START, head.is_missing(), false),
                     head,
-                    start,
+                    properties.start_mark,
                     &at.end_mark,
                 );
                 self.rest(Did::Stays)
@@ -405,18 +409,23 @@ impl steps_t {
                 put_event(event, MAPPING_END, false, &at.start_mark, &at.start_mark);
                 self.rest(Did::Stays)
             }
-            Action::Failed => self.fail(&at.start_mark, &at.start_mark, self.read.problem, fault),
+            Action::Failed => self.fail(
+                &at.start_mark,
+                &at.start_mark,
+                self.read.problem,
+                out.fault,
+            ),
             Action::FailedDocument => self.fail(
                 &ZERO_MARK,
                 &at.start_mark,
                 self.read.problem,
-                fault,
+                out.fault,
             ),
             Action::FailedWithin => self.fail(
                 &self.read.mark,
                 &at.start_mark,
                 self.read.problem,
-                fault,
+                out.fault,
             ),
             _ => Did::Bad,
         }

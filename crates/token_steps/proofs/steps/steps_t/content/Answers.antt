@@ -23,4 +23,6 @@ returns-in_default c =
       event_unused = c.tell.ensures.event_unused;
       event_kept = c.tell.ensures.event_kept;
       fault_kept = c.tell.ensures.fault_kept;
+      same_event = c.tell.ensures.same_event;
+      same_fault = c.tell.ensures.same_fault;
     }

@@ -163,4 +163,6 @@ returns-in_default g c =
           (span_token c.args.token.now.kind c.args.token.now.fact c.args.token.now.at.now)) e tells;
       event_kept = c.tell_bare.ensures.event_kept;
       fault_kept = c.tell_bare.ensures.fault_kept;
+      same_event = refl;
+      same_fault = refl;
     }
