@@ -232,18 +232,28 @@ static uint32_t key_of(yaml_parser_t *parser)
     return kept->key;
 }
 
+/* One number more of a polynomial, which is below 2^32 before and after. */
+static uint64_t with_number(uint64_t hash, uint32_t number, uint32_t key)
+{
+    hash = hash * key + number;
+    return (hash & INT32_MAX) + (hash >> 31);
+}
+
+static uint32_t mixed(uint64_t hash)
+{
+    hash = (uint32_t)hash * UINT32_C(0x9E3779B1);
+    return (uint32_t)(hash ^ hash >> 15);
+}
+
 /* The polynomial of a name at the key, modulo 2^31 - 1 and then mixed: whoever wrote a text, few of its anchors and handles share
  * a hash, since the key isn't known. The sum stays below 2^32, so that no product is lost. */
 static uint32_t hash_of(const yaml_char_t *name, uint32_t key)
 {
     uint64_t hash = 0;
 
-    for (; *name != '\0'; name++) {
-        hash = hash * key + *name;
-        hash = (hash & INT32_MAX) + (hash >> 31);
-    }
-    hash = (uint32_t)hash * UINT32_C(0x9E3779B1);
-    return (uint32_t)(hash ^ hash >> 15);
+    for (; *name != '\0'; name++)
+        hash = with_number(hash, *name, key);
+    return mixed(hash);
 }
 
 /* ---- Tag directives ---- */
@@ -342,10 +352,10 @@ enum {
                 1 << YAML_ANCHOR_TOKEN | 1 << YAML_TAG_TOKEN | 1 << YAML_SCALAR_TOKEN
 };
 
-/* The scanner has an error. */
-SELDOM uint32_t no_token(yaml_parser_t *parser)
+/* There is an error. Where none is told memory was refused: libyaml's scanner doesn't say so of each allocation. */
+SELDOM int stop(yaml_parser_t *parser)
 {
-    if (parser->error == YAML_NO_ERROR)  /* libyaml doesn't say of each refused allocation that it was one */
+    if (parser->error == YAML_NO_ERROR)
         parser->error = YAML_MEMORY_ERROR;
     return 0;
 }
@@ -749,14 +759,14 @@ static int give_event(yaml_parser_t *parser, const pokhvizi_event_t *made, const
     return 1;
 }
 
-OFTEN uint32_t step(yaml_parser_t *parser, const yaml_token_t *token, struct held *held, pokhvizi_event_t *made,
+OFTEN uint32_t step(yaml_parser_t *parser, const yaml_token_t *token, int has_text, struct held *held, pokhvizi_event_t *made,
                     pokhvizi_fault_t *fault)
 {
     struct kept *kept = kept_of(parser);
     pokhvizi_mark_t *marks = (pokhvizi_mark_t *)(void *)parser->marks.start;
     uint8_t fact = 0;
 
-    if (__builtin_expect(WITH_TEXT >> token->type & 1, 0))
+    if (__builtin_expect(has_text, 0))
         fact = token->type == YAML_SCALAR_TOKEN ? token->data.scalar.style == YAML_PLAIN_SCALAR_STYLE
                                                 : fact_of(parser, token, held);
     return kept->step(&kept->steps, kept->states, kept->rooms.states, marks, kept->marks_room, token->type, fact, span_of(token),
@@ -811,15 +821,16 @@ OFTEN uint32_t advance(yaml_parser_t *parser, yaml_token_t **token, struct held 
     for (;;) {
         if (*token == NULL) {
             if (!yaml_parser_fetch_more_tokens(parser))
-                return no_token(parser);
+                return stop(parser);
             *token = parser->tokens.head;
 #ifdef WITH_EXPECTED
             memcpy(kept_of(parser)->before, &kept_of(parser)->steps, BEFORE);
 #endif
         }
-        uint32_t did = step(parser, *token, held, made, &fault);
+        int has_text = WITH_TEXT >> (*token)->type & 1;
+        uint32_t did = step(parser, *token, has_text, held, made, &fault);
         if (did == POKHVIZI_WANTS) {
-            if ((WITH_TEXT >> (*token)->type & 1) && !hold(parser, *token, held))
+            if (has_text && !hold(parser, *token, held))
                 return out_of_memory(parser);
             skip(parser);
             *token = NULL;

@@ -20,6 +20,9 @@
  * counts for that, and keeps the anchors of its document. With the third, an alias within the node that it names is such an error,
  * "found an alias within the node that it names". A name that begins so and is unknown ends the program, like a bound that is no number.
  *
+ * With POKHVIZI_UNIQUE_KEYS=1 a load refuses a key that its mapping has: the same node, or a scalar of the same tag and text, both
+ * plain or neither. That is the composer error "found duplicate key", with the mark of the first, "first occurrence".
+ *
  * Events and errors are libyaml's. With POKHVIZI_FIXES=1 in the environment they are those of this project's own grammar, which
  * differs at three places (docs/DIFFERENCES.md). */
 #include "libyaml_events.h"
@@ -30,7 +33,7 @@ extern char **environ;
 /* ---- The environment ---- */
 
 static struct bounds bounds;
-static int has_fixes;  /* POKHVIZI_FIXES is set, to something else than 0 */
+static int has_fixes, has_unique_keys;  /* POKHVIZI_FIXES, or POKHVIZI_UNIQUE_KEYS, is set, to something else than 0 */
 static const char *check_file;
 static int is_read;  /* whether the environment was read */
 
@@ -56,7 +59,8 @@ static size_t bound_of(const char *name, size_t most)
  * are of the package for Python and of the crate. */
 static void look_for_others(void)
 {
-    static const char *const names[] = {"MAX_DEPTH", "MAX_NODES", "MAX_EXPANDED", "FIXES", "CHECK", "LIBRARY", "DIR"};
+    static const char *const names[] = {"MAX_DEPTH", "MAX_NODES", "MAX_EXPANDED", "UNIQUE_KEYS", "FIXES",
+                                        "CHECK", "LIBRARY", "DIR"};
     enum { PREFIX = sizeof "POKHVIZI_" - 1, COUNT = sizeof names / sizeof *names };
     size_t length, i;
 
@@ -73,17 +77,26 @@ static void look_for_others(void)
     }
 }
 
+/* Whether a variable of the environment is set, to something else than 0. */
+static int is_set(const char *name)
+{
+    const char *text = getenv(name);
+
+    return text != NULL && *text != '\0' && strcmp(text, "0") != 0;
+}
+
 /* As the program begins, or at the first call, if the constructor of another library parses before. No later call looks at what the
  * program may be changing. */
 __attribute__((constructor)) SELDOM void read_environment(void)
 {
-    const char *fixes = getenv("POKHVIZI_FIXES"), *check = getenv("POKHVIZI_CHECK");
+    const char *check = getenv("POKHVIZI_CHECK");
 
     if (is_read)
         return;
     look_for_others();
     check_file = check == NULL ? NULL : strdup(check);
-    has_fixes = fixes != NULL && *fixes != '\0' && strcmp(fixes, "0") != 0;
+    has_fixes = is_set("POKHVIZI_FIXES");
+    has_unique_keys = is_set("POKHVIZI_UNIQUE_KEYS");
     bounds.depth = bound_of("POKHVIZI_MAX_DEPTH", ANY_DEPTH);
     bounds.nodes = bound_of("POKHVIZI_MAX_NODES", ANY_NODES);
     bounds.expanded = bound_of("POKHVIZI_MAX_EXPANDED", ANY_EXPANDED);
@@ -150,8 +163,14 @@ struct carrier {
     int32_t node;
 };
 
-/* What is kept while a document is composed. Its first stack and its first sizes are its own. The table has places for twice as
- * many anchors as there are, and a power of two, or none. */
+/* A key's node, in a table where it has a place by a hash of its mapping and itself; the place of node 0 is free. */
+struct key {
+    int32_t mapping, node;
+    uint32_t hash;
+};
+
+/* What is kept while a document is composed. Its first stack and its first sizes are its own. The tables have places for twice as
+ * many anchors or keys as there are, and a power of two, or none. */
 struct loading {
     pokhvizi_composer_t composer;
     pokhvizi_open_t first[FIRST_ROOM(24)];
@@ -159,6 +178,8 @@ struct loading {
     size_t stack_room;
     struct carrier *carriers;
     size_t carriers_count, carriers_room;
+    struct key *keys;
+    size_t keys_count, keys_room;
     pokhvizi_size_t size;
     uint64_t first_sizes[FIRST_ROOM(24)];
     uint64_t *sizes;
@@ -254,6 +275,8 @@ static void begin_loading(struct loading *loading)
     loading->stack_room = sizeof loading->first / sizeof *loading->first;
     loading->carriers = NULL;
     loading->carriers_count = loading->carriers_room = 0;
+    loading->keys = NULL;
+    loading->keys_count = loading->keys_room = 0;
     pokhvizi_size_new(&loading->size, bounds.expanded);
     loading->sizes = loading->first_sizes;
     loading->sizes_room = sizeof loading->first_sizes / sizeof *loading->first_sizes;
@@ -268,6 +291,7 @@ static void end_loading(struct loading *loading)
     for (size_t i = 0; i < loading->carriers_room; i++)
         free(loading->carriers[i].anchor);
     free(loading->carriers);
+    free(loading->keys);
 }
 
 /* ---- Documents ---- */
@@ -327,6 +351,7 @@ OFTEN yaml_char_t *tag_of(const pokhvizi_event_t *made, struct held *held, const
 OFTEN int make_scalar(const pokhvizi_event_t *made, yaml_token_t *token, struct held *held, yaml_node_t *node)
 {
     node->type = YAML_SCALAR_NODE;
+    node->data.scalar.value = NULL;
     if ((node->tag = TAG_OF(made, held, YAML_DEFAULT_SCALAR_TAG)) == NULL)
         return 0;
     if (token == NULL || token->type != YAML_SCALAR_TOKEN) {
@@ -344,11 +369,11 @@ OFTEN int make_scalar(const pokhvizi_event_t *made, yaml_token_t *token, struct 
 /* Makes a node of an event, without children; 0 where memory is refused. */
 OFTEN int make_node(const pokhvizi_event_t *made, yaml_token_t *token, struct held *held, yaml_node_t *node)
 {
-    memset(node, 0, offsetof(yaml_node_t, start_mark));
     memcpy(&node->start_mark, &made->start_mark, sizeof(pokhvizi_span_t));
-    switch (made->kind) {
-    case YAML_SCALAR_EVENT:
+    if (made->kind == YAML_SCALAR_EVENT)
         return make_scalar(made, token, held, node);
+    memset(node, 0, offsetof(yaml_node_t, start_mark));
+    switch (made->kind) {
     case YAML_SEQUENCE_START_EVENT:
         node->type = YAML_SEQUENCE_NODE;
         node->data.sequence.style = made->is_flow ? YAML_FLOW_SEQUENCE_STYLE : YAML_BLOCK_SEQUENCE_STYLE;
@@ -387,6 +412,95 @@ OFTEN int put(yaml_parser_t *parser, struct loading *loading, uint32_t deed, con
     }
     return 1;
 }
+
+/* ---- Keys ---- */
+
+static int is_same_key(const yaml_node_t *one, const yaml_node_t *other)
+{
+    return one == other ||
+           (one->type == YAML_SCALAR_NODE && other->type == YAML_SCALAR_NODE &&
+            (one->data.scalar.style == YAML_PLAIN_SCALAR_STYLE) == (other->data.scalar.style == YAML_PLAIN_SCALAR_STYLE) &&
+            one->data.scalar.length == other->data.scalar.length &&
+            memcmp(one->data.scalar.value, other->data.scalar.value, one->data.scalar.length) == 0 &&
+            strcmp((const char *)one->tag, (const char *)other->tag) == 0);
+}
+
+/* A scalar's hash is that of its text, any other node's that of its id. */
+static uint32_t hash_of_key(yaml_parser_t *parser, const yaml_document_t *document, const pokhvizi_place_t *place)
+{
+    const yaml_node_t *node = node_of(document, place->child);
+    uint32_t key = key_of(parser);
+    uint64_t hash = (uint32_t)place->parent;
+
+    if (node->type != YAML_SCALAR_NODE)
+        return mixed(with_number(hash, (uint32_t)place->child, key));
+    for (const yaml_char_t *tag = node->tag; *tag != '\0'; tag++)
+        hash = with_number(hash, *tag, key);
+    for (size_t i = 0; i < node->data.scalar.length; i++)
+        hash = with_number(hash, node->data.scalar.value[i], key);
+    return mixed(hash);
+}
+
+/* The place of a mapping's key, or the one that is free for it. */
+static struct key *place_of_key(const struct loading *loading, const yaml_document_t *document, const struct key *key)
+{
+    size_t last = loading->keys_room - 1, at = key->hash & last;
+    struct key *keys = loading->keys;
+
+    while (keys[at].node != 0 &&
+           (keys[at].hash != key->hash || keys[at].mapping != key->mapping ||
+            !is_same_key(node_of(document, keys[at].node), node_of(document, key->node))))
+        at = (at + 1) & last;
+    return &keys[at];
+}
+
+static int grow_keys(struct loading *loading, const yaml_document_t *document)
+{
+    size_t old_room = loading->keys_room, room = old_room == 0 ? 2 * FIRST_ROOM(8) : 2 * old_room;
+    struct key *old = loading->keys, *made = calloc(room, sizeof *made);
+
+    if (made == NULL)
+        return 0;
+    loading->keys = made;
+    loading->keys_room = room;
+    for (size_t i = 0; i < old_room; i++)
+        if (old[i].node != 0)
+            *place_of_key(loading, document, &old[i]) = old[i];
+    free(old);
+    return 1;
+}
+
+/* Adds a key to those of its mapping; 0 where it is there already, which is an error, or memory is refused. */
+static int add_key(yaml_parser_t *parser, struct loading *loading, const pokhvizi_place_t *place, const pokhvizi_event_t *made,
+                   const yaml_document_t *document)
+{
+    struct key key = {place->parent, place->child, hash_of_key(parser, document, place)}, *at;
+
+    if (2 * loading->keys_count == loading->keys_room && !grow_keys(loading, document))
+        return 0;
+    at = place_of_key(loading, document, &key);
+    if (at->node != 0) {
+        parser->error = YAML_COMPOSER_ERROR;
+        parser->problem = "found duplicate key";
+        memcpy(&parser->problem_mark, &made->start_mark, sizeof parser->problem_mark);
+        parser->context = "first occurrence";
+        parser->context_mark = node_of(document, at->node)->start_mark;
+        return 0;
+    }
+    *at = key;
+    loading->keys_count++;
+    return 1;
+}
+
+/* Puts the node or alias of an event at its place, where keys may have to differ; 0 where there is an error, or memory is refused. */
+APART int put_checked(yaml_parser_t *parser, struct loading *loading, uint32_t deed, const pokhvizi_place_t *place,
+                      const pokhvizi_event_t *made, yaml_token_t *token, struct held *held, yaml_document_t *document)
+{
+    return put(parser, loading, deed, place, made, token, held, document) &&
+           (deed != POKHVIZI_KEY || !has_unique_keys || add_key(parser, loading, place, made, document));
+}
+
+/* ---- Events of documents ---- */
 
 static int begin_document(const yaml_parser_t *parser, const pokhvizi_event_t *made, const struct held *held,
                           yaml_document_t *document)
@@ -484,8 +598,9 @@ OFTEN int32_t named_by(yaml_parser_t *parser, const struct loading *loading, con
     return made->kind == YAML_ALIAS_EVENT ? anchored_node_of(parser, loading, token->data.alias.value) : 0;
 }
 
-/* Loads the next document, of which nothing is there yet; 0 where there is an error. At the stream's end there is none. */
-OFTEN int load(yaml_parser_t *parser, struct loading *loading, struct held *held, yaml_document_t *document, int is_counted)
+/* Loads the next document, of which nothing is there yet; 0 where there is an error. At the stream's end there is none. Its nodes are
+ * counted with aliases written out, and its keys compared, if the environment says so. */
+OFTEN int load(yaml_parser_t *parser, struct loading *loading, struct held *held, yaml_document_t *document, int is_checked)
 {
     pokhvizi_event_t made;
     pokhvizi_place_t place = {0, 0, 0, 0};
@@ -499,11 +614,11 @@ OFTEN int load(yaml_parser_t *parser, struct loading *loading, struct held *held
         int is_over = 0;
         if (deed == POKHVIZI_FULL_STACK)
             deed = compose_with_room(loading, made.kind, fact, &place);
-        if (is_counted)
+        if (is_checked && bounds.expanded < ANY_EXPANDED)
             deed = count(loading, deed, made.kind, &place);
         if (deed >= POKHVIZI_ROOT && deed <= POKHVIZI_VALUE) {
-            if (!put(parser, loading, deed, &place, &made, given, held, document))
-                return out_of_memory(parser);
+            if (!(is_checked ? put_checked : put)(parser, loading, deed, &place, &made, given, held, document))
+                return stop(parser);
         } else if (deed == POKHVIZI_CLOSES) {
             memcpy(&node_of(document, place.parent)->end_mark, &made.end_mark, sizeof(yaml_mark_t));
         } else {
@@ -520,12 +635,12 @@ OFTEN int load(yaml_parser_t *parser, struct loading *loading, struct held *held
     return 0;
 }
 
-static int load_uncounted(yaml_parser_t *parser, struct loading *loading, struct held *held, yaml_document_t *document)
+static int load_unchecked(yaml_parser_t *parser, struct loading *loading, struct held *held, yaml_document_t *document)
 {
     return load(parser, loading, held, document, 0);
 }
 
-static int load_counted(yaml_parser_t *parser, struct loading *loading, struct held *held, yaml_document_t *document)
+static int load_checked(yaml_parser_t *parser, struct loading *loading, struct held *held, yaml_document_t *document)
 {
     return load(parser, loading, held, document, 1);
 }
@@ -548,7 +663,7 @@ __attribute__((visibility("default"))) int yaml_parser_load(yaml_parser_t *parse
     else if (has_stopped(parser))
         loaded = parser->error == YAML_NO_ERROR;
     else
-        loaded = (bounds.expanded == ANY_EXPANDED ? load_uncounted : load_counted)(parser, &loading, &held, document);
+        loaded = (bounds.expanded == ANY_EXPANDED && !has_unique_keys ? load_unchecked : load_checked)(parser, &loading, &held, document);
     forget(&held);
     if (!loaded)
         yaml_document_delete(document);

@@ -8,7 +8,7 @@
 # Anything else that differs fails, as does a name that is listed and doesn't. The checks, of which all are run if none is named:
 #
 #     preload            this parser by LD_PRELOAD (bindings/c/libyaml_preload.c): each of its allocations refused, parsers deleted,
-#                        moved, used after a fault and by threads, also with the fixes; bounds; libyaml's memory over 7 MB, for
+#                        moved, used after a fault and by threads, also with the fixes or unique keys; bounds; libyaml's memory over 7 MB, for
 #                        events and for documents; and if valgrind is there, the instructions of loads, which are at most
 #                        libyaml's, or 1.03 of them if build_plain.sh made the library
 #     all_lists          each list of up to five tokens, through the preload's source and libyaml's own parser: events, documents
@@ -32,6 +32,8 @@
 #     bounds             bounds on depth, on nodes and on nodes with aliases written out, over 2,000 drawn texts: preloaded, by the crate,
 #                        by the C loaders of bindings/python and by those in Python each refuses the same token or event, in the same
 #                        words; SEED is another draw
+#     unique_keys        loads of 20,000 drawn texts where keys have to differ, preloaded and by the crate, beside a walk over
+#                        PyYAML's events; SEED is another draw
 #     hostile_texts      texts that cost more than their length, and broken ones, at each door with its bounds and without, as
 #                        hostile_texts.py says; bench/results/hostile.md has its figures
 #     crate              the tests of bindings/rust, over those texts, and with its feature `fixes`; and over the crate `pokhvizi` in
@@ -190,7 +192,7 @@ compare_instructions() {
 compare_preloaded() {
     write_texts
     most=1
-    [ ! -e "$dir/pokhvizi.o" ] || most=1.03  # of rustc, which leaves tests of indices in
+    [ -e "$dir/pokhvizi_module.o" ] || most=1.03  # of rustc, which leaves tests of indices in
     for text in plain small anchors; do
         compare_instructions $text $most "$(instructions "$work/events" loads < "$work/$text.yaml")" \
             "$(LD_PRELOAD=$preloaded instructions "$work/events" loads < "$work/$text.yaml")" || return 1
@@ -232,7 +234,9 @@ preload() {
     within 20 30 40 || return 1
     said=$(LD_PRELOAD=$preloaded "$work/preload_calls") || { echo "$said"; return 1; }
     with=$(POKHVIZI_FIXES=1 LD_PRELOAD=$preloaded "$work/preload_calls") || { echo "with the fixes: $with"; return 1; }
-    echo "$said; with the fixes $with$memory"
+    keys=$(POKHVIZI_UNIQUE_KEYS=1 LD_PRELOAD=$preloaded "$work/preload_calls") || { echo "with unique keys: $keys"; return 1; }
+    [ "${keys%% *}" -gt "${said%% *}" ] || { echo "no key takes memory: $keys"; return 1; }
+    echo "$said; with the fixes $with; with unique keys ${keys%% *} refused$memory"
 }
 
 # Each short list of tokens, through the preload's source and libyaml's own parser. A library that frees no anchor is seen.
@@ -397,6 +401,28 @@ bounds() {
     [ $# -eq 5 ] && [ "$1" -gt 1000 ] && [ "$2" -gt 1000 ] && [ "$3" -gt 1000 ] && [ "$4" -gt 300 ] ||
         { echo "doors over one scanner refuse other texts: $(cat "$work/counts")"; return 1; }
     echo "2000 texts within 23 choices of bounds, by events and nodes, at each door: $1 times too many levels, $2 too many nodes, $3 too many with aliases written out, $4 an alias within its own node, $5 none of these"
+}
+
+# Loads of drawn texts where keys have to differ. Texts with other marks, and loads without, are seen.
+unique_keys() {
+    build_bounds bounds '' || return 1
+    mkdir -p "$work/keys"
+    "$python" "$lists/unique_keys.py" write "$work/keys" 20000 "${SEED:-1}" > "$work/keys_names" || return 1
+    LD_PRELOAD=$preloaded "$work/events" nodes < "$work/keys_names" > "$work/keys_free" 2> "$work/count" &&
+        LD_PRELOAD=$preloaded POKHVIZI_UNIQUE_KEYS=1 "$work/events" nodes < "$work/keys_names" > "$work/keys_c" 2> "$work/count" &&
+        "$CARGO_TARGET_DIR/release/bounds" nodes - - - < "$work/keys_names" > "$work/keys_free_rust" &&
+        "$CARGO_TARGET_DIR/release/bounds" unique_nodes - - - < "$work/keys_names" > "$work/keys_rust" || return 1
+    for turned in "$work/keys_c --turned" "$work/keys_free"; do
+        # shellcheck disable=SC2086
+        if "$python" "$lists/unique_keys.py" compare "$work/keys_free" $turned < "$work/keys_names" > "$work/count" 2>&1; then
+            echo "what is turned passes: $turned"
+            return 1
+        fi
+    done
+    said=$("$python" "$lists/unique_keys.py" compare "$work/keys_free" "$work/keys_c" < "$work/keys_names") || return 1
+    "$python" "$lists/unique_keys.py" compare "$work/keys_free_rust" "$work/keys_rust" < "$work/keys_names" > "$work/count" || return 1
+    [ "$(cat "$work/count")" = "$said" ] && [ "${said% *}" -gt 1000 ] || { echo "preloaded $said, by the crate $(cat "$work/count")"; return 1; }
+    echo "of $(wc -l < "$work/keys_names") texts ${said% *} have a key twice"
 }
 
 hostile_texts() {
@@ -638,7 +664,7 @@ loads_rust() {
     [ "$3" -gt 400000 ] && [ "$3" = "$5" ] && [ "$6" -le $(($4 + 1000)) ] || { echo "$3 nodes in $4 KB, $5 in $6"; return 1; }
     write_texts
     set -- "$@" plain:1.11 small:1.07 anchors:0.3
-    [ ! -e "$dir/pokhvizi.o" ] || set -- "$1" "$2" "$3" "$4" "$5" "$6" plain:1.13 small:1.09 anchors:0.3  # of rustc, as above
+    [ -e "$dir/pokhvizi_module.o" ] || set -- "$1" "$2" "$3" "$4" "$5" "$6" plain:1.13 small:1.09 anchors:0.3  # of rustc, as above
     for text in "$7" "$8" "$9"; do
         compare_instructions ${text%:*} ${text#*:} "$(instructions "$1" "$work/${text%:*}.yaml")" \
             "$(instructions "$2" "$work/${text%:*}.yaml")" || return 1
@@ -701,7 +727,7 @@ serde_yaml() {
 
 wanted=$*
 for word in $wanted; do
-    case " preload all_lists python_lists events pipe_c pyyaml_c psych pyyaml_pure loaders pipe_python pyyaml_ext cloaders exact_c exact_python bounds hostile_texts crate loads_rust pipe_rust yaml_test_suite serde_yaml " in
+    case " preload all_lists python_lists events pipe_c pyyaml_c psych pyyaml_pure loaders pipe_python pyyaml_ext cloaders exact_c exact_python bounds unique_keys hostile_texts crate loads_rust pipe_rust yaml_test_suite serde_yaml " in
     *" $word "*) ;;
     *) echo "no check has the name $word" >&2; exit 2 ;;
     esac
@@ -723,6 +749,7 @@ check cloaders PyYAML cc yaml.h pyyaml libyaml-pp-perl _yaml.abi3.so -- cloaders
 check exact_c cc yaml.h libyaml_preload.so events -- exact_c
 check exact_python PyYAML _yaml.abi3.so -- exact_python
 check bounds PyYAML cc cargo yaml.h libyaml_preload.so events _yaml.abi3.so unsafe-libyaml -- bounds
+check unique_keys PyYAML cc cargo yaml.h libyaml_preload.so events unsafe-libyaml -- unique_keys
 check hostile_texts PyYAML cc cargo /usr/bin/time yaml.h libyaml_preload.so events _yaml.abi3.so unsafe-libyaml crates/yamltokens/out/yamltokens -- hostile_texts
 check crate cargo unsafe-libyaml -- crate
 check loads_rust cargo valgrind unsafe-libyaml -- loads_rust

@@ -5,11 +5,12 @@
 //! unsafe_libyaml::bounds::set_max_depth(1000);
 //! ```
 
-use std::sync::atomic::{AtomicU32, AtomicU64, AtomicUsize, Ordering::Relaxed};
+use std::sync::atomic::{AtomicBool, AtomicU32, AtomicU64, AtomicUsize, Ordering::Relaxed};
 
 static DEPTH: AtomicUsize = AtomicUsize::new(usize::MAX);
 static NODES: AtomicU32 = AtomicU32::new(i32::MAX as u32);
 static EXPANDED: AtomicU64 = AtomicU64::new(u64::MAX);
+static UNIQUE_KEYS: AtomicBool = AtomicBool::new(false);
 
 /// Sets how many collections may be open at once. The token that opens one more is the parser's fault `found too many levels`.
 ///
@@ -34,12 +35,22 @@ pub fn set_max_expanded(nodes: u64) {
     EXPANDED.store(nodes, Relaxed);
 }
 
+/// Sets whether a load refuses a key that its mapping has: the same node, or a scalar of the same tag and text, both plain or neither.
+/// It is the composer's fault `found duplicate key`, with the mark of the `first occurrence`.
+pub fn set_unique_keys(are_unique: bool) {
+    UNIQUE_KEYS.store(are_unique, Relaxed);
+}
+
 pub(crate) fn max_depth() -> usize {
     DEPTH.load(Relaxed)
 }
 
 pub(crate) fn max_nodes() -> u32 {
     NODES.load(Relaxed)
+}
+
+pub(crate) fn unique_keys() -> bool {
+    UNIQUE_KEYS.load(Relaxed)
 }
 
 pub(crate) fn max_expanded() -> Option<u64> {

@@ -4,7 +4,9 @@ use crate::bounds;
 use crate::door::{self, composer_t, open_t, place_t};
 use crate::expansion::Expansion;
 use crate::fault::Fault;
+use crate::keys::Keys;
 use crate::memory::Text;
+use original::yaml_node_t;
 use std::collections::HashMap;
 
 pub type Place = place_t;
@@ -70,6 +72,8 @@ pub enum Child {
     Root,
     Item,
     Key,
+    /// A key that has to differ from the others of its mapping.
+    UniqueKey,
     Value,
 }
 
@@ -81,15 +85,33 @@ pub enum Refusal {
     Fault(Fault),
 }
 
+/// What is looked at in a document if there are bounds on it.
+struct Checks {
+    expansion: Option<Expansion>,
+    keys: Option<Keys>,
+}
+
+impl Checks {
+    /// Counts a deed of the composer's; returns it, or the number of what stops.
+    #[cold]
+    fn count(&mut self, deed: u32, kind: u8, place: &Place) -> Result<u32, Refusal> {
+        match &mut self.expansion {
+            Some(expansion) => expansion.count(deed, kind, place),
+            None => Ok(deed),
+        }
+    }
+}
+
 /// The open collections of a document, and its anchors.
 pub struct Composer {
     record: composer_t,
     stack: Vec<open_t>,
     anchors: HashMap<Text, i32>,
-    expansion: Option<Expansion>,
+    checks: Option<Checks>,
     /// The bounds as the parser began.
     max_nodes: u32,
     max_expanded: Option<u64>,
+    has_unique_keys: bool,
 }
 
 /// A node that an alias may be said to name where none has its anchor: it is then an entry of its list, and no more.
@@ -103,16 +125,20 @@ impl Composer {
             record: door::composer_new(0),
             stack: Vec::new(),
             anchors: HashMap::new(),
-            expansion: None,
+            checks: None,
             max_nodes: bounds::max_nodes(),
             max_expanded: bounds::max_expanded(),
+            has_unique_keys: bounds::unique_keys(),
         }
     }
 
     /// Begins a document.
     pub fn begin(&mut self) {
         self.record = door::composer_new(self.max_nodes);
-        self.expansion = self.max_expanded.map(Expansion::new);
+        self.checks = (self.max_expanded.is_some() || self.has_unique_keys).then(|| Checks {
+            expansion: self.max_expanded.map(Expansion::new),
+            keys: self.has_unique_keys.then(Keys::default),
+        });
     }
 
     /// Forgets the anchors of a document. Its map isn't kept, since another document would take time for all of it.
@@ -133,8 +159,11 @@ impl Composer {
     pub fn compose(&mut self, kind: u8, fact: i32, place: &mut Place) -> Result<Deed, Refusal> {
         loop {
             let mut deed = door::compose(&mut self.record, &mut self.stack, kind, fact, place);
-            if let Some(expansion) = &mut self.expansion {
-                deed = expansion.count(deed, kind, place)?;
+            if let Some(checks) = &mut self.checks {
+                deed = checks.count(deed, kind, place)?;
+                if deed == KEY && checks.keys.is_some() {
+                    return Ok(Deed::Puts(Child::UniqueKey));
+                }
             }
             return match deed {
                 ROOT => Ok(Deed::Puts(Child::Root)),
@@ -168,9 +197,9 @@ impl Composer {
         }
         match (kind, anchor.map_or(0, |anchor| self.node_of(anchor))) {
             (5, 0) => {
-                let expansion = self.expansion.take();
+                let checks = self.checks.take();
                 let deed = self.compose(kind, NOBODY, &mut place);
-                self.expansion = expansion;
+                self.checks = checks;
                 deed?;
             }
             (5, node) => {
@@ -184,6 +213,13 @@ impl Composer {
             }
         }
         Ok(())
+    }
+
+    /// Adds a key to those of its mapping, and returns the node of the one that is there.
+    #[cold]
+    pub unsafe fn add_key(&mut self, place: &Place, node: &yaml_node_t) -> Option<i32> {
+        let keys = self.checks.as_mut()?.keys.as_mut()?;
+        keys.add(place.parent, place.child, node)
     }
 
     /// Makes a node the carrier of its anchor.

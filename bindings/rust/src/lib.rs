@@ -35,6 +35,7 @@ mod door;
 mod events;
 mod expansion;
 mod fault;
+mod keys;
 mod memory;
 mod run;
 mod steps;

@@ -162,5 +162,23 @@ fn expansion_is_bounded() {
         unsafe { told("[*a, *a, *a, *a]", false) }.1,
         "found too many nodes 13"
     );
-    bounds::set_max_nodes(u32::MAX);
+    bounds::set_max_nodes(u32::MAX);    keys_differ();
+}
+
+/// A load refuses a key that its mapping has. Each row is a text, how many documents there are, and the fault.
+fn keys_differ() {
+    let twice = "found duplicate key";
+    bounds::set_max_expanded(u64::MAX);
+    for (text, count, fault) in [
+        ("{a: 1, b: 1, a: 2}", 0, format!("{twice} 13")),
+        ("{a: 1, 'a': 2}", 1, String::new()),
+        ("1: a\n!!str 1: b", 0, format!("{twice} 5")),
+        ("[{&x [k]: 1}, {*x : 1, *x : 2}]", 0, format!("{twice} 23")),
+        ("a: {a: {a: 1}}\nb: {a: 1}\n---\na: 1\n", 2, String::new()),
+    ] {
+        bounds::set_unique_keys(true);
+        assert_eq!(unsafe { told(text, true) }, (count, fault), "{text}");
+        bounds::set_unique_keys(false);
+        assert_eq!(unsafe { told(text, true) }.1, "", "{text}");
+    }
 }

@@ -14,6 +14,8 @@ import sys
 import pokhvizi
 import yaml
 
+from keys import drawn
+
 VECTORS = [
     ("a: 1\na: 2\n", ((0, 0), (1, 0))),
     ("a: 1\n'a': 2\n", ((0, 0), (1, 0))),
@@ -28,7 +30,6 @@ VECTORS = [
     ("a: {b: 1, b: 2}\na: 3", ((0, 4), (0, 10))),
     ("x: 1\n---\nx: 1\n", None),
 ]
-KEYS = ["a", "b", "'a'", "1", "!!str 1", "[a]", "true", '"b"', "!t a", "{a: 1, a: 2}", "{a: b}", "c", "d", "e", "f", "<<"]
 
 
 class Unique(pokhvizi.CSafeLoader):
@@ -95,31 +96,6 @@ def first_duplicate(node, seen):
         if found:
             return found
     return None
-
-
-def small(random_, anchors):
-    """Draws a key: an alias of an anchor that came before, or a node that may have an anchor of its own."""
-    if anchors and random_.random() < 0.2:
-        return "*" + random_.choice(anchors)
-    name = ""
-    if random_.random() < 0.15:
-        anchors.append(f"x{len(anchors)}")
-        name = f"&{anchors[-1]} "
-    return name + random_.choice(KEYS)
-
-
-def drawn(random_, anchors, depth=0):
-    """Draws a node in flow style."""
-    kind = random_.random()
-    if depth == 4 or kind < 0.4:
-        return small(random_, anchors)
-    if kind < 0.6:
-        return "[" + ", ".join([drawn(random_, anchors, depth + 1) for _ in range(random_.randrange(3))]) + "]"
-    pairs = []
-    for _ in range(random_.randrange(5)):
-        key = small(random_, anchors)
-        pairs.append(f"? {key} : {drawn(random_, anchors, depth + 1)}")
-    return "{" + ", ".join(pairs) + "}"
 
 
 def compare(text, loader):

@@ -1,0 +1,152 @@
+"""Texts for unique keys, and the comparison of what each door loads of them.
+
+    unique_keys.py write DIR COUNT SEED       writes test vectors and drawn texts as files of DIR; prints their names
+    unique_keys.py compare FREE UNIQUE [--turned] < NAMES
+
+FREE and UNIQUE are the nodes of these files, in lines that begin as those of events.c and bounds.rs, without unique keys and with them.
+What the second should be is made of the first and of PyYAML's events: up to the first key that its mapping has all is as without, and
+there is the error, with the marks of both. Keys are the same if they are one node, or scalars of the same tag and text that are both
+plain, or neither. With `--turned` the marks are exchanged, so that it fails. Prints how many texts have such a key, and how many none.
+
+Run by clients.sh.
+"""
+import random
+import sys
+from pathlib import Path
+
+import yaml
+
+sys.path.insert(0, str(Path(__file__).resolve().parents[1] / "extension"))
+from keys import drawn
+
+LONG = "".join(f"k{number}: x\n" for number in range(500)) + "k7: x\n"
+# a text, and the indices of the first key and of the second
+VECTORS = [
+    ("a: 1\na: 2\n", (0, 5)),
+    ("a: 1\n'a': 2\n", None),
+    ("'a': 1\n\"a\": 2\n", (0, 7)),
+    ("{a, b, a}", (1, 7)),
+    ("1: a\n!!str 1: c", (0, 5)),
+    ("1: a\n!!int 1: c", None),
+    ("- &x {k: *x}\n- {*x : 1, *x : 2}", (2, 24)),
+    ("? [a]\n? [a]\n", None),
+    ("? &k a\n: b\n? *k\n: c", (2, 13)),
+    ("a: {a: {a: 1}}\nb: {a: 1, b: 2}", None),
+    ("{? , ? }", (3, 7)),
+    ("a: {b: 1, b: 2}\na: 3", (4, 10)),
+    ("x: 1\n---\nx: 1\n", None),
+    ("x: 1\n---\nx: 1\nx: 2", (9, 14)),
+    ('"\\0a": 1\n"\\0b": 2\n"\\0a": 3\n', (0, 18)),
+    ("{a: *u, a: 1}", None),
+    ("{a: 1, a: *u}", (1, 7)),
+    (LONG, (LONG.index("k7:"), LONG.rindex("k7:"))),
+]
+DEFAULT = "tag:yaml.org,2002:str"
+
+
+def first_duplicate(text):
+    """The index of the document with the first duplicate key before any error, and the marks of both keys; or None."""
+    document, stack, anchors = -1, [], {}
+    try:
+        for event in yaml.parse(text, Loader=yaml.CLoader):
+            if isinstance(event, yaml.DocumentStartEvent):
+                document, stack, anchors = document + 1, [], {}
+            elif isinstance(event, (yaml.SequenceEndEvent, yaml.MappingEndEvent)):
+                stack.pop()
+            elif isinstance(event, yaml.NodeEvent):
+                found = take(event, stack, anchors)
+                if found:
+                    return document, *found
+    except (yaml.YAMLError, KeyError):
+        pass
+    return None
+
+
+def take(event, stack, anchors):
+    """Puts a node or an alias at its place; returns the marks of its mapping's key and its own, if they are the same."""
+    if isinstance(event, yaml.AliasEvent):
+        key, mark = anchors[event.anchor]
+    else:
+        key, mark = object(), event.start_mark
+        if isinstance(event, yaml.ScalarEvent):
+            tag = DEFAULT if event.tag in (None, "!") else event.tag
+            key = event.style is None or event.style == "", tag, event.value
+        if event.anchor is not None and event.anchor in anchors:
+            raise KeyError(event.anchor)
+        if event.anchor is not None:
+            anchors[event.anchor] = key, mark
+    if stack and stack[-1] is not None:
+        keys, is_key = stack[-1]
+        stack[-1] = keys, not is_key
+        if is_key:
+            if key in keys:
+                return keys[key], event.start_mark
+            keys[key] = mark
+    if isinstance(event, yaml.CollectionStartEvent):
+        stack.append(({}, True) if isinstance(event, yaml.MappingStartEvent) else None)
+    return None
+
+
+def place(mark):
+    return f"{mark.index}:{mark.line}:{mark.column}"
+
+
+def files_of(name):
+    """The lines of each file."""
+    files = {}
+    for line in Path(name).read_text().splitlines():
+        if line.startswith("file "):
+            lines = files[line[5:]] = []
+        else:
+            lines.append(line)
+    return files
+
+
+def wanted_of(free, text, is_turned):
+    """The lines that a text should give where keys have to differ, without the error's number and offsets; whether one is refused."""
+    found = first_duplicate(text)
+    if not found:
+        return free, False
+    document, first, second = found
+    starts = [at for at, line in enumerate(free) if line.startswith("document")] + [len(free)] * 2
+    before = [line for line in free[:starts[document]] if not line.startswith("error ")]
+    if is_turned:
+        first, second = second, first
+    return before + [f"found duplicate key {place(second)} first occurrence {place(first)}"], True
+
+
+def compare(free_name, unique_name, is_turned):
+    free, made, counts, wrong = files_of(free_name), files_of(unique_name), [0, 0], 0
+    for name in sys.stdin.read().split():
+        wanted, is_refused = wanted_of(free[name], Path(name).read_bytes(), is_turned)
+        counts[is_refused] += 1
+        lines = made[name]
+        if is_refused and lines and lines[-1].startswith("error "):
+            lines = lines[:-1] + [" ".join(lines[-1].split()[2:9])]
+        if lines != wanted:
+            wrong += 1
+            print(f"{name}: {lines[-1:]}, and not {wanted[-1:]}", file=sys.stderr)
+    print(counts[True], counts[False])
+    return wrong > 0
+
+
+def write(folder, count, seed):
+    texts = [text for text, _ in VECTORS]
+    for number in range(count):
+        random_ = random.Random(f"{seed} {number}")
+        texts.append("".join("--- " + drawn(random_, []) + "\n" for _ in range(random_.choice([1, 1, 2, 3]))))
+    for number, text in enumerate(texts):
+        path = Path(folder) / f"{number}.yaml"
+        path.write_text(text)
+        print(path)
+    for text, marks in VECTORS:
+        found = first_duplicate(text)
+        if (found and (found[1].index, found[2].index)) != marks:
+            sys.exit(f"{text!r}: {found}, and not {marks}")
+
+
+if __name__ == "__main__":
+    if sys.argv[1] == "write":
+        write(sys.argv[2], int(sys.argv[3]), sys.argv[4])
+    else:
+        sys.exit(compare(sys.argv[2], sys.argv[3], "--turned" in sys.argv))
