@@ -3,10 +3,10 @@
 #
 #     sh scripts/build_c.sh DIR [ci] [aarch64]
 #
-#     libpokhvizi.a        one object a header of bindings/c/include/pokhvizi: steps.o and compose.o, whose only global names are
-#                          those of its header; neither allocates
+#     libpokhvizi.a        one object, pokhvizi.o, whose only global names are those of the headers of bindings/c/include/pokhvizi;
+#                          it doesn't allocate
 #     libpokhvizi.so       the same as a shared library, libpokhvizi.so.N: N rises when a struct or a function changes
-#     NAME_module.o        the objects that the prover's compiler wrote, of which NAME.o is made
+#     pokhvizi_module.o    the object that the prover's compiler wrote, of which pokhvizi.o is made
 #     yaml                 examples/yaml.c over libpokhvizi.a; CFLAGS are taken from the environment
 #
 # build_plain.sh makes the libraries and yaml without the kit. These run on any x86-64 processor. With the word
@@ -48,39 +48,30 @@ log() {
     [ ! -e "$dir/failed" ] || { tail -n 5 "$dir/rt_lib.log" >&2; rm "$dir/failed"; exit 1; }
 }
 
-# Makes NAME.o of a crate: its only global names are these.
-build_door() {
-    door=$1 crate=$2
-    shift 2
-    wanted=$(printf '%s\n' "$@" | sort)
-    archive=$dir/lib$crate.a
-    echo "building $door of crates/$crate, in a minute, or ten where nothing is proved yet; see tail -f $dir/rt_lib.log"
-    if [ $machine = x86_64 ] && [ -z "$after" ]; then
-        log sh -c "cd crates/$crate && rt lib $for_machine"
-        cp "crates/$crate/out/lib$crate.a" "$archive"
-    else
-        # `rt lib` would prove the crates below again in a fresh checkout.
-        log sh scripts/parts/over_kept.sh "$crate" "$archive" "$kit/toolchain" $for_machine
-    fi
-    (cd "$dir" && "${tools}ar" x "$archive" && mv "$crate.o" "${door}_module.o")
-    rm -f "$archive"
-    "${tools}ld" -r -o "$dir/$door.o" "$dir/${door}_module.o"
-    for name in $wanted; do
-        set -- "$@" "--keep-global-symbol=$name"
-        shift
-    done
-    "${tools}objcopy" "$@" "$dir/$door.o"
-    made=$("${tools}nm" -g --defined-only "$dir/$door.o" | awk 'NF == 3 { print $3 }' | sort)
-    [ "$made" = "$wanted" ] || { printf 'other names are exported:\n%s\n' "$made" >&2; exit 1; }
-}
+archive=$dir/libpokhvizi_c.a
+echo "building crates/pokhvizi_c, in a minute, or twenty where nothing is proved yet; see tail -f $dir/rt_lib.log"
+if [ $machine = x86_64 ] && [ -z "$after" ]; then
+    log sh -c "cd crates/pokhvizi_c && rt lib $for_machine"
+    cp crates/pokhvizi_c/out/libpokhvizi_c.a "$archive"
+else
+    # `rt lib` would prove the crates below again in a fresh checkout.
+    log sh scripts/parts/over_kept.sh pokhvizi_c "$archive" "$kit/toolchain" $for_machine
+fi
+(cd "$dir" && "${tools}ar" x "$archive" && mv pokhvizi_c.o pokhvizi_module.o)
+rm -f "$archive"
 
-build_door steps token_steps_c $(sh scripts/parts/header_names.sh steps)
-build_door compose document_steps_c $(sh scripts/parts/header_names.sh compose)
-for door in steps compose; do
-    if "${tools}nm" -u "$dir/$door.o" | grep -v -w -E 'U (memcmp|memcpy|memmove|memset)' | grep .; then
-        echo "$door.o needs more than memory in place" >&2
-        exit 1
-    fi
+wanted=$(sh scripts/parts/header_names.sh steps compose)
+set --
+for name in $wanted; do
+    set -- "$@" "--keep-global-symbol=$name"
 done
+"${tools}ld" -r -o "$dir/pokhvizi.o" "$dir/pokhvizi_module.o"
+"${tools}objcopy" "$@" "$dir/pokhvizi.o"
+made=$("${tools}nm" -g --defined-only "$dir/pokhvizi.o" | awk 'NF == 3 { print $3 }' | sort)
+[ "$made" = "$wanted" ] || { printf 'other names are exported:\n%s\n' "$made" >&2; exit 1; }
+if "${tools}nm" -u "$dir/pokhvizi.o" | grep -v -w -E 'U (memcmp|memcpy|memmove|memset)' | grep .; then
+    echo "pokhvizi.o needs more than memory in place" >&2
+    exit 1
+fi
 
-CC=$cc sh scripts/parts/link_c.sh "$dir" "$tools" steps.o compose.o
+CC=$cc sh scripts/parts/link_c.sh "$dir" "$tools" pokhvizi.o

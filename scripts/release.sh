@@ -82,7 +82,7 @@ proof_note() {
     rt version
     echo
     echo "SHA-256 of the objects that the prover's compiler wrote, ($1):"
-    (cd "$(folder_of "$1")" && sha256sum steps_module.o compose_module.o)
+    (cd "$(folder_of "$1")" && sha256sum pokhvizi_module.o)
     echo
     echo "The prover's last lines for each of them, steps and compose:"
     grep -E '^(fn|axioms|logic[ =])' "$(folder_of "$1")/rt_lib.log" | sed "s#/[^ ]*/rattle/logic/#rattle/logic/#"
@@ -173,10 +173,8 @@ modules() {
     tree=$work/pokhvizi-$version-llvm
     mkdir -p "$tree/include"
     sh scripts/parts/llvm_source.sh "$tree" > "$work/said" 2>&1 || { cat "$work/said" >&2; exit 1; }
-    for door in steps compose; do
-        cmp "$tree/${door}_module.o" "$built/${door}_module.o"
-        rm "$tree/${door}_module.o"
-    done
+    cmp "$tree/pokhvizi_module.o" "$built/pokhvizi_module.o"
+    rm "$tree/pokhvizi_module.o"
     cp -R bindings/c/include/pokhvizi "$tree/include"
     cp bindings/llvm/Makefile bindings/llvm/README.md bindings/llvm/lower.py LICENSE "$work/NOTICES" "$built/pokhvizi.map" "$tree"
     cp "$work/pokhvizi-$version-x86_64-linux/share/doc/pokhvizi/PROOF" "$tree"

@@ -114,7 +114,7 @@ print(platform.machine(), yaml.load(\"a: [1, {b: c}]\", Loader=Loader),
     done
 fi
 if has "pokhvizi-$version-llvm.tar.gz" 'the LLVM modules'; then
-    want 'the objects of the modules, by clang-22' 'steps_module.o: OK compose_module.o: OK' \
+    want 'the objects of the modules, by clang-22' 'pokhvizi_module.o: OK' \
         "tar xzf pokhvizi-$version-llvm.tar.gz && make -s -C pokhvizi-$version-llvm check 2>&1 | tr '\n' ' ' | sed 's/ \$//'"
     want 'the library of the modules' "$kinds" "make -s -C pokhvizi-$version-llvm > said 2>&1 || tail -n 3 said
         gcc -O2 kinds.c -o kinds -Ipokhvizi-$version-llvm/include pokhvizi-$version-llvm/libpokhvizi.a && ./kinds"

@@ -10,7 +10,7 @@ use plain::document_steps::anchor_t;
 use plain::libyaml_composer::{composer_t, open_t, place_t};
 use plain::libyaml_types::yaml_mark_t;
 use plain::token_steps::{handle_t, step_event_t, step_fault_t, step_span_t, steps_t};
-use plain::{document_steps_c, token_steps_c};
+use plain::pokhvizi_c::{compose, steps, tags};
 
 #[cfg(not(target_family = "wasm"))]
 extern "C" {
@@ -52,7 +52,7 @@ pub unsafe extern "C" fn pokhvizi_steps_new(steps: *mut steps_t) {
 
 #[no_mangle]
 pub unsafe extern "C" fn pokhvizi_differs(steps: &steps_t, kind: u8) -> u8 {
-    token_steps_c::pokhvizi_differs(steps, kind)
+    steps::pokhvizi_differs(steps, kind)
 }
 
 #[no_mangle]
@@ -69,7 +69,7 @@ pub unsafe extern "C" fn pokhvizi_step(
     fault: &mut step_fault_t,
 ) -> u32 {
     let (states, marks) = (slice_of_mut(states, states_room), slice_of_mut(marks, marks_room));
-    token_steps_c::pokhvizi_step(steps, states, marks, kind, fact, at, event, fault)
+    steps::pokhvizi_step(steps, states, marks, kind, fact, at, event, fault)
 }
 
 #[no_mangle]
@@ -86,17 +86,17 @@ pub unsafe extern "C" fn pokhvizi_step_exact(
     fault: &mut step_fault_t,
 ) -> u32 {
     let (states, marks) = (slice_of_mut(states, states_room), slice_of_mut(marks, marks_room));
-    token_steps_c::pokhvizi_step_exact(steps, states, marks, kind, fact, at, event, fault)
+    steps::pokhvizi_step_exact(steps, states, marks, kind, fact, at, event, fault)
 }
 
 #[no_mangle]
 pub unsafe extern "C" fn pokhvizi_expected(steps: &steps_t, states: *const u8, states_room: usize) -> u32 {
-    token_steps_c::pokhvizi_expected(steps, slice_of(states, states_room))
+    steps::pokhvizi_expected(steps, slice_of(states, states_room))
 }
 
 #[no_mangle]
 pub unsafe extern "C" fn pokhvizi_version_fact(major: i32, minor: i32) -> u8 {
-    token_steps_c::pokhvizi_version_fact(major, minor)
+    tags::pokhvizi_version_fact(major, minor)
 }
 
 #[no_mangle]
@@ -109,7 +109,7 @@ pub unsafe extern "C" fn pokhvizi_directive_fact(
     handle_length: usize,
 ) -> u8 {
     let (handles, texts) = (slice_of(handles, count), slice_of(texts, length));
-    token_steps_c::pokhvizi_directive_fact(handles, texts, slice_of(handle, handle_length))
+    tags::pokhvizi_directive_fact(handles, texts, slice_of(handle, handle_length))
 }
 
 #[no_mangle]
@@ -128,7 +128,7 @@ pub unsafe extern "C" fn pokhvizi_tag(
 ) -> u8 {
     let (handles, texts) = (slice_of(handles, count), slice_of(texts, length));
     let (handle, suffix) = (slice_of(handle, handle_length), slice_of(suffix, suffix_length));
-    token_steps_c::pokhvizi_tag(handles, texts, handle, suffix, slice_of_mut(out, room), size)
+    tags::pokhvizi_tag(handles, texts, handle, suffix, slice_of_mut(out, room), size)
 }
 
 // ---- compose.h ----
@@ -147,7 +147,7 @@ pub unsafe extern "C" fn pokhvizi_compose(
     fact: i32,
     place: &mut place_t,
 ) -> u32 {
-    document_steps_c::pokhvizi_compose(composer, slice_of_mut(stack, stack_room), kind, fact, place)
+    compose::pokhvizi_compose(composer, slice_of_mut(stack, stack_room), kind, fact, place)
 }
 
 #[no_mangle]
@@ -160,7 +160,7 @@ pub unsafe extern "C" fn pokhvizi_carrier(
     anchor_length: usize,
 ) -> i32 {
     let (anchors, texts) = (slice_of(anchors, count), slice_of(texts, length));
-    document_steps_c::pokhvizi_carrier(anchors, texts, slice_of(anchor, anchor_length))
+    compose::pokhvizi_carrier(anchors, texts, slice_of(anchor, anchor_length))
 }
 
 #[no_mangle]
@@ -177,5 +177,5 @@ pub unsafe extern "C" fn pokhvizi_count(
     kind: u8,
     place: &place_t,
 ) -> u32 {
-    document_steps_c::pokhvizi_count(size, slice_of_mut(sizes, room), deed, kind, place)
+    compose::pokhvizi_count(size, slice_of_mut(sizes, room), deed, kind, place)
 }

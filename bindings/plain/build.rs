@@ -8,15 +8,14 @@ use std::{env, fs, process};
 
 /// The crates, lowest first: what C's library is made of, and with the feature `alloc` the parser with texts,
 /// documents and the loader.
-const CRATES: [&str; 8] = [
+const CRATES: [&str; 7] = [
     "libyaml_types",
     "libyaml_automaton",
     "libyaml_composer",
     "token_steps",
     "document_steps",
     "document_sizes",
-    "token_steps_c",
-    "document_steps_c",
+    "pokhvizi_c",
 ];
 const WITH_TEXTS: [&str; 8] = [
     "libyaml_documents",

@@ -24,14 +24,14 @@ HEADERS = (
       "document_sizes/src/sizes.rt"),
      {"composer_t": "pokhvizi_composer_t", "open_t": "pokhvizi_open_t", "place_t": "pokhvizi_place_t",
       "anchor_t": "pokhvizi_anchor_t", "sizes_t": "pokhvizi_size_t"},
-     (), ("document_steps_c/src/lib.rt",)),
+     (), ("pokhvizi_c/src/compose.rt",)),
     ("pokhvizi/steps.h",
      ("libyaml_types/src/mark.rt", "libyaml_automaton/src/automaton.rt", "libyaml_automaton/src/reading.rt",
       "token_steps/src/records.rt", "token_steps/src/steps.rt", "token_steps/src/tags/handles.rt"),
      {"yaml_mark_t": "pokhvizi_mark_t", "step_span_t": "pokhvizi_span_t", "step_event_t": "pokhvizi_event_t",
       "step_fault_t": "pokhvizi_fault_t", "steps_t": "pokhvizi_steps_t", "text_t": "pokhvizi_text_t",
       "handle_t": "pokhvizi_handle_t"},
-     ("Automaton", "Reading"), ("token_steps_c/src/lib.rt", "token_steps_c/src/tags.rt")),
+     ("Automaton", "Reading"), ("pokhvizi_c/src/steps.rt", "pokhvizi_c/src/tags.rt")),
 )
 STRUCT = re.compile(r"#\[repr\(C\)\]\n(?:#\[[^\n]*\]\n)*pub struct (\w+) \{\n(.*?)^\}", re.M | re.S)
 FIELD = re.compile(r"^    pub (\w+): (\w+),$", re.M)

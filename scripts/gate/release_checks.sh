@@ -262,7 +262,7 @@ fi
 
 if [ -d "unpacked/pokhvizi-$version-llvm" ]; then
     if command -v clang-22 > /dev/null; then
-        want 'the objects of the modules' 'steps_module.o: OK compose_module.o: OK' \
+        want 'the objects of the modules' 'pokhvizi_module.o: OK' \
             sh -c "cd unpacked/pokhvizi-$version-llvm && make -s check | tr '\n' ' ' | sed 's/ \$//'"
     else
         skip "the objects of the modules: clang-22 isn't there"

@@ -29,7 +29,7 @@ LAWS = re.compile(r"(?:laws|vectors)::")
 OF_ENUM = re.compile(r"(order|equality|hash)_of_")
 NAMED = (
     "unsafe_libyaml", "token_lines", "token_limits", "yaml_path", "yaml_expansion", "yaml_keys", "yaml_bounds", "libyaml_composer", "token_steps",
-    "token_steps_c", "document_steps", "document_sizes", "document_steps_c",
+    "document_steps", "document_sizes", "pokhvizi_c",
 )
 INNER = re.compile(r"putting::")  # a module for the crates above alone
 EXAMPLES = {"example_source", "example_theorems", "vectors_common"}

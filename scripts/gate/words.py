@@ -51,8 +51,8 @@ NAMED = re.compile(r"\w*(?:(?<![A-Za-z])(?:row|edit)s?(?![a-z])|(?:Row|Edit)s?(?
 OLD_PAGES = {"CHANGELOG.md"}
 CALL = re.compile(r"\b\w+\([^()]*\);")
 RENAMED = ["libyaml_types", "libyaml_grammar", "libyaml_documents", "libyaml_graphs", "unsafe_libyaml", "yaml_path", "line_reading", "line_writing",
-           "libyaml_automaton", "libyaml_events", "libyaml_composer", "libyaml_loader", "token_steps", "token_steps_c", "document_steps",
-           "document_sizes", "document_steps_c", "rust_original", "token_lines", *(path.name for path in TOP.glob("crates/example_*"))]
+           "libyaml_automaton", "libyaml_events", "libyaml_composer", "libyaml_loader", "token_steps", "document_steps",
+           "document_sizes", "pokhvizi_c", "rust_original", "token_lines", *(path.name for path in TOP.glob("crates/example_*"))]
 
 
 def lines_of_page(text):

@@ -1,6 +1,6 @@
 #!/bin/sh
-# Writes into DIR the LLVM modules that the prover's compiler makes of the libraries for C, as steps.ll and compose.ll,
-# and beside them the objects that its clang makes of these, as NAME_module.o:
+# Writes into DIR the LLVM module that the prover's compiler makes of the library for C, as pokhvizi.ll, and beside it the object
+# that its clang makes of it, as pokhvizi_module.o:
 #
 #     sh scripts/parts/llvm_source.sh DIR
 #
@@ -28,16 +28,9 @@ rm "$work/toolchain/bin/clang"
 printf '#!/bin/sh\n[ ! -e module.bc ] || cp module.bc "%s/module.bc"\nexec "%s" "$@"\n' "$work" "$kit/toolchain/bin/clang" > "$work/toolchain/bin/clang"
 chmod 755 "$work/toolchain/bin/clang"
 
-module() {
-    door=$1 name=$2
-    rm -f "$work/module.bc"
-    sh scripts/parts/over_kept.sh "$name" "$work/lib.a" "$work/toolchain" --cpu x86-64 > "$work/said" 2>&1 || { tail -n 5 "$work/said" >&2; exit 1; }
-    [ -s "$work/module.bc" ] || { echo "llvm_source.sh: no module of $name was found" >&2; exit 1; }
-    # In its folder, as clang writes the name that it is given into the module.
-    (cd "$work" && "$kit/toolchain/bin/clang" --target=x86_64-unknown-linux-gnu --no-default-config -S -emit-llvm -O0 \
-        -Xclang -disable-llvm-passes -x ir module.bc -o "$dir/$door.ll")
-    (cd "$work" && ar x lib.a && mv "$name.o" "$dir/${door}_module.o")
-}
-
-module steps token_steps_c
-module compose document_steps_c
+sh scripts/parts/over_kept.sh pokhvizi_c "$work/lib.a" "$work/toolchain" --cpu x86-64 > "$work/said" 2>&1 || { tail -n 5 "$work/said" >&2; exit 1; }
+[ -s "$work/module.bc" ] || { echo "llvm_source.sh: no module was found" >&2; exit 1; }
+# In its folder, as clang writes the name that it is given into the module.
+(cd "$work" && "$kit/toolchain/bin/clang" --target=x86_64-unknown-linux-gnu --no-default-config -S -emit-llvm -O0 \
+    -Xclang -disable-llvm-passes -x ir module.bc -o "$dir/pokhvizi.ll")
+(cd "$work" && ar x lib.a && mv pokhvizi_c.o "$dir/pokhvizi_module.o")

@@ -13,10 +13,10 @@ pub use pokhvizi::token_steps::{handle_t, step_event_t, step_fault_t, step_span_
 mod plain {
     use super::{composer_t, sizes_t, steps_t};
 
-    pub use pokhvizi::document_steps_c::{pokhvizi_compose as compose, pokhvizi_count as count};
-    pub use pokhvizi::token_steps_c::{pokhvizi_directive_fact as directive_fact, pokhvizi_step as step};
-    pub use pokhvizi::token_steps_c::{pokhvizi_step_exact as step_exact, pokhvizi_tag as tag};
-    pub use pokhvizi::token_steps_c::pokhvizi_version_fact as version_fact;
+    pub use pokhvizi::pokhvizi_c::compose::{pokhvizi_compose as compose, pokhvizi_count as count};
+    pub use pokhvizi::pokhvizi_c::steps::{pokhvizi_step as step, pokhvizi_step_exact as step_exact};
+    pub use pokhvizi::pokhvizi_c::tags::{pokhvizi_directive_fact as directive_fact, pokhvizi_tag as tag};
+    pub use pokhvizi::pokhvizi_c::tags::pokhvizi_version_fact as version_fact;
 
     pub fn steps_new() -> steps_t {
         steps_t::new()

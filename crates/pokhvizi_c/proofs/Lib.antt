@@ -1,0 +1,2 @@
+pub mod DeedNumbers
+pub mod StepNumbers
