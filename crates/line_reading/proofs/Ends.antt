@@ -7,11 +7,11 @@ use lib.Pow.{pow-add}
 use Rattle.std.proofs.lemmas.Nat.{div-mul-add}
 use Rattle.line_reading.proofs.Words.{AreBytes, word, bytes_of, eight_are}
 
-power : (k : ℕ) → 2 ^ (8 * k) ≡ 256 ^ k
+pub power : (k : ℕ) → 2 ^ (8 * k) ≡ 256 ^ k
 power zero = refl
 power (suc k) = ap (λ n. 2 ^ n) (mul-suc 8 k) ∙ pow-add 2 (8 * k) 8 ∙ ap (λ n. n * 256) (power k) ∙ sym (pow-suc 256 k)
 
-abbrev plain : List ℕ → ℕ
+abbrev pub plain : List ℕ → ℕ
 plain xs = word (λ b. b) xs
 
 pub shifted : (k : ℕ) (xs : List ℕ) → AreBytes xs → plain xs / (256 ^ k) ≡ plain (drop k xs)

@@ -2,3 +2,5 @@ pub mod tokens
 pub mod sources
 mod Words
 mod Ends
+mod Lanes
+mod Begun

@@ -38,7 +38,7 @@ or_word : (f g : ℕ → ℕ) → KeepsBytes f → KeepsBytes g → (bs : List �
     → bit_or (word f bs) (word g bs) ≡ word (λ b. bit_or (f b) (g b)) bs
 or_word = on_word bit_or (or_block 8) refl
 
-xor_word : (f g : ℕ → ℕ) → KeepsBytes f → KeepsBytes g → (bs : List ℕ) → AreBytes bs
+pub xor_word : (f g : ℕ → ℕ) → KeepsBytes f → KeepsBytes g → (bs : List ℕ) → AreBytes bs
     → bit_xor (word f bs) (word g bs) ≡ word (λ b. bit_xor (f b) (g b)) bs
 xor_word = on_word bit_xor (xor_block 8) refl
 
@@ -55,7 +55,7 @@ spread : (c : ℕ) (bs : List ℕ) → word (λ _. c) bs ≡ c * ones (length bs
 spread c [] = omega arith
 spread c (b ∷ bs) = omega (arith, spread c bs)
 
-eight : (c : ℕ) (bs : List ℕ) → length bs ≡ 8 → word (λ _. c) bs ≡ c * 0x0101_0101_0101_0101
+pub eight : (c : ℕ) (bs : List ℕ) → length bs ≡ 8 → word (λ _. c) bs ≡ c * 0x0101_0101_0101_0101
 eight c bs e = spread c bs ∙ ap (λ n. c * ones n) e
 
 -- the bits of a byte that is odd: the highest, and else none
@@ -95,7 +95,7 @@ low_small b = omega (arith, and_le_r b 127)
 
 -- each of them is a byte
 
-constant : (c : ℕ) → c < 2 ^ 8 → KeepsBytes (λ _. c)
+pub constant : (c : ℕ) → c < 2 ^ 8 → KeepsBytes (λ _. c)
 constant c h b small = h
 
 low_byte : KeepsBytes low
@@ -221,11 +221,11 @@ module _ (bs : List ℕ) (at : ℕ) (room : at + 8 ≤ length bs) (fits : (i : �
   place : (j : ℕ) → j < 8 → get_or xs j 0 ≡ get_or bs (at + j) 0
   place j h = get_or-take 8 (drop at bs) j 0 h ∙ get_or-drop at bs j 0
 
-  are_bytes : AreBytes xs
+  pub are_bytes : AreBytes xs
   are_bytes = bytes_of xs (λ j h. rw (place j (omega (arith, long, h))) (fits (at + j)))
 
-  read : (w : ℕ) → w ≡ little_endian bs at → marks w ≡ word marked xs
-  read w is =
+  pub spelt : (w : ℕ) → w ≡ little_endian bs at → w ≡ word (λ b. b) xs
+  spelt w is =
       let first : get_or xs 0 0 ≡ get_or bs at 0 = place 0 (omega arith) ∙ ap (λ i. get_or bs i 0) {y = at} (omega arith) in
       let one = place 1 (omega arith) in
       let two = place 2 (omega arith) in
@@ -234,9 +234,10 @@ module _ (bs : List ℕ) (at : ℕ) (room : at + 8 ≤ length bs) (fits : (i : �
       let five = place 5 (omega arith) in
       let six = place 6 (omega arith) in
       let seven = place 7 (omega arith) in
-      let same : w ≡ word (λ b. b) xs =
-      omega (arith, is, eight_are xs long, first, one, two, three, four, five, six, seven) in
-      ap marks same ∙ marks_are xs long are_bytes
+      omega (arith, is, eight_are xs long, first, one, two, three, four, five, six, seven)
+
+  read : (w : ℕ) → w ≡ little_endian bs at → marks w ≡ word marked xs
+  read w is = ap marks (spelt w is) ∙ marks_are xs long are_bytes
 
   pub clean_at : (w : ℕ) → w ≡ little_endian bs at → (marks w == 0) ≡ true → HoldsNowhere (is_odd_at bs) at (at + 8)
   clean_at w is e k low high =

@@ -6,4 +6,6 @@ pub mod WholeNumbers
 pub mod Marks
 pub mod Names
 pub mod Digits
+pub mod Joined
 pub mod Repeats
+pub mod Buffers

@@ -1,3 +1,5 @@
+pub mod Buffered
+pub mod Joined
 pub mod Number
 pub mod Prefixes
 pub mod Field

@@ -1,6 +1,7 @@
 //! Token lines as they are read.
 #![tactic(auto)]
 
+mod buffered;
 pub mod bytes;
 mod field;
 pub mod laws;

@@ -7,6 +7,7 @@ ghost use Rattle.line_reading.specs.sources.ReadLines.{longest_line};
 ghost use Rattle.line_reading.specs.sources.NextLine.{ReadsNext, IsReadProblem};
 
 use crate::MAX_LINE;
+use crate::buffered::read_buffered_line;
 use crate::line_problem::LineProblem;
 use crate::search::len_before;
 use crate::token_line::read_token_line;
@@ -37,12 +38,19 @@ pub(crate) fn read_next<R: BufRead>(
 {
     let available = reader.fill_buf()?;
     let within = &available[..available.len().min(MAX_LINE + 1)];
-    let len = len_before(within, b'\n');
-    if len < within.len() {
-        let read = read_token_line(alloc, &within[..len], token);
+    let len = read_buffered_line(alloc, within, token)?;
+    if len > 0 {
         let taken = len + 1;
         *left = available.len() - taken;
         reader.consume(taken);
+        return Ok(());
+    }
+    let len = len_before(within, b'\n');
+    if len < within.len() {
+        let read = read_token_line(alloc, &within[..len], token);
+        let behind = len + 1;
+        *left = available.len() - behind;
+        reader.consume(behind);
         return read;
     }
     begin_line(line, within)?;

@@ -8,19 +8,17 @@ ghost use Rattle.line_reading.specs.tokens.TokenLine.{bare_content, content_of_o
 ghost use Rattle.line_reading.specs.tokens.TokenLine.{content_of, token_of_line};
 ghost use Rattle.line_reading.specs.tokens.Reading.{IsReadInto};
 
-use crate::bytes::{end_alike, is_clean};
 use crate::field::{read_encoding, read_scalar_style, read_text, read_version};
 use crate::line_problem::LineProblem;
-use crate::marks::{NO_ROW, read_mark};
+use crate::marks::read_mark;
 use crate::pieces::Pieces;
 use crate::token_name::{NameRead, read_name};
 use libyaml_types::{
     unnamed_yaml_token_t_data, unnamed_yaml_token_t_data_alias, unnamed_yaml_token_t_data_anchor,
     unnamed_yaml_token_t_data_scalar, unnamed_yaml_token_t_data_stream_start,
-    unnamed_yaml_token_t_data_tag, unnamed_yaml_token_t_data_tag_directive, yaml_scalar_style_t,
-    yaml_token_t, yaml_token_type_t,
+    unnamed_yaml_token_t_data_tag, unnamed_yaml_token_t_data_tag_directive, yaml_token_t,
+    yaml_token_type_t,
 };
-use percent_encoding::ascii_str;
 use std::alloc::Global;
 
 /// Reads the token of a line, which has no LF, into `token`. Only the token's texts take memory.
@@ -39,16 +37,16 @@ pub(crate) fn read_token_line(
     let Some(NameRead { type_, end: name }) = read_name(line) else {
         return Err(LineProblem::BadTokenLine);
     };
-    let mut row = NO_ROW;
-    let start = read_mark(line, name + 1, &mut row, &mut token.start_mark);
+    let start = read_mark(line, name + 1, &mut token.start_mark);
     if start == 0 || start == line.len() {
         return Err(LineProblem::BadTokenLine);
     }
-    let end = read_mark(line, start + 1, &mut row, &mut token.end_mark);
+    let end = read_mark(line, start + 1, &mut token.end_mark);
     if end == 0 {
         return Err(LineProblem::BadTokenLine);
     }
-    read_content(alloc, type_, fields_after(line, end), &mut token.content)
+    let fields = Pieces::behind(fields_after(line, end), b' ');
+    read_pieces(alloc, type_, fields, &mut token.content)
 }
 
 /// Returns the further fields after one that ends at an index, if there are some.
@@ -63,62 +61,9 @@ fn fields_after(line: &[u8], end: usize) -> Option<&[u8]>
     Some(&line[end + 1..])
 }
 
-/// Reads the content of a token of this type, from the fields that follow its marks.
+/// Reads the content of a token of this type, from the further fields that are its pieces.
 #[inline(always)]
-fn read_content(
-    alloc: Global,
-    type_: yaml_token_type_t,
-    fields: Option<&[u8]>,
-    content: &mut unnamed_yaml_token_t_data,
-) -> Result<(), LineProblem>
-    ensures { IsReadInto result content.new (content_of type_ (pieces_of 32 (option_copied fields.entry))) }
-{
-    if type_ == yaml_token_type_t::YAML_SCALAR_TOKEN {
-        if let Some(text) = plain_text(fields) {
-            return put_plain_scalar(alloc, text, content);
-        }
-    }
-    read_any_content(alloc, type_, Pieces::behind(fields, b' '), content)
-}
-
-/// Returns the text of a plain scalar of these fields, if they are one's, and it has no escape.
-#[inline(always)]
-fn plain_text(fields: Option<&[u8]>) -> Option<&[u8]>
-    ensures { IfSome result (λ text. All IsClean text.now
-        × (pieces_of 32 (option_copied fields.entry) ≡ (61 ∷ text.now) ∷ codes "plain" ∷ [])) }
-{
-    let fields = fields?;
-    if fields.len() < 8 || !end_alike(fields, b"== plain", 6) {
-        return None;
-    }
-    if fields[0] != b'=' {
-        return None;
-    }
-    let text = &fields[1..fields.len() - 6];
-    if is_clean(text) { Some(text) } else { None }
-}
-
-/// Puts a plain scalar with a text that has no escape.
-#[inline(always)]
-#[tactic(auto, using(crate::proofs::tokens::Texts::clean_text))]
-fn put_plain_scalar(
-    alloc: Global,
-    text: &[u8],
-    content: &mut unnamed_yaml_token_t_data,
-) -> Result<(), LineProblem>
-    requires { All IsClean text.now }
-    ensures { IsReadInto result content.new
-        (content_of_two YAML_SCALAR_TOKEN (61 ∷ text.now) (codes "plain")) }
-{
-    let value = String::from_str(alloc, ascii_str(text))?;
-    let style = yaml_scalar_style_t::YAML_PLAIN_SCALAR_STYLE;
-    *content = unnamed_yaml_token_t_data::Scalar(unnamed_yaml_token_t_data_scalar { value, style });
-    Ok(())
-}
-
-/// The same of any fields.
-#[inline(always)]
-fn read_any_content(
+pub(crate) fn read_pieces(
     alloc: Global,
     type_: yaml_token_type_t,
     mut fields: Pieces,
@@ -140,7 +85,7 @@ fn read_any_content(
 
 /// Reads the content of a token that has no further field.
 #[inline(always)]
-fn read_bare_content(
+pub(crate) fn read_bare_content(
     type_: yaml_token_type_t,
     content: &mut unnamed_yaml_token_t_data,
 ) -> Result<(), LineProblem>

@@ -14,68 +14,8 @@ pub(crate) struct NameRead {
     pub end: usize,
 }
 
-/// Returns the name of a type, which ends at an index.
-#[inline(always)]
-fn name_read(type_: yaml_token_type_t, end: usize) -> Option<NameRead>
-    ensures { result ≡ Some (record { type_ = type_; end = end }) }
-{
-    Some(NameRead { type_, end })
-}
-
 /// Reads the name that begins a line, and that a space follows.
-///
-/// The names that most lines have are asked for first, with their space.
-#[inline(always)]
 pub(crate) fn read_name(line: &[u8]) -> Option<NameRead>
-    ensures some { IfSome result (λ read. IsNameRead line.now read) }
-    ensures none { IfNone result (token_of_line line.now ≡ None) }
-{
-    if begins_with(line, b"SCALAR ") {
-        return name_read(yaml_token_type_t::YAML_SCALAR_TOKEN, 6);
-    }
-    if begins_with(line, b"KEY ") {
-        return name_read(yaml_token_type_t::YAML_KEY_TOKEN, 3);
-    }
-    if begins_with(line, b"VALUE ") {
-        return name_read(yaml_token_type_t::YAML_VALUE_TOKEN, 5);
-    }
-    if begins_with(line, b"BLOCK-END ") {
-        return name_read(yaml_token_type_t::YAML_BLOCK_END_TOKEN, 9);
-    }
-    if begins_with(line, b"BLOCK-MAPPING-START ") {
-        return name_read(yaml_token_type_t::YAML_BLOCK_MAPPING_START_TOKEN, 19);
-    }
-    if begins_with(line, b"BLOCK-ENTRY ") {
-        return name_read(yaml_token_type_t::YAML_BLOCK_ENTRY_TOKEN, 11);
-    }
-    if begins_with(line, b"FLOW-ENTRY ") {
-        return name_read(yaml_token_type_t::YAML_FLOW_ENTRY_TOKEN, 10);
-    }
-    if begins_with(line, b"BLOCK-SEQUENCE-START ") {
-        return name_read(yaml_token_type_t::YAML_BLOCK_SEQUENCE_START_TOKEN, 20);
-    }
-    read_any_name(line)
-}
-
-/// Returns whether a line begins with these bytes.
-#[inline(always)]
-fn begins_with(line: &[u8], start: &[u8]) -> bool
-    ensures { result ≡ true → take (length start.now) line.now ≡ start.now }
-{
-    if line.len() < start.len() {
-        return false;
-    }
-    for (at, byte) in start.iter().enumerate() {
-        if line[at] != *byte {
-            return false;
-        }
-    }
-    true
-}
-
-/// The same of any name.
-#[inline(never)]
-fn read_any_name(line: &[u8]) -> Option<NameRead>
     ensures some { IfSome result (λ read. IsNameRead line.now read) }
     ensures none { IfNone result (token_of_line line.now ≡ None) }
 {

@@ -1,8 +1,6 @@
 -- a number that begins some bytes
-use Rattle.std.proofs.Common.{◌≡◌, ℕ, ◌+◌, ◌-◌, ◌*◌, ◌%◌, ◌<◌, ◌≤◌, ◌^◌, true, false, List, [], ◌∷◌, ◌++◌, length, take, drop, get_or, None, refl, ap, sym, ◌∙◌, arith, append_assoc, min}
+use Rattle.std.proofs.Common.{◌≡◌, ℕ, ◌+◌, ◌-◌, ◌*◌, ◌<◌, ◌≤◌, ◌^◌, true, false, List, [], ◌∷◌, ◌++◌, length, take, drop, get_or, None, refl, ap, sym, ◌∙◌, arith, append_assoc}
 use Rattle.std.proofs.lemmas.List.{at_drop_more, at_drop_all, take_more, append-nil, get_or-take, length-take, length-drop}
-use Rattle.std.proofs.Math.Nat.{pow-suc, pow-le-pow_right}
-use Rattle.std.proofs.Math.Numerals.{add-one}
 use Rattle.std.specs.Char.{is_ascii_digit}
 use Rattle.line_reading.specs.tokens.Number.{value_after, value_of, number_of}
 use Rattle.line_reading.specs.tokens.Field.{number_at}
@@ -94,43 +92,5 @@ pub no_number_read : (line : List ℕ) (at : ℕ) (read : NumberRead) → read.e
     → IsNumberRead line at read
 no_number_read line at read e none = grind arith
 
--- the same, with a value that i digits can have
-pub record HasReadFew (bytes : List ℕ) (i n : ℕ) : Type 0 where
-  pub read : HasRead bytes i n
-  pub below : n < 10 ^ i
-
--- so after fewer than 19 digits one more fits into 64 bits
-pub few_fit : (i n : ℕ) → n < 10 ^ i → i < 19 → n * 10 + 57 < 2 ^ 64
-few_fit i n h small = grind (arith, pow-le-pow_right)
-
-digit_within : (b : ℕ) → is_ascii_digit b ≡ true → (48 ≤ b) × (b ≤ 57)
+pub digit_within : (b : ℕ) → is_ascii_digit b ≡ true → (48 ≤ b) × (b ≤ 57)
 digit_within b d = grind arith
-
-few_below : (i n b : ℕ) → n < 10 ^ i → b ≤ 57 → 48 ≤ b → n * 10 + (b - 48) < 10 ^ (i + 1)
-few_below i n b h high low = grind (arith, add-one i, pow-suc 10 i)
-
-pub few_room : (bytes : List ℕ) (k i n : ℕ) → k ≤ 19 → HasReadFew bytes i n → i < length (take k bytes)
-    → is_ascii_digit (get_or (take k bytes) i 0) ≡ true
-    → n * 10 + (get_or (take k bytes) i 0 - 48) < 2 ^ 64
-few_room bytes k i n short few small d =
-    let within : i < min k (length bytes) = rw (sym (length-take k bytes)) small in
-    let bounds : (48 ≤ get_or (take k bytes) i 0) × (get_or (take k bytes) i 0 ≤ 57) =
-    digit_within (get_or (take k bytes) i 0) d in
-    omega (arith, few_fit i n few.below (omega (arith, within, short)), bounds.1)
-
-pub few_more_within : (bytes : List ℕ) (k i n : ℕ) → k ≤ 19 → HasReadFew bytes i n → i < length (take k bytes)
-    → is_ascii_digit (get_or (take k bytes) i 0) ≡ true
-    → HasReadFew bytes (i + 1) (n * 10 + (get_or (take k bytes) i 0 - 48))
-few_more_within bytes k i n short few small d =
-    let bounds = digit_within (get_or (take k bytes) i 0) d in
-    record {
-      read = more_within bytes k i n few.read small d (few_room bytes k i n short few small d);
-      below = few_below i n (get_or (take k bytes) i 0) few.below bounds.1 bounds.0;
-    }
-
--- a digit by its value, which wraps for a byte below `0`
-abbrev ones : ℕ → ℕ
-ones b = (b + 18446744073709551568) % 18446744073709551616
-
-pub ones_digit : (b : ℕ) → b < 18446744073709551616 → ones b ≤ 9 → (is_ascii_digit b ≡ true) × (ones b ≡ b - 48)
-ones_digit b fits few = grind arith

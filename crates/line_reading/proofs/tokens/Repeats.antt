@@ -5,16 +5,8 @@ use Rattle.std.specs.Char.{is_ascii_digit}
 use Rattle.line_reading.specs.tokens.Number.{number_of}
 use Rattle.line_reading.specs.tokens.Field.{number_at}
 use Rattle.line_reading.specs.tokens.Prefixes.{digits_of, after_digits}
-use Rattle.line_reading.specs.tokens.ReadAt.{IsNumberRead, IsRowRead}
-use Rattle.line_reading.specs.declared.marks.NumberRead.{NumberRead}
-use Rattle.line_reading.specs.declared.marks.RowRead.{RowRead}
-
--- a number that was read
-
-pub number_read : (line : List ℕ) (at : ℕ) (read : NumberRead) (value : ℕ) → read.value ≡ value → 0 < read.end
-    → read.end ≤ length line
-    → number_at (drop at line) ≡ Some (value, drop read.end line) → IsNumberRead line at read
-number_read line at read value same some within is = grind arith
+use Rattle.line_reading.specs.tokens.Buffered.{IsBufferedRow}
+use Rattle.line_reading.specs.declared.buffered.marks.RowRead.{RowRead}
 
 -- digits that stand again, with the byte after them
 
@@ -48,7 +40,7 @@ again n (x ∷ xs) (y ∷ ys) l h e = go (is_ascii_digit x) refl n l h (cc) (cc)
         let none : n ≡ 0 = sym (rw d at l) in
         rw (none, ← e, d) (refl, refl)
 
-digits_there : (bytes rest : List ℕ) (value : ℕ) → number_at bytes ≡ Some (value, rest)
+pub digits_there : (bytes rest : List ℕ) (value : ℕ) → number_at bytes ≡ Some (value, rest)
     → (number_of (digits_of bytes) ≡ Some value) × (after_digits bytes ≡ rest)
 digits_there bytes rest value h = grind arith
 
@@ -58,7 +50,7 @@ pub digits_before : (line : List ℕ) (at end value : ℕ) → at ≤ length lin
 digits_before line at end value h k is =
     grind (arith, digits_there (drop at line) (drop end line) value is, lengths (drop at line), length-drop end line, length-drop)
 
-pub number_again : (line : List ℕ) (row : RowRead) (at : ℕ) → IsRowRead line row → 0 < row.end
+pub number_again : (line : List ℕ) (row : RowRead) (at : ℕ) → IsBufferedRow line row → 0 < row.end
     → at + (row.end - row.at) < length line
     → take (row.end - row.at + 1) (drop row.at line) ≡ take (row.end - row.at + 1) (drop at line)
     → number_at (drop at line) ≡ Some (row.value, drop (at + (row.end - row.at)) line)
@@ -67,10 +59,10 @@ number_again line row at h some within same =
     let xs = drop row.at line in
     let ys = drop at line in
     let there = digits_there xs (drop row.end line) row.value (h.some some) in
-    let order = digits_before line row.at row.end row.value (omega (arith, h.order, h.within some))
-    (omega (arith, h.within some)) (h.some some) in
+    let order = digits_before line row.at row.end row.value (omega (arith, h.order some))
+    (omega (arith, h.order some)) (h.some some) in
     let next : n + 1 ≡ suc n = omega arith in
-    let both = again n xs ys order.1 (omega (arith, length-drop row.at line, h.within some, order.0))
+    let both = again n xs ys order.1 (omega (arith, length-drop row.at line, h.order some, order.0))
     (ap (λ k. take k xs) (sym next) ∙ same ∙ ap (λ k. take k ys) next) in
     let behind : after_digits ys ≡ drop (at + n) line = both.1 ∙ drop-drop n at line in
     rw (both.0, there.0, behind) refl

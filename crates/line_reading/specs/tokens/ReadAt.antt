@@ -1,7 +1,6 @@
 -- What the code reads at an index of a line.
 use Rattle.std.specs.Prelude.{◌≡◌, ◌+◌, ◌<◌, ◌≤◌, ℕ, List, [], ◌∷◌, length, take, drop, Option, Some, None}
 use Rattle.line_reading.specs.declared.marks.NumberRead.{NumberRead}
-use Rattle.line_reading.specs.declared.marks.RowRead.{RowRead}
 use Rattle.line_reading.specs.declared.token_name.NameRead.{NameRead}
 use Rattle.line_reading.specs.tokens.Number.{value_of}
 use Rattle.line_reading.specs.tokens.Prefixes.{digits_of, after_digits, before_byte, after_byte}
@@ -35,9 +34,3 @@ pub record IsNameRead (line : List ℕ) (read : NameRead) : Type 0 where
 pub record BeginsWithNoDigit (bytes : List ℕ) : Type 0 where
   pub digits : digits_of bytes ≡ []
   pub behind : after_digits bytes ≡ bytes
-
--- a line number that was read, and that a byte follows; the end is 0 where there is none
-pub record IsRowRead (line : List ℕ) (row : RowRead) : Type 0 where
-  pub order : row.at ≤ row.end
-  pub within : 0 < row.end → row.end < length line
-  pub some : 0 < row.end → number_at (drop row.at line) ≡ Some (row.value, drop row.end line)

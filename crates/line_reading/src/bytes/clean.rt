@@ -1,9 +1,11 @@
 //! Texts that need no escape.
-ghost use Rattle.std.specs.Prelude.{◌≡◌, ◌+◌, ◌≤◌, true, false, length, All};
+ghost use Rattle.std.specs.Prelude.{◌≡◌, ◌+◌, ◌≤◌, true, false, length, map, All};
+ghost use Rattle.std.specs.Simd.Lanes.{mask_l};
 ghost use Rattle.std.specs.Slice.Scan.{HoldsNowhere, HoldsSomewhere};
-ghost use Rattle.line_reading.specs.Clean.{IsClean, is_odd_at};
+ghost use Rattle.line_reading.specs.Clean.{IsClean, is_odd, is_odd_at};
 
 use crate::bytes::word::word_at;
+use std::simd::prelude::*;
 
 /// Returns whether each byte is a visible ASCII character other than `%`.
 #[inline(always)]
@@ -31,7 +33,34 @@ pub fn is_clean(bytes: &[u8]) -> bool
     is_clean_at(bytes, len - 8)
 }
 
-/// The same of the eight bytes from an index on: each byte that is not clean leaves its high bit set, and no
+/// Returns the end of the clean bytes that begin at `from`, or a place before it in the last 15 bytes.
+#[inline(always)]
+pub(crate) fn clean_end(bytes: &[u8], from: usize) -> usize
+    requires { from ≤ length bytes.now }
+    ensures order { (from ≤ result) × (result ≤ length bytes.now) }
+    ensures clean { HoldsNowhere (is_odd_at bytes.now) from result }
+{
+    let mut at = from;
+    while bytes.len() - at >= 16 {
+        let odd = odd_lanes(u8x16::from_slice(&bytes[at..]));
+        if odd != 0 {
+            return at + odd.trailing_zeros() as usize;
+        }
+        at += 16;
+    }
+    at
+}
+
+/// A bit for each byte that is not clean, the first lowest.
+#[inline(always)]
+fn odd_lanes(bytes: u8x16) -> u64
+    ensures { result ≡ mask_l (map is_odd bytes) }
+{
+    ((bytes - u8x16::splat(0x21)).simd_ge(u8x16::splat(0x5e))
+        | bytes.simd_eq(u8x16::splat(b'%'))).to_bitmask()
+}
+
+/// Returns whether the eight bytes from an index on are clean: each that is not leaves its high bit set, and no
 /// addition carries into the next byte.
 #[inline(always)]
 fn is_clean_at(bytes: &[u8], at: usize) -> bool

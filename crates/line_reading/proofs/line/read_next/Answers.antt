@@ -3,7 +3,22 @@ use Rattle.std.specs.Io.KnownBytes.{Consumes}
 use Rattle.std.specs.Io.BufRead.{FillKeeps}
 use Rattle.std.proofs.BufReadLemmas.{Consumes_shown}
 use Rattle.line_reading.proofs.sources.NextLines.{shown_read, shown_all}
+use Rattle.line_reading.proofs.tokens.Buffers.{without_feed}
 use Rattle.line_reading.proofs.line.read_next.Goals as goal
+
+pub returns-then-len-gt0 : goal.returns-then-len-gt0
+returns-then-len-gt0 g c =
+    let shown = c.in_ok-available.available.now in
+    let len = c.in_ok-len.len in
+    let read = c.in_ok-len.ensures.some (omega (arith, c.if-len-gt0.true)) in
+    let rested = c.fill_buf.follows.lender-at-none in
+    let filled = subst (FillKeeps _ (g.R.Read.remaining rested) (g.R.BufRead.consumable_len rested)) c.in_ok-available.was
+    c.fill_buf.follows.holds-at-none in
+    let within : len + 1 ≤ length shown = omega (arith, read.line.within, length-take c.min.result shown) in
+    let moved = Consumes_shown _ _ _ _ shown (len + 1) within c.in_ok-available.ensures.front
+    c.in_ok-available.ensures.end filled.0 filled.1 c.consume.ensures.bytes in
+    shown_read _ _ shown c.min.result len _ _ (omega (arith, c.min.ensures)) read.line.within
+    (without_feed (take c.min.result shown) len read.line) read.line.feed moved.0 read.reads
 
 pub returns-then-len-within : goal.returns-then-len-within
 returns-then-len-within g c =
@@ -14,7 +29,7 @@ returns-then-len-within g c =
     c.fill_buf.follows.holds-at-none in
     let within : len.result + 1 ≤ length shown = omega (arith, c.if-len-within.true, length-take c.min.result shown) in
     let moved = Consumes_shown _ _ _ _ shown (len.result + 1) within c.in_ok-available.ensures.front
-    c.in_ok-available.ensures.end filled.0 filled.1 c.consume.ensures.bytes in
+    c.in_ok-available.ensures.end filled.0 filled.1 c.consume-then-len-within.ensures.bytes in
     shown_read _ _ shown c.min.result len.result _ _ (omega (arith, c.min.ensures)) c.if-len-within.true len.ensures.before
     (len.ensures.found c.if-len-within.true) moved.0 c.read_token_line-read.ensures
 

@@ -14,4 +14,4 @@ returns c =
     (c.read_mark-start.ensures.some (omega (arith, c.if-start-eq0.false)))
     (omega (arith, c.read_mark-start.ensures.within, c.if-start-line.false))
     (c.read_mark-end.ensures.some (omega (arith, c.if-end-eq0.false))) in
-    rw (all, ← c.fields_after.ensures) (with_marks _ _ _ _ _ c.read_content.ensures)
+    rw (all, ← c.fields_after.ensures, ← c.behind-fields.ensures) (with_marks _ _ _ _ _ c.read_pieces.ensures)

@@ -1,6 +1,6 @@
 use Rattle.std.proofs.Common.{◌≡◌, ◌+◌, ◌-◌, ◌*◌, slice_index_or, length, take, sym, drop, arith}
 use Rattle.line_reading.proofs.tokens.Digits.{no_number_read, none_read, more_within, too_much_within, ends_within, ends_with_line}
-use Rattle.line_reading.proofs.marks.read_any_number.Goals as goal
+use Rattle.line_reading.proofs.marks.read_number.Goals as goal
 
 pub loop-len-init : goal.loop-len-init
 loop-len-init c = none_read (drop c.args.at c.args.line.now)
