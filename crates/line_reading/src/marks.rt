@@ -113,7 +113,7 @@ pub(crate) fn read_number(line: &[u8], at: usize) -> NumberRead
 
 /// Returns the number of these digits, which begin at `at`, or no number for none and for a leading zero.
 #[inline(always)]
-pub(crate) fn ended_number(line: &[u8], at: usize, digits: DigitsRead) -> NumberRead
+fn ended_number(line: &[u8], at: usize, digits: DigitsRead) -> NumberRead
     requires within { at + digits.len ≤ length line.now }
     requires digits { HasDigits (drop at line.now) digits.len digits.value }
     ensures { IsNumberRead line.now at result }

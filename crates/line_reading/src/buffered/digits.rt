@@ -1,12 +1,13 @@
 //! Numbers of up to seven digits, whose bytes are looked at in one word.
-ghost use Rattle.std.specs.Prelude.{◌≡◌, ◌+◌, ◌≤◌, ◌<◌, Some, length, drop, map};
+ghost use Rattle.std.specs.Prelude.{◌≡◌, ◌+◌, ◌≤◌, ◌<◌, Some, true, false, length, drop, map, slice_index};
+ghost use Rattle.std.specs.Char.{is_ascii_digit};
 ghost use Rattle.std.specs.Simd.Lanes.{mask_l};
 ghost use Rattle.line_reading.specs.tokens.Field.{number_at};
 ghost use Rattle.line_reading.specs.tokens.Joined.{Joins, is_no_digit};
-ghost use Rattle.line_reading.specs.tokens.ReadAt.{HasDigits};
+ghost use Rattle.line_reading.specs.tokens.ReadAt.{BeginsWithNoDigit, HasDigits};
 
 use crate::bytes::word_at;
-use crate::marks::{DigitsRead, NO_NUMBER, NumberRead, ended_number};
+use crate::marks::{DigitsRead, NO_NUMBER, NumberRead};
 use std::simd::prelude::*;
 
 /// Reads the number that begins at `at`, of at most seven digits; for any other its end is 0.
@@ -17,11 +18,45 @@ pub(crate) fn read_digits(bytes: &[u8], at: usize) -> NumberRead
     ensures some { 0 < result.end
         → number_at (drop at bytes.now) ≡ Some (result.value, drop result.end bytes.now) }
 {
+    if bytes[at] == b'0' {
+        return read_zero(bytes, at);
+    }
     let digits = digits_at(bytes, at);
-    if digits.len == 8 {
+    if digits.len == 0 || digits.len == 8 {
         return NO_NUMBER;
     }
-    ended_number(bytes, at, digits)
+    NumberRead {
+        value: digits.value,
+        end: at + digits.len,
+    }
+}
+
+/// Reads the 0 at `at`, which no digit follows.
+#[inline(always)]
+fn read_zero(bytes: &[u8], at: usize) -> NumberRead
+    requires room { at + 1 < length bytes.now }
+    requires zero { slice_index bytes.now at ≡ 48 }
+    ensures within { result.end ≤ at + 1 }
+    ensures some { 0 < result.end
+        → number_at (drop at bytes.now) ≡ Some (result.value, drop result.end bytes.now) }
+{
+    if is_digit_at(bytes, at + 1) {
+        return NO_NUMBER;
+    }
+    NumberRead {
+        value: 0,
+        end: at + 1,
+    }
+}
+
+/// Returns whether there is a digit at `at`.
+#[inline(always)]
+pub(super) fn is_digit_at(bytes: &[u8], at: usize) -> bool
+    requires { at < length bytes.now }
+    ensures yes { result ≡ true → is_ascii_digit (slice_index bytes.now at) ≡ true }
+    ensures no { result ≡ false → BeginsWithNoDigit (drop at bytes.now) }
+{
+    bytes[at].is_ascii_digit()
 }
 
 /// Returns the digits that begin the eight bytes from an index on. If there are eight, more may follow.
@@ -36,12 +71,9 @@ fn digits_at(bytes: &[u8], at: usize) -> DigitsRead
         return DigitsRead { len: 8, value: 0 };
     }
     let len = others.trailing_zeros();
-    if len == 0 {
-        return DigitsRead { len: 0, value: 0 };
-    }
     let values = word_at(bytes, at) ^ 0x3030_3030_3030_3030;
-    // the digits as the last bytes, after zeros
-    let value = joined(values << (64 - 8 * len));
+    // the byte after the digits becomes the last one, and zeros come before them
+    let value = joined(values << (56 - 8 * len));
     DigitsRead {
         len: len as usize,
         value,
@@ -58,12 +90,13 @@ fn other_lanes(bytes: u8x8) -> u64
         .to_bitmask()
 }
 
-/// The number of eight digits, which are joined by two and then by four.
+/// The number of the seven digits that a word begins with: they are joined by two and then by four.
 #[inline(always)]
 fn joined(digits: u64) -> u64
     ensures { Joins digits result }
 {
-    let pairs = digits.wrapping_mul(10).wrapping_add(digits >> 8u32) & 0x00ff_00ff_00ff_00ff;
+    // 2561 is 10 * 256 + 1: a digit is the tens of the next one
+    let pairs = digits.wrapping_mul(2561) & 0x00ff_00ff_00ff_00ff;
     let fours = pairs * 100 + (pairs >> 16u32) & 0x0000_ffff_0000_ffff;
     fours * 10_000 + (fours >> 32u32) & 0xffff_ffff
 }

@@ -1,11 +1,9 @@
 //! Marks in a buffer. As in `marks.rt`, the end 0 stands for none.
-ghost use Rattle.std.specs.Prelude.{◌≡◌, ◌+◌, ◌≤◌, ◌<◌, Some, true, false, length, drop, slice_index};
-ghost use Rattle.std.specs.Char.{is_ascii_digit};
+ghost use Rattle.std.specs.Prelude.{◌≡◌, ◌+◌, ◌≤◌, ◌<◌, Some, length, drop};
 ghost use Rattle.line_reading.specs.tokens.Field.{number_at};
 ghost use Rattle.line_reading.specs.tokens.Buffered.{IsBufferedMark, IsBufferedRow};
-ghost use Rattle.line_reading.specs.tokens.ReadAt.{BeginsWithNoDigit};
 
-use super::digits::read_digits;
+use super::digits::{is_digit_at, read_digits};
 use crate::bytes::end_alike;
 use crate::marks::{NO_NUMBER, NumberRead};
 use libyaml_types::yaml_mark_t;
@@ -116,14 +114,4 @@ fn read_column(bytes: &[u8], at: usize) -> NumberRead
         value: first * 10 + u64::from(bytes[at + 1] - b'0'),
         end: at + 2,
     }
-}
-
-/// Returns whether there is a digit at `at`.
-#[inline(always)]
-fn is_digit_at(bytes: &[u8], at: usize) -> bool
-    requires { at < length bytes.now }
-    ensures yes { result ≡ true → is_ascii_digit (slice_index bytes.now at) ≡ true }
-    ensures no { result ≡ false → BeginsWithNoDigit (drop at bytes.now) }
-{
-    bytes[at].is_ascii_digit()
 }

@@ -1,7 +1,7 @@
-use Rattle.std.proofs.Common.{◌∙◌, refl, sym, arith}
+use Rattle.std.proofs.Common.{arith}
 use Rattle.line_reading.specs.tokens.Joined.{is_no_digit}
 use Rattle.line_reading.proofs.Lanes.{stopped, within}
-use Rattle.line_reading.proofs.tokens.Joined.{no_digits, few_digits}
+use Rattle.line_reading.proofs.tokens.Joined.{few_digits}
 use Rattle.line_reading.proofs.buffered.digits.digits_at.Goals as goal
 
 pub overflow_sub-len : goal.overflow_sub-len
@@ -10,12 +10,6 @@ overflow_sub-len c =
       arith,
       within is_no_digit c.args.bytes.now c.args.at 8 _ c.requires (omega arith) c.other_lanes-others.ensures c.if-others-eq0.false,
     )
-
-pub returns-then-len-eq0-clause-few : goal.returns-then-len-eq0-clause-few
-returns-then-len-eq0-clause-few c few =
-    no_digits c.args.bytes.now c.args.at c.requires (λ i. (c.type_inv.bytes i).fits) 0
-    (sym c.if-len-eq0.true ∙ stopped is_no_digit c.args.bytes.now c.args.at 8 _ c.requires (omega arith) c.other_lanes-others.ensures
-    c.if-others-eq0.false) refl
 
 pub returns-clause-most : goal.returns-clause-most
 returns-clause-most c =
