@@ -224,7 +224,7 @@ module _ (bs : List ℕ) (at : ℕ) (room : at + 8 ≤ length bs) (fits : (i : �
   pub are_bytes : AreBytes xs
   are_bytes = bytes_of xs (λ j h. rw (place j (omega (arith, long, h))) (fits (at + j)))
 
-  pub spelt : (w : ℕ) → w ≡ little_endian bs at → w ≡ word (λ b. b) xs
+  spelt : (w : ℕ) → w ≡ little_endian bs at → w ≡ word (λ b. b) xs
   spelt w is =
       let first : get_or xs 0 0 ≡ get_or bs at 0 = place 0 (omega arith) ∙ ap (λ i. get_or bs i 0) {y = at} (omega arith) in
       let one = place 1 (omega arith) in

@@ -9,4 +9,3 @@ pub(crate) use begins::begins_with;
 pub(crate) use clean::clean_end;
 pub use clean::is_clean;
 pub(crate) use same::end_alike;
-pub(crate) use word::word_at;

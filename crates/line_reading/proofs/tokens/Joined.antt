@@ -1,8 +1,8 @@
 -- the number that the digits in a word write
-use Rattle.std.proofs.Common.{◌≡◌, ◌≢◌, ℕ, zero, suc, ◌+◌, ◌-◌, ◌*◌, ◌/◌, ◌%◌, ◌^◌, ◌<◌, ◌≤◌, Bool, true, false, true≢false, not, ◌==◌, ◌&&◌, ◌||◌, cond, List, [], ◌∷◌, ◌++◌, length, map, take, take-take, drop, replicate, get_or, Some, refl, ap, sym, subst, ◌∙◌, arith}
+use Rattle.std.proofs.Common.{◌≡◌, ◌≢◌, ℕ, zero, suc, ◌+◌, ◌-◌, ◌*◌, ◌/◌, ◌%◌, ◌^◌, ◌<◌, ◌≤◌, Bool, true, false, true≢false, not, ◌==◌, ◌&&◌, ◌||◌, cond, List, [], ◌∷◌, ◌++◌, length, map, take, take-take, drop, replicate, get_or, Some, refl, ap, sym, subst, ◌∙◌, arith, w64}
 use Rattle.std.specs.Int.Bits.{bit_and, bit_xor}
 use Rattle.std.specs.Char.{is_ascii_digit, digit_value}
-use Rattle.std.specs.Slice.Scan.{little_endian}
+use Rattle.std.specs.Int.{from_le_bytes}
 use Rattle.std.specs.Str.{all_ascii_digits}
 use Rattle.std.specs.Str.Parse.{digits_value_after}
 use Rattle.std.proofs.lemmas.Bool.{lt-ltb, agree_below_at, eqb-true, ne_eqb}
@@ -17,7 +17,7 @@ use Rattle.line_reading.specs.tokens.Field.{number_at}
 use Rattle.line_reading.specs.tokens.Prefixes.{digits_of, after_digits}
 use Rattle.line_reading.specs.tokens.ReadAt.{HasDigits}
 use Rattle.line_reading.specs.tokens.Joined.{Joins, is_no_digit}
-use Rattle.line_reading.proofs.Words.{AreBytes, word, spelt, are_bytes, xor_word, eight, constant}
+use Rattle.line_reading.proofs.Words.{AreBytes, word, eight_are, are_bytes, xor_word, eight, constant}
 use Rattle.line_reading.proofs.Ends.{plain, power}
 use Rattle.line_reading.proofs.Lanes.{run}
 use Rattle.line_reading.proofs.tokens.Digits.{digit_within}
@@ -256,7 +256,7 @@ module _ (bytes : List ℕ) (at : ℕ) (room : at + 8 ≤ length bytes) (fits : 
   ends : (n : ℕ) → n ≡ run is_no_digit xs → n < 8 → Ends n ys
   ends n is few = subst (λ k. Ends k ys) (sym is) (runs 8 ys (omega (arith, is, few, size)))
 
-  pub few_digits : (n w value : ℕ) → n ≡ run is_no_digit xs → n < 8 → w ≡ little_endian bytes at → value < 2 ^ 64
+  pub few_digits : (n w value : ℕ) → n ≡ run is_no_digit xs → n < 8 → w ≡ from_le_bytes w64 xs → value < 2 ^ 64
       → Joins (bit_xor w 0x3030_3030_3030_3030 * 2 ^ (56 - 8 * n) % 2 ^ 64) value → HasDigits ys n value
   few_digits n w value is few spelled small j =
       let e = ends n is few in
@@ -267,8 +267,9 @@ module _ (bytes : List ℕ) (at : ℕ) (room : at + 8 ≤ length bytes) (fits : 
       let ds = map less xs in
       let long : length ds ≡ 8 = length-map xs less ∙ size in
       let lanes : take n ds ≡ map less (take n xs) = take-map less n xs in
+      let whole : w ≡ word (λ b. b) xs = omega (arith, spelled, eight_are xs size) in
       let turned : bit_xor w 0x3030_3030_3030_3030 ≡ plain ds =
-      ap (λ k. bit_xor k 0x3030_3030_3030_3030) (spelt bytes at room fits w spelled)
+      ap (λ k. bit_xor k 0x3030_3030_3030_3030) whole
       ∙ ap (bit_xor (word (λ b. b) xs)) (sym (eight 48 xs size))
       ∙ xor_word (λ b. b) (λ _. 48) (λ b h. h) (constant 48 (omega arith)) xs bytes_fit ∙ of_map less xs in
       let fit = lanes_fit xs bytes_fit in

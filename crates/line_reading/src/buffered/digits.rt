@@ -6,7 +6,6 @@ ghost use Rattle.line_reading.specs.tokens.Field.{number_at};
 ghost use Rattle.line_reading.specs.tokens.Joined.{Joins, is_no_digit};
 ghost use Rattle.line_reading.specs.tokens.ReadAt.{BeginsWithNoDigit, HasDigits};
 
-use crate::bytes::word_at;
 use crate::marks::{DigitsRead, NO_NUMBER, NumberRead};
 use std::simd::prelude::*;
 
@@ -66,12 +65,13 @@ fn digits_at(bytes: &[u8], at: usize) -> DigitsRead
     ensures most { result.len ≤ 8 }
     ensures few { result.len < 8 → HasDigits (drop at bytes.now) result.len result.value }
 {
-    let others = other_lanes(u8x8::from_slice(&bytes[at..]));
+    let eight = u8x8::from_slice(&bytes[at..]);
+    let others = other_lanes(eight);
     if others == 0 {
         return DigitsRead { len: 8, value: 0 };
     }
     let len = others.trailing_zeros();
-    let values = word_at(bytes, at) ^ 0x3030_3030_3030_3030;
+    let values = u64::from_le_bytes(eight.to_array()) ^ 0x3030_3030_3030_3030;
     // the byte after the digits becomes the last one, and zeros come before them
     let value = joined(values << (56 - 8 * len));
     DigitsRead {

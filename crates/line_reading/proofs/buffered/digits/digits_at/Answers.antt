@@ -20,7 +20,7 @@ returns-clause-most c =
 
 pub returns-clause-few : goal.returns-clause-few
 returns-clause-few c few =
-    few_digits c.args.bytes.now c.args.at c.requires (λ i. (c.type_inv.bytes i).fits) _ c.word_at-values.result
+    few_digits c.args.bytes.now c.args.at c.requires (λ i. (c.type_inv.bytes i).fits) _ c.from_le_bytes-values.result
     c.joined-value.result
     (stopped is_no_digit c.args.bytes.now c.args.at 8 _ c.requires (omega arith) c.other_lanes-others.ensures
-    c.if-others-eq0.false) few c.word_at-values.ensures c.joined-value.type_inv c.joined-value.ensures
+    c.if-others-eq0.false) few c.from_le_bytes-values.ensures c.joined-value.type_inv c.joined-value.ensures
