@@ -6,6 +6,7 @@ use Rattle.std.proofs.lemmas.List.Sums.{prefix_len_passes}
 use Rattle.std.proofs.lemmas.Simd.{mask_l-mod, length-chunk, trailing_mask_l, none_from_empty_mask}
 use Rattle.std.specs.List.{prefix_len}
 use lib.Count.{count_trailing_zeros}
+use Rattle.line_reading.proofs.Words.{true_not}
 use lib.Lanes.{chunk, mask_l, top, Each1}
 
 tested : (f : ℕ → ℕ) (p : ℕ → Bool) → agree_below (λ x. top 7 (f x)) p 256 ≡ true → (v : List ℕ) → Each1 (Fits w8) v
@@ -33,9 +34,6 @@ shorter p (x ∷ xs) some = go (p x) some (shorter p xs)
         → cond (not t) (1 + run p xs) 0 < length (x ∷ xs)
     go true some rest = omega arith
     go false some rest = omega (arith, rest (λ none. some (omega (arith, none))))
-
-false_from_not : (b : Bool) → not b ≡ true → b ≡ false
-false_from_not b e = grind arith
 
 -- of n bytes from an index on, m has the bits of those that pass p
 module _ (p : ℕ → Bool) (bytes : List ℕ) (at n m : ℕ) (room : at + n ≤ length bytes) (few : n ≤ 64)
@@ -67,4 +65,4 @@ module _ (p : ℕ → Bool) (bytes : List ℕ) (at n m : ℕ) (room : at + n ≤
         let place : at + j ≡ k = omega (arith, low) in
         let here : get_or xs j 0 ≡ get_or bytes k 0 =
         get_or-take n (drop at bytes) j 0 inside ∙ get_or-drop at bytes j 0 ∙ ap (λ i. get_or bytes i 0) place in
-        ap p (sym here) ∙ false_from_not (p (get_or xs j 0)) (prefix_len_passes (λ x. not (p x)) xs j 0 small)
+        ap p (sym here) ∙ true_not (p (get_or xs j 0)) (prefix_len_passes (λ x. not (p x)) xs j 0 small)

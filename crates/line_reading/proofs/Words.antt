@@ -161,7 +161,7 @@ module _ (bs : List ℕ) (long : length bs ≡ 8) (fit : AreBytes bs) where
 
 -- a byte is marked where it is odd
 
-true_not : (x : Bool) → not x ≡ true → x ≡ false
+pub true_not : (x : Bool) → not x ≡ true → x ≡ false
 true_not x e = grind arith
 
 false_not : (x : Bool) → not x ≡ false → x ≡ true

@@ -15,7 +15,7 @@ use Rattle.line_reading.specs.tokens.Pieces.{pieces_of}
 use Rattle.line_reading.specs.tokens.Prefixes.{digits_of, after_digits, before_byte, after_byte, after_first, after_field}
 use Rattle.line_reading.specs.tokens.ReadAt.{further}
 use Rattle.line_reading.specs.tokens.Reading.{IsReadInto}
-use Rattle.line_reading.specs.tokens.TokenLine.{bare_content, content_of}
+use Rattle.line_reading.specs.tokens.TokenLine.{content_of}
 use Rattle.line_reading.specs.tokens.TokenName.{token_type_of}
 use Rattle.line_reading.proofs.tokens.Marks.{with_content}
 use Rattle.line_reading.proofs.tokens.Names.{is_named}
@@ -203,17 +203,6 @@ mark_read bytes at i r end index row column a z il rl first ic second rc third =
         omega (arith, e, feed, ap (λ k. get_or bytes k 0) same)
 
 -- ---- content
-
-pub bare_read : (type : yaml_token_type_t) (bytes : List ℕ) (end : ℕ) (content : unnamed_yaml_token_t_data)
-    → end < length bytes → get_or bytes end 0 ≡ 10 → bare_content type ≡ Some content
-    → IsBufferedContent type bytes end end content
-bare_read type bytes end content h feed is = record {
-  order = (omega arith, h);
-  no_feed = λ i low high. absurd (omega (arith, low, high));
-  feed = feed;
-  field = λ more. absurd (omega (arith, more));
-  reads = rw (at_line_end bytes end) is;
-}
 
 pub fields_read : (type : yaml_token_type_t) (bytes : List ℕ) (end n : ℕ) (content : unnamed_yaml_token_t_data)
     → end + 1 < length bytes → get_or bytes end 0 ≡ 32 → n < length (drop (end + 1) bytes)

@@ -21,7 +21,7 @@ pub record HasLine (bytes : List ℕ) (len : ℕ) : Type 0 where
   pub no_feed : NoFeed bytes 0 len
   pub feed : slice_index bytes len ≡ 10
 
--- the name that was read is that of each line that begins the bytes and goes on behind it
+-- the name that was read is that of each line that begins the bytes and goes on after it
 pub record IsBufferedName (bytes : List ℕ) (read : NameRead) : Type 0 where
   pub long : 3 ≤ read.end
   pub no_feed : NoFeed bytes 0 (read.end + 1)
