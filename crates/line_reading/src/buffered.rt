@@ -1,6 +1,8 @@
-//! Token lines that are read where they lie in a reader's buffer, from the left: no line end is looked for first.
+//! Token lines that are read where they lie in a reader's buffer, from the left: no line end is looked for
+//! first.
 //! What a function leaves to `token_line.rt` it returns as the index 0.
-ghost use Rattle.std.specs.Prelude.{◌≡◌, ◌+◌, ◌<◌, ◌≤◌, ◌++◌, ◌∷◌, All, IfOk, IfErr, IfSome, codes, length, take};
+ghost use Rattle.std.specs.Prelude.{◌≡◌, ◌+◌, ◌<◌, ◌≤◌, ◌++◌, ◌∷◌, All, IfOk, IfErr, IfSome};
+ghost use Rattle.std.specs.Prelude.{codes, length, take};
 ghost use Rattle.line_reading.specs.Clean.{IsClean};
 ghost use Rattle.line_reading.specs.tokens.Buffered.{IsBufferedLine, IsBufferedContent};
 ghost use Rattle.line_reading.specs.tokens.Reading.{IsReadInto};
@@ -29,9 +31,9 @@ use std::alloc::Global;
 /// The name and the marks of a line are read only within so many bytes, of which they take fewer.
 const ROOM: usize = 72;
 
-/// Reads the token of the line that begins the bytes into `token`, and returns the line's length. Returns 0 if
-/// the line does not lie whole in the bytes, with its LF, if it is no token line, or if it is none of those that
-/// are read here: then the value of `token` is unspecified.
+/// Reads the token of the line that begins the bytes into `token`, and returns the line's length. Returns 0
+/// if the line does not lie whole in the bytes, with its LF, if it is no token line, or if it is none of those
+/// that are read here: then the value of `token` is unspecified.
 ///
 /// # Errors
 ///

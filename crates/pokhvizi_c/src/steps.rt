@@ -116,7 +116,8 @@ pub extern "C" fn pokhvizi_step_exact(
     ensures bad { (result ≡ 6) ↔ (Within steps.old.machine states.old marks.old → ⊥) }
     ensures full_states { Within steps.old.machine states.old marks.old → (result ≡ 3)
         ↔ (HasNoRoom (exactly_grows_states steps.old (kind_of kind)) states.old steps.old.machine.states_count
-        × (HasNoRoom (exactly_grows_marks steps.old (kind_of kind)) marks.old steps.old.machine.marks_count → ⊥)) }
+        × (HasNoRoom (exactly_grows_marks steps.old (kind_of kind)) marks.old
+        steps.old.machine.marks_count → ⊥)) }
     ensures full_marks { Within steps.old.machine states.old marks.old → (result ≡ 4)
         ↔ HasNoRoom (exactly_grows_marks steps.old (kind_of kind)) marks.old steps.old.machine.marks_count }
     ensures undone { is_nothing_done result ≡ true → (steps.new.machine ≡ steps.old.machine)

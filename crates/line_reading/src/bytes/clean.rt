@@ -60,8 +60,8 @@ fn odd_lanes(bytes: u8x16) -> u64
         | bytes.simd_eq(u8x16::splat(b'%'))).to_bitmask()
 }
 
-/// Returns whether the eight bytes from an index on are clean: each that is not leaves its high bit set, and no
-/// addition carries into the next byte.
+/// Returns whether the eight bytes from an index on are clean: each that is not leaves its high bit set, and
+/// no addition carries into the next byte.
 #[inline(always)]
 fn is_clean_at(bytes: &[u8], at: usize) -> bool
     requires { at + 8 ≤ length bytes.now }
