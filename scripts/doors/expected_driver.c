@@ -4,7 +4,8 @@
  *
  * At each place a token of each kind, with a fact that is right where one is, is handed to a copy of the steps, exact or not: it
  * has to be refused exactly if its kind isn't in the set. Of each token that is refused the set is asked for again, from what the
- * record was before it and what the stack is after it. The words of each set are written and counted. With `turned` each set lacks
+ * record was before it and what the stack is after it. The words of each set are written and counted. From each place a copy is
+ * completed by pokhvizi_completing, without an error and by at most two tokens more than there are collections open. With `turned` each set lacks
  * its first kind, which has to be seen. The last line counts; the status is 1 if something differs. */
 #include <pokhvizi/steps.h>
 #include <stddef.h>
@@ -60,7 +61,7 @@ static uint32_t hand_in(struct parse *parse, int is_exact, uint8_t kind)
     return did;
 }
 
-static unsigned long places, tried, refused, differ;
+static unsigned long places, tried, completed, refused, differ;
 
 static void complain(const char *what, uint8_t kind, int is_exact, uint32_t expected)
 {
@@ -107,6 +108,23 @@ static void try_kinds(const struct parse *parse, int is_exact, uint32_t expected
     places++;
 }
 
+/* Completes a copy of a parse: each token that this takes brings the end nearer. */
+static void complete(struct parse parse, int is_exact, uint32_t expected)
+{
+    size_t most = parse.steps.machine.marks_count + 2, count = 0;
+    uint8_t kind = 0;
+
+    for (uint32_t next = expected; next != 0 && count <= most; count++) {
+        kind = pokhvizi_completing(next);
+        if (hand_in(&parse, is_exact, kind) == POKHVIZI_FAULT)
+            return complain("not completed", kind, is_exact, next);
+        next = expected_at(&parse.steps, &parse, is_exact);
+    }
+    if (expected != 0 && (kind != 2 || count > most))
+        complain("not completed by so few", kind, is_exact, expected);
+    completed += count;
+}
+
 /* Draws a list and goes through it. */
 static void walk(int is_exact, int is_turned)
 {
@@ -120,6 +138,8 @@ static void walk(int is_exact, int is_turned)
         if (is_turned)
             expected &= expected - 1;
         try_kinds(&parse, is_exact, expected);
+        if (!is_turned)
+            complete(parse, is_exact, expected);
         uint8_t kind = kind_of(expected);
         memset(&before, 0, sizeof before);
         memcpy(&before, &parse.steps, BEFORE);
@@ -146,6 +166,7 @@ int main(int count, char **words)
     make_facts();
     for (unsigned long lists = strtoul(words[1], NULL, 10); lists > 0; lists--)
         walk((int)(lists & 1), is_turned);
-    printf("%lu places, %lu kinds tried, %lu lists refused: %lu differ\n", places, tried, refused, differ);
+    printf("%lu places, %lu kinds tried, %lu completed by %lu tokens, %lu lists refused: %lu differ\n", places, tried, places,
+           completed, refused, differ);
     return differ != 0 || refused == 0;
 }

@@ -283,6 +283,20 @@ static __inline size_t pokhvizi_expected_words(uint32_t expected, char *text, si
     return length;
 }
 
+/* The kind of a token that brings the end of the stream nearer, of those that may come next; 0 if none may. Handed in one after
+ * another, with fact 0, or 1 for a scalar, such tokens complete what was read: they are at most two more than the collections that
+ * are open. */
+static __inline uint8_t pokhvizi_completing(uint32_t expected)
+{
+    static const uint8_t ends[7] = {2, 11, 13, 9, 5, 21, 1};
+    size_t i;
+
+    for (i = 0; i < 7; i++)
+        if (expected >> ends[i] & 1)
+            return ends[i];
+    return 0;
+}
+
 #ifdef __cplusplus
 }
 #endif
