@@ -1,5 +1,5 @@
 //! Which types of token may come next.
-ghost use Rattle.std.specs.Prelude.{◌≡◌, ◌≤◌, ◌||◌, ◌-◌, List, length};
+ghost use Rattle.std.specs.Prelude.{◌≡◌, ◌≤◌, ◌||◌, List, length};
 ghost use Rattle.libyaml_types.specs.declared.mark.yaml_mark_t.{yaml_mark_t};
 ghost use Rattle.libyaml_types.specs.declared.enums.yaml_token_type_t.{yaml_token_type_t};
 ghost use Rattle.libyaml_automaton.specs.Acceptable.{acceptable, taken_after_directive, taken_after_document};
@@ -17,7 +17,7 @@ use crate::next::Next;
 use crate::node_place::NodePlace;
 use crate::reading::Reading;
 use crate::slot::Slot;
-use crate::stacks::state_of_number;
+use crate::stacks::{state_of_number, top_state};
 use crate::token_types::TokenTypes;
 use libyaml_types::yaml_parser_state_t;
 use libyaml_types::yaml_parser_state_t::*;
@@ -203,19 +203,6 @@ fn expected_in(state: yaml_parser_state_t, behind_document_end: bool) -> TokenTy
         YAML_PARSE_FLOW_MAPPING_EMPTY_VALUE_STATE => pair_done(),
         _ => TokenTypes::none(),
     }
-}
-
-/// Returns the state on top of so many.
-#[tactic(auto, using(crate::proofs::Tops::popped_states))]
-fn top_state(states: &[u8], count: usize) -> yaml_parser_state_t
-    requires { count ≤ length states.now }
-    ensures top { result ≡ top (states_of count states.now) }
-    ensures below { states_of (count - 1) states.now ≡ below (states_of count states.now) }
-{
-    if count == 0 {
-        return YAML_PARSE_END_STATE;
-    }
-    state_of_number(states[count - 1])
 }
 
 /// Returns what a state takes, where so many states lie below it.

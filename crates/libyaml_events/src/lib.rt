@@ -2,6 +2,7 @@
 #![tactic(auto)]
 
 mod automaton;
+mod completing;
 mod entries;
 mod event_kinds;
 mod handle_table;

@@ -1,5 +1,5 @@
 //! A parser that is handed its tokens.
-ghost use Rattle.std.specs.Prelude.{◌≡◌, ◌≤◌, ◌<◌, [], IfErr, IfOk, true, false};
+ghost use Rattle.std.specs.Prelude.{◌≡◌, ◌≤◌, ◌<◌, ◌+◌, [], IfErr, IfOk, length, true, false};
 ghost use Rattle.std.specs.Vec.{vec_capacity, vec_len};
 ghost use Rattle.libyaml_types.specs.Fault.{fault_of, no_fault};
 ghost use Rattle.libyaml_types.specs.declared.enums.yaml_token_type_t.{yaml_token_type_t};
@@ -8,7 +8,9 @@ ghost use Rattle.libyaml_events.specs.machine.Outcomes.{wanted};
 ghost use Rattle.libyaml_events.specs.machine.Config.{config_of, ended_or_failed, is_fault};
 ghost use Rattle.libyaml_events.specs.machine.StepsOnto.{StepsOnto};
 ghost use Rattle.libyaml_events.specs.automaton.View.{Ready};
-ghost use Rattle.libyaml_events.specs.sources.Acceptable.{AreAcceptable};
+ghost use Rattle.libyaml_grammar.specs.grammar.ValidLists.{IsViablePrefix};
+ghost use Rattle.libyaml_events.specs.parsers.Stages.{open_collections, stage_of};
+ghost use Rattle.libyaml_events.specs.sources.Acceptable.{AreAcceptable, Complete};
 ghost use Rattle.libyaml_events.specs.sources.Pushed.{has_stopped};
 ghost use Rattle.libyaml_events.specs.sources.Pushed.{new_push_parser, push_parser_at, ForPushed, Pushed};
 ghost use Rattle.libyaml_events.specs.sources.Pushed.{fault_in};
@@ -20,8 +22,10 @@ use crate::parser::TokenParser;
 use crate::pending::Pending;
 use crate::step::Step;
 use libyaml_automaton::TokenTypes;
-use libyaml_types::{yaml_error_type_t, yaml_event_t, yaml_parser_t_prefix, yaml_token_t};
-use std::alloc::Global;
+use libyaml_types::{
+    yaml_error_type_t, yaml_event_t, yaml_parser_t_prefix, yaml_token_t, yaml_token_type_t,
+};
+use std::alloc::{AllocError, Global};
 use std::marker::Model;
 
 /// Names the steps whose event is put in place (`TokenParser::step`).
@@ -141,6 +145,28 @@ impl yaml_push_parser_t {
             return TokenTypes::none();
         }
         self.token_parser.expected(&self.pending)
+    }
+
+    /// Returns the types of the tokens that complete those pushed so far to a valid list, in order, if they
+    /// begin one: the stream's start, a document's start or a node, if one is due, then what ends each open
+    /// collection, and the stream's end. After the stream's end or an error it returns none.
+    ///
+    /// A scalar among them is empty and plain; marks may be any.
+    ///
+    /// # Errors
+    ///
+    /// If an allocation failed.
+    pub fn completion(&self, alloc: Global) -> Result<Vec<yaml_token_type_t>, AllocError>
+        ensures completes { IfOk result (λ types. ForPushed self.now (λ tokens _. IsViablePrefix tokens
+            → Complete types.items tokens)) }
+        ensures few { IfOk result (λ types. ForPushed self.now (λ tokens events. IsViablePrefix tokens
+            → length types.items ≤ open_collections (stage_of events) + 2)) }
+        ensures stopped { has_stopped self.now ≡ true → IfOk result (λ types. types.items ≡ []) }
+    {
+        if self.token_parser.is_over() {
+            return Ok(Vec::new(alloc));
+        }
+        self.token_parser.completion(alloc, &self.pending)
     }
 
     /// Does nothing. A parser that keeps no error has a history: some pushes lead to a parser like it.

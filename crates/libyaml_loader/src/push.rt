@@ -1,18 +1,22 @@
 //! A loader that is handed its tokens.
-ghost use Rattle.std.specs.Prelude.{◌≡◌, ◌≤◌, [], pos, ◌≤ℤ◌, IfErr};
+ghost use Rattle.std.specs.Prelude.{◌≡◌, ◌≤◌, [], pos, ◌≤ℤ◌, IfErr, IfOk, true, false};
 ghost use Rattle.std.specs.Vec.{vec_capacity, vec_len};
 ghost use Rattle.libyaml_types.specs.Fault.{fault_of, no_fault};
+ghost use Rattle.libyaml_types.specs.declared.enums.yaml_token_type_t.{yaml_token_type_t};
+ghost use Rattle.libyaml_automaton.specs.Acceptable.{has};
+ghost use Rattle.libyaml_grammar.specs.grammar.ValidLists.{IsViablePrefix};
+ghost use Rattle.libyaml_events.specs.sources.Acceptable.{AreAcceptable, Complete};
 ghost use Rattle.libyaml_events.specs.sources.Pushes.{done_of};
 ghost use Rattle.libyaml_loader.specs.document.Ids.{magnitude};
 ghost use Rattle.libyaml_loader.specs.pushes.Loaded.{ForLoaded, Loaded, RemembersLoads, loader_fault};
-ghost use Rattle.libyaml_loader.specs.pushes.Loaded.{made_loader};
+ghost use Rattle.libyaml_loader.specs.pushes.Loaded.{loader_has_stopped, made_loader};
 ghost use Rattle.libyaml_loader.specs.pushes.PushesLoads.{PushesLoads};
 
 use crate::composer::DocumentBuilder;
 use libyaml_documents::yaml_document_t;
-use libyaml_events::{yaml_parser_t_prefix, yaml_push_parser_t};
-use libyaml_types::{yaml_error_type_t, yaml_event_t, yaml_token_t};
-use std::alloc::Global;
+use libyaml_events::{TokenTypes, yaml_parser_t_prefix, yaml_push_parser_t};
+use libyaml_types::{yaml_error_type_t, yaml_event_t, yaml_token_t, yaml_token_type_t};
+use std::alloc::{AllocError, Global};
 use std::marker::Model;
 
 /// A loader that is handed one token after another.
@@ -132,6 +136,36 @@ impl yaml_push_loader_t {
             return Err(fault.error);
         }
         Ok(())
+    }
+
+    /// Returns which types of token may come next, as `yaml_push_parser_t::expected` does. After the stream's
+    /// end or an error none may.
+    pub fn expected(&self) -> TokenTypes
+        ensures acceptable { ForLoaded self.now (λ tokens _. AreAcceptable result tokens) }
+        ensures stopped { loader_has_stopped self.now ≡ true → (k : yaml_token_type_t) → has result k ≡ false }
+    {
+        if self.composer.kept().is_err() {
+            return TokenTypes::none();
+        }
+        self.parser.expected()
+    }
+
+    /// Returns the types of the tokens that complete those pushed so far, as `yaml_push_parser_t::completion`
+    /// does: once they are pushed, the document that is open is given with all its nodes so far. After the
+    /// stream's end or an error it returns none.
+    ///
+    /// # Errors
+    ///
+    /// If an allocation failed.
+    pub fn completion(&self, alloc: Global) -> Result<Vec<yaml_token_type_t>, AllocError>
+        ensures completes { IfOk result (λ types. ForLoaded self.now (λ tokens _. IsViablePrefix tokens
+            → Complete types.items tokens)) }
+        ensures stopped { loader_has_stopped self.now ≡ true → IfOk result (λ types. types.items ≡ []) }
+    {
+        if self.composer.kept().is_err() {
+            return Ok(Vec::new(alloc));
+        }
+        self.parser.completion(alloc)
     }
 
     /// Does nothing. A loader that keeps no error has a history: some pushes lead to a loader like it.
