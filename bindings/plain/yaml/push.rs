@@ -1,9 +1,10 @@
 //! A parser and a loader that are handed their tokens.
 
-use super::{Document, Error, Event, Token, TokenTypes};
-use crate::kit::{Global, Vec as List};
+use super::{Document, Encoding, Error, Event, Mark, ScalarStyle, Token, TokenData, TokenType, TokenTypes};
+use crate::kit::{Global, String, Vec as List};
 use crate::libyaml_events::yaml_push_parser_t;
 use crate::libyaml_loader::yaml_push_loader_t;
+use crate::libyaml_types::unnamed_yaml_token_t_data_scalar;
 use alloc::vec::Vec;
 use core::{fmt, mem};
 
@@ -37,6 +38,36 @@ impl PushParser {
     pub fn expected(&self) -> TokenTypes {
         self.parser.expected()
     }
+
+    /// Completes the tokens so far to a whole stream, by empty tokens at this mark, and appends the events. After
+    /// the stream's end or an error it does nothing.
+    ///
+    /// # Errors
+    ///
+    /// Out of memory; that of a tag without content whose handle is undefined.
+    pub fn complete(&mut self, mark: Mark, events: &mut Vec<Event>) -> Result<(), Error> {
+        for kind in self.parser.completion(Global)? {
+            self.push(empty(kind, mark), events)?;
+        }
+        Ok(())
+    }
+}
+
+/// Returns a token of a type that completes a stream, with no text.
+fn empty(kind: TokenType, mark: Mark) -> Token {
+    let data = match kind {
+        TokenType::YAML_STREAM_START_TOKEN => TokenData::stream_start(Encoding::YAML_ANY_ENCODING),
+        TokenType::YAML_STREAM_END_TOKEN => TokenData::StreamEnd,
+        TokenType::YAML_DOCUMENT_START_TOKEN => TokenData::DocumentStart,
+        TokenType::YAML_BLOCK_END_TOKEN => TokenData::BlockEnd,
+        TokenType::YAML_FLOW_SEQUENCE_END_TOKEN => TokenData::FlowSequenceEnd,
+        TokenType::YAML_FLOW_MAPPING_END_TOKEN => TokenData::FlowMappingEnd,
+        _ => TokenData::Scalar(unnamed_yaml_token_t_data_scalar {
+            value: String::new(Global),
+            style: ScalarStyle::PLAIN,
+        }),
+    };
+    Token::new(data, mark, mark)
 }
 
 /// A loader that is handed one token after another.
@@ -62,6 +93,24 @@ impl PushLoader {
         let pushed = self.loader.push(token, &mut list);
         *documents = list.into();
         Ok(pushed?)
+    }
+
+    /// Returns which types of token may come next, as [`PushParser::expected`] does.
+    pub fn expected(&self) -> TokenTypes {
+        self.loader.expected()
+    }
+
+    /// Completes the tokens so far to a whole stream, as [`PushParser::complete`] does, and appends the document
+    /// that was open, with its nodes so far: half a document, where the next token isn't expected.
+    ///
+    /// # Errors
+    ///
+    /// Those of [`PushParser::complete`].
+    pub fn complete(&mut self, mark: Mark, documents: &mut Vec<Document>) -> Result<(), Error> {
+        for kind in self.loader.completion(Global)? {
+            self.push(empty(kind, mark), documents)?;
+        }
+        Ok(())
     }
 }
 

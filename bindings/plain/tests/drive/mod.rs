@@ -119,6 +119,36 @@ fn pushed(bytes: &[u8]) -> Run<Event> {
     (events, None)
 }
 
+/// Completes what stands before a token that isn't expected: then nothing is lacking, and the document that was open is
+/// given. What stands in a token may be an error.
+fn assert_completed(bytes: &[u8], all: &[Event]) {
+    let (mut parser, mut events) = (PushParser::new(), Vec::new());
+    let (mut loader, mut documents) = (PushLoader::new(), Vec::new());
+    let (mut is_refused, mut is_loaded) = (false, true);
+    let (tokens, again) = (tokens_of(bytes), tokens_of(bytes));
+    let mark = tokens[tokens.len() - 1].end_mark;
+    for (token, again) in tokens.into_iter().zip(again) {
+        if !parser.expected().contains(token.type_()) {
+            break;
+        }
+        is_refused |= parser.push(token, &mut events).is_err();
+        is_loaded &= loader.push(again, &mut documents).is_ok();
+    }
+    assert!(all.starts_with(&events));
+    if let Err(error) = parser.complete(mark, &mut events) {
+        assert_eq!(error.problem(), Some("found undefined tag handle"));
+        is_refused = true;
+    }
+    assert_nested(&events, !is_refused);
+    let before = documents.len();
+    is_loaded &= loader.complete(mark, &mut documents).is_ok();
+    let ends = events
+        .iter()
+        .filter(|event| event.type_() == EventType::YAML_DOCUMENT_END_EVENT);
+    assert_eq!(documents.len(), if is_loaded { ends.count() } else { before });
+    assert!(parser.expected() == TokenTypes::none() && loader.expected() == TokenTypes::none());
+}
+
 /// Starts and ends fit, documents don't overlap, and no event ends before it begins.
 fn assert_nested(events: &[Event], is_whole: bool) {
     let mut open = Vec::new();
@@ -152,6 +182,7 @@ pub fn drive(bytes: &[u8]) -> Seen {
     assert_nested(&all.0, all.1.is_none());
     assert_eq!(events_in_place(bytes), (all.0.len(), all.1));
     assert_eq!(pushed(bytes), all);
+    assert_completed(bytes, &all.0);
     assert_limited(bytes, &all);
     let composed = run_of(ComposedEvents::new(TokenList::from(tokens_of(bytes))));
     let loaded = run_of(Documents::new(TokenList::from(tokens_of(bytes))));
