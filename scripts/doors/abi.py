@@ -114,8 +114,7 @@ def differing_functions():
             there[name] = [c_type(result), *((re.sub(r"(\w)$", r"\1 ", c_type(kind)), parameter) for parameter, kind in pairs)]
         wanted = dict(declared)
         if file.startswith("rust"):
-            for name in "pokhvizi_carrier", "pokhvizi_differs", "pokhvizi_expected":
-                wanted.pop(name)  # it has a hash table in the first one's place, and no use for the others
+            wanted.pop("pokhvizi_carrier")  # it has a hash table in its place
         yield from (f"{file}: {name}" for name in sorted(set(wanted) | set(there)) if wanted.get(name) != there.get(name))
 
 
@@ -143,10 +142,36 @@ def words_of(header):
     return [tuple(pair) for pair in strings]
 
 
+def words_of_types(header):
+    """The words of each type of token, by its number, in the order in which they are told."""
+    table = one(r"\*const words\[22\] = \{\n(.*?)\n    \};", header, "steps.h")
+    words = re.findall(r'"(.*?)"', table)
+    order = [int(number) for number in one(r"order\[20\] = \{(.*?)\}", header, "steps.h").split(", ")] + [2]
+    return [(kind, words[kind]) for kind in order]
+
+
+def numbers_of_types(header):
+    """The number of each type of token, by its name."""
+    listed = one(r"Tokens:  (.*?)\n \* Events:", header, "steps.h")
+    return {name: int(number) for number, name in re.findall(r"(\d+) ([A-Z-]+)", listed)}
+
+
+def differing_types(header, rust):
+    """What is another in the words of types of token, of Rust and of Python, in words."""
+    wanted, numbers = words_of_types(header), numbers_of_types(header)
+    there = re.findall(r'\(YAML_(\w+)_TOKEN, "(.*?)"\)', one(r"const WORDS: .*? = \[\n(.*?)\n\];", rust, "errors.rs"))
+    if [(numbers[name.replace("_", "-")], words) for name, words in there] != wanted:
+        yield "Rust's WORDS"
+    python = one(r"\nWORDS = \{\n(.*?)\n\}", (BINDINGS / "python/src/pokhvizi/__init__.py").read_text(), "__init__.py")
+    there = re.findall(r'(\d+): (?:"(.*?)"|None)', python)
+    if [(int(kind), words or dict(wanted)[int(kind)]) for kind, words in there] != wanted:
+        yield "Python's WORDS"
+
+
 def differing():
     """What the bindings have by hand and the headers otherwise."""
     headers = {name: (C / "include/pokhvizi" / f"{name}.h").read_text() for name in ("steps", "compose")}
-    rust = {name: (BINDINGS / "rust/src" / f"{name}.rs").read_text() for name in ("steps", "composer", "fault")}
+    rust = {name: (BINDINGS / "rust/src" / f"{name}.rs").read_text() for name in ("steps", "composer", "fault", "errors")}
     yield from differing_structs({struct.name: struct for struct in layout.structs()})
     yield from differing_functions()
     python = one(r"^    (WANTS, [A-Z_, ]+) = range\(\d+\)$".replace("^", "(?m:^)").replace("$", "(?m:$)"),
@@ -156,6 +181,7 @@ def differing():
     too_deep = re.search(r"POKHVIZI_TOO_DEEP = (\d+)", headers["steps"])[1]
     if f"const TOO_DEEP: usize = {too_deep};" not in rust["steps"]:
         yield "Rust's TOO_DEEP"
+    yield from differing_types(headers["steps"], rust["errors"])
     for header, table in (("steps", "PROBLEMS"), ("compose", "REFUSALS")):
         there = [tuple(pair) for pair in PAIR.findall(one(rf"const {table}: .*? = \[\n(.*?)\n\];", rust["fault"], "fault.rs"))]
         if there != words_of(headers[header]):

@@ -34,6 +34,8 @@
 #                        words; SEED is another draw
 #     unique_keys        loads of 20,000 drawn texts where keys have to differ, preloaded and by the crate, beside a walk over
 #                        PyYAML's events; SEED is another draw
+#     errors             what is told of an error beside its words, over 20,000 drawn texts, by the crate and by the C loaders of
+#                        bindings/python, also with the fixes; SEED is another draw
 #     hostile_texts      texts that cost more than their length, and broken ones, at each door with its bounds and without, as
 #                        hostile_texts.py says; bench/results/hostile.md has its figures
 #     crate              the tests of bindings/rust, over those texts, and with its feature `fixes`; and over the crate `pokhvizi` in
@@ -425,6 +427,22 @@ unique_keys() {
     echo "of $(wc -l < "$work/keys_names") texts ${said% *} have a key twice"
 }
 
+# What is told of the errors of drawn texts. With the fixes another thing is.
+errors() {
+    build_bounds errors_exact '' errors && build_bounds errors_fixes '"fixes"' errors && exact_texts || return 1
+    for how in exact fixes; do
+        "$CARGO_TARGET_DIR/release/errors_$how" < "$work/exact_names" > "$work/errors_$how" &&
+            PYTHONPATH=$work/python "$python" "$lists/errors.py" $how < "$work/exact_names" > "$work/errors_python_$how" || return 1
+        said=$("$python" "$lists/errors.py" compare "$work/errors_$how" "$work/errors_python_$how") || { echo "$said"; return 1; }
+        told="${told:-}${told:+; with the fixes }$said"
+    done
+    if "$python" "$lists/errors.py" compare "$work/errors_exact" "$work/errors_python_fixes" > "$work/turned"; then
+        echo "a parser with the fixes passes"
+        return 1
+    fi
+    echo "$told"
+}
+
 hostile_texts() {
     build_bounds bounds '"fixes"' && build_bounds bounds_exact '' || return 1
     if "$python" scripts/doors/hostile_texts.py --turned "yaml=$dir/yaml" > "$work/turned"; then
@@ -609,11 +627,11 @@ prepare_cargo() {
         "$(realpath "$crates")" > "$CARGO_HOME/config.toml"
 }
 
-# build_bounds NAME FEATURES: bounds.rs over the crate with these features, as a program of this name.
+# build_bounds NAME FEATURES [SOURCE]: bounds.rs, or another, over the crate with these features, as a program of this name.
 build_bounds() {
     prepare_cargo
     mkdir -p "$work/$1_crate/src"
-    cp "$lists/bounds.rs" "$work/$1_crate/src/main.rs"
+    cp "$lists/${3:-bounds}.rs" "$work/$1_crate/src/main.rs"
     printf '[package]\nname = "%s"\nversion = "0.0.0"\nedition = "2021"\n[dependencies]\n' "$1" > "$work/$1_crate/Cargo.toml"
     printf 'unsafe-libyaml = { path = "%s", features = [%s] }\n[workspace]\n' "$work/unsafe_libyaml" "$2" >> "$work/$1_crate/Cargo.toml"
     (cd "$work/$1_crate" && cargo build -q --release -j 1)
@@ -727,7 +745,7 @@ serde_yaml() {
 
 wanted=$*
 for word in $wanted; do
-    case " preload all_lists python_lists events pipe_c pyyaml_c psych pyyaml_pure loaders pipe_python pyyaml_ext cloaders exact_c exact_python bounds unique_keys hostile_texts crate loads_rust pipe_rust yaml_test_suite serde_yaml " in
+    case " preload all_lists python_lists events pipe_c pyyaml_c psych pyyaml_pure loaders pipe_python pyyaml_ext cloaders exact_c exact_python bounds unique_keys errors hostile_texts crate loads_rust pipe_rust yaml_test_suite serde_yaml " in
     *" $word "*) ;;
     *) echo "no check has the name $word" >&2; exit 2 ;;
     esac
@@ -750,6 +768,7 @@ check exact_c cc yaml.h libyaml_preload.so events -- exact_c
 check exact_python PyYAML _yaml.abi3.so -- exact_python
 check bounds PyYAML cc cargo yaml.h libyaml_preload.so events _yaml.abi3.so unsafe-libyaml -- bounds
 check unique_keys PyYAML cc cargo yaml.h libyaml_preload.so events unsafe-libyaml -- unique_keys
+check errors PyYAML cargo yaml.h _yaml.abi3.so unsafe-libyaml -- errors
 check hostile_texts PyYAML cc cargo /usr/bin/time yaml.h libyaml_preload.so events _yaml.abi3.so unsafe-libyaml crates/yamltokens/out/yamltokens -- hostile_texts
 check crate cargo unsafe-libyaml -- crate
 check loads_rust cargo valgrind unsafe-libyaml -- loads_rust

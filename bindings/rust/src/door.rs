@@ -14,6 +14,7 @@ mod plain {
     use super::{composer_t, sizes_t, steps_t};
 
     pub use pokhvizi::pokhvizi_c::compose::{pokhvizi_compose as compose, pokhvizi_count as count};
+    pub use pokhvizi::pokhvizi_c::steps::{pokhvizi_differs as differs, pokhvizi_expected as expected};
     pub use pokhvizi::pokhvizi_c::steps::{pokhvizi_step as step, pokhvizi_step_exact as step_exact};
     pub use pokhvizi::pokhvizi_c::tags::{pokhvizi_directive_fact as directive_fact, pokhvizi_tag as tag};
     pub use pokhvizi::pokhvizi_c::tags::pokhvizi_version_fact as version_fact;
@@ -65,6 +66,10 @@ mod archive {
             event: *mut step_event_t,
             fault: *mut step_fault_t,
         ) -> u32;
+
+        fn pokhvizi_differs(steps: *const steps_t, kind: u8) -> u8;
+
+        fn pokhvizi_expected(steps: *const steps_t, states: *const u8, states_room: usize) -> u32;
 
         fn pokhvizi_version_fact(major: i32, minor: i32) -> u8;
 
@@ -172,6 +177,14 @@ mod archive {
         let (states, states_room) = (states.as_mut_ptr(), states.len());
         let (marks, marks_room) = (marks.as_mut_ptr(), marks.len());
         unsafe { pokhvizi_step_exact(steps, states, states_room, marks, marks_room, kind, fact, at, event, fault) }
+    }
+
+    pub fn differs(steps: &steps_t, kind: u8) -> u8 {
+        unsafe { pokhvizi_differs(steps, kind) }
+    }
+
+    pub fn expected(steps: &steps_t, states: &[u8]) -> u32 {
+        unsafe { pokhvizi_expected(steps, states.as_ptr(), states.len()) }
     }
 
     pub fn version_fact(major: i32, minor: i32) -> u8 {

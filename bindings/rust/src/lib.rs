@@ -13,8 +13,8 @@
 //!
 //! [`yaml_parser_parse`], [`yaml_parser_load`] and [`yaml_parser_delete`] are replaced. A parse takes as many tokens of the
 //! scanner as its event needs, a load as many as its document needs, and their texts are moved. The `yaml_parser_t` itself keeps
-//! what the parser needs, in `problem_offset` while there is no error: so you may move and delete it as before, at any time, and
-//! two parsers share nothing.
+//! what the parser needs, in `problem_offset` while there is no error, and what an error tells, in its last field: so you may move
+//! and delete it as before, at any time, and two parsers share nothing.
 //!
 //! These differ from the original, besides what DIFFERENCES.md of the repository lists:
 //!
@@ -22,7 +22,7 @@
 //! - A load within a document that is being parsed is the parser's fault `load within a document`.
 //! - A load after a fault fails again with that fault.
 //! - A document with more nodes than it may have is the composer's fault `found too many nodes`, in place of one of memory.
-//! - [`POKHVIZI_VERSION`] and the module [`bounds`] are added.
+//! - [`POKHVIZI_VERSION`] and the modules [`bounds`] and [`errors`] are added.
 //!
 //! Events and errors are the original's. With the feature `fixes` they are those of this project's own grammar.
 
@@ -32,6 +32,7 @@ pub mod bounds;
 mod composer;
 mod documents;
 mod door;
+pub mod errors;
 mod events;
 mod expansion;
 mod fault;
@@ -103,5 +104,6 @@ pub unsafe fn yaml_parser_load(parser: *mut yaml_parser_t, document: *mut yaml_d
 /// Destroys a parser, as libyaml's `yaml_parser_delete`.
 pub unsafe fn yaml_parser_delete(parser: *mut yaml_parser_t) {
     run::discard(parser);
+    errors::discard(parser);
     original::yaml_parser_delete(parser);
 }

@@ -2,12 +2,13 @@
 
 use crate::bounds;
 use crate::door::{self, handle_t, step_event_t, step_fault_t, step_span_t, steps_t, text_t, Mark, ZERO_MARK};
+use crate::errors::Expected;
 use crate::fault::Fault;
 use crate::memory::{self, bytes, Text};
 use crate::tokens::Token;
 use original::*;
 use std::collections::HashMap;
-use std::mem::size_of;
+use std::mem::{size_of, MaybeUninit};
 use std::{iter, ptr, slice};
 
 pub type Shape = step_event_t;
@@ -21,6 +22,16 @@ const FULL_STATES: u32 = 3;
 const FULL_MARKS: u32 = 4;
 const FAULT: u32 = 5;
 pub const TOO_DEEP: usize = 13;
+
+// The problems of what stands in a directive or a tag: no token's kind is wrong.
+const INCOMPATIBLE: u8 = 4;
+const DUPLICATE_HANDLE: u8 = 5;
+const UNDECLARED_HANDLE: u8 = 8;
+
+/// Where exact steps refuse a document, as `pokhvizi_differs` says it.
+const BARE_DOCUMENT: u8 = 3;
+const VALUE: u8 = YAML_VALUE_TOKEN as u8;
+const VALUE_BIT: u32 = 1 << VALUE;
 
 const NO_PROBLEM: Problem = step_fault_t {
     problem: 0,
@@ -126,9 +137,47 @@ pub enum Did {
     Stays,
 }
 
+/// What a record's next tokens go by: its bytes before the marks.
+struct Before([MaybeUninit<u8>; Before::MOST]);
+
+impl Before {
+    const MOST: usize = 32;
+
+    fn new() -> Before {
+        Before([MaybeUninit::uninit(); Before::MOST])
+    }
+
+    /// Returns how many bytes these are.
+    #[inline]
+    fn length(record: &steps_t) -> usize {
+        ptr::addr_of!(record.read.mark) as usize - ptr::addr_of!(*record) as usize
+    }
+
+    /// Keeps what a record has.
+    #[inline]
+    fn keep(&mut self, record: &steps_t) {
+        let bytes: *const steps_t = record;
+        let kept = &mut self.0[..Before::length(record)];
+        // SAFETY: the record has as many bytes, and is another place.
+        unsafe { ptr::copy_nonoverlapping(bytes.cast(), kept.as_mut_ptr(), kept.len()) }
+    }
+
+    /// Returns a record with what was kept of one.
+    fn record(&self) -> steps_t {
+        let mut record = door::steps_new();
+        let kept = &self.0[..Before::length(&record)];
+        let bytes: *mut steps_t = &mut record;
+        // SAFETY: as above, and these bytes are of a record.
+        unsafe { ptr::copy_nonoverlapping(kept.as_ptr(), bytes.cast(), kept.len()) };
+        record
+    }
+}
+
 /// The parser's states, its stacks, and the tag directives of its document.
 pub struct Steps {
     record: steps_t,
+    /// What the record was before the token in hand.
+    before: Before,
     states: Vec<u8>,
     marks: Vec<Mark>,
     /// Where a step puts why it fails.
@@ -157,8 +206,11 @@ impl Steps {
 
     pub fn new() -> Steps {
         let max_depth = bounds::max_depth();
+        let (record, mut before) = (door::steps_new(), Before::new());
+        before.keep(&record);
         Steps {
-            record: door::steps_new(),
+            record,
+            before,
             states: vec![0; Steps::ROOM],
             marks: vec![ZERO_MARK; Steps::ROOM.min(max_depth)],
             problem: NO_PROBLEM,
@@ -184,8 +236,10 @@ impl Steps {
             let (states, marks) = (&mut self.states, &mut self.marks);
             let did = step(&mut self.record, states, marks, kind, fact, at, shape, &mut self.problem);
             match did {
-                WANTS => return Ok(Did::Wants),
-                GAVE => return Ok(Did::Gave),
+                WANTS | GAVE => {
+                    self.before.keep(&self.record);
+                    return Ok(if did == WANTS { Did::Wants } else { Did::Gave });
+                }
                 STAYS => return Ok(Did::Stays),
                 other => self.follow(other, at.start_mark)?,
             }
@@ -200,7 +254,10 @@ impl Steps {
     #[cold]
     fn follow(&mut self, did: u32, at: Mark) -> Result<(), Fault> {
         match did {
-            FAULT => Err(Fault::of_problem(&self.problem)),
+            FAULT => {
+                let expected = self.expected();
+                Err(Fault::of_problem(&self.problem, expected))
+            }
             FULL_STATES => grow(&mut self.states, 0),
             FULL_MARKS if self.marks.len() == self.max_depth => Err(Fault::too_deep(at)),
             FULL_MARKS => {
@@ -210,6 +267,43 @@ impl Steps {
             }
             _ => unreachable!("the stacks are as long as they are said to be"),
         }
+    }
+
+    /// Returns what could have stood in the place of the token in hand, if that was refused for its kind.
+    fn expected(&mut self) -> Expected {
+        let before = self.before.record();
+        match self.problem.problem {
+            INCOMPATIBLE | DUPLICATE_HANDLE | UNDECLARED_HANDLE => Expected::default(),
+            _ if cfg!(feature = "fixes") => Expected::of_bits(door::expected(&before, &self.states)),
+            _ => Expected::of_bits(self.exactly_expected(before)),
+        }
+    }
+
+    /// Returns what may come next by exact steps, as pokhvizi_expected_exact of steps.h.
+    fn exactly_expected(&mut self, before: steps_t) -> u32 {
+        let all = door::expected(&before, &self.states);
+        let is_bare = |kind: &u8| all >> kind & 1 == 1 && door::differs(&before, *kind) == BARE_DOCUMENT;
+        let bare = (1..22).filter(is_bare).fold(0, |bits, kind| bits | 1 << kind);
+        let left = all & !bare;
+        match left & VALUE_BIT != 0 && !self.takes_value(before) {
+            true => left & !VALUE_BIT,
+            false => left,
+        }
+    }
+
+    /// Returns whether exact steps go on with a VALUE from a record; of their stacks nothing changes.
+    fn takes_value(&mut self, mut record: steps_t) -> bool {
+        record.tag = 3; // its handle is taken as declared
+        let at = step_span_t {
+            start_mark: ZERO_MARK,
+            end_mark: ZERO_MARK,
+        };
+        let (mut shape, mut problem, mut did) = (BLANK, NO_PROBLEM, STAYS);
+        while did == STAYS {
+            let (states, marks) = (&mut self.states, &mut self.marks);
+            did = door::step_exact(&mut record, states, marks, VALUE, 0, &at, &mut shape, &mut problem);
+        }
+        did != FAULT
     }
 
     /// Returns the fact of a token.
