@@ -15,7 +15,7 @@ static const char USAGE[] =
     "Writes the lines of a YAML file's tokens, events, or documents and nodes; FILE may be -, for standard input.\n"
     "A fault of the YAML is the last of the events or nodes: FAULT, who found it, its mark and its words, and maybe a\n"
     "line CONTEXT. Marks are index:line:column, counted in characters from 0. A fault is told on standard error too,\n"
-    "with what was expected where it is a token's kind.\n"
+    "with what was expected where it is a token's kind, or the anchor, alias or tag handle that it is about.\n"
     "Exit status: 0 the file was read to its end, 1 it has a fault, 2 wrong words, 3 the file can't be read, the\n"
     "output can't be written, or there is no memory.\n";
 
@@ -265,12 +265,13 @@ struct run {
     struct text states, marks, stack;
     struct text handles, handle_texts;  /* of the document */
     struct text anchor, tag;            /* since the last event; the tag in full */
-    struct text next_tag;               /* the tag in full whose fact was asked for last */
+    struct text next_tag;               /* the tag in full whose fact was asked for last, or a handle that isn't declared */
     char version[32];                   /* of the next document; "-" where it has none */
     struct text nodes, anchors, texts;  /* of the document */
     struct text start;                  /* the rest of its line */
     pokhvizi_event_t opening;
     uint32_t expected;                  /* in the place of the token that was refused, or 0 */
+    struct text name;                   /* what the error is about: an anchor, an alias or a tag handle; or nothing */
 };
 
 #define ENTRIES(type, text) ((type *)(void *)(text).bytes)
@@ -309,6 +310,8 @@ static uint8_t tag_fact(struct run *run, const yaml_char_t *handle, const yaml_c
                                 run->handle_texts.bytes, run->handle_texts.length, handle, strlen((const char *)handle), suffix,
                                 suffix_length, run->next_tag.bytes, run->next_tag.room, &size);
     run->next_tag.length = fact < 4 ? size : 0;
+    if (fact == 4)
+        put_words(&run->next_tag, (const char *)handle);
     return fact;
 }
 
@@ -542,16 +545,20 @@ static void put_document(struct run *run, const pokhvizi_event_t *end)
     forget(run);
 }
 
-static int composer_fault(struct run *run, const pokhvizi_event_t *event, uint32_t deed, int32_t fact)
+static int composer_fault(struct run *run, const pokhvizi_event_t *event, const yaml_token_t *token, uint32_t deed, int32_t fact)
 {
     const char *context, *problem = pokhvizi_refusal(deed, &context);
     yaml_mark_t start = mark_of(event->start_mark);
 
-    if (deed != POKHVIZI_UNDEFINED_ALIAS && deed != POKHVIZI_REPEATED_ANCHOR)
+    if (deed == POKHVIZI_UNDEFINED_ALIAS)
+        put_words(&run->name, (const char *)token->data.alias.value);
+    else if (deed == POKHVIZI_REPEATED_ANCHOR)
+        put(&run->name, run->anchor.bytes, run->anchor.length);
+    else
         return FAILED;
     put_fault(&run->out, "FAULT composer", start, problem,
               deed == POKHVIZI_REPEATED_ANCHOR ? node_of(run, fact)->start : start, context);
-    return FAULTED;
+    return run->name.failed ? FAILED : FAULTED;
 }
 
 /* The id of the node that carries an event's anchor. */
@@ -585,7 +592,7 @@ static int compose(struct run *run, const pokhvizi_event_t *event, const yaml_to
             return FAILED;
     }
     if (deed > POKHVIZI_FULL_STACK)
-        return composer_fault(run, event, deed, fact);
+        return composer_fault(run, event, token, deed, fact);
     if (deed == POKHVIZI_BEGINS) {
         run->opening = *event;
         put_directives(run, &run->start);
@@ -619,6 +626,22 @@ static int take(struct run *run, const pokhvizi_event_t *event, const yaml_token
     return status;
 }
 
+/* Puts the error of a step at a token, with what was expected there or the handle that it is about. */
+static int parser_fault(struct run *run, const pokhvizi_fault_t *fault, const pokhvizi_steps_t *before, const yaml_token_t *token)
+{
+    enum { DUPLICATE_HANDLE = 5, UNDECLARED_HANDLE = 8 };
+    const char *context, *problem = pokhvizi_problem(fault->problem, &context);
+
+    put_fault(&run->out, "FAULT parser", mark_of(fault->problem_mark), problem, mark_of(fault->context_mark), context);
+    if (pokhvizi_is_unexpected(fault->problem))
+        run->expected = pokhvizi_expected(before, run->states.bytes, run->states.room);
+    else if (fault->problem == DUPLICATE_HANDLE)
+        put_words(&run->name, (const char *)token->data.tag_directive.handle);
+    else if (fault->problem == UNDECLARED_HANDLE)
+        put(&run->name, run->tag.bytes, run->tag.length);
+    return run->name.failed ? FAILED : FAULTED;
+}
+
 /* Takes a token, with all events that it gives. */
 static int take_token(struct run *run, const yaml_token_t *token)
 {
@@ -627,7 +650,6 @@ static int take_token(struct run *run, const yaml_token_t *token)
     const yaml_mark_t start = token->start_mark, end = token->end_mark;
     const pokhvizi_span_t at = {{start.index, start.line, start.column}, {end.index, end.line, end.column}};
     const pokhvizi_steps_t before = run->steps;
-    const char *context;
     int status = ENDED;
 
     for (;;) {
@@ -652,12 +674,7 @@ static int take_token(struct run *run, const yaml_token_t *token)
             widen(&run->marks, sizeof(pokhvizi_mark_t));
             break;
         default:
-            pokhvizi_problem(fault.problem, &context);
-            put_fault(&run->out, "FAULT parser", mark_of(fault.problem_mark), pokhvizi_problem(fault.problem, &context),
-                      mark_of(fault.context_mark), context);
-            if (pokhvizi_is_unexpected(fault.problem))
-                run->expected = pokhvizi_expected(&before, run->states.bytes, run->states.room);
-            return FAULTED;
+            return parser_fault(run, &fault, &before, token);
         }
     }
 }
@@ -666,7 +683,7 @@ static int take_token(struct run *run, const yaml_token_t *token)
 static int begin(struct run *run, int wants_nodes)
 {
     struct text *all[] = {&run->out, &run->states, &run->marks, &run->stack, &run->handles, &run->handle_texts, &run->anchor,
-                          &run->tag, &run->next_tag, &run->nodes, &run->anchors, &run->texts, &run->start};
+                          &run->tag, &run->next_tag, &run->nodes, &run->anchors, &run->texts, &run->start, &run->name};
     int is_there = 1;
 
     run->wants_nodes = wants_nodes;
@@ -681,7 +698,7 @@ static int begin(struct run *run, int wants_nodes)
 static void end(struct run *run)
 {
     struct text *all[] = {&run->out, &run->states, &run->marks, &run->stack, &run->handles, &run->handle_texts, &run->anchor,
-                          &run->tag, &run->next_tag, &run->nodes, &run->anchors, &run->texts, &run->start};
+                          &run->tag, &run->next_tag, &run->nodes, &run->anchors, &run->texts, &run->start, &run->name};
 
     forget(run);
     for (size_t i = 0; i < sizeof all / sizeof *all; i++)
@@ -754,13 +771,15 @@ static int say_fault(const char *name, struct text *text)
     return FAULTED;
 }
 
-/* Says on standard error what was expected where the error is, if anything was. */
-static void say_expected(uint32_t expected)
+/* Says on standard error what was expected where the error is, if anything was, and what it is about. */
+static void say_more(const struct run *run)
 {
     char words[512];
 
-    if (expected != 0 && pokhvizi_expected_words(expected, words, sizeof words) > 0)
+    if (run->expected != 0 && pokhvizi_expected_words(run->expected, words, sizeof words) > 0)
         fprintf(stderr, "yaml: expected: %s\n", words);
+    if (run->name.length > 0)
+        fprintf(stderr, "yaml: name: %.*s\n", (int)run->name.length, (const char *)run->name.bytes);
 }
 
 /* Reads a whole file. */
@@ -804,7 +823,7 @@ static int show(const char *mode, const char *name)
     } else if (is_read) {
         int written = write_out(&run.out);
         status = written != ENDED || status == ENDED ? written : say_fault(name, told);
-        say_expected(run.expected);
+        say_more(&run);
     }
     free(yaml.bytes);
     free(fault.bytes);

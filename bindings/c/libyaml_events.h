@@ -67,6 +67,7 @@ struct kept {
     uint32_t is_counted;
     uint32_t key;  /* for the hashes of anchors and handles, or 0 */
     one_step *step;  /* exactly libyaml's, or this project's own grammar's */
+    const yaml_char_t *name;  /* what the error is about, or NULL: see name_in */
 #ifdef WITH_EXPECTED
     uint8_t before[BEFORE];  /* what the steps began with, before the token that was taken last */
     uint8_t is_unexpected;   /* the error is that a token of its kind came */
@@ -430,7 +431,8 @@ APART uint8_t fact_of(yaml_parser_t *parser, const yaml_token_t *token, struct h
     }
 }
 
-/* Holds a tag in full, of which the fact was asked for; 0 where memory is refused, and then its texts are the token's. */
+/* Holds a tag in full, of which the fact was asked for, or its handle alone where that isn't declared, which is the next step's error;
+ * 0 where memory is refused, and then its texts are the token's. */
 static int hold_tag(yaml_parser_t *parser, const yaml_token_t *token, struct held *held)
 {
     size_t length = held->tag_length;
@@ -440,15 +442,18 @@ static int hold_tag(yaml_parser_t *parser, const yaml_token_t *token, struct hel
         free(token->data.tag.handle);
         return 1;
     }
-    if (length != SIZE_MAX) {  /* the handle is declared */
-        if ((held->tag = malloc(length + 1)) == NULL)
-            return 0;
-        if (length <= sizeof kept_of(parser)->tag)
-            memcpy(held->tag, kept_of(parser)->tag, length);
-        else
-            put_tag(parser, token, held->tag, length, &held->tag_length);
-        held->tag[length] = '\0';
+    if (length == SIZE_MAX) {
+        held->tag = token->data.tag.handle;
+        free(token->data.tag.suffix);
+        return 1;
     }
+    if ((held->tag = malloc(length + 1)) == NULL)
+        return 0;
+    if (length <= sizeof kept_of(parser)->tag)
+        memcpy(held->tag, kept_of(parser)->tag, length);
+    else
+        put_tag(parser, token, held->tag, length, &held->tag_length);
+    held->tag[length] = '\0';
     free(token->data.tag.handle);
     free(token->data.tag.suffix);
     return 1;
@@ -583,6 +588,36 @@ static int make_event(yaml_parser_t *parser, const pokhvizi_event_t *made, const
 }
 
 /* ---- The parser ---- */
+
+/* The anchor, alias or tag handle that an error is about; of another error, or without one, NULL. It is the parser's, and lasts until
+ * yaml_parser_delete. */
+static const yaml_char_t *name_in(const yaml_parser_t *parser)
+{
+    int is_ours = parser->error == YAML_PARSER_ERROR || parser->error == YAML_COMPOSER_ERROR;
+
+    return is_ours && kept_of(parser) != NULL ? kept_of(parser)->name : NULL;
+}
+
+/* Has a parser keep what its error is about, in the place of the tag directives, which it needs no longer. */
+static void keep_name(yaml_parser_t *parser, yaml_char_t **name)
+{
+    free(parser->tag_directives.start);
+    parser->tag_directives.start = (yaml_tag_directive_t *)(void *)*name;
+    parser->tag_directives.end = parser->tag_directives.top = parser->tag_directives.start;
+    kept_of(parser)->name = *name;
+    *name = NULL;
+}
+
+/* Names the handle that a step's error is about, if it is: that of the token in hand, which stays there, or the one that is held. */
+static void name_handle(yaml_parser_t *parser, uint8_t problem, struct held *held)
+{
+    enum { DUPLICATE = 5, UNDECLARED = 8 };
+
+    if (problem == DUPLICATE)
+        kept_of(parser)->name = parser->tokens.head->data.tag_directive.handle;
+    else if (problem == UNDECLARED)
+        keep_name(parser, &held->tag);
+}
 
 static int give_fault(yaml_parser_t *parser, const pokhvizi_fault_t *fault)
 {
@@ -731,6 +766,8 @@ APART int count_event(yaml_parser_t *parser, const pokhvizi_event_t *made, const
         parser->error = YAML_PARSER_ERROR;
         parser->problem = pokhvizi_refusal(deed, &parser->context);
         memcpy(&parser->problem_mark, &made->start_mark, sizeof parser->problem_mark);
+        if (deed == POKHVIZI_ENDLESS)
+            kept_of(parser)->name = anchor;
         return 0;
     }
     return !made->has_anchor || place.node == 0 || name_node(parser, anchor, place.node) || out_of_memory(parser);
@@ -791,7 +828,7 @@ static uint32_t expected_in(const yaml_parser_t *parser)
 #endif
 
 /* Does what a step asks for that gave no event, and wants no other token; 0 where there is an error. */
-SELDOM int follow(yaml_parser_t *parser, uint32_t did, const pokhvizi_fault_t *fault)
+SELDOM int follow(yaml_parser_t *parser, uint32_t did, const pokhvizi_fault_t *fault, struct held *held)
 {
     switch (did) {
     case POKHVIZI_FULL_STATES:
@@ -804,6 +841,7 @@ SELDOM int follow(yaml_parser_t *parser, uint32_t did, const pokhvizi_fault_t *f
 #ifdef WITH_EXPECTED
         kept_of(parser)->is_unexpected = pokhvizi_is_unexpected(fault->problem);
 #endif
+        name_handle(parser, fault->problem, held);
         return give_fault(parser, fault);
     default:
         parser->error = YAML_PARSER_ERROR;
@@ -836,7 +874,7 @@ OFTEN uint32_t advance(yaml_parser_t *parser, yaml_token_t **token, struct held 
             *token = NULL;
         } else if (did <= POKHVIZI_STAYS) {
             return did;
-        } else if (!follow(parser, did, &fault)) {
+        } else if (!follow(parser, did, &fault, held)) {
             return 0;
         }
     }

@@ -109,6 +109,13 @@ __attribute__((visibility("default"))) const char *pokhvizi_preload_version(void
     return POKHVIZI_VERSION;
 }
 
+/* The anchor, alias or tag handle that a parser's error is about; of another error, or without one, NULL. It is the parser's, and lasts
+ * until yaml_parser_delete. A program finds this call by its name, like the version. */
+__attribute__((visibility("default"))) const char *pokhvizi_preload_name(const yaml_parser_t *parser)
+{
+    return (const char *)name_in(parser);
+}
+
 /* Notes in the file that the environment's POKHVIZI_CHECK names that a stream is parsed here, for proved-libyaml. */
 static void note_use(void)
 {
@@ -516,6 +523,15 @@ static int begin_document(const yaml_parser_t *parser, const pokhvizi_event_t *m
     return done;
 }
 
+/* Names what a composer's error is about: an anchor that is held, or the alias in hand, which stays there. */
+static void name_anchor(yaml_parser_t *parser, uint32_t deed, const yaml_token_t *token, struct held *held)
+{
+    if (deed == POKHVIZI_REPEATED_ANCHOR)
+        keep_name(parser, &held->anchor);
+    else if (deed == POKHVIZI_UNDEFINED_ALIAS || deed == POKHVIZI_ENDLESS)
+        kept_of(parser)->name = token->data.alias.value;
+}
+
 static int give_composer_fault(yaml_parser_t *parser, uint32_t deed, const pokhvizi_event_t *made,
                                const yaml_document_t *document, int32_t first)
 {
@@ -561,6 +577,7 @@ SELDOM int follow_event(yaml_parser_t *parser, uint32_t deed, int32_t fact, cons
     case POKHVIZI_FULL_LIST:
     case POKHVIZI_TOO_LARGE:
     case POKHVIZI_ENDLESS:
+        name_anchor(parser, deed, token, held);
         return give_composer_fault(parser, deed, made, document, fact);
     default:
         return out_of_memory(parser);

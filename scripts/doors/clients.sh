@@ -34,8 +34,8 @@
 #                        words; SEED is another draw
 #     unique_keys        loads of 20,000 drawn texts where keys have to differ, preloaded and by the crate, beside a walk over
 #                        PyYAML's events; SEED is another draw
-#     errors             what is told of an error beside its words, over 20,000 drawn texts, by the crate and by the C loaders of
-#                        bindings/python, also with the fixes; SEED is another draw
+#     errors             what is told of an error beside its words, over 40,000 drawn texts, by the crate, by the C loaders of
+#                        bindings/python, and preloaded, also with the fixes; SEED is another draw
 #     hostile_texts      texts that cost more than their length, and broken ones, at each door with its bounds and without, as
 #                        hostile_texts.py says; bench/results/hostile.md has its figures
 #     crate              the tests of bindings/rust, over those texts, and with its feature `fixes`; and over the crate `pokhvizi` in
@@ -103,7 +103,7 @@ is_there() {
     PyYAML) (cd / && "$python" -c 'import yaml; yaml.CLoader') ;;
     libyaml_preload.so) [ -e "$preloaded" ] || build_preload ;;
     _yaml.abi3.so) [ -e "$work/python/pokhvizi/_yaml.abi3.so" ] || build_extension ;;
-    events) [ -e "$work/events" ] || cc -O2 -Wall -Wextra -Werror -o "$work/events" scripts/doors/clients/events.c -lyaml ;;
+    events) [ -e "$work/events" ] || cc -O2 -Wall -Wextra -Werror -o "$work/events" scripts/doors/clients/events.c -lyaml -ldl ;;
     psych) $ruby -e 'require "psych"; Psych::LIBYAML_VERSION' ;;
     unsafe-libyaml | serde_yaml | serde_derive | anyhow | indoc) set -- "$crates/$1-"*/Cargo.toml && [ -e "$1" ] ;;
     *) command -v "$1" ;;
@@ -211,7 +211,7 @@ preload() {
     memory='' ratios=''
     cc -O1 -g -Wall -Wextra -Werror -fPIC -shared -o "$work/libconstructor.so" scripts/doors/clients/constructor.c -lyaml &&
         cc -O1 -g -Wall -Wextra -Werror -Ibindings/c/include -o "$work/preload_calls" scripts/doors/clients/preload_calls.c \
-            "$dir/libpokhvizi.a" -L"$work" -Wl,-rpath,"$work" -lconstructor -lyaml -lpthread || return 1
+            "$dir/libpokhvizi.a" -L"$work" -Wl,-rpath,"$work" -lconstructor -lyaml -lpthread -ldl || return 1
     if POKHVIZI_FIXES=1 "$work/preload_calls" > "$work/calls" 2>&1; then
         echo "without the preload, the calls should differ"
         return 1
@@ -427,14 +427,22 @@ unique_keys() {
     echo "of $(wc -l < "$work/keys_names") texts ${said% *} have a key twice"
 }
 
-# What is told of the errors of drawn texts. With the fixes another thing is.
+# What is told of the errors of drawn texts, by the crate, by the C loaders for Python, and preloaded, which tells names alone. With the
+# fixes another thing is.
 errors() {
     build_bounds errors_exact '' errors && build_bounds errors_fixes '"fixes"' errors && exact_texts || return 1
+    mkdir -p "$work/named"
+    "$python" scripts/doors/extension/names.py write "$work/named" 20000 "${SEED:-1}" > "$work/errors_names" || return 1
+    cat "$work/exact_names" >> "$work/errors_names"
+    told=
     for how in exact fixes; do
-        "$CARGO_TARGET_DIR/release/errors_$how" < "$work/exact_names" > "$work/errors_$how" &&
-            PYTHONPATH=$work/python "$python" "$lists/errors.py" $how < "$work/exact_names" > "$work/errors_python_$how" || return 1
+        "$CARGO_TARGET_DIR/release/errors_$how" < "$work/errors_names" > "$work/errors_$how" &&
+            PYTHONPATH=$work/python "$python" "$lists/errors.py" $how < "$work/errors_names" > "$work/errors_python_$how" &&
+            POKHVIZI_FIXES=$(echo $how | sed 's/exact/0/') LD_PRELOAD=$preloaded "$work/events" names < "$work/errors_names" > "$work/errors_c" ||
+            return 1
         said=$("$python" "$lists/errors.py" compare "$work/errors_$how" "$work/errors_python_$how") || { echo "$said"; return 1; }
-        told="${told:-}${told:+; with the fixes }$said"
+        sed 's/: .* | / | /' "$work/errors_$how" | cmp - "$work/errors_c" || return 1
+        told="$told${told:+; with the fixes }$said"
     done
     if "$python" "$lists/errors.py" compare "$work/errors_exact" "$work/errors_python_fixes" > "$work/turned"; then
         echo "a parser with the fixes passes"
@@ -768,7 +776,7 @@ check exact_c cc yaml.h libyaml_preload.so events -- exact_c
 check exact_python PyYAML _yaml.abi3.so -- exact_python
 check bounds PyYAML cc cargo yaml.h libyaml_preload.so events _yaml.abi3.so unsafe-libyaml -- bounds
 check unique_keys PyYAML cc cargo yaml.h libyaml_preload.so events unsafe-libyaml -- unique_keys
-check errors PyYAML cargo yaml.h _yaml.abi3.so unsafe-libyaml -- errors
+check errors PyYAML cc cargo yaml.h libyaml_preload.so events _yaml.abi3.so unsafe-libyaml -- errors
 check hostile_texts PyYAML cc cargo /usr/bin/time yaml.h libyaml_preload.so events _yaml.abi3.so unsafe-libyaml crates/yamltokens/out/yamltokens -- hostile_texts
 check crate cargo unsafe-libyaml -- crate
 check loads_rust cargo valgrind unsafe-libyaml -- loads_rust

@@ -198,10 +198,10 @@ expect() {
     [ "$got" = "$status" ] || complain "$* has status $got, not $status"
 }
 
-# Wants status and one message line, and the message on standard error; what was expected may be said there, too.
+# Wants status and one message line, and the message on standard error; what was expected, or the name that it is about, may be said there, too.
 expect_message() {
     expect "$@"
-    [ "$(grep -c -v '^yaml: expected: ' "$work/err")" -eq 1 ] || complain "$*: $(wc -l < "$work/err") lines on standard error"
+    [ "$(grep -c -v -E '^yaml: (expected|name): ' "$work/err")" -eq 1 ] || complain "$*: $(wc -l < "$work/err") lines on standard error"
 }
 
 # Samples and broken texts, by a program that is named and the words before it.
@@ -275,13 +275,30 @@ check_refused() {
     echo "$mode of ${file##*/}: $((n - 1)) allocations refused in turn: $stopped ended by status 3 with no output, $same had the whole output"
 }
 
+# What is said of an error beside its words. Each row is a mode, a text, and the last line on standard error.
+check_said() {
+    while IFS='|' read -r mode text wanted; do
+        said=$(printf '%b' "$text" | "$work/plain_yaml" "$mode" - 2>&1 > /dev/null | tail -n 1)
+        [ "$said" = "yaml: $wanted" ] || complain "$mode of $text: $said, and not $wanted"
+    done << 'END'
+events|[a }|expected: ',' or ']'
+nodes|- *ab\n|name: ab
+nodes|- &x 1\n- !t &x 2\n|name: x
+events|!e!x &a b|name: !e!
+events|&a !e!x b|name: !e!
+nodes|!e!x|name: !e!
+events|%TAG !e! a\n%TAG !f! b\n%TAG !e! c\n---|name: !e!
+events|%YAML 2.0\n---|-: line 1, column 1: found incompatible YAML document (parser)
+nodes|[&a b, *a }|expected: ',' or ']'
+END
+}
+
 check_yaml() {
     build="$cc -O1 -g -Wall -Wextra -Werror -Ibindings/c/include examples/yaml.c $library -lyaml"
     $build -o "$work/plain_yaml" || exit 2
     $build -fsanitize=address,undefined -fno-sanitize-recover=all -o "$work/sanitized_yaml" || exit 2
     $cc -O2 -Wall -Wextra -fPIC -shared -o "$work/fail_allocation.so" scripts/doors/fail_allocation.c || exit 2
-    said=$(printf '[a }' | "$work/plain_yaml" events - 2>&1 > /dev/null | tail -n 1)
-    [ "$said" = "yaml: expected: ',' or ']'" ] || complain "examples/yaml.c says: $said"
+    check_said
     check_texts plain "$work/plain_yaml"
     check_texts sanitizers "$work/sanitized_yaml"
     check_texts valgrind $memory "$work/plain_yaml"
@@ -290,6 +307,7 @@ check_yaml() {
         check_refused $mode examples/compose.yaml
         check_refused $mode scripts/parts/broken/scanner_quote_never_closed.yaml
         check_refused $mode scripts/parts/whole/verbatim_tags.yaml
+        check_refused $mode scripts/parts/broken/parser_handle_that_is_not_defined.yaml
     done
     check_refused tokens examples/compose.yaml
     check_refused tokens scripts/parts/whole/verbatim_tags.yaml

@@ -6,7 +6,7 @@
 # DIR has the libraries that build_c.sh made there.
 #
 # Tokens, events, nodes, values and errors beside those of PyYAML's C loaders, with all fields and marks: over the repository's
-# own texts, and YAML files below /usr and /opt; how much of a stream has been read when each comes; what an error says was expected; duplicate keys; each allocation of Python's and
+# own texts, and YAML files below /usr and /opt; how much of a stream has been read when each comes; what an error says was expected, and what it is about; duplicate keys; each allocation of Python's and
 # of libc's refused in turn; deep texts and bounds, drawn tag directives, calls in any order, loaders that are called while they
 # are at work, a second interpreter, cycles and leaks; what others put in the place of PyYAML's functions. With `all` there are more
 # files, deeper texts, and each text has its allocations refused. The status is 0 if all is as it should be.
@@ -95,6 +95,8 @@ check_turned streams "$python" $here/streams.py --turned examples/list.yaml
 
 check "what was expected" "$python" $here/expected.py 20000 1
 check_turned "what was expected" "$python" $here/expected.py 10 1 --turned
+check "what an error is about" "$python" $here/names.py 5000 1
+check_turned "what an error is about" "$python" $here/names.py 10 1 --turned
 check "keys that have to differ" "$python" $here/unique.py 20000 1
 check_turned "keys that have to differ" "$python" $here/unique.py 10 1 --turned
 

@@ -33,7 +33,7 @@ def front_fault(front, path):
     """The last lines of what the front writes of a broken text; it has to end with status 1."""
     done = subprocess.run([*front, "nodes", str(path)], stdout=subprocess.PIPE, stderr=subprocess.PIPE)
     found = FAULT.search(done.stdout.decode())
-    told = [line for line in done.stderr.splitlines() if not line.startswith(b"yaml: expected: ")]
+    told = [line for line in done.stderr.splitlines() if not line.startswith((b"yaml: expected: ", b"yaml: name: "))]
     if done.returncode != 1 or found is None or len(told) != 1:
         return f"no fault: status {done.returncode}, {done.stderr.decode()}"
     return found.group()

@@ -2,10 +2,12 @@
 
 use crate::bounds;
 use crate::door::{self, composer_t, open_t, place_t};
+use crate::events::Held;
 use crate::expansion::Expansion;
 use crate::fault::Fault;
 use crate::keys::Keys;
 use crate::memory::Text;
+use crate::tokens::Token;
 use original::yaml_node_t;
 use std::collections::HashMap;
 
@@ -38,6 +40,7 @@ const CLOSES: u32 = 7;
 const FULL_STACK: u32 = 8;
 pub const UNDEFINED_ALIAS: u32 = 9;
 const REPEATED_ANCHOR: u32 = 10;
+const ENDLESS: u32 = 14;
 
 /// What is to be done to the document.
 #[derive(Clone, Copy, PartialEq)]
@@ -83,6 +86,18 @@ pub enum Refusal {
     Deed(u32, Option<i32>),
     /// No memory.
     Fault(Fault),
+}
+
+impl Refusal {
+    /// Takes the alias of the token in hand, or the anchor that is held, if it is refused for that.
+    #[cold]
+    pub unsafe fn name_of(&self, token: Option<&mut Token>, held: &mut Held) -> Option<Text> {
+        match self {
+            Refusal::Deed(UNDEFINED_ALIAS | ENDLESS, _) => token?.take_text(),
+            Refusal::Deed(REPEATED_ANCHOR, _) => held.take_name(),
+            _ => None,
+        }
+    }
 }
 
 /// What is looked at in a document if there are bounds on it.

@@ -13,11 +13,14 @@
 //!         yaml_event_delete(event.as_mut_ptr());
 //!     }
 //!     assert_eq!(errors::expected(parser).to_string(), "',' or ']'");
+//!     assert_eq!(errors::name(parser), None);
 //!     yaml_parser_delete(parser);
 //! }
 //! ```
 
+use crate::memory::Text;
 use original::*;
+use std::ffi::CStr;
 use std::fmt;
 use std::mem::{self, size_of};
 use std::ptr;
@@ -133,10 +136,17 @@ pub unsafe fn expected(parser: *const yaml_parser_t) -> Expected {
     kept(parser).map_or(Expected::default(), |beside| beside.expected)
 }
 
+/// Returns the anchor, the alias or the tag handle that a parser's error is about; of another error, or without one, `None`. It lasts
+/// until the parser is deleted.
+pub unsafe fn name<'a>(parser: *const yaml_parser_t) -> Option<&'a CStr> {
+    kept(parser)?.name.as_ref().map(|name| name.c_str())
+}
+
 /// What a parser keeps beside an error.
 #[derive(Default)]
 pub(crate) struct Beside {
     pub expected: Expected,
+    pub name: Option<Text>,
 }
 
 /// Returns the place of what a parser keeps: its last field, the document that is loaded, which the original's own loads alone use.
@@ -151,7 +161,7 @@ unsafe fn kept<'a>(parser: *const yaml_parser_t) -> Option<&'a Beside> {
 
 /// Has a parser keep this, if it tells something.
 pub(crate) unsafe fn keep(parser: *mut yaml_parser_t, beside: Beside) {
-    if !beside.expected.is_empty() {
+    if !beside.expected.is_empty() || beside.name.is_some() {
         place_of(parser).write(Box::into_raw(Box::new(beside)));
     }
 }

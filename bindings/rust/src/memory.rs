@@ -125,8 +125,14 @@ impl Text {
     /// Returns the bytes before the first zero byte.
     #[inline]
     pub fn bytes(&self) -> &[u8] {
+        self.c_str().to_bytes()
+    }
+
+    /// Returns the bytes up to the first zero byte.
+    #[inline]
+    pub fn c_str(&self) -> &CStr {
         // SAFETY: a zero byte is after the text.
-        unsafe { bytes(self.0.as_ptr()) }
+        unsafe { CStr::from_ptr(self.0.as_ptr().cast()) }
     }
 
     /// Returns the text, which has to be freed with an event, a node or a document.

@@ -3,6 +3,7 @@
 use crate::bounds;
 use crate::door::{self, handle_t, step_event_t, step_fault_t, step_span_t, steps_t, text_t, Mark, ZERO_MARK};
 use crate::errors::Expected;
+use crate::events::Held;
 use crate::fault::Fault;
 use crate::memory::{self, bytes, Text};
 use crate::tokens::Token;
@@ -266,6 +267,16 @@ impl Steps {
                 Ok(())
             }
             _ => unreachable!("the stacks are as long as they are said to be"),
+        }
+    }
+
+    /// Returns the handle that the last step's problem is about, which is of the token in hand or of the tag that is held.
+    #[cold]
+    pub unsafe fn handle_at_fault(&self, token: &mut Token, held: &mut Held) -> Option<Text> {
+        match self.problem.problem {
+            DUPLICATE_HANDLE => token.take_handle(),
+            UNDECLARED_HANDLE => held.take_handle(),
+            _ => None,
         }
     }
 

@@ -149,6 +149,8 @@ fn expansion_is_bounded() {
     }
     // A parse goes on where a load has another fault.
     bounds::set_max_expanded(6);
+    assert_eq!(unsafe { endless_name(false) }, "a");
+    assert_eq!(unsafe { endless_name(true) }, "a");
     for (text, fault, at) in [
         ("[*a, *a, *a, *a, *a, *a, *a]", "found undefined alias", 1),
         ("[&a [x, y], &a z, *a]", "second occurrence", 12),
@@ -163,6 +165,25 @@ fn expansion_is_bounded() {
         "found too many nodes 13"
     );
     bounds::set_max_nodes(u32::MAX);    keys_differ();
+}
+
+/// What the error of an alias within the node that it names is about.
+unsafe fn endless_name(loads: bool) -> String {
+    let (mut parser, text) = (Box::new(MaybeUninit::uninit()), b"&a [x, *a]");
+    let parser: *mut yaml_parser_t = parser.as_mut_ptr();
+    assert!(yaml_parser_initialize(parser).ok);
+    yaml_parser_set_input_string(parser, text.as_ptr(), text.len() as u64);
+    let (mut event, mut document) = (MaybeUninit::uninit(), MaybeUninit::uninit());
+    if loads {
+        assert!(!yaml_parser_load(parser, document.as_mut_ptr()).ok);
+    } else {
+        while yaml_parser_parse(parser, event.as_mut_ptr()).ok {
+            yaml_event_delete(event.as_mut_ptr());
+        }
+    }
+    let name = errors::name(parser).unwrap().to_string_lossy().into_owned();
+    yaml_parser_delete(parser);
+    name
 }
 
 /// A load refuses a key that its mapping has. Each row is a text, how many documents there are, and the fault.

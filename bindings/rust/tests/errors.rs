@@ -112,10 +112,50 @@ fn types_are_in_the_set() {
     unsafe { yaml_parser_delete(parser.as_mut_ptr()) };
 }
 
+/// A text, what its error is about in a parse, and in a load.
+const NAMES: [(&str, Option<&str>, Option<&str>); 20] = [
+    ("- *ab\n", None, Some("ab")),
+    ("- &x 1\n- !t &x 2\n", None, Some("x")),
+    ("- &x 1\n- &x !t\n", None, Some("x")),
+    ("&a [*a, &b {}, *c]", None, Some("c")),
+    ("--- &a b\n--- *a\n", None, Some("a")),
+    ("!e!x a", Some("!e!"), Some("!e!")),
+    ("!e!x &a b", Some("!e!"), Some("!e!")),
+    ("&a !e!x b", Some("!e!"), Some("!e!")),
+    ("- !a b\n- &c !d!e f\n", Some("!d!"), Some("!d!")),
+    ("%TAG !e! a\n--- !e!b c\n--- !e!d e\n", Some("!e!"), Some("!e!")),
+    ("!f!x &a &b c", Some("!f!"), Some("!f!")),
+    ("%TAG !e! a\n%TAG !f! b\n%TAG !e! c\n---", Some("!e!"), Some("!e!")),
+    ("%TAG !! a\n%TAG !! b\n---", Some("!!"), Some("!!")),
+    ("*a : [b }", None, Some("a")),
+    // No name: another error, or none.
+    ("[&a b }", None, None),
+    ("&a &b c", None, None),
+    ("%YAML 2.0\n---", None, None),
+    ("!e!x &a @", None, None),
+    ("[&a b, *a]", None, None),
+    ("", None, None),
+];
+
+#[test]
+fn an_error_says_what_it_is_about() {
+    for (text, of_parse, of_load) in NAMES {
+        for (loads, wanted) in [(false, of_parse), (true, of_load)] {
+            let mut parser = unsafe { read(text.as_bytes(), loads) };
+            let name = unsafe { errors::name(parser.as_ptr()) };
+            assert_eq!(name.map(|name| name.to_str().unwrap()), wanted, "{text}");
+            unsafe { yaml_parser_delete(parser.as_mut_ptr()) };
+            assert_eq!(unsafe { errors::name(parser.as_ptr()) }, None);
+        }
+    }
+}
+
 /// What an error tells lasts while its parser is moved, and while later calls fail.
 #[test]
 fn it_lasts_until_the_parser_is_deleted() {
     let mut parser = unsafe { read(b"[a }", true) };
+    let mut alias = unsafe { read(b"*a", true) };
+    let name = unsafe { errors::name(alias.as_ptr()) }.unwrap();
     let (mut event, mut document) = (MaybeUninit::uninit(), MaybeUninit::uninit());
     for _ in 0..3 {
         let moved = Box::new(unsafe { ptr::read(&*parser) });
@@ -123,9 +163,13 @@ fn it_lasts_until_the_parser_is_deleted() {
         parser = moved;
         let at = parser.as_mut_ptr();
         assert_eq!(unsafe { errors::expected(at) }.to_string(), "',' or ']'");
+        alias = Box::new(unsafe { ptr::read(&*alias) });
+        assert_eq!(unsafe { errors::name(alias.as_ptr()) }, Some(name));
+        assert_eq!(name.to_bytes(), b"a");
         assert!(!unsafe { yaml_parser_load(at, document.as_mut_ptr()) }.ok);
         assert!(unsafe { yaml_parser_parse(at, event.as_mut_ptr()) }.ok);
     }
+    unsafe { yaml_parser_delete(alias.as_mut_ptr()) };
     unsafe { yaml_parser_delete(parser.as_mut_ptr()) };
     assert!(unsafe { errors::expected(parser.as_ptr()) }.is_empty());
 }
@@ -177,7 +221,7 @@ unsafe fn place_of_document() -> Option<usize> {
 #[test]
 fn the_original_uses_its_place_for_loads_alone() {
     let at = unsafe { place_of_document() }.expect("the original's parser has the document");
-    for (text, is_kept) in [("[a }", true), ("[a ]", false), ("a: 'b", false)] {
+    for (text, is_kept) in [("[a }", true), ("!e!x a", true), ("[a ]", false), ("a: 'b", false)] {
         unsafe {
             let mut here = read(text.as_bytes(), false);
             assert_eq!(words(here.as_ptr())[at] != 0, is_kept, "{text}");

@@ -133,6 +133,7 @@ fn blocks_are_freed_as_made_and_no_more_than_the_originals() {
         "%YAML 1.1\n%YAML 1.1\n---\n",
         "*a",
         "!e!a b",
+        "%TAG !e! a\n%TAG !e! b\n---\n",
         "a: [!!b &c",
     ];
     unsafe {

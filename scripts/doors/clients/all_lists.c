@@ -2,8 +2,9 @@
  *
  *     all_lists N REFUSED ODD
  *
- * Events, documents and errors must be libyaml's, with all marks and texts. In lists of up to REFUSED tokens each allocation fails in
- * turn, with and without bounds, which end a parse where they end a load, in the same words; for those of up to ODD, parses, loads and
+ * Events, documents and errors must be libyaml's, with all marks and texts, and what an error is about must stand in the list where its
+ * mark is. In lists of up to REFUSED tokens each allocation fails in turn, with and without bounds, which end a parse where they end a
+ * load, in the same words; for those of up to ODD, parses, loads and
  * scans follow one another in each order, and the parser is deleted twice. After each run no byte may be left. Lists that begin with an error aren't made longer. The list's tokens have fifteen texts, among which
  * are two anchors, a declared and an undeclared handle, and a tag of one byte.
  *
@@ -167,7 +168,7 @@ static size_t before_error(const struct told *told)
 
 /* ---- Runs ---- */
 
-static long lists, longer_lists, refusals, calls, bounds_of_parses, wrong;
+static long lists, longer_lists, refusals, calls, bounds_of_parses, names, wrong;
 
 static void expect(int is, const char *what, const struct told *one, const struct told *other)
 {
@@ -185,6 +186,35 @@ static int is_zeros(const void *bytes, size_t size)
         if (((const char *)bytes)[i] != 0)
             return 0;
     return 1;
+}
+
+/* What an error is about by the list: the text of the first token of some kind from its mark on, or NULL. */
+static const char *name_by_list(const yaml_parser_t *parser)
+{
+    static const struct {
+        const char *problem;
+        yaml_token_type_t type;
+    } ABOUT[] = {
+        {"found undefined alias", YAML_ALIAS_TOKEN},
+        {"found an alias within the node that it names", YAML_ALIAS_TOKEN},
+        {"second occurrence", YAML_ANCHOR_TOKEN},
+        {"found undefined tag handle", YAML_TAG_TOKEN},
+        {"found duplicate %TAG directive", YAML_TAG_DIRECTIVE_TOKEN},
+    };
+
+    for (size_t k = 0; k < sizeof ABOUT / sizeof *ABOUT; k++)
+        for (int i = (int)(parser->problem_mark.index / 10); i < length; i++)
+            if (parser->problem != NULL && strcmp(parser->problem, ABOUT[k].problem) == 0 && TOKENS[list[i]].type == ABOUT[k].type)
+                return TOKENS[list[i]].first;
+    return NULL;
+}
+
+static void check_name(const struct told *told, const yaml_parser_t *parser)
+{
+    const char *name = (const char *)name_in(parser), *wanted = name_by_list(parser);
+
+    expect(wanted == NULL ? name == NULL : name != NULL && strcmp(name, wanted) == 0, "what an error is about", told, NULL);
+    names += name != NULL;
 }
 
 static void parse_list(struct told *told, parses *next)
@@ -209,6 +239,8 @@ static void parse_list(struct told *told, parses *next)
     }
     memset(&event, 0xAA, sizeof event);
     expect(next(&parser, &event) == 1 && is_zeros(&event, sizeof event), "a parse after the end", told, NULL);
+    if (next == proved_parse)
+        check_name(told, &parser);
     yaml_parser_delete(&parser);
 }
 
@@ -239,6 +271,7 @@ static void load_list(struct told *told, loads *next)
                told, NULL);
         yaml_document_delete(&document);
         refused_at = left;
+        check_name(told, &parser);
     }
     yaml_parser_delete(&parser);
 }
@@ -430,7 +463,7 @@ int main(int count, char **words)
     length = 1;
     list[0] = 0;
     bound_longer(most + 2, atoi(words[2]) + 1);
-    printf("%ld lists of up to %d tokens, %ld failed allocations, %ld parses to a bound on nodes, %ld calls in each order%s\n", lists, most,
-           refusals, bounds_of_parses, calls, wrong == 0 ? "" : ": wrong");
-    return wrong != 0;
+    printf("%ld lists of up to %d tokens, %ld failed allocations, %ld parses to a bound on nodes, %ld errors with a name, %ld calls in each order%s\n",
+           lists, most, refusals, bounds_of_parses, names, calls, wrong == 0 ? "" : ": wrong");
+    return wrong != 0 || names == 0;
 }

@@ -39,7 +39,8 @@ unsafe fn fails(parser: *mut yaml_parser_t, loads: bool) -> bool {
 unsafe fn tell(parser: *const yaml_parser_t, what: &str) {
     let (problem, place) = ((*parser).problem, (*parser).problem_mark.index);
     let problem = CStr::from_ptr(problem.cast()).to_string_lossy();
-    println!("{what} {place} {problem}: {}", errors::expected(parser).words().join(" "));
+    let name = errors::name(parser).map_or("-".into(), CStr::to_string_lossy);
+    println!("{what} {place} {problem}: {} | {name}", errors::expected(parser).words().join(" "));
 }
 
 fn main() -> io::Result<()> {

@@ -2,11 +2,13 @@
  *
  *     events files < NAMES     each event of each file that a line of the input names, all fields
  *     events nodes < NAMES     each node of their documents, by yaml_parser_load
+ *     events names < NAMES     the place of each file's error, by events and by nodes, its words, and what it is about, preloaded
  *     events pipe < YAML       the kind of each event of the input, as soon as it is there
  *     events late < YAML       the same, where the input is read to its end first
  *     events memory < YAML     how many events there are, and the peak of resident memory in KB
  *     events loads < YAML      the same of nodes, by yaml_parser_load */
-#define _DEFAULT_SOURCE
+#define _GNU_SOURCE
+#include <dlfcn.h>
 #include <stdio.h>
 #include <stdlib.h>
 #include <string.h>
@@ -107,8 +109,23 @@ static void put_document(const yaml_document_t *document)
         put_node(node);
 }
 
+static const char *(*name_of)(const yaml_parser_t *);
+static const char *what;  /* the parser is of this, if names are wanted */
+
+static void put_name(const yaml_parser_t *parser)
+{
+    const char *name = name_of(parser);
+
+    if (parser->error == YAML_PARSER_ERROR || parser->error == YAML_COMPOSER_ERROR)
+        printf("%s %zu %s | %s\n", what, parser->problem_mark.index, parser->problem, name == NULL ? "-" : name);
+}
+
 static void put_error(const yaml_parser_t *parser)
 {
+    if (name_of != NULL) {
+        put_name(parser);
+        return;
+    }
     printf("error %d %s", parser->error, parser->problem ? parser->problem : "-");
     put_mark(parser->problem_mark);
     printf(" %s", parser->context ? parser->context : "-");
@@ -181,6 +198,36 @@ static int each_file(int by_nodes)
     return 0;
 }
 
+/* The name of each file's error, by events and by nodes. */
+static int each_name(void)
+{
+    void *found = dlsym(RTLD_DEFAULT, "pokhvizi_preload_name");
+    char name[4096];
+    yaml_parser_t parser;
+
+    memcpy(&name_of, &found, sizeof found);
+    if (found == NULL)
+        return 3;
+    while (fgets(name, sizeof name, stdin) != NULL) {
+        name[strcspn(name, "\n")] = '\0';
+        printf("file %s\n", name);
+        for (int by_nodes = 0; by_nodes < 2; by_nodes++) {
+            FILE *file = fopen(name, "rb");
+            if (file == NULL || !yaml_parser_initialize(&parser))
+                return 3;
+            yaml_parser_set_input_file(&parser, file);
+            what = by_nodes ? "nodes" : "events";
+            if (by_nodes)
+                load(&parser, NULL);
+            else
+                parse(&parser, NULL);
+            yaml_parser_delete(&parser);
+            fclose(file);
+        }
+    }
+    return 0;
+}
+
 /* Reads what there is: as little as a pipe has. */
 static int read_some(void *data, unsigned char *buffer, size_t size, size_t *got)
 {
@@ -242,5 +289,7 @@ int main(int count, char **words)
         return 2;
     if (strcmp(words[1], "files") == 0 || strcmp(words[1], "nodes") == 0)
         return each_file(strcmp(words[1], "nodes") == 0);
+    if (strcmp(words[1], "names") == 0)
+        return each_name();
     return input(words[1]);
 }

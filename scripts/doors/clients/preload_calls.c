@@ -1,10 +1,12 @@
 /* Calls of libyaml with bindings/c/libyaml_preload.c preloaded: each allocation refused in turn, parsers that are
  * deleted at each event, moved, used after an error or after the end, and by several threads; documents; more states, marks,
  * tag directives, texts and anchors than there was room for at first; drawn tag directives, beside pokhvizi_directive_fact and
- * pokhvizi_tag; the time that anchors and directives take; a load by a constructor (constructor.c), and an environment that changes.
+ * pokhvizi_tag; what an error is about; the time that anchors and directives take; a load by a constructor (constructor.c), and an environment that changes.
  * Says what was wrong, and exits with 1 if anything was. With the word `bounds` it checks no more than those that the environment
  * sets: a depth of 20, 30 nodes, and 40 with aliases written out. With POKHVIZI_FIXES=1 the last document of the text is one that
  * libyaml refuses. */
+#define _GNU_SOURCE
+#include <dlfcn.h>
 #include <pokhvizi/steps.h>
 #include <pthread.h>
 #include <stdio.h>
@@ -35,6 +37,29 @@ static const struct {
     {"- &a !!b &c d\n", YAML_PARSER_ERROR, "did not find expected '-' indicator", "while parsing a block collection", 9},
 };
 enum { EVENTS = 22, NODES = 11, LEVELS = 150 };
+
+/* A text, and what its error is about, of a parse and of a load. */
+static const struct {
+    const char *text, *names[2];
+} NAMES[] = {
+    {"- *ab\n", {NULL, "ab"}},
+    {"- &x 1\n- !t &x 2\n", {NULL, "x"}},
+    {"&a [*a, &b {}, *c]", {NULL, "c"}},
+    {"--- &a b\n--- *a\n", {NULL, "a"}},
+    {"!e!x a", {"!e!", "!e!"}},
+    {"!e!x &a b", {"!e!", "!e!"}},
+    {"%TAG !f! g\n--- &a !e!x b", {"!e!", "!e!"}},
+    {"%TAG !e! a\n--- !e!b c\n--- !e!d e\n", {"!e!", "!e!"}},
+    {"%TAG !e! a\n%TAG !f! b\n%TAG !e! c\n---", {"!e!", "!e!"}},
+    {"[&a b }", {NULL, NULL}},
+    {"%YAML 2.0\n---", {NULL, NULL}},
+    {"!e!x &a @", {NULL, NULL}},
+    {"[&a b, *a]", {NULL, NULL}},
+    {"a: \xFF\n", {NULL, NULL}},
+};
+
+/* pokhvizi_preload_name */
+static const char *(*name_of)(const yaml_parser_t *);
 
 /* Five tag directives, and a flow sequence in a flow sequence, 150 levels deep: the states, the marks and the directives grow. */
 static char deep[1000];
@@ -440,6 +465,43 @@ static void check_faults(void)
     }
 }
 
+static int is_name(const yaml_parser_t *parser, const char *wanted)
+{
+    const char *name = name_of(parser);
+
+    return name == wanted || (name != NULL && wanted != NULL && strcmp(name, wanted) == 0);
+}
+
+/* What an error is about, also after later calls, and once the parser has another place. */
+static void check_names(void)
+{
+    yaml_parser_t parser, moved;
+    yaml_event_t event;
+    yaml_document_t document;
+    unsigned long sum = 0;
+
+    for (size_t i = 0; i < 2 * sizeof NAMES / sizeof *NAMES; i++) {
+        const char *wanted = NAMES[i / 2].names[i % 2];
+        long before = live;
+        if (!begin(&parser, NAMES[i / 2].text))
+            abort();
+        expect(name_of(&parser) == NULL, "a name before the first call", i);
+        if (i % 2 == 0)
+            parse(&parser, 1000, &sum);
+        while (i % 2 == 1 && yaml_parser_load(&parser, &document) && yaml_document_get_root_node(&document) != NULL)
+            yaml_document_delete(&document);
+        if (i % 2 == 1)
+            yaml_document_delete(&document);
+        expect(is_name(&parser, wanted), "what an error is about", i);
+        expect(yaml_parser_parse(&parser, &event) && !yaml_parser_load(&parser, &document) == (parser.error != YAML_NO_ERROR), "after it", i);
+        yaml_document_delete(&document);
+        moved = parser;
+        expect(is_name(&moved, wanted), "what it is about, later", i);
+        yaml_parser_delete(&moved);
+        expect(live == before, "blocks are lost", i);
+    }
+}
+
 /* Whether a scalar of a text has this tag. */
 static int has_tag(const char *text, const char *tag)
 {
@@ -575,6 +637,7 @@ static void check_bound(const char *text, int loads, long count, yaml_error_type
     expect(problem == NULL || (parser.problem != NULL && strcmp(parser.problem, problem) == 0 &&
                                parser.problem_mark.index == at && parser.context == NULL),
            "its error", at);
+    expect(is_name(&parser, problem != NULL && strstr(problem, "within") != NULL ? "a" : NULL), "what it is about", at);
     yaml_parser_delete(&parser);
     expect(live == before, "blocks are lost", there);
 }
@@ -631,6 +694,13 @@ static void check_bounds(void)
 
 int main(int count, char **words)
 {
+    void *found = dlsym(RTLD_DEFAULT, "pokhvizi_preload_name");
+
+    memcpy(&name_of, &found, sizeof found);
+    if (found == NULL) {
+        puts("wrong: there is no pokhvizi_preload_name");
+        return 1;
+    }
     if (count > 1 && strcmp(words[1], "bounds") == 0) {
         check_bounds();
         return wrong;
@@ -653,6 +723,7 @@ int main(int count, char **words)
     check_deleted();
     check_loads_within();
     check_faults();
+    check_names();
     check_tags();
     check_room();
     check_moved();

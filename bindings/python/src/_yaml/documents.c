@@ -202,6 +202,8 @@ static int refuse(const struct document *document, int deed, int32_t fact)
 {
     const char *context, *problem = pokhvizi_refusal((uint32_t)deed, &context);
 
+    if (deed == POKHVIZI_UNDEFINED_ALIAS || deed == POKHVIZI_REPEATED_ANCHOR || deed == POKHVIZI_ENDLESS)
+        name_event(document->parser);
     return refuse_event(document->parser, context == NULL ? NULL : entry_of(document, fact)->node, context, problem);
 }
 

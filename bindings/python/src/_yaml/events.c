@@ -41,6 +41,16 @@ PyObject *expected_words(const parser_object *parser)
     return made;
 }
 
+PyObject *error_name(const parser_object *parser)
+{
+    return text_or_none(name_in(&parser->scanner));
+}
+
+void name_event(parser_object *parser)
+{
+    kept_of(&parser->scanner)->name = anchor_of(&parser->event);
+}
+
 void leave_event(parser_object *parser)
 {
     yaml_event_delete(&parser->event);

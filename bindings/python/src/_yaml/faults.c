@@ -28,15 +28,29 @@ static PyObject *marked_error(const parser_object *parser, PyObject *class)
                 mark_or_none(parser, &at->problem_mark, at->problem != NULL));
 }
 
+/* An error with an attribute, both of which it takes. A value that is NULL is an error that is set. */
+static PyObject *with(PyObject *error, const char *name, PyObject *value)
+{
+    if (value == NULL || PyObject_SetAttrString(error, name, value) < 0)
+        Py_CLEAR(error);
+    Py_XDECREF(value);
+    return error;
+}
+
+/* An error of the parser or the composer: it has the name that it is about, if any. */
+static PyObject *named_error(const parser_object *parser, PyObject *class)
+{
+    PyObject *error = marked_error(parser, class);
+
+    return error == NULL ? NULL : with(error, "name", error_name(parser));
+}
+
 /* The error of the parser: it says what was expected in the place of a token that was refused for its kind. */
 static PyObject *parser_error(const parser_object *parser)
 {
-    PyObject *error = marked_error(parser, its.parser_error), *words = error == NULL ? NULL : expected_words(parser);
+    PyObject *error = named_error(parser, its.parser_error);
 
-    if (words == NULL || PyObject_SetAttrString(error, "expected", words) < 0)
-        Py_CLEAR(error);
-    Py_XDECREF(words);
-    return error;
+    return error == NULL ? NULL : with(error, "expected", expected_words(parser));
 }
 
 /* Raises an error of a class, which it takes; one that is NULL is an error that is set. */
@@ -62,7 +76,7 @@ int raise_fault(const parser_object *parser)
     case YAML_PARSER_ERROR:
         return raise(its.parser_error, parser_error(parser));
     default:
-        return raise(its.composer_error, marked_error(parser, its.composer_error));
+        return raise(its.composer_error, named_error(parser, its.composer_error));
     }
 }
 

@@ -204,6 +204,12 @@ void leave_event(parser_object *parser);
 /* What was expected in the place of a token that was refused for its kind, in words; for another error nothing. */
 PyObject *expected_words(const parser_object *parser);
 
+/* The anchor, alias or tag handle that an error is about, or None. */
+PyObject *error_name(const parser_object *parser);
+
+/* Has the next error be about the anchor or the alias of the event at hand, which stays there. */
+void name_event(parser_object *parser);
+
 /* The event that is at hand, as PyYAML has it, or None. */
 PyObject *event_object(const parser_object *parser);
 

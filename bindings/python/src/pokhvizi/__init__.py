@@ -26,14 +26,16 @@ pairs of a node, and `max_expanded` the nodes of a document with its aliases wri
 `unique_keys = True` a key that its mapping has is a `ComposerError`: a scalar with the same tag and text, or the same node.
 
 A `ParserError` has `expected`, a tuple that says what could have stood in the place of the token, such as `("','", "']'")`. It is empty
-if the token's kind was right.
+if the token's kind was right. It and a `ComposerError` have `name`, the anchor, alias or tag handle that the error is about, or None.
 
 `CSafeLoader` and the others of `pokhvizi.cyaml` are PyYAML's loaders in C, over an extension that is in the wheels.
 """
+import contextlib
 import ctypes
 import functools
 import itertools
 import os
+import re
 import struct
 import sys
 
@@ -102,11 +104,33 @@ def bound_of(loader, name, most):
     return most if bound is None else min(bound, most)
 
 
-def parser_error(context, context_mark, problem, problem_mark, expected=()):
+def parser_error(context, context_mark, problem, problem_mark, expected=(), name=None):
     """Returns an error of a parser; what was expected are the words of these."""
     error = yaml.parser.ParserError(context, context_mark, problem, problem_mark)
-    error.expected = expected
+    error.expected, error.name = expected, name
     return error
+
+
+def composer_error(context, context_mark, problem, problem_mark, name=None):
+    """Returns an error of a composer."""
+    error = yaml.composer.ComposerError(context, context_mark, problem, problem_mark)
+    error.name = name
+    return error
+
+
+NAMED = re.compile("found (?:undefined alias|duplicate anchor) '(.*?)'")  # as PyYAML's composer says it
+
+
+@contextlib.contextmanager
+def naming():
+    """Has the errors of PyYAML's composer tell the anchor or the alias that they are about."""
+    try:
+        yield
+    except yaml.composer.ComposerError as error:
+        if not hasattr(error, "name"):
+            found = NAMED.match(str(error.context or error.problem))
+            error.name = found and found[1]
+        raise
 
 
 def expected_words(expected):
@@ -251,14 +275,14 @@ class Count:
         if self.expanded == sys.maxsize:
             return
         if size is None:
-            self.refuse("found an alias within the node that it names", event)
+            self.refuse("found an alias within the node that it names", event, event.anchor)
         if self.total + size > self.expanded:
             self.refuse("found too many nodes, with aliases written out", event)
         self.total += size
 
     @staticmethod
-    def refuse(problem, event):
-        raise parser_error(None, None, problem, event.start_mark)
+    def refuse(problem, event, name=None):
+        raise parser_error(None, None, problem, event.start_mark, name=name)
 
 
 def is_of_next(failure):
@@ -483,16 +507,16 @@ class Steps:
         number, context_mark, problem_mark = self.PROBLEM.unpack_from(self.fault)
         marks, token = self.marks.all, self.token
         context, problem = self.PROBLEMS[number]
-        if number == self.UNDECLARED_HANDLE:
-            problem %= (self.tag_token or token).value[0]
-        elif number == self.DUPLICATE_HANDLE:
-            problem %= token.value[0]
+        name = None
+        if number in (self.UNDECLARED_HANDLE, self.DUPLICATE_HANDLE):
+            name = (self.tag_token or token).value[0]
+            problem %= name
         elif number == self.INCOMPATIBLE and token.value[0] != 1:
             problem += " (version 1.* is required)"
         elif "%r" in problem:
             problem %= token.id
         expected = () if number in self.OF_TEXTS else self.expected()
-        return parser_error(context, marks[context_mark] if context else None, problem, marks[problem_mark], expected)
+        return parser_error(context, marks[context_mark] if context else None, problem, marks[problem_mark], expected, name)
 
     def expected(self):
         """Returns what could have stood in the place of the token in hand: the steps haven't changed what that needs of the stack."""
@@ -514,10 +538,11 @@ class Expansion:
             return
         is_alias = isinstance(event, yaml.AliasEvent)
         if is_alias and event.anchor not in self.sizes:
-            raise yaml.composer.ComposerError(None, None, "found an alias within the node that it names", event.start_mark)
+            problem = "found an alias within the node that it names"
+            raise composer_error(None, None, problem, event.start_mark, event.anchor)
         total = self.total + (self.sizes[event.anchor] if is_alias else 1)
         if total > self.most:
-            raise yaml.composer.ComposerError(None, None, "found too many nodes, with aliases written out", event.start_mark)
+            raise composer_error(None, None, "found too many nodes, with aliases written out", event.start_mark)
         self.total = total
 
 
@@ -565,9 +590,18 @@ class Parser:
                 raise
             raise self.failure from None
 
+    def get_single_node(self):
+        """As PyYAML's."""
+        with naming():
+            return super().get_single_node()
+
     def compose_document(self):
         """As PyYAML's. Its composer calls itself, so nothing stands between its calls unless there is a bound, or keys have to
         differ."""
+        with naming():
+            return self.compose_whole()
+
+    def compose_whole(self):
         if self.max_nodes is None and self.max_expanded is None and not self.unique_keys:
             return super().compose_document()
         self.keys = {}
@@ -595,7 +629,7 @@ class Parser:
         # them.
         if is_known or not is_alias:
             if is_entry and len(parent.value) >= self.max_entries or not is_alias and self.nodes_left == 0:
-                raise yaml.composer.ComposerError(None, None, "found too many nodes", event.start_mark)
+                raise composer_error(None, None, "found too many nodes", event.start_mark)
         if is_alias == is_known:
             self.expansion.put(event)
         self.nodes_left -= not is_alias
@@ -612,7 +646,7 @@ class Parser:
         name = (node.tag, node.value) if isinstance(node, yaml.ScalarNode) else id(node)
         if name in keys:
             first = keys[name].start_mark
-            raise yaml.composer.ComposerError("first occurrence", first, "found duplicate key", event.start_mark)
+            raise composer_error("first occurrence", first, "found duplicate key", event.start_mark)
         keys[name] = node
 
     def dispose(self):
