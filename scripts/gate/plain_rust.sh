@@ -10,7 +10,7 @@
 # Makes its package, which has each source as it stands here, and tests that alone; a crate that names it
 # in two lines parses and loads. A line of a list that is
 # changed there must fail the test, and a construct that isn't known must end the build with its file and
-# line. What is left out is what left_out.py finds. Runs the tests of `scanner`, if the crate unsafe-libyaml 0.2.11 is in the folder that CLIENT_CRATES
+# line. What is left out is what left_out.py finds. Runs the tests of `scanner`, and the examples over it, if the crate unsafe-libyaml 0.2.11 is in the folder that CLIENT_CRATES
 # names or /usr/share/cargo/registry. Last it builds C's library by build_plain.sh, and runs the samples of
 # yaml.c over it.
 #
@@ -138,6 +138,39 @@ printf '[source.crates-io]\nreplace-with = "none"\n[source.none]\ndirectory = "%
 CARGO_HOME=$work/fuzz_home cargo run -q --manifest-path bindings/plain/fuzz/Cargo.toml --bin tokens > "$work/said" 2>&1 ||
     { cat "$work/said"; complain "the target for cargo-fuzz"; }
 
+# ---- Examples, which write what crates write of the same tokens ----
+
+crate_of() {
+    case $1 in lint) echo crates/example_lint ;; outline) echo crates/example_broken ;; esac
+}
+
+cat > "$work/lint.yaml" << 'YAML'
+a: &x 1
+b: &y [*x]
+"a": 3
+c:
+  k: 1
+  l: 2
+  *x : 4
+  k: 5
+---
+? {a: 1}
+: &z 1
+? {a: 1}
+: 2
+--- {!x k: 1, !y k: 2}
+--- [[[[[a], {}]]], [[[{b: c}]]]]
+YAML
+cat > "$work/outline.yaml" << 'YAML'
+name: box
+sizes:
+  - 1
+  - [2, 3]
+  - {x: *a}
+ color: red
+after: never
+YAML
+
 # ---- libyaml's scanner before it ----
 
 crates=$(realpath "${CLIENT_CRATES:-/usr/share/cargo/registry}" 2> /dev/null || true)
@@ -148,6 +181,12 @@ if [ -d "$crates/unsafe-libyaml-0.2.11" ]; then
     scanner=$work/target/debug/scanner
     [ "$("$scanner" services web image < examples/compose.yaml)" = nginx:1.25 ] || complain "the text at a path"
     [ "$("$scanner" < examples/list.yaml | wc -l)" -eq "$(wc -l < examples/list.events)" ] || complain "the events of the scanner"
+    for name in lint outline; do
+        "$work/target/debug/examples/$name" < "$work/$name.yaml" | cmp - "$(crate_of $name)/stdout" || complain "the example $name"
+        if echo '- *a' | "$work/target/debug/examples/$name" 2> "$work/said" | cmp -s - "$(crate_of $name)/stdout"; then
+            complain "the example $name says the same of another text"
+        fi
+    done
 else
     echo "unsafe-libyaml 0.2.11 isn't there"
 fi
@@ -159,6 +198,9 @@ if sh scripts/build_plain.sh "$work/c" > "$work/said" 2>&1; then
         for name in list compose; do
             "$work/c/yaml" $mode examples/$name.yaml | cmp - examples/$name.$mode || complain "$mode of examples/$name.yaml"
         done
+    done
+    for name in lint outline; do
+        "$work/c/yaml" tokens "$work/$name.yaml" | cmp - "$(crate_of $name)/stdin" || complain "the tokens of the example $name"
     done
 else
     cat "$work/said"

@@ -62,7 +62,11 @@ const EXPECTED: [(&str, &str, Option<&str>); 14] = [
         None,
     ),
     ("%YAML 1.1\n%YAML 1.1\n---", "%TAG or '---'", None),
-    ("a\n...\nb", "%YAML, %TAG, '---', '...' or the end of the stream", Some("")),
+    (
+        "a\n...\nb",
+        "%YAML, %TAG, '---', '...' or the end of the stream",
+        Some(""),
+    ),
     ("[a, }", "a flow node, a key or ']'", None),
     ("[a, b", "',' or ']'", None),
     ("%YAML 2.0\n---", "", None),

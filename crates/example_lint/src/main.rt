@@ -1,9 +1,7 @@
-//! `example_lint`: the anchors that no alias names, and the first duplicate key of each document, in the token
-//! lines on standard input.
+//! `example_lint`: unused anchors, deep nesting and duplicate keys of the token lines on standard input.
 #![tactic(auto)]
 
 use anyhow::Result;
-use std::alloc::Global;
 use std::collections::BTreeMap;
 use std::io::Read;
 use token_lines::yaml_line_source_t;
@@ -13,25 +11,34 @@ use unsafe_libyaml::{
 };
 use yaml_keys::duplicate_key;
 
+/// How many collections may be open at once.
+const MAX_DEPTH: u32 = 4;
+
 /// The anchors of a document that no alias has named yet, and where their nodes start.
 type Unused = BTreeMap<String, yaml_mark_t>;
 
 fn main(rt: HostRuntime) -> Result<()> {
     let mut text = String::new(rt.alloc());
     rt.stdin().read_to_string(&mut text)?;
-    print_unused_anchors(&rt, text.as_str())?;
+    look_at_events(&rt, text.as_str())?;
     print_duplicate_keys(&rt, text.as_str())
 }
 
-/// Prints the anchors that no alias names.
-fn print_unused_anchors(rt: &HostRuntime, text: &str) -> Result<()> {
+/// Prints the anchors that no alias names, and the collections that are nested too deep.
+fn look_at_events(rt: &HostRuntime, text: &str) -> Result<()> {
     let alloc = rt.alloc();
     let source = yaml_line_source_t::new(alloc, text.as_bytes(), u64::MAX);
     let mut parser = yaml_parser_initialize(alloc, source);
     let mut unused = BTreeMap::new(alloc);
+    let mut depth = 0u32;
     for event in yaml_parser_composed_events(&mut parser) {
         let event = event?;
-        note_anchor(alloc, &mut unused, &event)?;
+        note_anchor(rt, &mut unused, &event)?;
+        let before = depth;
+        depth = depth_after(&event, before);
+        if before == MAX_DEPTH && depth > before {
+            println!(rt; "{}: more than {MAX_DEPTH} levels deep", event.start_mark)?;
+        }
         if let unnamed_yaml_event_t_data::DocumentEnd(_) = event.content {
             print_anchors(rt, &unused)?;
             unused = BTreeMap::new(alloc);
@@ -40,20 +47,27 @@ fn print_unused_anchors(rt: &HostRuntime, text: &str) -> Result<()> {
     Ok(())
 }
 
+/// Returns how many collections are open after an event.
+fn depth_after(event: &yaml_event_t, depth: u32) -> u32 {
+    use unnamed_yaml_event_t_data::{MappingEnd, MappingStart, SequenceEnd, SequenceStart};
+    match &event.content {
+        SequenceStart(_) | MappingStart(_) => depth.saturating_add(1),
+        SequenceEnd | MappingEnd => depth.saturating_sub(1),
+        _ => depth,
+    }
+}
+
 /// Notes the anchor of a node, or that an alias names one.
-fn note_anchor(alloc: Global, unused: &mut Unused, event: &yaml_event_t) -> Result<()> {
-    let Some(anchor) = event.anchor() else {
-        return Ok(());
-    };
-    if let unnamed_yaml_event_t_data::Alias(_) = event.content {
-        unused.remove(anchor);
-    } else {
-        unused.insert(String::from_str(alloc, anchor)?, event.start_mark)?;
+fn note_anchor(rt: &HostRuntime, unused: &mut Unused, event: &yaml_event_t) -> Result<()> {
+    if let Some(anchor) = event.anchor() {
+        match event.content {
+            unnamed_yaml_event_t_data::Alias(_) => unused.remove(anchor),
+            _ => unused.insert(String::from_str(rt.alloc(), anchor)?, event.start_mark)?,
+        };
     }
     Ok(())
 }
 
-/// Prints these anchors.
 fn print_anchors(rt: &HostRuntime, unused: &Unused) -> Result<()> {
     for (anchor, mark) in unused {
         println!(rt; "{mark}: anchor {anchor} is not used")?;
@@ -67,26 +81,19 @@ fn print_duplicate_keys(rt: &HostRuntime, text: &str) -> Result<()> {
     let source = yaml_line_source_t::new(alloc, text.as_bytes(), u64::MAX);
     let mut parser = yaml_parser_initialize(alloc, source);
     for document in yaml_parser_documents(&mut parser) {
-        print_duplicate_key(rt, &document?)?;
-    }
-    Ok(())
-}
-
-/// Prints the first duplicate key of a document, if it has one.
-fn print_duplicate_key(rt: &HostRuntime, document: &yaml_document_t) -> Result<()> {
-    let Some(found) = duplicate_key(rt.alloc(), document)? else {
-        return Ok(());
-    };
-    if let Some(second) = key_mark(document, found.mapping, found.second) {
-        println!(rt; "{second}: key stands twice in its mapping")?;
+        let document = document?;
+        if let Some(found) = duplicate_key(alloc, &document)? {
+            if let Some(second) = key_mark(&document, found.mapping, found.second) {
+                println!(rt; "{second}: key stands twice in its mapping")?;
+            }
+        }
     }
     Ok(())
 }
 
 /// Returns where the key of this pair starts: of an alias, where the node does that it names.
 fn key_mark(document: &yaml_document_t, mapping: i32, index: usize) -> Option<yaml_mark_t> {
-    let pair = yaml_document_get_node(document, mapping)?
-        .pairs()
-        .get(index)?;
-    Some(yaml_document_get_node(document, pair.key)?.start_mark)
+    let mapping = yaml_document_get_node(document, mapping)?;
+    let key = mapping.pairs().get(index)?.key;
+    Some(yaml_document_get_node(document, key)?.start_mark)
 }

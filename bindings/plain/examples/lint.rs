@@ -1,0 +1,81 @@
+//! Prints unused anchors, deep nesting and duplicate keys of the YAML text on standard input. In `bindings/plain/scanner`:
+//!
+//!     cargo run --example lint < FILE.yaml
+
+use pokhvizi::libyaml_documents::yaml_document_get_node;
+use pokhvizi::yaml::{ComposedEvents, Document, Documents, DuplicateKey, Event, EventData, Mark};
+use scanner::Scanner;
+use std::collections::BTreeMap;
+use std::error::Error;
+use std::io::{self, Read};
+
+/// How many collections may be open at once.
+const MAX_DEPTH: usize = 4;
+
+fn main() -> Result<(), Box<dyn Error>> {
+    let mut text = Vec::new();
+    io::stdin().read_to_end(&mut text)?;
+    look_at_events(&text)?;
+    print_duplicate_keys(&text)
+}
+
+/// Prints the anchors that no alias names, and the collections that are nested too deep.
+fn look_at_events(text: &[u8]) -> Result<(), Box<dyn Error>> {
+    let (mut unused, mut depth) = (BTreeMap::new(), 0);
+    for event in ComposedEvents::new(Scanner::new(text).ok_or("out of memory")?) {
+        let event = event?;
+        note_anchor(&mut unused, &event);
+        let before = depth;
+        depth = depth_after(&event, before);
+        if before == MAX_DEPTH && depth > before {
+            println!("{}: more than {MAX_DEPTH} levels deep", event.start_mark);
+        }
+        if let EventData::DocumentEnd(_) = event.content {
+            print_anchors(std::mem::take(&mut unused));
+        }
+    }
+    Ok(())
+}
+
+/// Returns how many collections are open after an event.
+fn depth_after(event: &Event, depth: usize) -> usize {
+    match event.content {
+        EventData::SequenceStart(_) | EventData::MappingStart(_) => depth + 1,
+        EventData::SequenceEnd | EventData::MappingEnd => depth - 1,
+        _ => depth,
+    }
+}
+
+/// Notes the anchor of a node, or that an alias names one.
+fn note_anchor(unused: &mut BTreeMap<String, Mark>, event: &Event) {
+    match (event.anchor(), &event.content) {
+        (Some(anchor), EventData::Alias(_)) => unused.remove(anchor),
+        (Some(anchor), _) => unused.insert(anchor.to_owned(), event.start_mark),
+        (None, _) => None,
+    };
+}
+
+fn print_anchors(unused: BTreeMap<String, Mark>) {
+    for (anchor, mark) in unused {
+        println!("{mark}: anchor {anchor} is not used");
+    }
+}
+
+/// Prints the first duplicate key of each document.
+fn print_duplicate_keys(text: &[u8]) -> Result<(), Box<dyn Error>> {
+    for document in Documents::new(Scanner::new(text).ok_or("out of memory")?) {
+        let document = document?;
+        let found = document.duplicate_key()?;
+        if let Some(second) = found.and_then(|found| mark_of(&document, &found)) {
+            println!("{second}: key stands twice in its mapping");
+        }
+    }
+    Ok(())
+}
+
+/// Returns where the second of two keys starts: of an alias, where the node does that it names.
+fn mark_of(document: &Document, found: &DuplicateKey) -> Option<Mark> {
+    let mapping = yaml_document_get_node(document, found.mapping)?;
+    let key = mapping.pairs().get(found.second)?.key;
+    Some(yaml_document_get_node(document, key)?.start_mark)
+}
