@@ -8,9 +8,9 @@ use std::collections::BTreeMap;
 use std::io::BufReader;
 use token_lines::yaml_line_source_t;
 use unsafe_libyaml::{
-    YAML_PLAIN_SCALAR_STYLE, unnamed_yaml_node_t_data, unnamed_yaml_token_t_data as content,
-    yaml_document_t, yaml_mark_t, yaml_node_t, yaml_push_loader_t, yaml_token_source_t,
-    yaml_token_t, yaml_token_type_t,
+    YAML_PLAIN_SCALAR_STYLE, ZERO_MARK, unnamed_yaml_node_t_data,
+    unnamed_yaml_token_t_data as content, yaml_document_t, yaml_mark_t, yaml_node_t,
+    yaml_push_loader_t, yaml_token_source_t, yaml_token_t, yaml_token_type_t,
 };
 
 /// Keys by their places: where each starts, and its text.
@@ -22,44 +22,49 @@ fn main(rt: HostRuntime) -> Result<()> {
     let mut source = yaml_line_source_t::new(alloc, reader, u64::MAX);
     let mut loader = yaml_push_loader_t::new(alloc);
     let mut documents = Vec::new(alloc);
-    if let Some(bad) = push_good(&mut source, &mut loader, &mut documents)? {
-        println!(rt; "{}: {:?} can't come next", bad.start_mark, bad.type_())?;
-        complete(alloc, &mut loader, bad.start_mark, &mut documents)?;
-    }
+    let mut token = yaml_token_t::new(content::NoToken, ZERO_MARK, ZERO_MARK);
+    push_good(&mut source, &mut loader, &mut token, &mut documents)?;
+    complete(&rt, &mut loader, &token, &mut documents)?;
     for document in &documents {
         print_keys(&rt, document)?;
     }
     Ok(())
 }
 
-/// Pushes tokens up to the stream's end, or returns the first that can't come next.
+/// Pushes tokens up to the stream's end, or to the first that can't come next, which stays in its variable.
 fn push_good<S: yaml_token_source_t>(
     source: &mut S,
     loader: &mut yaml_push_loader_t,
-    documents: &mut Vec<yaml_document_t>,
-) -> Result<Option<yaml_token_t>> {
-    loop {
-        let token = source.next_token()?;
-        let kind = token.type_();
-        if !loader.expected().contains(kind) {
-            return Ok(Some(token));
-        }
-        loader.push(token, documents)?;
-        if kind == yaml_token_type_t::YAML_STREAM_END_TOKEN {
-            return Ok(None);
-        }
-    }
-}
-
-/// Pushes the tokens that complete what was pushed, at this mark.
-fn complete(
-    alloc: Global,
-    loader: &mut yaml_push_loader_t,
-    mark: yaml_mark_t,
+    token: &mut yaml_token_t,
     documents: &mut Vec<yaml_document_t>,
 ) -> Result<()> {
-    for kind in loader.completion(alloc)? {
-        let token = bare_token(alloc, kind, mark)?;
+    for _ in 0..u64::MAX {
+        source.next_token_into(token)?;
+        let kind = token.type_();
+        if !loader.expected().contains(kind) {
+            break;
+        }
+        loader.push_from(token, documents)?;
+        if kind == yaml_token_type_t::YAML_STREAM_END_TOKEN {
+            break;
+        }
+    }
+    Ok(())
+}
+
+/// Pushes the tokens that complete what was pushed before this one, if any are lacking.
+fn complete(
+    rt: &HostRuntime,
+    loader: &mut yaml_push_loader_t,
+    bad: &yaml_token_t,
+    documents: &mut Vec<yaml_document_t>,
+) -> Result<()> {
+    let types = loader.completion(rt.alloc())?;
+    if !types.is_empty() {
+        println!(rt; "{}: {:?} can't come next", bad.start_mark, bad.type_())?;
+    }
+    for kind in &types {
+        let token = bare_token(rt.alloc(), *kind, bad.start_mark)?;
         loader.push(token, documents)?;
     }
     Ok(())

@@ -2,6 +2,7 @@
 #![tactic(auto)]
 
 use anyhow::Result;
+use std::alloc::Global;
 use std::collections::BTreeMap;
 use std::io::Read;
 use token_lines::yaml_line_source_t;
@@ -30,21 +31,26 @@ fn look_at_events(rt: &HostRuntime, text: &str) -> Result<()> {
     let source = yaml_line_source_t::new(alloc, text.as_bytes(), u64::MAX);
     let mut parser = yaml_parser_initialize(alloc, source);
     let mut unused = BTreeMap::new(alloc);
-    let mut depth = 0u32;
+    let mut depth = 0;
     for event in yaml_parser_composed_events(&mut parser) {
         let event = event?;
-        note_anchor(rt, &mut unused, &event)?;
-        let before = depth;
-        depth = depth_after(&event, before);
-        if before == MAX_DEPTH && depth > before {
-            println!(rt; "{}: more than {MAX_DEPTH} levels deep", event.start_mark)?;
-        }
+        note_anchor(alloc, &mut unused, &event)?;
+        depth = look_at_depth(rt, depth, &event)?;
         if let unnamed_yaml_event_t_data::DocumentEnd(_) = event.content {
             print_anchors(rt, &unused)?;
             unused = BTreeMap::new(alloc);
         }
     }
     Ok(())
+}
+
+/// Prints that a collection is nested too deep, and returns how many are open after an event.
+fn look_at_depth(rt: &HostRuntime, depth: u32, event: &yaml_event_t) -> Result<u32> {
+    let after = depth_after(event, depth);
+    if depth == MAX_DEPTH && after > depth {
+        println!(rt; "{}: more than {MAX_DEPTH} levels deep", event.start_mark)?;
+    }
+    Ok(after)
 }
 
 /// Returns how many collections are open after an event.
@@ -58,16 +64,19 @@ fn depth_after(event: &yaml_event_t, depth: u32) -> u32 {
 }
 
 /// Notes the anchor of a node, or that an alias names one.
-fn note_anchor(rt: &HostRuntime, unused: &mut Unused, event: &yaml_event_t) -> Result<()> {
-    if let Some(anchor) = event.anchor() {
-        match event.content {
-            unnamed_yaml_event_t_data::Alias(_) => unused.remove(anchor),
-            _ => unused.insert(String::from_str(rt.alloc(), anchor)?, event.start_mark)?,
-        };
+fn note_anchor(alloc: Global, unused: &mut Unused, event: &yaml_event_t) -> Result<()> {
+    let Some(anchor) = event.anchor() else {
+        return Ok(());
+    };
+    if let unnamed_yaml_event_t_data::Alias(_) = event.content {
+        unused.remove(anchor);
+    } else {
+        unused.insert(String::from_str(alloc, anchor)?, event.start_mark)?;
     }
     Ok(())
 }
 
+/// Prints these anchors.
 fn print_anchors(rt: &HostRuntime, unused: &Unused) -> Result<()> {
     for (anchor, mark) in unused {
         println!(rt; "{mark}: anchor {anchor} is not used")?;
@@ -81,19 +90,26 @@ fn print_duplicate_keys(rt: &HostRuntime, text: &str) -> Result<()> {
     let source = yaml_line_source_t::new(alloc, text.as_bytes(), u64::MAX);
     let mut parser = yaml_parser_initialize(alloc, source);
     for document in yaml_parser_documents(&mut parser) {
-        let document = document?;
-        if let Some(found) = duplicate_key(alloc, &document)? {
-            if let Some(second) = key_mark(&document, found.mapping, found.second) {
-                println!(rt; "{second}: key stands twice in its mapping")?;
-            }
-        }
+        print_duplicate_key(rt, &document?)?;
+    }
+    Ok(())
+}
+
+/// Prints the first duplicate key of a document, if it has one.
+fn print_duplicate_key(rt: &HostRuntime, document: &yaml_document_t) -> Result<()> {
+    let Some(found) = duplicate_key(rt.alloc(), document)? else {
+        return Ok(());
+    };
+    if let Some(second) = key_mark(document, found.mapping, found.second) {
+        println!(rt; "{second}: key stands twice in its mapping")?;
     }
     Ok(())
 }
 
 /// Returns where the key of this pair starts: of an alias, where the node does that it names.
 fn key_mark(document: &yaml_document_t, mapping: i32, index: usize) -> Option<yaml_mark_t> {
-    let mapping = yaml_document_get_node(document, mapping)?;
-    let key = mapping.pairs().get(index)?.key;
-    Some(yaml_document_get_node(document, key)?.start_mark)
+    let pair = yaml_document_get_node(document, mapping)?
+        .pairs()
+        .get(index)?;
+    Some(yaml_document_get_node(document, pair.key)?.start_mark)
 }
