@@ -116,8 +116,10 @@ static void complete(struct parse parse, int is_exact, uint32_t expected)
 
     for (uint32_t next = expected; next != 0 && count <= most; count++) {
         kind = pokhvizi_completing(next);
-        if (hand_in(&parse, is_exact, kind) == POKHVIZI_FAULT)
-            return complain("not completed", kind, is_exact, next);
+        if (hand_in(&parse, is_exact, kind) == POKHVIZI_FAULT) {
+            complain("not completed", kind, is_exact, next);
+            return;
+        }
         next = expected_at(&parse.steps, &parse, is_exact);
     }
     if (expected != 0 && (kind != 2 || count > most))
