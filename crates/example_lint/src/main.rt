@@ -9,6 +9,7 @@ use token_lines::yaml_line_source_t;
 use unsafe_libyaml::{
     unnamed_yaml_event_t_data, yaml_document_get_node, yaml_document_t, yaml_event_t, yaml_mark_t,
     yaml_parser_composed_events, yaml_parser_documents, yaml_parser_initialize,
+    yaml_token_source_t,
 };
 use yaml_keys::duplicate_key;
 
@@ -19,29 +20,35 @@ const MAX_DEPTH: u32 = 4;
 type Unused = BTreeMap<String, yaml_mark_t>;
 
 fn main(rt: HostRuntime) -> Result<()> {
-    let mut text = String::new(rt.alloc());
+    let alloc = rt.alloc();
+    let mut text = String::new(alloc);
     rt.stdin().read_to_string(&mut text)?;
-    look_at_events(&rt, text.as_str())?;
-    print_duplicate_keys(&rt, text.as_str())
+    let source = yaml_line_source_t::new(alloc, text.as_str().as_bytes(), u64::MAX);
+    look_at_events(&rt, source)?;
+    let source = yaml_line_source_t::new(alloc, text.as_str().as_bytes(), u64::MAX);
+    print_duplicate_keys(&rt, source)
 }
 
 /// Prints the anchors that no alias names, and the collections that are nested too deep.
-fn look_at_events(rt: &HostRuntime, text: &str) -> Result<()> {
-    let alloc = rt.alloc();
-    let source = yaml_line_source_t::new(alloc, text.as_bytes(), u64::MAX);
-    let mut parser = yaml_parser_initialize(alloc, source);
-    let mut unused = BTreeMap::new(alloc);
+fn look_at_events<S: yaml_token_source_t + Drop>(rt: &HostRuntime, source: S) -> Result<()> {
+    let mut parser = yaml_parser_initialize(rt.alloc(), source);
+    let mut unused = BTreeMap::new(rt.alloc());
     let mut depth = 0;
     for event in yaml_parser_composed_events(&mut parser) {
         let event = event?;
-        note_anchor(alloc, &mut unused, &event)?;
-        depth = look_at_depth(rt, depth, &event)?;
-        if let unnamed_yaml_event_t_data::DocumentEnd(_) = event.content {
-            print_anchors(rt, &unused)?;
-            unused = BTreeMap::new(alloc);
-        }
+        depth = look_at(rt, &mut unused, depth, &event)?;
     }
     Ok(())
+}
+
+/// Looks at an event, where so many collections are open, and returns how many are open after it.
+fn look_at(rt: &HostRuntime, unused: &mut Unused, depth: u32, event: &yaml_event_t) -> Result<u32> {
+    note_anchor(rt.alloc(), unused, event)?;
+    if let unnamed_yaml_event_t_data::DocumentEnd(_) = event.content {
+        print_anchors(rt, unused)?;
+        *unused = BTreeMap::new(rt.alloc());
+    }
+    look_at_depth(rt, depth, event)
 }
 
 /// Prints that a collection is nested too deep, and returns how many are open after an event.
@@ -85,12 +92,11 @@ fn print_anchors(rt: &HostRuntime, unused: &Unused) -> Result<()> {
 }
 
 /// Prints the first duplicate key of each document.
-fn print_duplicate_keys(rt: &HostRuntime, text: &str) -> Result<()> {
-    let alloc = rt.alloc();
-    let source = yaml_line_source_t::new(alloc, text.as_bytes(), u64::MAX);
-    let mut parser = yaml_parser_initialize(alloc, source);
+fn print_duplicate_keys<S: yaml_token_source_t + Drop>(rt: &HostRuntime, source: S) -> Result<()> {
+    let mut parser = yaml_parser_initialize(rt.alloc(), source);
     for document in yaml_parser_documents(&mut parser) {
-        print_duplicate_key(rt, &document?)?;
+        let document = document?;
+        print_duplicate_key(rt, &document)?;
     }
     Ok(())
 }
