@@ -11,13 +11,14 @@ A worked example is a list, a line or a call whose result the field's own words 
 - `worked.txt` beside this script: calls, and lists that are computed.
 
 The first two are named by their program's stored `stdout` where they are as expected, so the gate names one that differs or is gone.
-Of each call the program's sources have to name the table and the vector, and its `stdout` the table. A file of any program of test
+Of each call the program's files or sources have to name the table and the vector, and its `stdout` the table. A file of any program of test
 vectors that has a worked list's name has to have its bytes.
 
 Run by check.sh.
 """
 import re
 import sys
+from collections import defaultdict
 from pathlib import Path
 
 TOP = Path(__file__).resolve().parents[2]
@@ -38,9 +39,9 @@ def stored(program):
 
 def counted(program, table):
     """How many vectors of a table the program's stored output counts, of which none differs; none if it says otherwise."""
-    line = re.compile(rf"{re.escape(table)}: (\d+) (?:lists|vectors|checks)(?:, (\d+) texts)?, 0 differ")
+    line = re.compile(rf"{re.escape(table)}: (\d+) vectors, 0 differ")
     found = [match for match in map(line.fullmatch, stored(program)) if match]
-    return [int(one) for one in found[0].groups() if one] if len(found) == 1 else []
+    return [int(match[1]) for match in found]
 
 
 def named(program, names):
@@ -81,8 +82,8 @@ def wrong_lists():
         yield f"{file}: its index doesn't name it"
     if '"worked"' not in (CRATES / "vectors_yaml/src/main.rt").read_text():
         yield "worked: vectors_yaml doesn't run it"
-    if counted("vectors_yaml", "worked") != [len(entries), sum(len(texts) for _, texts, _ in entries)]:
-        yield "worked: vectors_yaml/stdout counts other lists or texts"
+    if counted("vectors_yaml", "worked") != [sum(len(texts) for _, texts, _ in entries)]:
+        yield "worked: vectors_yaml/stdout counts other texts"
     yield from twice(names, "worked/index")
     yield from named("vectors_yaml", names)
     yield from wrong_copies(names)
@@ -126,8 +127,22 @@ def call_entries():
             yield tuple(line.split(" | "))
 
 
+def listed(program):
+    """The test vectors of each table of a program that its files `vectors`, `drawn` and `failing` have."""
+    tables = defaultdict(list)
+    for path in (CRATES / program / "data" / name for name in ("vectors", "drawn", "failing")):
+        table = ""
+        for line in lines_of(path) if path.exists() else []:
+            table = line[2:] if line.startswith("# ") else table
+            tables[table].append(line.partition("|")[0])
+    return tables
+
+
 def is_there(program, table, vector):
-    """Whether a program's sources name the table and the vector, or the vector is a run that `names` names."""
+    """Whether a program's files or sources name the table and the vector, or the vector is a run that `names` names."""
+    tables = listed(program)
+    if table in tables:
+        return vector == "*" or vector in tables[table]
     text = sources(program)
     runs = CRATES / program / "data" / "names"
     return f'"{table}"' in text and (vector == "*" or f'"{vector}"' in text or (runs.exists() and vector in lines_of(runs)))

@@ -1,47 +1,56 @@
 //! Calls that no list of tokens shows, with what they must give.
 //!
-//! The program makes the checks of each module, counts those of each table and names those that differ.
-//! `vectors_calls TABLE` makes those of one table, `vectors_calls scanners VECTOR` one test vector.
+//! The file `vectors` of `data` has a line `# TABLE` for each table, and a line for each test vector: its name, its
+//! fields, and the text of what must come. The program counts the test vectors of each table and names those that
+//! differ. `vectors_calls TABLE` runs those of one table, `vectors_calls TABLE VECTOR` one test vector.
 #![tactic(auto)]
 
 mod constructors;
 mod documents;
 mod enums;
 mod limits;
-mod made_tokens;
-mod marks;
 mod parsers;
 mod scanners;
+mod texts;
 mod tokens;
 
-use anyhow::Result;
+use anyhow::{Result, bail};
 use std::alloc::Global;
-use std::rt::Files;
-use vectors_common::{Tables, read_text, read_words, show_checks};
+use std::io;
+use vectors_common::{Host, Vector, Vectors, read_text, read_words};
 
-fn show_values(rt: &(impl Print + AllocGlobal), tables: &mut Tables<'_>) -> Result<()> {
-    let alloc: Global = rt.alloc();
-    show_checks(rt, tables, "enums", &enums::checks(alloc))?;
-    show_checks(rt, tables, "constructors", &constructors::checks(alloc))?;
-    show_checks(rt, tables, "tokens", &made_tokens::checks(alloc))?;
-    show_checks(rt, tables, "documents", &documents::checks(alloc))?;
-    Ok(())
+/// Returns what the calls of a test vector give, as a text.
+fn given(rt: &impl Host, vector: Vector<'_>) -> Result<String> {
+    let (alloc, name): (Global, &str) = (rt.alloc(), vector.name);
+    match vector.table {
+        "enums" => enums::given(alloc, name),
+        "constructors" => constructors::given(alloc, name),
+        "tokens" => tokens::given(alloc, name),
+        "documents" => documents::given(alloc, name),
+        "parsers" => parsers::given(rt, name),
+        "scanners" => scanners::given(alloc, vector),
+        "limits" => limits::given(alloc, vector),
+        _ => bail!("a table of no calls"),
+    }
 }
 
-fn show_parsers(rt: &(impl Files + Print + AllocGlobal), tables: &mut Tables<'_>) -> Result<()> {
-    let scalar = read_text(rt, "implicit_document.tokens")?;
-    let two = read_text(rt, "directives_loaded.tokens")?;
-    let checks = parsers::checks(rt.alloc(), scalar.as_str(), two.as_str());
-    Ok(show_checks(rt, tables, "parsers", &checks)?)
+fn is_right(rt: &impl Host, vector: Vector<'_>) -> io::Result<bool> {
+    match given(rt, vector) {
+        Ok(text) => vector.is_wanted(rt, text.as_str()),
+        Err(_) => Ok(false),
+    }
 }
 
-fn show_all(rt: &(impl Files + Print + AllocGlobal), words: &[String]) -> Result<()> {
-    let mut tables = Tables::asked(words)?;
-    show_values(rt, &mut tables)?;
-    show_parsers(rt, &mut tables)?;
-    scanners::show(rt, &mut tables)?;
-    limits::show(rt, &mut tables)?;
-    tables.end()
+fn show_all(rt: &impl Host, words: &[String]) -> Result<()> {
+    let lines = read_text(rt, "vectors")?;
+    let mut vectors = Vectors::asked(words)?;
+    for line in lines.lines() {
+        if let Some(vector) = vectors.of_line(rt, line)? {
+            let is_right = is_right(rt, vector)?;
+            vectors.count(rt, vector.name, is_right)?;
+        }
+    }
+    vectors.end(rt)
 }
 
 fn main(rt: HostRuntime) -> Result<()> {

@@ -1,72 +1,54 @@
-//! Calls of a source over a scanner that counts its own calls, with what they must give.
+//! Calls of a source over a scanner that counts its own calls. A test vector has the number of the scanner's
+//! tokens, the bound, and the number of calls; and how many tokens come, the end of the last, how often the
+//! scanner was asked, and the fault of the last call.
 
-mod counted;
-
-use crate::marks::mark;
+use crate::texts::shown;
 use anyhow::Result;
-use counted::Counted;
+use std::alloc::Global;
 use unsafe_libyaml::{
-    NO_FAULT, YAML_READER_ERROR, YAML_SCANNER_ERROR, ZERO_MARK, yaml_mark_t, yaml_parser_t_prefix,
-    yaml_scanner_source_t, yaml_token_source_t,
+    NO_FAULT, ZERO_MARK, unnamed_yaml_token_t_data, yaml_mark_t, yaml_parser_t_prefix,
+    yaml_scanner_source_t, yaml_scanner_t, yaml_source_fault_t, yaml_token_source_t, yaml_token_t,
 };
-use vectors_common::Tables;
+use vectors_common::{Vector, mark};
+
+/// As many tokens as asked for, each a column wide, and then faults, each at the column of its call.
+#[derive(Drop)]
+struct Counted {
+    tokens: u64,
+    calls: u64,
+    waits: bool,
+}
+
+impl yaml_scanner_t for Counted {
+    fn scan(&mut self) -> Result<yaml_token_t, yaml_source_fault_t> {
+        let start = mark(self.calls);
+        self.calls = self.calls.saturating_add(1);
+        if self.calls > self.tokens {
+            return Err(yaml_source_fault_t::scanner_error("no token", start));
+        }
+        let content = unnamed_yaml_token_t_data::FlowEntry;
+        Ok(yaml_token_t::new(content, start, mark(self.calls)))
+    }
+
+    fn may_wait(&self) -> bool {
+        self.waits
+    }
+}
 
 /// What the calls of a source gave.
-#[derive(Copy, Clone, PartialEq, Eq)]
-struct Given {
-    pub tokens: u64,
-    /// The end of the last token.
-    pub end: yaml_mark_t,
-    /// The fault of the last call, if it returned one.
-    pub fault: yaml_parser_t_prefix,
-    /// How often the scanner was asked.
-    pub asked: u64,
-}
-
-/// So many calls of a source with this bound, over a scanner of so many tokens.
-#[derive(Copy, Clone)]
-struct Vector {
-    pub name: &'static str,
+#[derive(Copy, Clone, PartialEq, Debug)]
+struct Noted {
     tokens: u64,
-    max_tokens: u64,
-    calls: u64,
-    wanted: Given,
-}
-
-impl Vector {
-    /// Whether the calls give what they must, and the source may wait exactly where its scanner may.
-    fn is_right(&self) -> bool {
-        [
-            self.given(false) == Some(self.wanted),
-            self.given(true) == Some(self.wanted),
-        ] == [true; 2]
-    }
-
-    /// Returns what the calls gave, or `None` where the source doesn't tell whether its scanner may wait.
-    fn given(&self, waits: bool) -> Option<Given> {
-        let scanner = Counted {
-            tokens: self.tokens,
-            calls: 0,
-            waits,
-        };
-        let mut source = yaml_scanner_source_t::new(scanner, self.max_tokens);
-        let mut given = Given {
-            tokens: 0,
-            end: ZERO_MARK,
-            fault: NO_FAULT,
-            asked: 0,
-        };
-        for _ in 0..self.calls {
-            call(&mut source, &mut given);
-        }
-        let tells = source.may_wait() == waits;
-        given.asked = source.into_scanner().calls;
-        tells.then_some(given)
-    }
+    /// The end of the last token.
+    end: yaml_mark_t,
+    /// How often the scanner was asked.
+    asked: u64,
+    /// The fault of the last call, or none.
+    fault: yaml_parser_t_prefix,
 }
 
 /// Asks a source for its next token, and notes what it gives.
-fn call(source: &mut yaml_scanner_source_t<Counted>, given: &mut Given) {
+fn call(source: &mut yaml_scanner_source_t<Counted>, given: &mut Noted) {
     match source.next_token() {
         Ok(token) => {
             given.tokens = given.tokens.saturating_add(1);
@@ -77,77 +59,34 @@ fn call(source: &mut yaml_scanner_source_t<Counted>, given: &mut Given) {
     }
 }
 
-/// Returns the scanner's fault at this column.
-fn no_token(column: u64) -> yaml_parser_t_prefix {
-    yaml_parser_t_prefix {
-        error: YAML_SCANNER_ERROR,
-        problem: Some("no token"),
-        problem_mark: mark(column),
-        ..NO_FAULT
-    }
-}
-
-/// Returns the fault of a source that has given so many tokens, which is all that it may.
-fn too_many(tokens: u64) -> yaml_parser_t_prefix {
-    yaml_parser_t_prefix {
-        error: YAML_READER_ERROR,
-        problem: Some("too many tokens"),
-        problem_offset: tokens,
-        problem_value: -1,
-        problem_mark: mark(tokens),
-        ..NO_FAULT
-    }
-}
-
-/// Returns a test vector: its tokens are a column wide each.
-fn vector_of(
-    name: &'static str,
-    [tokens, max_tokens, calls]: [u64; 3],
-    [given, asked]: [u64; 2],
-    fault: yaml_parser_t_prefix,
-) -> Vector {
-    let wanted = Given {
-        tokens: given,
-        end: mark(given),
-        fault,
-        asked,
+/// Returns what the calls give, and whether the source may wait.
+fn of_calls(vector: Vector<'_>, waits: bool) -> (Noted, bool) {
+    let scanner = Counted {
+        tokens: vector.number(0),
+        calls: 0,
+        waits,
     };
-    Vector {
-        name,
-        tokens,
-        max_tokens,
-        calls,
-        wanted,
-    }
-}
-
-/// Returns all test vectors: tokens of the scanner, bound, calls; tokens given, calls of the scanner; the
-/// fault.
-fn vectors() -> [Vector; 6] {
-    [
-        vector_of("a token for each call", [3, 5, 2], [2, 2], NO_FAULT),
-        vector_of("the scanner's fault", [2, 5, 3], [2, 3], no_token(2)),
-        vector_of(
-            "the scanner's first fault again",
-            [2, 5, 6],
-            [2, 3],
-            no_token(2),
-        ),
-        vector_of("too many tokens", [5, 2, 3], [2, 2], too_many(2)),
-        vector_of("too many tokens again", [2, 2, 5], [2, 2], too_many(2)),
-        vector_of("no token allowed", [5, 0, 1], [0, 0], too_many(0)),
-    ]
-}
-
-/// Shows the table `scanners`.
-pub fn show(rt: &(impl Print + AllocGlobal), tables: &mut Tables<'_>) -> Result<()> {
-    let Some(mut table) = tables.begin("scanners") else {
-        return Ok(());
+    let mut source = yaml_scanner_source_t::new(scanner, vector.number(1));
+    let mut given = Noted {
+        tokens: 0,
+        end: ZERO_MARK,
+        asked: 0,
+        fault: NO_FAULT,
     };
-    for vector in vectors() {
-        if table.has(vector.name) {
-            table.count(rt, vector.name, vector.is_right())?;
-        }
+    for _ in 0..vector.number(2) {
+        call(&mut source, &mut given);
     }
-    Ok(tables.show(rt, table)?)
+    let may_wait = source.may_wait();
+    given.asked = source.into_scanner().calls;
+    (given, may_wait)
+}
+
+/// Returns the text of what the calls give: the same if the scanner may wait, and then the source may too.
+pub fn given(alloc: Global, vector: Vector<'_>) -> Result<String> {
+    let (given, tells_no) = of_calls(vector, false);
+    let (waiting, tells_yes) = of_calls(vector, true);
+    if [given == waiting, !tells_no, tells_yes] != [true; 3] {
+        return shown(alloc, &(given, waiting, tells_no, tells_yes));
+    }
+    shown(alloc, &given)
 }

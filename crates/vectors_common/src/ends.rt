@@ -62,8 +62,7 @@ pub fn next_nodes<S: yaml_token_source_t>(
     Some(count_nodes(&answer))
 }
 
-/// Whether two loads return the fault that the parser keeps; or, where it keeps none, a document without
-/// nodes.
+/// Whether two loads return the fault that the parser keeps or, if it keeps none, no node.
 pub fn is_kept_by_loads<S: yaml_token_source_t>(parser: &mut yaml_parser_t<S>) -> bool {
     let kept = *parser.prefix();
     let wanted = match kept.error {

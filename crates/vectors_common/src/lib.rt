@@ -1,22 +1,28 @@
-//! What the programs of test vectors share: the tables that are asked for, which count and name what is
-//! wrong, texts that are compared line by line, the files of `data`, readers and writers that cut their
+//! What the programs of test vectors share: the test vectors that are asked for, which are counted and named if
+//! they differ, texts that are compared line by line, the files of `data`, runs, readers and writers that cut their
 //! bytes or fail, lists of a source's tokens, and what a parser returns after its end.
 #![tactic(auto)]
 
-mod checks;
 mod cut;
 mod data;
 mod ends;
+mod growing;
+mod host;
+mod marks;
 mod pieces;
-mod tables;
+mod runs;
 mod texts;
 mod tokens;
+mod vectors;
 
-pub use checks::{show_checks, unless, unless_made};
 pub use cut::{FAILED, are_first_lines, is_cut};
 pub use data::{read_data, read_text};
 pub use ends::{gives_event, is_empty, is_kept_by_loads, is_over, next_nodes};
+pub use growing::{ListScanner, computed, filled, listed};
+pub use host::Host;
+pub use marks::mark;
 pub use pieces::{EVERY_CALL, PieceReader, PieceWriter};
-pub use tables::{Table, Tables, read_words};
+pub use runs::{LinesOf, list_of_lines, run_lines, write_lines};
 pub use texts::show_difference;
 pub use tokens::{list_of, push_tokens};
+pub use vectors::{Vector, Vectors, read_words};

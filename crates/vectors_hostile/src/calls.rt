@@ -25,7 +25,7 @@ pub struct Texts<'a> {
 }
 
 /// Texts of which no two are the same.
-const SHORT: Texts = Texts {
+pub const SHORT: Texts = Texts {
     directives: &[(b"!a!", b"p:"), (b"!b!", b"q:")],
     anchor: b"a",
     tag: b"!t",
@@ -35,95 +35,62 @@ const SHORT: Texts = Texts {
 /// A surrogate, which is no text.
 const SURROGATE: &[u8] = b"\xed\xa0\x80";
 
-/// The constructors whose texts are copied.
-#[derive(Copy, Clone)]
-pub enum Constructor {
-    DocumentStart,
-    Alias,
-    Scalar,
-    SequenceStart,
-    MappingStart,
-}
-
-const CONSTRUCTORS: [(&str, Constructor); 5] = [
-    ("document start", Constructor::DocumentStart),
-    ("alias", Constructor::Alias),
-    ("scalar", Constructor::Scalar),
-    ("sequence start", Constructor::SequenceStart),
-    ("mapping start", Constructor::MappingStart),
-];
-
-/// The constructors and their names, so that no loop over them has the table in its proof.
-pub fn constructors() -> &'static [(&'static str, Constructor)] {
-    &CONSTRUCTORS
-}
-
-/// Calls a constructor with these texts.
-///
-/// # Errors
-///
-/// Those of the constructor.
+/// Calls the constructor of this name with these texts.
 pub fn construct(
     alloc: Global,
-    constructor: Constructor,
+    name: &str,
     texts: Texts<'_>,
 ) -> Result<yaml_event_t, yaml_refusal_t> {
     let (anchor, tag) = (Some(texts.anchor), Some(texts.tag));
-    match constructor {
-        Constructor::DocumentStart => {
+    match name {
+        "document start" => {
             yaml_document_start_event_initialize(alloc, None, texts.directives, true)
         }
-        Constructor::Alias => yaml_alias_event_initialize(alloc, texts.anchor),
-        Constructor::Scalar => {
+        "alias" => yaml_alias_event_initialize(alloc, texts.anchor),
+        "scalar" => {
             let style = YAML_ANY_SCALAR_STYLE;
             yaml_scalar_event_initialize(alloc, anchor, tag, texts.value, true, true, style)
         }
-        Constructor::SequenceStart => {
+        "sequence start" => {
             let style = YAML_ANY_SEQUENCE_STYLE;
             yaml_sequence_start_event_initialize(alloc, anchor, tag, true, style)
         }
-        Constructor::MappingStart => {
+        "mapping start" => {
             let style = YAML_ANY_MAPPING_STYLE;
             yaml_mapping_start_event_initialize(alloc, anchor, tag, true, style)
         }
+        _ => Err(yaml_refusal_t::TooManyNodes),
     }
 }
 
 /// Calls a constructor, and again where that returned `Memory`.
-fn construct_again(
-    alloc: Global,
-    constructor: Constructor,
-) -> Result<yaml_event_t, yaml_refusal_t> {
-    match construct(alloc, constructor, SHORT) {
-        Err(yaml_refusal_t::Memory) => construct(alloc, constructor, SHORT),
+fn construct_again(alloc: Global, name: &str) -> Result<yaml_event_t, yaml_refusal_t> {
+    match construct(alloc, name, SHORT) {
+        Err(yaml_refusal_t::Memory) => construct(alloc, name, SHORT),
         event => event,
     }
 }
 
 /// Returns the line of a constructor's event.
-///
-/// # Errors
-///
-/// `OtherError` where the constructor returns another error than `Memory`, or `Memory` twice.
-pub fn constructed(alloc: Global, constructor: Constructor) -> Lines {
-    match construct_again(alloc, constructor) {
+pub fn constructed(alloc: Global, name: &str) -> Lines {
+    match construct_again(alloc, name) {
         Ok(event) => line_of_event(alloc, &event),
-        Err(_) => Err(VectorError::OtherError),
+        Err(_) => Err(VectorError::Wrong),
     }
 }
 
 /// Texts of which this constructor's last is none.
-fn bad_texts(constructor: Constructor) -> Texts<'static> {
-    match constructor {
-        Constructor::DocumentStart => Texts {
+fn bad_texts(name: &str) -> Texts<'static> {
+    match name {
+        "document start" => Texts {
             directives: &[(b"!a!", b"p:"), (b"!b!", b"\xff")],
             ..SHORT
         },
-        Constructor::Alias => Texts {
+        "alias" => Texts {
             anchor: SURROGATE,
             ..SHORT
         },
-        Constructor::Scalar => Texts {
+        "scalar" => Texts {
             value: SURROGATE,
             ..SHORT
         },
@@ -134,65 +101,24 @@ fn bad_texts(constructor: Constructor) -> Texts<'static> {
     }
 }
 
-/// Whether a constructor refuses bytes that are no text before it allocates for the texts beside them.
-pub fn refuses_bytes_first(alloc: Global, constructor: Constructor) -> bool {
-    match construct(alloc, constructor, bad_texts(constructor)) {
+/// Whether a constructor, or a document, refuses bytes that are no text before it allocates for others.
+pub fn refuses_bytes_first(alloc: Global, name: &str) -> bool {
+    if name == "value of a document's scalar" {
+        return refuses_value_first(alloc);
+    }
+    match construct(alloc, name, bad_texts(name)) {
         Ok(_) => false,
         Err(refusal) => refusal == yaml_refusal_t::NotUtf8,
     }
 }
 
-/// Whether a document refuses a value that is no text before it allocates for the tag beside it.
-pub fn refuses_value_first(alloc: Global) -> bool {
+fn refuses_value_first(alloc: Global) -> bool {
     let Ok(mut document) = begin_again(alloc) else {
         return false;
     };
     let (tag, style) = (Some(SHORT.tag), YAML_ANY_SCALAR_STYLE);
     let added = yaml_document_add_scalar(&mut document, tag, SURROGATE, style);
     added == Err(yaml_refusal_t::NotUtf8)
-}
-
-/// Whether a call gives its node a tag.
-#[derive(Copy, Clone)]
-pub enum Tagged {
-    Yes,
-    No,
-}
-
-/// A call on a document. The ids are those that earlier calls returned.
-#[derive(Copy, Clone)]
-pub enum Call {
-    Scalar(Tagged),
-    Sequence(Tagged),
-    Mapping(Tagged),
-    Item(i32, i32),
-    Pair(i32, i32, i32),
-}
-
-/// Each kind of call where the list that it adds to has to grow, and where it needn't.
-const CALLS: [(&str, Call); 17] = [
-    ("a sequence", Call::Sequence(Tagged::No)),
-    ("its first item", Call::Item(1, 1)),
-    ("a scalar with a tag", Call::Scalar(Tagged::Yes)),
-    ("a mapping with a tag", Call::Mapping(Tagged::Yes)),
-    ("its first pair", Call::Pair(3, 2, 1)),
-    ("a scalar", Call::Scalar(Tagged::No)),
-    ("a mapping", Call::Mapping(Tagged::No)),
-    ("a second item", Call::Item(1, 5)),
-    ("a third item", Call::Item(1, 4)),
-    ("a fourth item", Call::Item(1, 3)),
-    ("a fifth item", Call::Item(1, 2)),
-    ("a second pair", Call::Pair(3, 2, 5)),
-    ("a third pair", Call::Pair(3, 1, 4)),
-    ("a sequence with a tag", Call::Sequence(Tagged::Yes)),
-    ("a second mapping with a tag", Call::Mapping(Tagged::Yes)),
-    ("a third sequence", Call::Sequence(Tagged::No)),
-    ("a third scalar", Call::Scalar(Tagged::Yes)),
-];
-
-/// The calls in turn, each with its name.
-pub fn calls() -> &'static [(&'static str, Call)] {
-    &CALLS
 }
 
 /// Whether a node of this type has this id.
@@ -205,65 +131,91 @@ fn is_at(document: &yaml_document_t, id: i32, wanted: yaml_node_type_t) -> bool
     }
 }
 
-/// Appends an item, where both ids allow it.
-///
-/// # Errors
-///
-/// Those of the call.
+/// Appends an item.
 pub fn append_item(
     document: &mut yaml_document_t,
-    sequence: i32,
+    list: i32,
     item: i32,
-) -> Result<(), yaml_refusal_t> {
-    if is_at(document, sequence, YAML_SEQUENCE_NODE)
+) -> Result<(), VectorError> {
+    if is_at(document, list, YAML_SEQUENCE_NODE)
         && yaml_document_get_node(document, item).is_some()
     {
-        yaml_document_append_sequence_item(document, sequence, item)?;
+        yaml_document_append_sequence_item(document, list, item)?;
+        return Ok(());
     }
-    Ok(())
+    Err(VectorError::Wrong)
 }
 
-/// Appends a pair, where its ids allow it.
-pub fn append_pair(
+/// The same of a pair.
+fn append_pair(
     document: &mut yaml_document_t,
     mapping: i32,
     key: i32,
     value: i32,
-) -> Result<(), yaml_refusal_t> {
+) -> Result<(), VectorError> {
     if is_at(document, mapping, YAML_MAPPING_NODE)
         && yaml_document_get_node(document, key).is_some()
         && yaml_document_get_node(document, value).is_some()
     {
         yaml_document_append_mapping_pair(document, mapping, key, value)?;
+        return Ok(());
+    }
+    Err(VectorError::Wrong)
+}
+
+fn id_of(word: &str) -> i32 {
+    word.parse::<i32>().unwrap_or(0)
+}
+
+/// Appends the children that a word names, `1[2,3` to the sequence 1, or `1{2:3,4:5` to the mapping 1.
+fn append(document: &mut yaml_document_t, word: &str) -> Result<(), VectorError> {
+    if let Some((list, items)) = word.split_once('[') {
+        return append_items(document, id_of(list), items);
+    }
+    let (mapping, pairs) = word.split_once('{').ok_or(VectorError::Wrong)?;
+    append_pairs(document, id_of(mapping), pairs)
+}
+
+fn append_items(document: &mut yaml_document_t, list: i32, items: &str) -> Result<(), VectorError> {
+    for item in items.split(',') {
+        append_item(document, list, id_of(item))?;
     }
     Ok(())
 }
 
-fn tag_of(tagged: Tagged) -> Option<&'static [u8]> {
-    match tagged {
-        Tagged::Yes => Some(SHORT.tag),
-        Tagged::No => None,
+fn append_pairs(
+    document: &mut yaml_document_t,
+    mapping: i32,
+    pairs: &str,
+) -> Result<(), VectorError> {
+    for pair in pairs.split(',') {
+        let (key, value) = pair.split_once(':').ok_or(VectorError::Wrong)?;
+        append_pair(document, mapping, id_of(key), id_of(value))?;
     }
+    Ok(())
 }
 
-/// Makes a call, where its ids allow it.
-fn make(document: &mut yaml_document_t, call: Call) -> Result<(), yaml_refusal_t> {
-    match call {
-        Call::Scalar(tagged) => {
-            yaml_document_add_scalar(document, tag_of(tagged), SHORT.value, YAML_ANY_SCALAR_STYLE)?;
-            Ok(())
+/// Makes the call that a word names: `.` adds a scalar, `[` a sequence, `{` a mapping, each with `!` after it
+/// if it has a tag; a word that begins with an id appends children.
+pub fn make(
+    document: &mut yaml_document_t,
+    word: &str,
+    texts: Texts<'_>,
+) -> Result<(), VectorError> {
+    let tag = word.ends_with('!').then_some(texts.tag);
+    match word.as_bytes() {
+        [b'.', ..] => {
+            yaml_document_add_scalar(document, tag, texts.value, YAML_ANY_SCALAR_STYLE)?;
         }
-        Call::Sequence(tagged) => {
-            yaml_document_add_sequence(document, tag_of(tagged), YAML_ANY_SEQUENCE_STYLE)?;
-            Ok(())
+        [b'[', ..] => {
+            yaml_document_add_sequence(document, tag, YAML_ANY_SEQUENCE_STYLE)?;
         }
-        Call::Mapping(tagged) => {
-            yaml_document_add_mapping(document, tag_of(tagged), YAML_ANY_MAPPING_STYLE)?;
-            Ok(())
+        [b'{', ..] => {
+            yaml_document_add_mapping(document, tag, YAML_ANY_MAPPING_STYLE)?;
         }
-        Call::Item(sequence, item) => append_item(document, sequence, item),
-        Call::Pair(mapping, key, value) => append_pair(document, mapping, key, value),
+        _ => append(document, word)?,
     }
+    Ok(())
 }
 
 fn begin(alloc: Global) -> Result<yaml_document_t, yaml_refusal_t> {
@@ -290,45 +242,39 @@ fn has_lines(
 fn make_after(
     alloc: Global,
     document: &mut yaml_document_t,
-    call: Call,
+    word: &str,
     before: &[u8],
 ) -> Result<(), VectorError> {
-    match make(document, call) {
-        Ok(()) => return Ok(()),
-        Err(yaml_refusal_t::Memory) => {}
-        Err(_) => return Err(VectorError::OtherError),
+    match make(document, word, SHORT) {
+        Err(VectorError::Memory) => {}
+        made => return made,
     }
     if !has_lines(alloc, document, before)? {
-        return Err(VectorError::Changed);
+        return Err(VectorError::Wrong);
     }
-    make(document, call).or(Err(VectorError::OtherError))
+    make(document, word, SHORT).or(Err(VectorError::Wrong))
 }
 
 fn make_again(
     alloc: Global,
     document: &mut yaml_document_t,
-    call: Call,
+    word: &str,
 ) -> Result<(), VectorError> {
     let before = lines_of_document(alloc, document)?;
-    make_after(alloc, document, call, before.as_slice())
+    make_after(alloc, document, word, before.as_slice())
 }
 
-fn make_all(alloc: Global, document: &mut yaml_document_t, most: usize) -> Lines {
-    for (_, call) in calls().iter().take(most) {
-        make_again(alloc, document, *call)?;
+fn make_all(alloc: Global, document: &mut yaml_document_t, words: &str) -> Lines {
+    for word in words.split_whitespace() {
+        make_again(alloc, document, word)?;
     }
     lines_of_document(alloc, document)
 }
 
-/// Returns the lines of the document after the first so many calls.
-///
-/// # Errors
-///
-/// `OtherError` where a call returns another error than `Memory`, or `Memory` twice; `Changed` where one that
-/// returned `Memory` changed the document; `Memory` where an allocation beside the calls fails.
-pub fn built(alloc: Global, most: usize) -> Lines {
+/// Returns the lines of the document after the calls that these words name.
+pub fn built(alloc: Global, words: &str) -> Lines {
     match begin_again(alloc) {
-        Ok(mut document) => make_all(alloc, &mut document, most),
-        Err(_) => Err(VectorError::OtherError),
+        Ok(mut document) => make_all(alloc, &mut document, words),
+        Err(_) => Err(VectorError::Wrong),
     }
 }

@@ -1,21 +1,17 @@
 //! What sources and calls give, as lines.
 
 use std::alloc::{AllocError, Global};
-use token_lines::{run_end_t, write_document, write_event, write_events, write_nodes};
-use unsafe_libyaml::{
-    yaml_document_t, yaml_event_t, yaml_parser_initialize, yaml_refusal_t, yaml_token_source_t,
-};
-use vectors_common::is_cut;
+use token_lines::{run_end_t, write_document, write_event};
+use unsafe_libyaml::{yaml_document_t, yaml_event_t, yaml_refusal_t, yaml_token_source_t};
+use vectors_common::{LinesOf, is_cut, write_lines};
 
 /// Why a test vector has no lines.
 #[derive(Copy, Clone, PartialEq, Debug)]
 pub enum VectorError {
     /// An allocation of the test vector's own failed, which says nothing of what the test vector shows.
     Memory,
-    /// A call returned another error than that its allocation failed.
-    OtherError,
-    /// A call whose allocation failed changed its document.
-    Changed,
+    /// A call returned another error, its ids don't allow it, or it failed and changed its document.
+    Wrong,
 }
 
 impl From<AllocError> for VectorError {
@@ -28,7 +24,7 @@ impl From<yaml_refusal_t> for VectorError {
     fn from(refusal: yaml_refusal_t) -> Self {
         match refusal {
             yaml_refusal_t::Memory => VectorError::Memory,
-            _ => VectorError::OtherError,
+            _ => VectorError::Wrong,
         }
     }
 }
@@ -37,10 +33,6 @@ impl From<yaml_refusal_t> for VectorError {
 pub type Lines = Result<Vec<u8>, VectorError>;
 
 /// Returns the line of an event.
-///
-/// # Errors
-///
-/// `Memory` where an allocation for the line fails.
 pub fn line_of_event(alloc: Global, event: &yaml_event_t) -> Lines {
     let mut line = Vec::new(alloc);
     let wrote = write_event(alloc, event, &mut line);
@@ -48,45 +40,16 @@ pub fn line_of_event(alloc: Global, event: &yaml_event_t) -> Lines {
 }
 
 /// Returns the lines of a document.
-///
-/// # Errors
-///
-/// `Memory` where an allocation for the lines fails.
 pub fn lines_of_document(alloc: Global, document: &yaml_document_t) -> Lines {
     let mut lines = Vec::new(alloc);
     let wrote = write_document(alloc, document, &mut lines);
     wrote.or(Err(VectorError::Memory)).and(Ok(lines))
 }
 
-/// Whose lines a source has.
-#[derive(Copy, Clone)]
-pub enum LinesOf {
-    Events,
-    Documents,
-}
-
-/// Writes the lines of what a source gives, and the fault after them, if there is one.
-pub fn write_lines<S: yaml_token_source_t + Drop>(
-    alloc: Global,
-    of: LinesOf,
-    source: S,
-    lines: &mut Vec<u8>,
-) -> run_end_t {
-    let mut parser = yaml_parser_initialize(alloc, source);
-    match of {
-        LinesOf::Events => write_events(&mut parser, lines),
-        LinesOf::Documents => write_nodes(&mut parser, lines),
-    }
-}
-
 /// Returns the lines of what a source gives, and the fault after them, if there is one.
-///
-/// # Errors
-///
-/// `Memory` where an allocation for the lines fails.
 pub fn lines_of<S: yaml_token_source_t + Drop>(alloc: Global, of: LinesOf, source: S) -> Lines {
     let mut lines = Vec::new(alloc);
-    match write_lines(alloc, of, source, &mut lines) {
+    match write_lines(of, alloc, source, &mut lines) {
         run_end_t::OutputFailed => Err(VectorError::Memory),
         _ => Ok(lines),
     }

@@ -1,9 +1,10 @@
 //! Hostile use: lists that are large, deep or drawn, texts of every length, and allocations that fail.
 //!
-//! The program makes the checks of each module, counts the test vectors of each table and names those that
-//! differ. `vectors_hostile TABLE` makes those of one table, `vectors_hostile TABLE VECTOR` those of one
-//! test vector, and `vectors_hostile failing` those of `failing`, for
-//! `scripts/gate/allocation_failures.sh`. `vectors_hostile work WORK N` does the work of
+//! The files `vectors`, `drawn` and `failing` of `data` have a line `# TABLE` for each table, and a line for
+//! each test vector: its name, and after it its fields, the last often what has to come. The program counts the
+//! test vectors of each table and names those that differ. `vectors_hostile TABLE` runs those of one table,
+//! `vectors_hostile TABLE VECTOR` one test vector, and `vectors_hostile failing` those of the file `failing`,
+//! for `scripts/gate/allocation_failures.sh`. `vectors_hostile work WORK N` does the work of
 //! `scripts/gate/flat_memory.sh`.
 #![tactic(auto)]
 
@@ -12,46 +13,67 @@ mod calls;
 mod drawn;
 mod failing;
 mod flat;
-mod growing;
 mod large;
 mod lines;
-mod nested;
 mod shapes;
 mod sizes;
 mod texts;
 
-use anyhow::{Context, Result};
-use std::rt::Files;
-use vectors_common::{Tables, read_text, read_words};
+use anyhow::{Context, Result, bail};
+use vectors_common::{Host, Vector, Vectors, read_text, read_words};
 
-fn show_tables(rt: &(impl Files + Print + AllocGlobal), tables: &mut Tables<'_>) -> Result<()> {
-    let vector = read_text(rt, "text.tokens")?;
-    let kinds = read_text(rt, "kinds")?;
-    let sizes = read_text(rt, "sizes")?;
-    let bounded = read_text(rt, "bounded")?;
-    large::show(rt, tables)?;
-    nested::show(rt, tables)?;
-    sizes::show(rt, tables, sizes.as_str())?;
-    bounded::show(rt, tables, bounded.as_str())?;
-    texts::show(rt, tables, vector.as_str())?;
-    drawn::show(rt, tables, kinds.as_str())?;
-    failing::show(rt, tables)?;
+fn is_right(rt: &impl Host, vector: Vector<'_>) -> Result<bool> {
+    Ok(match vector.table {
+        "large lists, parsed" => large::is_parsed(rt, vector)?,
+        "large lists, loaded" => large::is_loaded(rt, vector)?,
+        "deep documents, by calls" => sizes::is_shaped(rt, vector)?,
+        "expanded sizes" => sizes::is_right(rt, vector)?,
+        "events within bounds" => bounded::is_right(rt, vector)?,
+        "texts of every length" => texts::is_right(rt, vector)?,
+        "drawn lists" => drawn::is_list_right(rt, vector)?,
+        "what a failed allocation leaves" => failing::is_left(rt.alloc(), vector.name),
+        "bytes that are no text, refused first" => {
+            calls::refuses_bytes_first(rt.alloc(), vector.name)
+        }
+        "constructors, called again" => failing::is_constructor_right(rt.alloc(), vector.name),
+        "calls on a document, made again" => {
+            failing::is_document_right(rt.alloc(), vector.field(0))
+        }
+        "lists that are computed" => failing::is_list_right(rt.alloc(), vector.field(0)),
+        _ => bail!("a table of no check"),
+    })
+}
+
+/// Runs each test vector of these lines that is asked for.
+fn show_lines<'a>(rt: &impl Host, vectors: &mut Vectors<'a>, lines: &'a str) -> Result<()> {
+    for line in lines.lines() {
+        if let Some(vector) = vectors.of_line(rt, line)? {
+            let is_right = is_right(rt, vector)?;
+            vectors.count(rt, vector.name, is_right)?;
+        }
+    }
     Ok(())
 }
 
-fn show_all(rt: &(impl Files + Print + AllocGlobal), words: &[String]) -> Result<()> {
-    let mut tables = Tables::asked(words)?;
-    show_tables(rt, &mut tables)?;
-    tables.end()
+fn show_all(rt: &impl Host, words: &[String]) -> Result<()> {
+    let lines = read_text(rt, "vectors")?;
+    let drawn = read_text(rt, "drawn")?;
+    let failing = read_text(rt, "failing")?;
+    let mut vectors = Vectors::asked(words)?;
+    show_lines(rt, &mut vectors, lines.as_str())?;
+    show_lines(rt, &mut vectors, drawn.as_str())?;
+    show_lines(rt, &mut vectors, failing.as_str())?;
+    vectors.end(rt)
 }
 
-fn show_failing(rt: &(impl Print + AllocGlobal)) -> Result<()> {
-    let mut tables = Tables::asked(&[])?;
-    failing::show(rt, &mut tables)?;
-    tables.end()
+fn show_failing(rt: &impl Host) -> Result<()> {
+    let lines = read_text(rt, "failing")?;
+    let mut vectors = Vectors::asked(&[])?;
+    show_lines(rt, &mut vectors, lines.as_str())?;
+    vectors.end(rt)
 }
 
-fn do_work(rt: &(impl Files + Print + AllocGlobal), work: &str, n: &str) -> Result<()> {
+fn do_work(rt: &impl Host, work: &str, n: &str) -> Result<()> {
     let n = n.parse::<u32>().context("no number")?;
     flat::show(rt, work, n)
 }

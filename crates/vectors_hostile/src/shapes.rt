@@ -1,94 +1,80 @@
-//! The nodes that large lists give.
+//! The nodes of large documents.
 
-use crate::growing::GrowingList;
 use crate::large::N;
-use crate::nested::is_chain;
 use unsafe_libyaml::{
     YAML_PLAIN_SCALAR_STYLE, unnamed_yaml_node_t_data, yaml_node_item_t, yaml_node_pair_t,
     yaml_node_t,
 };
 
-/// How large and deep the lists are, as an id.
+/// How large and deep the documents are, as an id.
 const LAST: i32 = N as i32;
 
-/// Whether the nodes of a document are those that its list gives at N.
-pub fn is_shaped(list: GrowingList, nodes: &[yaml_node_t]) -> bool {
+/// What a node is: an empty plain scalar, or so many items or pairs, which are all the same.
+#[derive(Copy, Clone, PartialEq)]
+enum Shape {
+    Empty,
+    Items(usize, i32),
+    Pairs(usize, i32, i32),
+    Other,
+}
+
+/// What the node of this id is in the document of this name.
+fn wanted(list: &str, id: i32) -> Shape {
+    let next = id.wrapping_add(1);
     match list {
-        GrowingList::NestedSequences => is_chain(nodes),
-        GrowingList::NestedPairs => are_pairs(nodes),
-        GrowingList::Aliases => is_ring(nodes),
-        GrowingList::DocumentEnds | GrowingList::Documents => are_empty_scalars(nodes),
-        GrowingList::TagDirectives => nodes.is_empty(),
+        "nested sequences" if id == LAST => Shape::Items(0, 0),
+        "nested sequences" => Shape::Items(1, next),
+        "sequences in sequences" if id <= LAST => Shape::Items(1, next),
+        "nested pairs" if id <= LAST.wrapping_mul(2) => wanted_pair(id, next),
+        "aliases" => Shape::Items(N as usize, 1),
+        "sequences in sequences" => Shape::Other,
+        _ => Shape::Empty,
     }
 }
 
-fn is_empty_scalar(node: &yaml_node_t) -> bool {
-    match &node.content {
-        unnamed_yaml_node_t_data::Scalar(scalar) => {
-            scalar.value.as_str().is_empty() && scalar.style == YAML_PLAIN_SCALAR_STYLE
-        }
-        _ => false,
+/// Sequences of mappings in one another: the value of each mapping's pair is a scalar after all of these.
+fn wanted_pair(id: i32, next: i32) -> Shape {
+    if id % 2 == 1 {
+        return Shape::Items(1, next);
     }
-}
-
-fn are_empty_scalars(nodes: &[yaml_node_t]) -> bool {
-    for node in nodes {
-        if !is_empty_scalar(node) {
-            return false;
-        }
-    }
-    true
-}
-
-/// Whether these are N times the id of the root.
-fn are_roots(items: &[yaml_node_item_t]) -> bool {
-    for item in items {
-        if *item != 1 {
-            return false;
-        }
-    }
-    items.len() == N as usize
-}
-
-/// Whether the only node is a sequence of N times itself.
-fn is_ring(nodes: &[yaml_node_t]) -> bool {
-    let [node] = nodes else {
-        return false;
-    };
-    match &node.content {
-        unnamed_yaml_node_t_data::Sequence(sequence) => are_roots(sequence.items.as_slice()),
-        _ => false,
-    }
-}
-
-/// Whether these are one pair with this key, and with the scalar that the mapping of this id ends by.
-fn is_pair(pairs: &[yaml_node_pair_t], id: i32) -> bool {
     let value = LAST.wrapping_mul(3).wrapping_add(2).wrapping_sub(id / 2);
-    match pairs {
-        [pair] => [pair.key == id.wrapping_add(1), pair.value == value] == [true; 2],
-        _ => false,
-    }
+    Shape::Pairs(1, next, value)
 }
 
-/// Whether the node of this id stands in N pairs in one another: as a sequence of the next node, which is a
-/// mapping; as a mapping from the next node to a scalar; or after all these as a scalar.
-fn is_in_pairs(node: &yaml_node_t, id: i32) -> bool {
-    let (is_outer, is_odd) = (id <= LAST.wrapping_mul(2), id % 2 == 1);
+fn shape_of(node: &yaml_node_t) -> Shape {
     match &node.content {
-        unnamed_yaml_node_t_data::Sequence(sequence) => {
-            is_outer && is_odd && sequence.items.as_slice() == [id.wrapping_add(1)].as_slice()
+        unnamed_yaml_node_t_data::Scalar(scalar)
+            if scalar.value.as_str().is_empty() && scalar.style == YAML_PLAIN_SCALAR_STYLE => {
+            Shape::Empty
         }
-        unnamed_yaml_node_t_data::Mapping(mapping) => {
-            is_outer && !is_odd && is_pair(mapping.pairs.as_slice(), id)
-        }
-        unnamed_yaml_node_t_data::Scalar(_) => !is_outer && is_empty_scalar(node),
+        unnamed_yaml_node_t_data::Sequence(sequence) => shape_of_items(sequence.items.as_slice()),
+        unnamed_yaml_node_t_data::Mapping(mapping) => shape_of_pairs(mapping.pairs.as_slice()),
+        _ => Shape::Other,
     }
 }
 
-fn are_pairs(nodes: &[yaml_node_t]) -> bool {
+fn shape_of_items(items: &[yaml_node_item_t]) -> Shape {
+    let first = items.first().map_or(0, |item| *item);
+    for item in items {
+        if *item != first {
+            return Shape::Other;
+        }
+    }
+    Shape::Items(items.len(), first)
+}
+
+fn shape_of_pairs(pairs: &[yaml_node_pair_t]) -> Shape {
+    match pairs {
+        [pair] => Shape::Pairs(1, pair.key, pair.value),
+        _ => Shape::Other,
+    }
+}
+
+/// Whether these are the nodes of the document of this name.
+pub fn are_shaped(list: &str, nodes: &[yaml_node_t]) -> bool {
     let mut id = 1i32;
     for node in nodes {
-        if !is_in_pairs(node, id) {
+        if shape_of(node) != wanted(list, id) {
             return false;
         }
         id = id.wrapping_add(1);

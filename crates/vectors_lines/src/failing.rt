@@ -4,7 +4,7 @@
 //! on until none fails. Where none fails, a run is right only if it is whole.
 
 use crate::memory;
-use crate::runs::{LinesOf, Passage, Run, run_lines};
+use crate::runs::{Passage, Run};
 use std::alloc::Global;
 use std::io;
 use std::io::{Cursor, Write};
@@ -12,11 +12,11 @@ use token_lines::{
     MAX_TOKENS, Outcome, line_refusal_t, write_document, write_event, yaml_line_source_t,
 };
 use unsafe_libyaml::{
-    YAML_MEMORY_ERROR, unnamed_yaml_event_t_data, yaml_document_t, yaml_error_type_t, yaml_event_t,
+    YAML_MEMORY_ERROR, YAML_NO_ERROR, yaml_document_t, yaml_error_type_t, yaml_event_t,
     yaml_parser_between_documents, yaml_parser_initialize, yaml_parser_load, yaml_parser_parse,
     yaml_parser_t, yaml_token_source_t,
 };
-use vectors_common::{are_first_lines, is_cut};
+use vectors_common::{LinesOf, are_first_lines, is_cut, is_empty, run_lines};
 
 /// Whether two runs are right, of which one may be cut.
 fn are_right(one: Passage, other: Passage) -> bool {
@@ -86,104 +86,115 @@ pub fn is_right_in_memory(alloc: Global, vector: Run<'_>) -> bool {
     )
 }
 
-/// What is left to write, and how a run came through that writes nothing more.
-type Left<'a> = Result<&'a [u8], Passage>;
-
-/// What is left after these lines.
-fn following<'a>(rest: &'a [u8], written: &[u8]) -> Left<'a> {
-    match rest.strip_prefix(written) {
-        Some(rest) => Ok(rest),
-        None => Err(Passage::Wrong),
+/// Writes an event's line, for which the writer is called once. It is written again where its allocation
+/// failed, before which the writer may not be called.
+fn is_event_written(alloc: Global, event: &yaml_event_t, room: &mut Room) -> bool {
+    let before = room.writes;
+    let mut wrote = write_event(alloc, event, room);
+    if wrote == Err(line_refusal_t::Memory) && room.writes == before {
+        wrote = write_event(alloc, event, room);
     }
-}
-
-/// What is left after an event's line, for which the writer is called once. It is written again where its
-/// allocation failed, before which the writer may not be called.
-fn after_event<'a>(alloc: Global, event: &yaml_event_t, rest: &'a [u8]) -> Left<'a> {
-    let mut writer = Room::new();
-    let mut wrote = write_event(alloc, event, &mut writer);
-    if wrote == Err(line_refusal_t::Memory) && writer.writes == 0 {
-        wrote = write_event(alloc, event, &mut writer);
-    }
-    match wrote {
-        Ok(()) if writer.writes == 1 => following(rest, writer.written()),
-        _ => Err(Passage::Wrong),
-    }
+    wrote == Ok(()) && room.writes == before.saturating_add(1)
 }
 
 /// The same of a document's lines, of which then only whole ones may be written.
-fn after_document<'a>(alloc: Global, document: &yaml_document_t, rest: &'a [u8]) -> Left<'a> {
-    let mut writer = Room::new();
-    let mut wrote = write_document(alloc, document, &mut writer);
-    if wrote == Err(line_refusal_t::Memory) && are_first_lines(writer.written(), rest) {
-        writer = Room::new();
-        wrote = write_document(alloc, document, &mut writer);
+fn is_document_written(
+    alloc: Global,
+    document: &yaml_document_t,
+    room: &mut Room,
+    lines: &[u8],
+) -> bool {
+    let before = room.bytes.position();
+    let mut wrote = write_document(alloc, document, room);
+    if wrote == Err(line_refusal_t::Memory) && are_first_lines(room.written(), lines) {
+        room.bytes.set_position(before);
+        wrote = write_document(alloc, document, room);
     }
-    match wrote {
-        Ok(()) => following(rest, writer.written()),
-        Err(_) => Err(Passage::Wrong),
-    }
+    wrote == Ok(())
 }
 
-/// How a run came through whose parser returned this error with so much left to write.
-fn failed(error: yaml_error_type_t, rest: &[u8]) -> Passage {
-    if error == YAML_MEMORY_ERROR {
-        Passage::Cut
-    } else if rest.starts_with(b"FAULT ") {
-        Passage::Whole
+/// How parts go on: there may be more, or the run ended with this error or none, or a part is wrong.
+#[derive(Copy, Clone)]
+enum Part {
+    Written,
+    End(yaml_error_type_t),
+    Wrong,
+}
+
+/// A part that was written, if it was.
+fn part_of(is_written: bool) -> Part {
+    if is_written {
+        Part::Written
     } else {
-        Passage::Wrong
+        Part::Wrong
     }
 }
 
-/// How a run came through that ended with so much left to write.
-fn ended(rest: &[u8]) -> Passage {
-    if rest.is_empty() {
-        Passage::Whole
-    } else {
-        Passage::Wrong
-    }
-}
-
-fn after_parsed<'a>(
+fn write_parsed(
     alloc: Global,
     parsed: &Result<yaml_event_t, yaml_error_type_t>,
-    rest: &'a [u8],
-) -> Left<'a> {
+    room: &mut Room,
+) -> Part {
     match parsed {
-        Ok(event) if matches!(event.content, unnamed_yaml_event_t_data::NoEvent) => {
-            Err(ended(rest))
-        }
-        Ok(event) => after_event(alloc, event, rest),
-        Err(error) => Err(failed(*error, rest)),
+        Ok(event) if is_empty(event) => Part::End(YAML_NO_ERROR),
+        Ok(event) => part_of(is_event_written(alloc, event, room)),
+        Err(error) => Part::End(*error),
     }
 }
 
-fn after_loaded<'a>(
+fn write_loaded(
     alloc: Global,
     loaded: &Result<yaml_document_t, yaml_error_type_t>,
-    rest: &'a [u8],
-) -> Left<'a> {
+    room: &mut Room,
+    lines: &[u8],
+) -> Part {
     match loaded {
-        Ok(document) if document.nodes().is_empty() => Err(ended(rest)),
-        Ok(document) => after_document(alloc, document, rest),
-        Err(error) => Err(failed(*error, rest)),
+        Ok(document) if document.nodes().is_empty() => Part::End(YAML_NO_ERROR),
+        Ok(document) => part_of(is_document_written(alloc, document, room, lines)),
+        Err(error) => Part::End(*error),
     }
 }
 
-/// What is left after the next event or document of a parser.
-fn after_next<'a, S: yaml_token_source_t>(
+/// Writes the next event or document of a parser.
+fn write_next<S: yaml_token_source_t>(
     alloc: Global,
-    of: LinesOf,
+    vector: Run<'_>,
     parser: &mut yaml_parser_t<S>,
-    rest: &'a [u8],
-) -> Left<'a> {
-    match of {
-        LinesOf::Events => after_parsed(alloc, &yaml_parser_parse(parser), rest),
+    room: &mut Room,
+) -> Part {
+    match vector.of {
+        LinesOf::Events => write_parsed(alloc, &yaml_parser_parse(parser), room),
         LinesOf::Documents if yaml_parser_between_documents(parser) => {
-            after_loaded(alloc, &yaml_parser_load(parser), rest)
+            write_loaded(alloc, &yaml_parser_load(parser), room, vector.lines)
         }
-        _ => Err(Passage::Wrong),
+        _ => Part::Wrong,
+    }
+}
+
+/// Writes events or documents one by one, and returns how that ended.
+fn write_parts<S: yaml_token_source_t>(
+    alloc: Global,
+    vector: Run<'_>,
+    parser: &mut yaml_parser_t<S>,
+    room: &mut Room,
+) -> Part {
+    for _ in 0..1000u32 {
+        match write_next(alloc, vector, parser, room) {
+            Part::Written => {}
+            part => return part,
+        }
+    }
+    Part::Wrong
+}
+
+/// How a run came through that wrote this and then ended so.
+fn passage_of(lines: &[u8], written: &[u8], end: Part) -> Passage {
+    match (end, lines.strip_prefix(written)) {
+        (Part::End(YAML_NO_ERROR), Some(rest)) if rest.is_empty() => Passage::Whole,
+        (Part::End(YAML_NO_ERROR), _) => Passage::Wrong,
+        (Part::End(YAML_MEMORY_ERROR), Some(_)) => Passage::Cut,
+        (Part::End(_), Some(rest)) if rest.starts_with(b"FAULT ") => Passage::Whole,
+        _ => Passage::Wrong,
     }
 }
 
@@ -191,22 +202,9 @@ fn after_next<'a, S: yaml_token_source_t>(
 fn come_through(alloc: Global, vector: Run<'_>) -> Passage {
     let source = yaml_line_source_t::new(alloc, vector.tokens, MAX_TOKENS);
     let mut parser = yaml_parser_initialize(alloc, source);
-    goes_through(alloc, vector, &mut parser)
-}
-
-fn goes_through<S: yaml_token_source_t>(
-    alloc: Global,
-    vector: Run<'_>,
-    parser: &mut yaml_parser_t<S>,
-) -> Passage {
-    let mut rest = vector.lines;
-    for _ in 0..1000u32 {
-        match after_next(alloc, vector.of, parser, rest) {
-            Ok(left) => rest = left,
-            Err(passage) => return passage,
-        }
-    }
-    Passage::Wrong
+    let mut room = Room::new();
+    let end = write_parts(alloc, vector, &mut parser, &mut room);
+    passage_of(vector.lines, room.written(), end)
 }
 
 /// Whether a run whose events or documents are written one by one comes through failed allocations.

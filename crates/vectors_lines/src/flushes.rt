@@ -1,20 +1,13 @@
 //! Flushes: how much a run has flushed when its reader is asked for bytes, for which it may have to wait.
 
-use crate::runs::{LinesOf, Run, first_line, run_lines, whole_lines};
-use anyhow::Result;
+use crate::long::read_long;
+use crate::runs::{Run, first_line, whole_lines};
 use std::alloc::{AllocError, Global};
 use std::cell::Cell;
 use std::io;
 use std::io::{BufRead, ErrorKind, Read, Write};
 use token_lines::Outcome;
-use vectors_common::Tables;
-
-/// How many bytes a call of a reader hands out.
-#[derive(Copy, Clone)]
-enum Piece {
-    Line,
-    All,
-}
+use vectors_common::{Host, LinesOf, Vector, run_lines};
 
 /// Which call of a writer fails.
 #[derive(Copy, Clone, PartialEq)]
@@ -31,7 +24,8 @@ const FAILED: usize = usize::MAX;
 #[derive(Drop)]
 struct NotingReader<'a> {
     bytes: &'a [u8],
-    piece: Piece,
+    /// Whether a call hands out all bytes, and not a line.
+    hands_out_all: bool,
     flushed: &'a Cell<usize>,
     noted: Vec<usize>,
 }
@@ -47,10 +41,10 @@ impl Read for NotingReader<'_> {
 impl BufRead for NotingReader<'_> {
     fn fill_buf(&mut self) -> io::Result<&[u8]> {
         self.noted.push(self.flushed.get())?;
-        Ok(match self.piece {
-            Piece::Line => first_line(self.bytes),
-            Piece::All => self.bytes,
-        })
+        if self.hands_out_all {
+            return Ok(self.bytes);
+        }
+        Ok(first_line(self.bytes))
     }
 
     fn consume(&mut self, amount: usize) {
@@ -67,16 +61,7 @@ struct FlushWriter<'a> {
     goes_on: bool,
 }
 
-impl<'a> FlushWriter<'a> {
-    fn new(alloc: Global, flushed: &'a Cell<usize>, failing: Failing) -> Self {
-        FlushWriter {
-            written: Vec::new(alloc),
-            flushed,
-            failing,
-            goes_on: false,
-        }
-    }
-
+impl FlushWriter<'_> {
     /// Fails where this call has to.
     fn count(&mut self, call: Failing) -> io::Result<()> {
         self.goes_on = self.goes_on || self.flushed.get() == FAILED;
@@ -116,25 +101,47 @@ fn before_end(written: &[u8]) -> usize {
     }
 }
 
-/// Runs, and returns how many bytes were flushed at each call of the reader. The last number is that of all
-/// bytes that were flushed at the end, and has to be that of all that were written.
-fn flushed_at_calls(alloc: Global, run: Run<'_>, piece: Piece) -> Result<Vec<usize>, AllocError> {
+/// What a run did: how it ended, how many bytes were flushed at each call of the reader and at last at the end,
+/// and whether the writer was called after a call of it failed.
+#[derive(Drop)]
+struct Ran {
+    ended: Outcome,
+    flushed: Vec<usize>,
+    goes_on: bool,
+}
+
+/// Runs, with the first of these calls of the writer failing.
+fn run_noted(
+    alloc: Global,
+    run: Run<'_>,
+    hands_out_all: bool,
+    failing: Failing,
+) -> Result<Ran, AllocError> {
     let flushed = Cell::new(0);
     let mut reader = NotingReader {
         bytes: run.tokens,
-        piece,
+        hands_out_all,
         flushed: &flushed,
         noted: Vec::new(alloc),
     };
-    let mut writer = FlushWriter::new(alloc, &flushed, Failing::Never);
-    run_lines(run.of, alloc, &mut reader, &mut writer);
+    let mut writer = FlushWriter {
+        written: Vec::new(alloc),
+        flushed: &flushed,
+        failing,
+        goes_on: false,
+    };
+    let ended = run_lines(run.of, alloc, &mut reader, &mut writer);
+    let goes_on = writer.goes_on;
     let NotingReader { mut noted, .. } = reader;
     noted.push(flushed.get())?;
-    Ok(noted)
+    Ok(Ran {
+        ended,
+        flushed: noted,
+        goes_on,
+    })
 }
 
-/// Whether at each call all lines that the tokens before settle were flushed, and no others; and at the end
-/// all lines.
+/// Whether at each call just the lines that the tokens before settle were flushed, and at the end all.
 fn are_settled(alloc: Global, run: Run<'_>, flushed: &[usize]) -> bool {
     let Some((all, flushed)) = flushed.split_last() else {
         return false;
@@ -151,96 +158,48 @@ fn are_settled(alloc: Global, run: Run<'_>, flushed: &[usize]) -> bool {
 }
 
 fn is_flushed_in_turn(alloc: Global, run: Run<'_>) -> Result<bool, AllocError> {
-    let flushed = flushed_at_calls(alloc, run, Piece::Line)?;
-    Ok(are_settled(alloc, run, flushed.as_slice()))
+    let ran = run_noted(alloc, run, false, Failing::Never)?;
+    Ok(are_settled(alloc, run, ran.flushed.as_slice()))
 }
 
-/// Whether the run fails where its first write or flush does, and then writes, flushes and reads nothing.
-fn fails_at(alloc: Global, run: Run<'_>, failing: Failing) -> bool {
-    let flushed = Cell::new(0);
-    let mut reader = NotingReader {
-        bytes: run.tokens,
-        piece: Piece::Line,
-        flushed: &flushed,
-        noted: Vec::new(alloc),
+/// Whether a run fails, and after the call that failed writes, flushes and reads nothing.
+fn has_stopped(ran: &Ran) -> bool {
+    let Some((_, at_calls)) = ran.flushed.split_last() else {
+        return false;
     };
-    let mut writer = FlushWriter::new(alloc, &flushed, failing);
-    let ended = run_lines(run.of, alloc, &mut reader, &mut writer);
     [
-        ended == Outcome::OutputFailed,
-        !writer.goes_on,
-        !reader.noted.contains(&FAILED),
+        ran.ended == Outcome::OutputFailed,
+        !ran.goes_on,
+        !at_calls.contains(&FAILED),
     ] == [true; 3]
+}
+
+fn fails_at(alloc: Global, run: Run<'_>, failing: Failing) -> Result<bool, AllocError> {
+    let ran = run_noted(alloc, run, false, failing)?;
+    Ok(has_stopped(&ran))
 }
 
 /// Whether a run whose reader hands out a line a call flushes each line that is settled before the next call,
 /// and fails where a write or a flush does.
 pub fn are_right(alloc: Global, run: Run<'_>) -> Result<bool, AllocError> {
-    let is_flushed = is_flushed_in_turn(alloc, run)?;
-    let ends = fails_at(alloc, run, Failing::Write) && fails_at(alloc, run, Failing::Flush);
-    Ok(is_flushed && ends)
+    Ok(
+        is_flushed_in_turn(alloc, run)?
+            && fails_at(alloc, run, Failing::Write)?
+            && fails_at(alloc, run, Failing::Flush)?,
+    )
 }
 
-/// How many bytes a reader that hands out all has left after the first line, and whether that is so few that
-/// the first event is flushed before the second line is read.
-const LEFT: [(&str, usize, bool); 2] = [
-    ("1,023 bytes left", 1023, true),
-    ("1,024 bytes left", 1024, false),
-];
-
-const START: &str = "STREAM-START 0:0:0 1:0:1 utf8\n";
-
-/// The lines of a stream with one scalar, with so many bytes after the first line.
-fn lines_with(alloc: Global, left: usize) -> Result<String, AllocError> {
-    let (before, following) = ("SCALAR 2:0:2 3:0:3 =", " plain\nSTREAM-END 4:0:4 5:0:5\n");
-    let others = before.len().saturating_add(following.len());
-    let text = "x".repeat(alloc, left.saturating_sub(others))?;
-    let mut lines = String::from_str(alloc, START)?;
-    lines.push_str(before)?;
-    lines.push_str(text.as_str())?;
-    lines.push_str(following)?;
-    Ok(lines)
-}
-
-/// Whether these are the numbers of bytes that are flushed at the reader's three calls.
-fn are_flushed(alloc: Global, tokens: &str, flushed: &[usize], is_first: bool) -> bool {
-    let two = whole_lines(tokens.strip_suffix("\n").unwrap_or(tokens).as_bytes());
-    let first = settled(alloc, LinesOf::Events, START.as_bytes());
-    let second = settled(alloc, LinesOf::Events, two);
-    match flushed {
-        [0, one, other, _] => {
-            [*one == if is_first { first } else { 0 }, *other == second] == [true; 2]
-        }
-        _ => false,
-    }
-}
-
-fn is_flushed_with(alloc: Global, left: usize, is_first: bool) -> Result<bool, AllocError> {
-    let tokens = lines_with(alloc, left)?;
+/// Whether as many bytes are flushed at the calls of a reader that hands out all bytes, and at the end, as the
+/// test vector says: the first event before the second line is read, if fewer than 1,024 bytes are left then.
+pub fn is_flushed_with(rt: &impl Host, vector: Vector<'_>) -> anyhow::Result<bool> {
+    let tokens = read_long(rt, "long_scalar", vector.number(0))?;
     let run = Run {
         tokens: tokens.as_bytes(),
         of: LinesOf::Events,
         lines: b"",
         outcome: Outcome::Ended,
     };
-    let flushed = flushed_at_calls(alloc, run, Piece::All)?;
-    Ok(are_flushed(alloc, tokens.as_str(), flushed.as_slice(), is_first))
-}
-
-fn left() -> &'static [(&'static str, usize, bool)] {
-    &LEFT
-}
-
-/// Shows the table of this module.
-pub fn show(rt: &(impl Print + AllocGlobal), tables: &mut Tables<'_>) -> Result<()> {
-    let Some(mut table) = tables.begin("flushes where bytes are left") else {
-        return Ok(());
-    };
-    for (name, left, is_first) in left() {
-        if table.has(name) {
-            table.count(rt, name, is_flushed_with(rt.alloc(), *left, *is_first)?)?;
-        }
-    }
-    tables.show(rt, table)?;
-    Ok(())
+    let Ran { flushed, .. } = run_noted(rt.alloc(), run, true, Failing::Never)?;
+    let told = format!(in rt.alloc(); "{flushed:?}")?;
+    Ok(vector.is_wanted(rt, told.as_str())?)
 }

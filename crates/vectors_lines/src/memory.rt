@@ -1,12 +1,12 @@
 //! Runs over memory. Which bytes such a run puts into its buffer is proved; here its outcome and all bytes
 //! are compared.
 
-use crate::runs::{LinesOf, Passage, Run, first_line, run_lines};
+use crate::runs::{Passage, Run, first_line};
 use std::alloc::{AllocError, Global};
 use std::io;
 use token_lines::memory::{events_in_memory, memory_outcome_t, memory_run_t, nodes_in_memory};
 use token_lines::{MAX_TOKENS, Outcome};
-use vectors_common::{FAILED, show_difference};
+use vectors_common::{FAILED, Host, LinesOf, show_difference};
 
 /// How many bytes the buffer has: more than any run writes but those of long lines.
 const BUFFER: usize = 1024;
@@ -38,7 +38,7 @@ fn is_whole(run: Run<'_>, ran: memory_run_t, buffer: &[u8]) -> bool {
 }
 
 /// Whether a run is whole. If not, prints the first line that differs.
-pub fn is_right(rt: &(impl Print + AllocGlobal), run: Run<'_>) -> io::Result<bool> {
+pub fn is_right(rt: &impl Host, run: Run<'_>) -> io::Result<bool> {
     let mut buffer = [0; BUFFER];
     let ran = run_in_memory(rt.alloc(), run, &mut buffer, MAX_TOKENS);
     let is_right = is_whole(run, ran, &buffer);
@@ -72,16 +72,6 @@ pub fn comes_through(alloc: Global, run: Run<'_>) -> Passage {
     }
 }
 
-/// Puts the problem of a bound on tokens in place of that of a reader's end, where lines end by that.
-fn name_the_bound(lines: &mut Vec<u8>) -> Result<(), AllocError> {
-    let Some(begun) = lines.strip_suffix(b"no more tokens\n") else {
-        return Ok(());
-    };
-    let len = begun.len();
-    lines.truncate(len);
-    lines.extend_from_slice(b"too many tokens\n")
-}
-
 /// Whether a run that reads so many tokens at most, whose lines are `front`, ends there.
 fn is_right_within(
     alloc: Global,
@@ -89,9 +79,7 @@ fn is_right_within(
     front: &[u8],
     max_tokens: u64,
 ) -> Result<bool, AllocError> {
-    let mut lines = Vec::new(alloc);
-    let outcome = run_lines(run.of, alloc, front, &mut lines);
-    name_the_bound(&mut lines)?;
+    let (lines, outcome) = run.front(alloc, front, b"too many tokens\n")?;
     let mut buffer = [0; BUFFER];
     let ran = run_in_memory(alloc, run, &mut buffer, max_tokens);
     let bounded = Run {

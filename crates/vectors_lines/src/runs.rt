@@ -1,30 +1,11 @@
 //! Whole runs, from token lines to the lines of events or of documents.
 
-use std::alloc::Global;
+use std::alloc::{AllocError, Global};
 use std::io;
-use std::io::{BufRead, Write};
-use token_lines::{Outcome, run_events, run_nodes};
-use vectors_common::{EVERY_CALL, PieceReader, PieceWriter, show_difference};
-
-/// Whose lines a run writes.
-#[derive(Copy, Clone)]
-pub enum LinesOf {
-    Events,
-    Documents,
-}
-
-/// A run over the lines of a reader.
-pub fn run_lines<R: BufRead + Drop, W: Write>(
-    of: LinesOf,
-    alloc: Global,
-    reader: R,
-    writer: &mut W,
-) -> Outcome {
-    match of {
-        LinesOf::Events => run_events(alloc, reader, writer),
-        LinesOf::Documents => run_nodes(alloc, reader, writer),
-    }
-}
+use token_lines::Outcome;
+use vectors_common::{
+    EVERY_CALL, Host, LinesOf, PieceReader, PieceWriter, run_lines, show_difference,
+};
 
 /// How a run came through a failed read or a failed allocation.
 #[derive(Copy, Clone, PartialEq)]
@@ -65,7 +46,7 @@ impl Run<'_> {
     }
 
     /// Whether the run is right in pieces of so many bytes.
-    pub fn is_right(self, rt: &(impl Print + AllocGlobal), piece: usize) -> io::Result<bool> {
+    pub fn is_right(self, rt: &impl Host, piece: usize) -> io::Result<bool> {
         let reader = PieceReader::new(self.tokens, piece, EVERY_CALL);
         let mut writer = PieceWriter::new(rt.alloc(), piece, EVERY_CALL);
         let ended = run_lines(self.of, rt.alloc(), reader, &mut writer);
@@ -73,7 +54,7 @@ impl Run<'_> {
     }
 
     /// Whether the run is right whole and in pieces.
-    pub fn is_right_in_pieces(self, rt: &(impl Print + AllocGlobal)) -> io::Result<bool> {
+    pub fn is_right_in_pieces(self, rt: &impl Host) -> io::Result<bool> {
         for piece in PIECES {
             if !self.is_right(rt, piece)? {
                 return Ok(false);
@@ -82,19 +63,33 @@ impl Run<'_> {
         Ok(true)
     }
 
+    /// The lines of a run over these bytes, this problem in place of a reader's end, and how it ends.
+    pub fn front(
+        self,
+        alloc: Global,
+        bytes: &[u8],
+        problem: &[u8],
+    ) -> Result<(Vec<u8>, Outcome), AllocError> {
+        let mut lines = Vec::new(alloc);
+        let ended = run_lines(self.of, alloc, bytes, &mut lines);
+        name_problem(&mut lines, problem)?;
+        Ok((lines, ended))
+    }
+
     /// Whether this is what a run writes whose reader fails after so many bytes.
     fn is_cut_front(self, alloc: Global, bytes: usize, written: &[u8]) -> bool {
         let front = whole_lines(self.tokens.get(..bytes).unwrap_or(self.tokens));
-        let mut lines = Vec::new(alloc);
-        run_lines(self.of, alloc, front, &mut lines);
-        are_same_but_the_problem(written, lines.as_slice())
+        match self.front(alloc, front, b"read failed\n") {
+            Ok((lines, _)) => lines.as_slice() == written,
+            Err(_) => false,
+        }
     }
 
     /// How a run whose reader failed after so many bytes came through, by what it wrote and returned. Where
     /// that is wrong, prints the first line that differs.
     fn passage_of(
         self,
-        rt: &(impl Print + AllocGlobal),
+        rt: &impl Host,
         bytes: usize,
         written: &[u8],
         ended: Outcome,
@@ -110,7 +105,7 @@ impl Run<'_> {
     }
 
     /// The same of a run whose reader hands out a byte a call, and fails after so many calls.
-    fn comes_through(self, rt: &(impl Print + AllocGlobal), calls: usize) -> io::Result<Passage> {
+    fn comes_through(self, rt: &impl Host, calls: usize) -> io::Result<Passage> {
         let reader = PieceReader::new(self.tokens, 1, calls);
         let mut writer = PieceWriter::new(rt.alloc(), 4096, EVERY_CALL);
         let ended = run_lines(self.of, rt.alloc(), reader, &mut writer);
@@ -119,7 +114,7 @@ impl Run<'_> {
 
     /// Whether the run is cut at each read that fails, and at last comes through. There is a call for each
     /// byte, and one for the end.
-    pub fn is_cut_at_each_read(self, rt: &(impl Print + AllocGlobal)) -> io::Result<bool> {
+    pub fn is_cut_at_each_read(self, rt: &impl Host) -> io::Result<bool> {
         for calls in 0..self.tokens.len().saturating_add(2) {
             let came = self.comes_through(rt, calls)?;
             if came != Passage::Cut {
@@ -129,8 +124,7 @@ impl Run<'_> {
         Ok(false)
     }
 
-    /// How the run ends whose writer takes a byte a call, and so many calls. The last flush fails with no
-    /// call left.
+    /// How a run ends whose writer takes so many bytes. The last flush fails with no call left.
     fn end_at_write(self, calls: usize) -> Outcome {
         if calls > self.lines.len() {
             self.outcome
@@ -140,7 +134,7 @@ impl Run<'_> {
     }
 
     /// Whether the run fails where its writer does, and has written all before.
-    fn is_cut_at_write(self, rt: &(impl Print + AllocGlobal), calls: usize) -> io::Result<bool> {
+    fn is_cut_at_write(self, rt: &impl Host, calls: usize) -> io::Result<bool> {
         let mut writer = PieceWriter::new(rt.alloc(), 1, calls);
         let ended = run_lines(self.of, rt.alloc(), self.tokens, &mut writer);
         let front = Run {
@@ -152,22 +146,13 @@ impl Run<'_> {
     }
 
     /// Whether the run is cut at each write that fails, and at the last flush.
-    pub fn is_cut_at_each_write(self, rt: &(impl Print + AllocGlobal)) -> io::Result<bool> {
+    pub fn is_cut_at_each_write(self, rt: &impl Host) -> io::Result<bool> {
         for calls in 0..self.lines.len().saturating_add(2) {
             if !self.is_cut_at_write(rt, calls)? {
                 return Ok(false);
             }
         }
         Ok(true)
-    }
-
-    /// Whether all of that is right.
-    pub fn is_line_right(self, rt: &(impl Print + AllocGlobal)) -> io::Result<bool> {
-        Ok(
-            self.is_right_in_pieces(rt)?
-                && self.is_cut_at_each_read(rt)?
-                && self.is_cut_at_each_write(rt)?,
-        )
     }
 }
 
@@ -189,13 +174,12 @@ pub fn first_line(bytes: &[u8]) -> &[u8] {
     bytes.get(..len).unwrap_or(bytes)
 }
 
-/// Whether a run whose reader failed wrote what it writes where the reader ends, with the other problem.
-fn are_same_but_the_problem(failed: &[u8], ended: &[u8]) -> bool {
-    match (
-        failed.strip_suffix(b"read failed\n"),
-        ended.strip_suffix(b"no more tokens\n"),
-    ) {
-        (Some(failed), Some(ended)) => failed == ended,
-        _ => false,
-    }
+/// Puts a problem in place of that of a reader's end, if lines end by that.
+fn name_problem(lines: &mut Vec<u8>, problem: &[u8]) -> Result<(), AllocError> {
+    let Some(begun) = lines.strip_suffix(b"no more tokens\n") else {
+        return Ok(());
+    };
+    let len = begun.len();
+    lines.truncate(len);
+    lines.extend_from_slice(problem)
 }

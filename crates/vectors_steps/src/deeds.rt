@@ -1,7 +1,7 @@
-//! What the composer's steps do to the documents of events.
+//! What the composer's steps do to the documents of events, and the count of nodes, deed by deed.
 
-use crate::sizes::Count;
 use anyhow::Result;
+use document_sizes::{deed_of, sizes_t};
 use document_steps::{anchor_t, carrier};
 use libyaml_composer::{Deed, composer_t, event_kind, open_t, place_t};
 use std::alloc::Global;
@@ -30,7 +30,13 @@ const FULL_STACK: u32 = 8;
 
 const REFUSED: u32 = 9;
 
-/// A composer over the steps. Its stack has no room at first, and takes one entry more where it is full.
+/// The numbers that C sees of a deed that was counted, and of a node without an entry.
+const WITHIN: u32 = 0;
+
+const FULL: u32 = 16;
+
+/// A composer over the steps, and a count over its deeds. Its stack and numbers have no room at first, and take
+/// one entry more where they are full.
 #[derive(Drop)]
 pub struct Documents {
     composer: composer_t,
@@ -41,7 +47,11 @@ pub struct Documents {
     /// An event was refused.
     is_over: bool,
     lines: Vec<u8>,
-    count: Count,
+    sizes: sizes_t,
+    numbers: Vec<u64>,
+    /// The count has stopped.
+    is_counted: bool,
+    counts: Vec<u8>,
 }
 
 impl Documents {
@@ -54,18 +64,17 @@ impl Documents {
             texts: Vec::new(alloc),
             is_over: false,
             lines: Vec::new(alloc),
-            count: Count::new(alloc, max),
+            sizes: sizes_t::new(max),
+            numbers: Vec::new(alloc),
+            is_counted: false,
+            counts: Vec::new(alloc),
         }
     }
 
-    pub fn into_lines(self) -> Vec<u8> {
-        let Documents { lines, .. } = self;
-        lines
-    }
-
-    pub fn into_sizes(self) -> Vec<u8> {
-        let Documents { count, .. } = self;
-        count.into_lines()
+    /// Returns the lines of deeds and of counts.
+    pub fn into_lines(self) -> (Vec<u8>, Vec<u8>) {
+        let Documents { lines, counts, .. } = self;
+        (lines, counts)
     }
 
     /// Takes an event with its anchor, and writes the lines of what is done; after a refusal it takes none.
@@ -101,7 +110,7 @@ impl Documents {
         let number = deed.number();
         self.is_over = number >= REFUSED;
         if number < FULL_STACK {
-            self.count.take(number, kind, &place)?;
+            self.count(number, kind, &place)?;
         }
         Ok(number)
     }
@@ -139,5 +148,31 @@ impl Documents {
         } = *place;
         writeln!(&mut self.lines, "{number} {node} {child} {parent} {key}")?;
         Ok(())
+    }
+
+    /// Counts the deed of this number, unless it has stopped, and writes the lines of what is said.
+    fn count(&mut self, deed: u32, kind: u8, place: &place_t) -> Result<()> {
+        if self.is_counted {
+            return Ok(());
+        }
+        let mut said = self.count_once(deed, kind, place)?;
+        if said == FULL {
+            self.numbers.push(0)?;
+            said = self.count_once(deed, kind, place)?;
+        }
+        self.is_counted = said != WITHIN;
+        Ok(())
+    }
+
+    /// Counts once, and writes a line: the numbers of the deed and of what is said, and the total.
+    fn count_once(&mut self, deed: u32, kind: u8, place: &place_t) -> Result<u32> {
+        let (deed, numbers) = (deed_of(deed), self.numbers.as_mut_slice());
+        let said = self
+            .sizes
+            .count(numbers, deed, event_kind(kind), place)
+            .number();
+        let (deed, total) = (deed.number(), self.sizes.total);
+        writeln!(&mut self.counts, "{deed} {said} {total}")?;
+        Ok(said)
     }
 }

@@ -1,6 +1,6 @@
 //! The types of token that steps expect, beside those that they take, tried one by one.
 
-use crate::events::{NO_EVENT, NO_FAULT};
+use crate::parser::{NO_EVENT, NO_FAULT};
 use anyhow::{Result, bail};
 use libyaml_types::{ZERO_MARK, yaml_mark_t};
 use std::alloc::Global;

@@ -1,6 +1,6 @@
 //! How many tokens the calls of a parser have asked for.
 
-use crate::tables::Text;
+use crate::lists::Case;
 use anyhow::Result;
 use std::alloc::Global;
 use std::fmt::Write;
@@ -9,14 +9,14 @@ use token_lines::{MAX_TOKENS, yaml_line_source_t};
 use unsafe_libyaml::{
     yaml_parser_delete, yaml_parser_initialize, yaml_parser_t, yaml_token_source_t,
 };
-use vectors_common::gives_event;
+use vectors_common::{Host, gives_event};
 
 /// Whether the tokens that each call has asked for are those that are wanted: a number a line, up to the
 /// first call that gives no event.
-pub fn is_counted(rt: &(impl Print + AllocGlobal), text: Text<'_>) -> io::Result<bool> {
+pub fn is_counted(rt: &impl Host, case: Case<'_>) -> io::Result<bool> {
     let mut counts = String::new(rt.alloc());
-    let is_written = write_counts(rt.alloc(), text.tokens, &mut counts).is_ok();
-    text.is_wanted(rt, "tokens asked for", counts.as_bytes(), is_written)
+    let is_written = write_counts(rt.alloc(), case.tokens, &mut counts).is_ok();
+    case.is_wanted(rt, "tokens asked for", counts.as_bytes(), is_written)
 }
 
 fn write_counts(alloc: Global, tokens: &str, counts: &mut String) -> Result<()> {

@@ -1,28 +1,18 @@
 //! Lists that are cut before each token, with each error of a source after the cut.
 
-use crate::reading::write_given;
-use crate::tables::{Case, Text};
-use crate::tokens::{end_of, front_of};
-use anyhow::Result;
-use std::alloc::Global;
+use crate::calls::write_given;
+use crate::lists::Case;
+use anyhow::{Context, Result};
+use std::alloc::{AllocError, Global};
 use std::io;
-use token_lines::write_fault;
+use token_lines::{MAX_TOKENS, write_fault, yaml_line_source_t};
 use unsafe_libyaml::{
-    YAML_MEMORY_ERROR, YAML_READER_ERROR, YAML_SCANNER_ERROR, yaml_mark_t, yaml_parser_t_prefix,
-    yaml_source_fault_t,
+    YAML_MEMORY_ERROR, YAML_READER_ERROR, YAML_SCANNER_ERROR, yaml_list_source_t,
+    yaml_parser_t_prefix, yaml_source_fault_t, yaml_token_t,
 };
+use vectors_common::{Host, mark, push_tokens};
 
-/// A mark on line 0.
-fn mark(index: u64) -> yaml_mark_t {
-    yaml_mark_t {
-        index,
-        line: 0,
-        column: index,
-    }
-}
-
-/// The faults by which a source may end, in the order of their numbers. Their fields tell them from each
-/// fault of a list.
+/// The faults by which a source may end. Their fields tell them from each fault of a list.
 fn ends_of_sources() -> [yaml_source_fault_t; 3] {
     let (problem, at) = (Some("the source broke off"), mark(99));
     let (context, from) = (Some("while giving a vector"), mark(98));
@@ -40,19 +30,46 @@ struct Cut {
     end: yaml_source_fault_t,
 }
 
+/// Appends at most so many tokens of these lines. Returns the fault that came before, if one did.
+fn push_lines(
+    alloc: Global,
+    tokens: &mut Vec<yaml_token_t>,
+    lines: &str,
+    most: usize,
+) -> Result<Option<yaml_source_fault_t>, AllocError> {
+    let mut source = yaml_line_source_t::new(alloc, lines.as_bytes(), MAX_TOKENS);
+    push_tokens(tokens, &mut source, most)
+}
+
+/// Returns the first tokens of these lines as a list, and this fault after them.
+fn front_of(alloc: Global, lines: &str, cut: Cut) -> Result<yaml_list_source_t, AllocError> {
+    let mut tokens = Vec::new(alloc);
+    push_lines(alloc, &mut tokens, lines, cut.tokens)?;
+    Ok(yaml_list_source_t::new(tokens, cut.end))
+}
+
+/// Returns how many tokens these lines have, and the fault after them.
+fn whole(alloc: Global, lines: &str) -> Result<Cut> {
+    let mut tokens = Vec::new(alloc);
+    let fault = push_lines(alloc, &mut tokens, lines, usize::MAX)?;
+    Ok(Cut {
+        tokens: tokens.len(),
+        end: fault.context("lines have no end")?,
+    })
+}
+
 /// Whether a list is right that is read call by call, whole and cut.
-pub fn are_right(rt: &(impl Print + AllocGlobal), case: Case<'_>) -> Result<bool> {
-    let (tokens, end) = end_of(rt.alloc(), case.text.tokens)?;
-    Ok(is_whole_right(rt, case, Cut { tokens, end })? && are_cuts_right(rt, case, tokens)?)
+pub fn are_right(rt: &impl Host, case: Case<'_>) -> Result<bool> {
+    let whole = whole(rt.alloc(), case.tokens)?;
+    Ok(is_whole_right(rt, case, whole)? && are_cuts_right(rt, case, whole.tokens)?)
 }
 
 /// Whether calls over all tokens, and then the lines' own fault, give exactly what is wanted.
-fn is_whole_right(rt: &(impl Print + AllocGlobal), case: Case<'_>, whole: Cut) -> io::Result<bool> {
+fn is_whole_right(rt: &impl Host, case: Case<'_>, whole: Cut) -> io::Result<bool> {
     let mut out = Vec::new(rt.alloc());
     let kept = write_cut(rt.alloc(), case, whole, &mut out);
     let has_fields = has_all_fields(&kept, &whole.end);
-    case.text
-        .is_wanted(rt, "calls over a list", out.as_slice(), has_fields)
+    case.is_wanted(rt, "calls over a list", out.as_slice(), has_fields)
 }
 
 /// Writes what the tokens before a cut give, call by call, and returns the fault that is kept then.
@@ -62,7 +79,7 @@ fn write_cut(
     cut: Cut,
     out: &mut Vec<u8>,
 ) -> Result<yaml_parser_t_prefix> {
-    let front = front_of(alloc, case.text.tokens, cut.tokens, cut.end)?;
+    let front = front_of(alloc, case.tokens, cut)?;
     write_given(alloc, front, case.given, out)
 }
 
@@ -84,11 +101,7 @@ fn is_of_no_source(kept: &yaml_parser_t_prefix) -> bool {
     ] == [false; 4]
 }
 
-fn are_cuts_right(
-    rt: &(impl Print + AllocGlobal),
-    case: Case<'_>,
-    tokens: usize,
-) -> io::Result<bool> {
+fn are_cuts_right(rt: &impl Host, case: Case<'_>, tokens: usize) -> io::Result<bool> {
     for end in ends_of_sources() {
         if !are_cuts_with(rt, case, Cut { tokens, end })? {
             return Ok(false);
@@ -98,29 +111,27 @@ fn are_cuts_right(
 }
 
 /// Whether the list is right with this fault after it, whole and cut before each token.
-fn are_cuts_with(rt: &(impl Print + AllocGlobal), case: Case<'_>, whole: Cut) -> io::Result<bool> {
+fn are_cuts_with(rt: &impl Host, case: Case<'_>, whole: Cut) -> io::Result<bool> {
     let mut fault = Vec::new(rt.alloc());
     let is_written = write_fault(&whole.end.prefix(), &mut fault).is_ok();
     let is_right = is_each_right(rt, case, whole, fault.as_slice());
     is_right.map(|is_right| is_right && is_written)
 }
 
-fn is_each_right(
-    rt: &(impl Print + AllocGlobal),
-    case: Case<'_>,
-    whole: Cut,
-    fault: &[u8],
-) -> io::Result<bool> {
-    for tokens in 0..whole.tokens {
-        if !is_right(rt, case, Cut { tokens, ..whole }, fault, false)? {
+fn is_each_right(rt: &impl Host, case: Case<'_>, whole: Cut, fault: &[u8]) -> io::Result<bool> {
+    for tokens in 0..=whole.tokens {
+        let is_whole = tokens == whole.tokens;
+        if !is_right(rt, case, Cut { tokens, ..whole }, fault, is_whole)? {
             return Ok(false);
         }
     }
-    is_right(rt, case, whole, fault, true)
+    Ok(true)
 }
 
+/// Whether a cut list gives a start of what is wanted and its source's fault, with all fields. Where not,
+/// prints the first line that differs from the whole text.
 fn is_right(
-    rt: &(impl Print + AllocGlobal),
+    rt: &impl Host,
     case: Case<'_>,
     cut: Cut,
     fault: &[u8],
@@ -128,25 +139,18 @@ fn is_right(
 ) -> io::Result<bool> {
     let mut out = Vec::new(rt.alloc());
     let kept = write_cut(rt.alloc(), case, cut, &mut out);
-    let has_fields = has_all_fields(&kept, &cut.end);
-    is_front(rt, case.text, out.as_slice(), fault, is_whole, has_fields)
+    let holds = [
+        ends_right(out.as_slice(), case.wanted.as_bytes(), fault, is_whole),
+        has_all_fields(&kept, &cut.end),
+    ] == [true; 2];
+    is_front(rt, case, out.as_slice(), holds)
 }
 
-/// Whether a cut list gives a beginning of what is wanted and its source's fault, with all fields. Where not,
-/// prints the first line that differs from the whole text.
-fn is_front(
-    rt: &impl Print,
-    text: Text<'_>,
-    given: &[u8],
-    fault: &[u8],
-    is_whole: bool,
-    has_fields: bool,
-) -> io::Result<bool> {
-    if ends_right(given, text.wanted.as_bytes(), fault, is_whole) && has_fields {
+fn is_front(rt: &impl Print, case: Case<'_>, given: &[u8], holds: bool) -> io::Result<bool> {
+    if holds {
         return Ok(true);
     }
-    text.is_wanted(rt, "a cut list", given, false)?;
-    Ok(false)
+    case.is_wanted(rt, "a cut list", given, false)
 }
 
 /// Whether what is given is wanted, up to the fault of the source where that comes. After the last token it

@@ -3,16 +3,14 @@
 //! `scripts/gate/allocation_failures.sh` runs this with the first allocation failed, then the second, and
 //! so on until none fails.
 
+use crate::calls::write_given;
 use crate::composed::write_composed;
 use crate::cuts::ends_right;
-use crate::reading::write_given;
-use crate::tables::Given;
-use crate::tokens::list_of;
+use crate::lists::{Given, names_of};
 use anyhow::Result;
 use std::alloc::Global;
-use std::rt::Files;
 use unsafe_libyaml::{YAML_MEMORY_ERROR, ZERO_MARK, yaml_parser_t_prefix, yaml_source_fault_t};
-use vectors_common::{FAILED, Table, Tables, read_text};
+use vectors_common::{FAILED, Host, Vectors, list_of_lines, read_text};
 
 /// How a list is read: call by call, or as an iterator over its composed events.
 #[derive(Copy, Clone)]
@@ -25,16 +23,19 @@ enum Reading {
 const READINGS: [(&str, Reading); 5] = [
     ("lists, parsed", Reading::Calls(Given::Events)),
     ("lists, composed events", Reading::Composed),
-    ("lists, loaded", Reading::Calls(Given::Nodes)),
+    ("lists, loaded", Reading::Calls(Given::Nodes(i32::MAX))),
     (
         "lists, loaded into lists of two",
-        Reading::Calls(Given::NodesWithin(2)),
+        Reading::Calls(Given::Nodes(2)),
     ),
     (
         "lists, loaded into lists of one",
-        Reading::Calls(Given::NodesWithin(1)),
+        Reading::Calls(Given::Nodes(1)),
     ),
 ];
+
+/// The folders of the lists.
+const FOLDERS: [&str; 3] = ["worked", "productions", "loads"];
 
 /// Whether a fault of a failed allocation has no other field.
 fn is_bare(kept: &yaml_parser_t_prefix) -> bool {
@@ -45,7 +46,12 @@ fn is_bare(kept: &yaml_parser_t_prefix) -> bool {
 /// Writes what these lines give, and more where a fault of a failed allocation has other fields.
 fn write_list(alloc: Global, tokens: &str, reading: Reading, out: &mut Vec<u8>) -> Result<()> {
     let kept = match reading {
-        Reading::Calls(given) => write_given(alloc, list_of(alloc, tokens)?, given, out)?,
+        Reading::Calls(given) => write_given(
+            alloc,
+            list_of_lines(alloc, tokens.as_bytes())?,
+            given,
+            out,
+        )?,
         Reading::Composed => write_composed(alloc, tokens, i32::MAX, out)?,
     };
     if !is_bare(&kept) {
@@ -81,8 +87,8 @@ fn is_right(alloc: Global, tokens: &str, reading: Reading) -> bool {
 
 /// Counts a list of a folder.
 fn count_list(
-    rt: &(impl Files + Print + AllocGlobal),
-    table: &mut Table<'_>,
+    rt: &impl Host,
+    vectors: &mut Vectors<'_>,
     folder: &str,
     name: &str,
     reading: Reading,
@@ -91,64 +97,39 @@ fn count_list(
         rt,
         format!(in rt.alloc(); "{folder}/{name}.tokens")?.as_str(),
     )?;
-    table.count(rt, name, is_right(rt.alloc(), tokens.as_str(), reading))?;
-    Ok(())
+    Ok(vectors.count(rt, name, is_right(rt.alloc(), tokens.as_str(), reading))?)
 }
 
 /// Counts each list of a folder that is asked for.
 fn count_lists(
-    rt: &(impl Files + Print + AllocGlobal),
-    table: &mut Table<'_>,
+    rt: &impl Host,
+    vectors: &mut Vectors<'_>,
     folder: &str,
     reading: Reading,
 ) -> Result<()> {
     let index = read_text(rt, format!(in rt.alloc(); "{folder}/index")?.as_str())?;
     for line in index.lines() {
-        count_line(rt, table, folder, line, reading)?;
-    }
-    Ok(())
-}
-
-/// Counts the list of a line of an index, if it is asked for.
-fn count_line(
-    rt: &(impl Files + Print + AllocGlobal),
-    table: &mut Table<'_>,
-    folder: &str,
-    line: &str,
-    reading: Reading,
-) -> Result<()> {
-    let (texts, _) = line.split_once(": ").unwrap_or((line, ""));
-    let (name, _) = texts.split_once(' ').unwrap_or((texts, ""));
-    if table.has(name) {
-        count_list(rt, table, folder, name, reading)?;
-    }
-    Ok(())
-}
-
-/// Shows the tables of this module, over the lists of `worked`, `productions` and `loads`.
-///
-/// # Errors
-///
-/// A file is missing, an allocation for its text failed, or printing did.
-pub fn show(rt: &(impl Files + Print + AllocGlobal), tables: &mut Tables<'_>) -> Result<()> {
-    for (name, reading) in READINGS {
-        if let Some(table) = tables.begin(name) {
-            show_table(rt, tables, table, reading)?;
+        let (name, _) = names_of(line);
+        if vectors.has(name) {
+            count_list(rt, vectors, folder, name, reading)?;
         }
     }
     Ok(())
 }
 
-fn show_table(
-    rt: &(impl Files + Print + AllocGlobal),
-    tables: &mut Tables<'_>,
-    table: Table<'_>,
-    reading: Reading,
-) -> Result<()> {
-    let mut table = table;
-    count_lists(rt, &mut table, "worked", reading)?;
-    count_lists(rt, &mut table, "productions", reading)?;
-    count_lists(rt, &mut table, "loads", reading)?;
-    tables.show(rt, table)?;
+/// Shows the tables of this module.
+pub fn show(rt: &impl Host, vectors: &mut Vectors<'_>) -> Result<()> {
+    for (name, reading) in READINGS {
+        if vectors.begin(name) {
+            show_table(rt, vectors, reading)?;
+        }
+    }
     Ok(())
+}
+
+fn show_table(rt: &impl Host, vectors: &mut Vectors<'_>, reading: Reading) -> Result<()> {
+    for folder in FOLDERS {
+        count_lists(rt, vectors, folder, reading)?;
+    }
+    Ok(vectors.show(rt)?)
 }

@@ -8,20 +8,17 @@
 #![tactic(auto)]
 
 mod asked;
+mod calls;
 mod composed;
 mod cuts;
 mod failing;
-mod lines;
-mod loaded;
-mod one_by_one;
-mod reading;
-mod tables;
-mod tokens;
+mod lists;
+mod pushed;
+mod whole;
+mod written;
 
 use anyhow::Result;
-use std::rt::Files;
-use tables::show_table;
-use vectors_common::{Tables, read_words};
+use vectors_common::{Host, Vectors, read_words};
 
 /// The folders of `data`.
 const TABLES: [&str; 6] = [
@@ -33,19 +30,19 @@ const TABLES: [&str; 6] = [
     "real",
 ];
 
-fn show_all(rt: &(impl Files + Print + AllocGlobal), words: &[String]) -> Result<()> {
-    let mut tables = Tables::asked(words)?;
+fn show_all(rt: &impl Host, words: &[String]) -> Result<()> {
+    let mut vectors = Vectors::asked(words)?;
     for table in TABLES {
-        show_table(rt, &mut tables, table)?;
+        lists::show(rt, &mut vectors, table)?;
     }
-    failing::show(rt, &mut tables)?;
-    tables.end()
+    failing::show(rt, &mut vectors)?;
+    vectors.end(rt)
 }
 
-fn show_failing(rt: &(impl Files + Print + AllocGlobal)) -> Result<()> {
-    let mut tables = Tables::asked(&[])?;
-    failing::show(rt, &mut tables)?;
-    tables.end()
+fn show_failing(rt: &impl Host) -> Result<()> {
+    let mut vectors = Vectors::asked(&[])?;
+    failing::show(rt, &mut vectors)?;
+    vectors.end(rt)
 }
 
 fn main(rt: HostRuntime) -> Result<()> {

@@ -1,25 +1,22 @@
 //! What a source gives, call by call, as lines.
 
-use crate::tables::Given;
+use crate::lists::{Case, Given};
+use crate::written::Written;
 use anyhow::Result;
 use std::alloc::Global;
-use token_lines::{write_document, write_event, write_fault};
+use token_lines::write_fault;
 use unsafe_libyaml::{
-    yaml_document_t, yaml_error_type_t, yaml_event_t, yaml_parser_between_documents,
-    yaml_parser_initialize, yaml_parser_load, yaml_parser_parse, yaml_parser_set_max_entries,
-    yaml_parser_t, yaml_parser_t_prefix, yaml_token_source_t,
+    yaml_error_type_t, yaml_parser_between_documents, yaml_parser_initialize, yaml_parser_load,
+    yaml_parser_parse, yaml_parser_set_max_entries, yaml_parser_t, yaml_parser_t_prefix,
+    yaml_token_source_t,
 };
-use vectors_common::{is_empty, is_kept_by_loads, is_over};
+use vectors_common::{is_kept_by_loads, is_over};
 
 /// More calls than any list takes.
 const EVERY_CALL: u32 = 10_000;
 
 /// Writes what a source gives, and after it what no parser should return: an event or a document after the
 /// end, or another error than the one that is kept. Returns the fault that is kept then, or that of no fault.
-///
-/// # Errors
-///
-/// An allocation for what is written failed.
 pub fn write_given<S: yaml_token_source_t + Drop>(
     alloc: Global,
     source: S,
@@ -27,7 +24,9 @@ pub fn write_given<S: yaml_token_source_t + Drop>(
     out: &mut Vec<u8>,
 ) -> Result<yaml_parser_t_prefix> {
     let mut parser = yaml_parser_initialize(alloc, source);
-    yaml_parser_set_max_entries(&mut parser, given.most_entries().max(1));
+    if let Given::Nodes(most) = given {
+        yaml_parser_set_max_entries(&mut parser, most.max(1));
+    }
     let written = write_calls(alloc, &mut parser, given, out);
     written.and(Ok(*parser.prefix()))
 }
@@ -62,11 +61,11 @@ fn write_call<S: yaml_token_source_t>(
     match given {
         Given::Events => {
             let answer = yaml_parser_parse(parser);
-            write_event_answer(alloc, &answer, parser.prefix(), out)
+            write_answer(alloc, &answer, parser.prefix(), out)
         }
-        Given::Nodes | Given::NodesWithin(_) if yaml_parser_between_documents(parser) => {
+        Given::Nodes(_) if yaml_parser_between_documents(parser) => {
             let answer = yaml_parser_load(parser);
-            write_document_answer(alloc, &answer, parser.prefix(), out)
+            write_answer(alloc, &answer, parser.prefix(), out)
         }
         _ => {
             out.extend_from_slice(b"a load would begin within a document\n")?;
@@ -75,47 +74,25 @@ fn write_call<S: yaml_token_source_t>(
     }
 }
 
-fn write_event_answer(
+/// Writes what a call returned, or the fault that is kept if that is an error.
+fn write_answer<T: Written>(
     alloc: Global,
-    answer: &Result<yaml_event_t, yaml_error_type_t>,
+    answer: &Result<T, yaml_error_type_t>,
     fault: &yaml_parser_t_prefix,
     out: &mut Vec<u8>,
 ) -> Result<bool> {
     match answer {
-        Ok(event) if is_empty(event) => Ok(false),
-        Ok(event) => {
-            write_event(alloc, event, out)?;
-            Ok(true)
+        Ok(given) if given.is_nothing() => return Ok(false),
+        Ok(given) => {
+            given.write(alloc, out)?;
+            return Ok(true);
         }
-        Err(error) => write_kept(*error, fault, out),
-    }
-}
-
-fn write_document_answer(
-    alloc: Global,
-    answer: &Result<yaml_document_t, yaml_error_type_t>,
-    fault: &yaml_parser_t_prefix,
-    out: &mut Vec<u8>,
-) -> Result<bool> {
-    match answer {
-        Ok(document) if document.nodes().is_empty() => Ok(false),
-        Ok(document) => {
-            write_document(alloc, document, out)?;
-            Ok(true)
+        Err(error) => {
+            write_fault(fault, out)?;
+            if *error != fault.error {
+                out.extend_from_slice(b"another error than the one that is kept\n")?;
+            }
         }
-        Err(error) => write_kept(*error, fault, out),
-    }
-}
-
-/// Writes the fault that a parser keeps, whose error a call returned.
-fn write_kept(
-    error: yaml_error_type_t,
-    fault: &yaml_parser_t_prefix,
-    out: &mut Vec<u8>,
-) -> Result<bool> {
-    write_fault(fault, out)?;
-    if error != fault.error {
-        out.extend_from_slice(b"another error than the one that is kept\n")?;
     }
     Ok(false)
 }

@@ -1,2 +1,0 @@
-pub mod ComputedTokens
-pub mod ComputedTokensLaws
