@@ -1,6 +1,6 @@
 -- At each position that is met the automaton says which types of token the rest has.
 use Rattle.std.specs.Prelude.{map}
-use Rattle.std.proofs.Common.{◌≡◌, ◌∷◌, List, Option, Some, None, refl, ap}
+use Rattle.std.proofs.Common.{◌≡◌, ◌∷◌, List, Some, None, refl, ap}
 use Rattle.libyaml_grammar.specs.grammar.Tokens.{BlockEnd, Content, FlowMappingEnd, FlowSequenceEnd, Marks, Scalar, Token, empty_plain, tok}
 use Rattle.libyaml_grammar.specs.grammar.Trees.{following, free, key, mapping, no_parts, no_value, pair, part, sequence, single, value, whole, with_value}
 use Rattle.libyaml_grammar.specs.partial.PartialTrees.{BlockPlace, Place, block, entry, explicit_root, flow_entry, flow_key, flow_value, implicit_root, indentless_entry, open_collection, part_place, root, slot}
