@@ -1,5 +1,5 @@
-//! `example_broken`: an outline of the token lines on standard input up to their error, the error, and what was
-//! expected there.
+//! `example_broken`: an outline of the token lines on standard input up to their error, the error, and what
+//! was expected there.
 #![tactic(auto)]
 
 use anyhow::Result;

@@ -1,5 +1,5 @@
-//! `example_half`: the keys of the token lines on standard input, for the outline of a file that is being typed. At a
-//! token that can't come next it says so, and completes what stands before it.
+//! `example_half`: the keys of the token lines on standard input, for the outline of a file that is being
+//! typed. At a token that can't come next it says so, and completes what stands before it.
 #![tactic(auto)]
 
 use anyhow::{Result, bail};

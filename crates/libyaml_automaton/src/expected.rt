@@ -4,7 +4,8 @@ ghost use Rattle.libyaml_types.specs.declared.mark.yaml_mark_t.{yaml_mark_t};
 ghost use Rattle.libyaml_types.specs.declared.enums.yaml_token_type_t.{yaml_token_type_t};
 ghost use Rattle.libyaml_automaton.specs.Acceptable.{acceptable, taken_after_directive, taken_after_document};
 ghost use Rattle.libyaml_automaton.specs.Acceptable.{after_entry, after_item, after_pair, after_part};
-ghost use Rattle.libyaml_automaton.specs.Acceptable.{taken_after_properties, at_entry, at_pair, taken_at_slot};
+ghost use Rattle.libyaml_automaton.specs.Acceptable.{taken_after_properties, at_entry, at_pair};
+ghost use Rattle.libyaml_automaton.specs.Acceptable.{taken_at_slot};
 ghost use Rattle.libyaml_automaton.specs.Acceptable.{before_document, begins_content, begins_explicit};
 ghost use Rattle.libyaml_automaton.specs.Acceptable.{begins_node, has, taken_in_stack, taken_in_state};
 ghost use Rattle.libyaml_automaton.specs.Config.{below, stacks_of, states_of, top};
@@ -226,8 +227,9 @@ fn expected_over(
 
 impl Automaton {
     /// Returns which types of token may come next: with some token of such a type, and of no other, the
-    /// tokens taken so far still begin a valid list. Of a VERSION-DIRECTIVE, a TAG-DIRECTIVE or a TAG it is one
-    /// that the automaton would ask about: with an accepted version, a handle not yet declared, a defined one.
+    /// tokens taken so far still begin a valid list. Of a VERSION-DIRECTIVE, a TAG-DIRECTIVE or a TAG it is
+    /// one that the automaton would ask about: with an accepted version, a handle not yet declared, a
+    /// defined one.
     pub fn expected(&self, read: &Reading, states: &[u8]) -> TokenTypes
         requires { self.now.states_count ≤ length states.now }
         ensures { (marks : List yaml_mark_t) (k : yaml_token_type_t) → has result k
@@ -254,8 +256,8 @@ impl Automaton {
 
     fn expected_after_properties(&self, read: &Reading, states: &[u8]) -> TokenTypes
         requires { self.now.states_count ≤ length states.now }
-        ensures { (k : yaml_token_type_t) → has result k ≡ (taken_after_properties (place_of read.now.place)
-            (flag read.now.has_anchor) (flag read.now.has_tag) k
+        ensures { (k : yaml_token_type_t) → has result k
+            ≡ (taken_after_properties (place_of read.now.place) (flag read.now.has_anchor) (flag read.now.has_tag) k
             || taken_in_stack (top (states_of self.now.states_count states.now))
             (below (states_of self.now.states_count states.now)) (flag self.now.behind_document_end) k) }
     {

@@ -42,7 +42,8 @@ impl TokenParser {
         alloc: Global,
         pending: &Pending,
     ) -> Result<Vec<yaml_token_type_t>, AllocError>
-        ensures { IfOk result (λ types. types.items ≡ completing (wanted pending.now).next (config_of self.now)) }
+        ensures { IfOk result (λ types. types.items
+            ≡ completing (wanted pending.now).next (config_of self.now)) }
     {
         self.automaton.completion(alloc, &pending.reading)
     }

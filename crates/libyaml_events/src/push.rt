@@ -134,9 +134,9 @@ impl yaml_push_parser_t {
     /// Returns which types of token may come next: those with some token of which the tokens pushed so far
     /// still begin a valid list. After the stream's end or an error none may.
     ///
-    /// Of a VERSION-DIRECTIVE, a TAG-DIRECTIVE or a TAG such a token has an accepted version, a handle that is
-    /// not declared yet, or a handle that is defined. After a TAG whose handle is not defined, which is an error
-    /// only at a later token, the types are those that may follow it if it were.
+    /// Of a VERSION-DIRECTIVE, a TAG-DIRECTIVE or a TAG such a token has an accepted version, a handle that
+    /// is not declared yet, or a handle that is defined. After a TAG whose handle is not defined, which is
+    /// an error only at a later token, the types are those that may follow it if it were.
     pub fn expected(&self) -> TokenTypes
         ensures acceptable { ForPushed self.now (λ tokens _. AreAcceptable result tokens) }
         ensures stopped { has_stopped self.now ≡ true → (k : yaml_token_type_t) → has result k ≡ false }

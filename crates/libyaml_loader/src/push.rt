@@ -142,7 +142,8 @@ impl yaml_push_loader_t {
     /// end or an error none may.
     pub fn expected(&self) -> TokenTypes
         ensures acceptable { ForLoaded self.now (λ tokens _. AreAcceptable result tokens) }
-        ensures stopped { loader_has_stopped self.now ≡ true → (k : yaml_token_type_t) → has result k ≡ false }
+        ensures stopped { loader_has_stopped self.now ≡ true → (k : yaml_token_type_t)
+            → has result k ≡ false }
     {
         if self.composer.kept().is_err() {
             return TokenTypes::none();

@@ -1,5 +1,5 @@
-//! Nested sequences under a bound on depth. A test vector has the parts of a list, its n, and the bound; and the
-//! columns of the faults that come.
+//! Nested sequences under a bound on depth. A test vector has the parts of a list, its n, and the bound; and
+//! the columns of the faults that come.
 
 use crate::texts::shown;
 use anyhow::Result;

@@ -1,8 +1,9 @@
 //! Calls that no list of tokens shows, with what they must give.
 //!
-//! The file `vectors` of `data` has a line `# TABLE` for each table, and a line for each test vector: its name, its
-//! fields, and the text of what must come. The program counts the test vectors of each table and names those that
-//! differ. `vectors_calls TABLE` runs those of one table, `vectors_calls TABLE VECTOR` one test vector.
+//! The file `vectors` of `data` has a line `# TABLE` for each table, and a line for each test vector: its
+//! name, its fields, and the text of what must come. The program counts the test vectors of each table and
+//! names those that differ. `vectors_calls TABLE` runs those of one table, `vectors_calls TABLE VECTOR` one
+//! test vector.
 #![tactic(auto)]
 
 mod constructors;

@@ -72,7 +72,8 @@ fn nothing_at_once(alloc: Global) -> Result<String> {
     shown(alloc, &[is_error(&run), is_error(&all)])
 }
 
-/// Shows whether a list without a fault of its own, and without a token, gives an event, and the kind of fault.
+/// Shows whether a list without a fault of its own, and without a token, gives an event, and the kind of
+/// fault.
 fn ends_too_soon(alloc: Global) -> Result<String> {
     let mut parser = yaml_parser_initialize(alloc, yaml_list_source_t::from(Vec::new(alloc)));
     let fails = is_error(&yaml_parser_parse(&mut parser));

@@ -1,8 +1,9 @@
-//! Lists that grow by a number n, over a scanner that computes their tokens and over a list of the same tokens.
+//! Lists that grow by a number n, over a scanner that computes their tokens and over a list of the same
+//! tokens.
 //!
-//! A list is a text of parts with `/` between them. Each has `1`, `n` or `n-1`, how often it is repeated, and after
-//! a space token lines with `;` between them, which have `#` for the marks and `@` for how often the part was
-//! repeated before.
+//! A list is a text of parts with `/` between them. Each has `1`, `n` or `n-1`, how often it is repeated,
+//! and after a space token lines with `;` between them, which have `#` for the marks and `@` for how often
+//! the part was repeated before.
 
 use crate::list_of;
 use std::alloc::{AllocError, Global};

@@ -1,6 +1,6 @@
-//! What the programs of test vectors share: the test vectors that are asked for, which are counted and named if
-//! they differ, texts that are compared line by line, the files of `data`, runs, readers and writers that cut their
-//! bytes or fail, lists of a source's tokens, and what a parser returns after its end.
+//! What the programs of test vectors share: the test vectors that are asked for, which are counted and named
+//! if they differ, texts that are compared line by line, the files of `data`, runs, readers and writers that
+//! cut their bytes or fail, lists of a source's tokens, and what a parser returns after its end.
 #![tactic(auto)]
 
 mod cut;

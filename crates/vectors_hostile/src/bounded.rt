@@ -1,7 +1,7 @@
 //! Events within bounds on nodes: how many come, and which error ends them.
 //!
-//! A test vector has the name of a file of token lines after `bounded_`, the bounds on nodes and on the expanded
-//! size, `-` for none, and what comes.
+//! A test vector has the name of a file of token lines after `bounded_`, the bounds on nodes and on the
+//! expanded size, `-` for none, and what comes.
 
 use anyhow::Result;
 use std::alloc::Global;

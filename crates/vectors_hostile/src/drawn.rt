@@ -49,7 +49,8 @@ struct Drawn {
 }
 
 impl Drawn {
-    /// Appends a token, where the list can go on after it. Its line has `#` for its marks and `@` for each text.
+    /// Appends a token, where the list can go on after it. Its line has `#` for its marks and `@` for each
+    /// text.
     fn append(&mut self, alloc: Global, line: &str, text: &str) -> Result<()> {
         let before = self.lines.len();
         let line = filled(alloc, line, self.tokens, text)?;
@@ -90,8 +91,8 @@ fn written_by_run(alloc: Global, of: LinesOf, lines: &[u8]) -> (Vec<u8>, bool) {
     (written, ended == Outcome::Faulted)
 }
 
-/// Whether a run over these lines ends by a fault, and writes what a list of their tokens does; of documents it
-/// ends by their source or by the composer.
+/// Whether a run over these lines ends by a fault, and writes what a list of their tokens does; of documents
+/// it ends by their source or by the composer.
 fn is_same_by_list(alloc: Global, of: LinesOf, lines: &[u8]) -> Result<bool> {
     let mut by_list = Vec::new(alloc);
     write_lines(of, alloc, list_of_lines(alloc, lines)?, &mut by_list);
@@ -107,8 +108,8 @@ fn is_same_by_list(alloc: Global, of: LinesOf, lines: &[u8]) -> Result<bool> {
     )
 }
 
-/// Whether the list of this number has as many tokens as is wanted, and is right. The kinds of tokens that are
-/// drawn are lines with `#` for the marks and `@` for each text.
+/// Whether the list of this number has as many tokens as is wanted, and is right. The kinds of tokens that
+/// are drawn are lines with `#` for the marks and `@` for each text.
 pub fn is_list_right(rt: &impl Host, vector: Vector<'_>) -> Result<bool> {
     let kinds = read_text(rt, "kinds")?;
     let number = vector

@@ -1,5 +1,5 @@
-//! Whole runs and loads of large lists: over the scanner that computes the tokens, and over a list of the same
-//! tokens, which has to give the same. Of documents the value of each node is compared too.
+//! Whole runs and loads of large lists: over the scanner that computes the tokens, and over a list of the
+//! same tokens, which has to give the same. Of documents the value of each node is compared too.
 
 use crate::shapes::are_shaped;
 use anyhow::Result;

@@ -1,10 +1,10 @@
 //! Hostile use: lists that are large, deep or drawn, texts of every length, and allocations that fail.
 //!
 //! The files `vectors`, `drawn` and `failing` of `data` have a line `# TABLE` for each table, and a line for
-//! each test vector: its name, and after it its fields, the last often what has to come. The program counts the
-//! test vectors of each table and names those that differ. `vectors_hostile TABLE` runs those of one table,
-//! `vectors_hostile TABLE VECTOR` one test vector, and `vectors_hostile failing` those of the file `failing`,
-//! for `scripts/gate/allocation_failures.sh`. `vectors_hostile work WORK N` does the work of
+//! each test vector: its name, and after it its fields, the last often what has to come. The program counts
+//! the test vectors of each table and names those that differ. `vectors_hostile TABLE` runs those of one
+//! table, `vectors_hostile TABLE VECTOR` one test vector, and `vectors_hostile failing` those of the file
+//! `failing`, for `scripts/gate/allocation_failures.sh`. `vectors_hostile work WORK N` does the work of
 //! `scripts/gate/flat_memory.sh`.
 #![tactic(auto)]
 

@@ -1,6 +1,7 @@
-//! Runs of the program by the words of its command line, and what is told without a run. Each line of the file
-//! `worked` has a name, the exit status, what is read, what has to be written, what is told to the user, and the
-//! words; and after a colon what it shows. `scripts/gate/statuses.sh` makes the same runs of the built program.
+//! Runs of the program by the words of its command line, and what is told without a run. Each line of the
+//! file `worked` has a name, the exit status, what is read, what has to be written, what is told to the
+//! user, and the words; and after a colon what it shows. `scripts/gate/statuses.sh` makes the same runs of
+//! the built program.
 
 use anyhow::{Context, Result};
 use std::alloc::{AllocError, Global};
@@ -65,7 +66,8 @@ impl Command {
         Ok(is_right)
     }
 
-    /// Whether the run is right, and has its status and output also where its line for the user can't be written.
+    /// Whether the run is right, and has its status and output also where its line for the user can't be
+    /// written.
     fn is_right_twice(&self, rt: &impl Host) -> io::Result<bool> {
         let mut output = PieceWriter::new(rt.alloc(), EVERY_CALL, self.calls);
         let mut full = PieceWriter::new(rt.alloc(), 1, 0);

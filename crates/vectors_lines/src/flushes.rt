@@ -101,8 +101,8 @@ fn before_end(written: &[u8]) -> usize {
     }
 }
 
-/// What a run did: how it ended, how many bytes were flushed at each call of the reader and at last at the end,
-/// and whether the writer was called after a call of it failed.
+/// What a run did: how it ended, how many bytes were flushed at each call of the reader and at last at the
+/// end, and whether the writer was called after a call of it failed.
 #[derive(Drop)]
 struct Ran {
     ended: Outcome,
@@ -189,8 +189,9 @@ pub fn are_right(alloc: Global, run: Run<'_>) -> Result<bool, AllocError> {
     )
 }
 
-/// Whether as many bytes are flushed at the calls of a reader that hands out all bytes, and at the end, as the
-/// test vector says: the first event before the second line is read, if fewer than 1,024 bytes are left then.
+/// Whether as many bytes are flushed at the calls of a reader that hands out all bytes, and at the end, as
+/// the test vector says: the first event before the second line is read, if fewer than 1,024 bytes are left
+/// then.
 pub fn is_flushed_with(rt: &impl Host, vector: Vector<'_>) -> anyhow::Result<bool> {
     let tokens = read_long(rt, "long_scalar", vector.number(0))?;
     let run = Run {

@@ -2,11 +2,11 @@
 //! and writers that fail.
 //!
 //! The program makes each run that a line of the file `worked` gives, by words of a command line, and names
-//! it. It makes each check of `RUNS` and `FAILING` for each run that the file `names` names, and for each line
-//! of `good_lines` and `bad_lines`; and those of the file `vectors`, which has a line `# TABLE` for each table
-//! and a line for each test vector. It counts the test vectors of each table and names those that differ.
-//! `vectors_lines TABLE` makes the checks of one table, `vectors_lines TABLE VECTOR` those of one test vector,
-//! and `vectors_lines failing` those of `FAILING`, for `scripts/gate/allocation_failures.sh`.
+//! it. It makes each check of `RUNS` and `FAILING` for each run that the file `names` names, and for each
+//! line of `good_lines` and `bad_lines`; and those of the file `vectors`, which has a line `# TABLE` for
+//! each table and a line for each test vector. It counts the test vectors of each table and names those that
+//! differ. `vectors_lines TABLE` makes the checks of one table, `vectors_lines TABLE VECTOR` those of one
+//! test vector, and `vectors_lines failing` those of `FAILING`, for `scripts/gate/allocation_failures.sh`.
 #![tactic(auto)]
 
 mod commands;

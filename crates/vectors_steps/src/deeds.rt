@@ -35,8 +35,8 @@ const WITHIN: u32 = 0;
 
 const FULL: u32 = 16;
 
-/// A composer over the steps, and a count over its deeds. Its stack and numbers have no room at first, and take
-/// one entry more where they are full.
+/// A composer over the steps, and a count over its deeds. Its stack and numbers have no room at first, and
+/// take one entry more where they are full.
 #[derive(Drop)]
 pub struct Documents {
     composer: composer_t,

@@ -12,8 +12,8 @@ use libyaml_types::{
 use std::alloc::Global;
 use token_steps::step_event_t;
 
-/// What was read since the last event: the anchor, the tag in full, and the version; and the tag directives of
-/// the document.
+/// What was read since the last event: the anchor, the tag in full, and the version; and the tag directives
+/// of the document.
 #[derive(Drop)]
 pub struct Read<'a> {
     pub anchor: Option<&'a [u8]>,
@@ -42,8 +42,8 @@ fn scalar_style_of(number: u32) -> yaml_scalar_style_t {
     }
 }
 
-/// The text of a token's scalar or alias, and the number of its style or encoding. Without a token a scalar is
-/// empty and plain.
+/// The text of a token's scalar or alias, and the number of its style or encoding. Without a token a scalar
+/// is empty and plain.
 fn value_of(token: Option<&yaml_token_t>) -> (&[u8], u32) {
     match token.map(|token| &token.content) {
         Some(unnamed_yaml_token_t_data::StreamStart(start)) => (b"", start.encoding.number()),

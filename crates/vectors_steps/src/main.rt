@@ -1,12 +1,12 @@
 //! Lists of tokens, each with what steps over it give, which stand as files in `data`.
 //!
-//! Each line of `data/lists/index` names a list and says what it shows. Steps over its tokens give the lines of its
-//! events, and the number and the marks of the fault that ends them. The composer's steps over the same events
-//! give what is done to each document, and the count of each deed how many nodes it has with its aliases written
-//! out, within each bound that `NAME.sizes` names. The program compares these with `NAME.steps`, `NAME.deeds` and
-//! `NAME.sizes`, and counts. Exact steps must give the same lines over a list that libyaml reads alike; the others
-//! stand in `data/exact`, with libyaml's events and error in `NAME.exact`. `vectors_steps TABLE [NAME]` compares
-//! one table, or a list of it.
+//! Each line of `data/lists/index` names a list and says what it shows. Steps over its tokens give the lines
+//! of its events, and the number and the marks of the fault that ends them. The composer's steps over the
+//! same events give what is done to each document, and the count of each deed how many nodes it has with its
+//! aliases written out, within each bound that `NAME.sizes` names. The program compares these with
+//! `NAME.steps`, `NAME.deeds` and `NAME.sizes`, and counts. Exact steps must give the same lines over a list
+//! that libyaml reads alike; the others stand in `data/exact`, with libyaml's events and error in
+//! `NAME.exact`. `vectors_steps TABLE [NAME]` compares one table, or a list of it.
 #![tactic(auto)]
 
 mod deeds;

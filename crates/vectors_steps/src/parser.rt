@@ -51,8 +51,9 @@ pub(crate) const NO_FAULT: step_fault_t = step_fault_t {
     problem_mark: ZERO_MARK,
 };
 
-/// What tokens give: whether libyaml did something else with one than steps that aren't exact, the lines of the
-/// events and of the fault that ended them, and those of what was done to documents and counted of these.
+/// What tokens give: whether libyaml did something else with one than steps that aren't exact, the lines of
+/// the events and of the fault that ended them, and those of what was done to documents and counted of
+/// these.
 pub type Given = (bool, Vec<u8>, Vec<u8>, Vec<u8>);
 
 /// A parser over the steps. Its stacks have no room at first, and take one entry more where they are full.

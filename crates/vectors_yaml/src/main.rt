@@ -1,10 +1,10 @@
 //! Lists of tokens with what they give, which stand as files in `data`.
 //!
 //! Each folder of `data` is a table. Its `index` has a line for each list: a name, the texts that the list
-//! has besides its events and nodes, and what it shows. The program compares every text of every list, counts
-//! them, and shows the first line of each text that differs. Worked examples it names where nothing differs, too.
-//! `vectors_yaml TABLE` compares one table, `vectors_yaml TABLE NAME` one list. `vectors_yaml failing`
-//! makes the checks of `failing` alone, for `scripts/gate/allocation_failures.sh`.
+//! has besides its events and nodes, and what it shows. The program compares every text of every list,
+//! counts them, and shows the first line of each text that differs. Worked examples it names where nothing
+//! differs, too. `vectors_yaml TABLE` compares one table, `vectors_yaml TABLE NAME` one list. `vectors_yaml
+//! failing` makes the checks of `failing` alone, for `scripts/gate/allocation_failures.sh`.
 #![tactic(auto)]
 
 mod asked;

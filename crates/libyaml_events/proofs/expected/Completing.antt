@@ -99,7 +99,8 @@ module _ {w : Want} {c : Machine} {l : List Token} {g : List Event} (f : Fed w c
       by (has_ended i x) = subst IsValidList (sym (append-nil l))
           (record { tree = x.tree; all = x.all_tokens; order = x.order })
 
-  pub fed_completed : ended_or_failed c ≡ false → IsViablePrefix l → IsCompleted l (open_collections (stage_of g) + 2)
+  pub fed_completed : ended_or_failed c ≡ false → IsViablePrefix l
+      → IsCompleted l (open_collections (stage_of g) + 2)
   fed_completed n h = let (completes, few) = fed_completes n h in record {
     rest = map (bare zero_marks) (completing w.next (without_texts c));
     valid_list = completes zero_marks;

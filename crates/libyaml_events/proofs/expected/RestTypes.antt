@@ -55,8 +55,10 @@ node_due m (block c) w = block_due m c
 node_due m (flow_entry c) w = absurd w
 node_due m (flow_key (open_collection p o sequence s is) e) w = scalar_and FlowSequenceEnd m (node_types m p)
 node_due m (flow_key (open_collection p o mapping s is) e) w = scalar_and FlowMappingEnd m (node_types m p)
-node_due m (flow_value (open_collection p o sequence s is) e x v) w = scalar_and FlowSequenceEnd m (node_types m p)
-node_due m (flow_value (open_collection p o mapping s is) e x v) w = scalar_and FlowMappingEnd m (node_types m p)
+node_due m (flow_value (open_collection p o sequence s is) e x v) w
+    = scalar_and FlowSequenceEnd m (node_types m p)
+node_due m (flow_value (open_collection p o mapping s is) e x v) w
+    = scalar_and FlowMappingEnd m (node_types m p)
 
 pub rest_types : (m : Marks) (q : Position) → IsMet q → Is m q
 rest_types m unopened w = refl
@@ -76,10 +78,14 @@ rest_types m (flow_due (open_collection p o sequence s is)) w = more FlowSequenc
 rest_types m (flow_due (open_collection p o mapping s is)) w = more FlowMappingEnd m (node_types m p)
 rest_types m (flow_keyed (open_collection p o sequence s is) e x) w = more FlowSequenceEnd m (node_types m p)
 rest_types m (flow_keyed (open_collection p o mapping s is) e x) w = more FlowMappingEnd m (node_types m p)
-rest_types m (flow_after (open_collection p o sequence s is) (single x)) w = more FlowSequenceEnd m (node_types m p)
-rest_types m (flow_after (open_collection p o mapping s is) (single x)) w = more FlowMappingEnd m (node_types m p)
+rest_types m (flow_after (open_collection p o sequence s is) (single x)) w
+    = more FlowSequenceEnd m (node_types m p)
+rest_types m (flow_after (open_collection p o mapping s is) (single x)) w
+    = more FlowMappingEnd m (node_types m p)
 rest_types m (flow_after c (pair e x no_value)) w = absurd w
-rest_types m (flow_after (open_collection p o sequence s is) (pair e x (with_value v y))) w = more FlowSequenceEnd m (node_types m p)
-rest_types m (flow_after (open_collection p o mapping s is) (pair e x (with_value v y))) w = more FlowMappingEnd m (node_types m p)
+rest_types m (flow_after (open_collection p o sequence s is) (pair e x (with_value v y))) w
+    = more FlowSequenceEnd m (node_types m p)
+rest_types m (flow_after (open_collection p o mapping s is) (pair e x (with_value v y))) w
+    = more FlowMappingEnd m (node_types m p)
 rest_types m (done (whole (free f) n)) w = refl
 rest_types m (done (whole (following d) n)) w = refl
