@@ -1,5 +1,9 @@
 pub mod Anchoring
 pub mod EventComposer
 pub mod Telling
+pub mod Places
 pub mod ComposedEvents
+pub mod PlacedEvents
+pub mod PlacedDocuments
 pub mod ComposedLoops
+pub mod PlacedLoops

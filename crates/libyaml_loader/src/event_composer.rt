@@ -8,6 +8,7 @@ ghost use Rattle.libyaml_composer.specs.DocumentSoFar.{IsRefused};
 ghost use Rattle.libyaml_loader.specs.composed.Anchoring.{event_first_mark, event_node, registered_at};
 ghost use Rattle.libyaml_loader.specs.composed.EventComposer.{ComposesTo, RefusesBy};
 ghost use Rattle.libyaml_loader.specs.composed.EventComposer.{needs_memory, new_event_composer};
+ghost use Rattle.libyaml_loader.specs.composed.Places.{PlacesEvent};
 ghost use Rattle.libyaml_loader.specs.composed.Telling.{TellsDeed, load_fault};
 ghost use Rattle.libyaml_loader.specs.document.Ids.{anchored_node_of};
 ghost use Rattle.libyaml_loader.specs.document.Refusals.{fault_by};
@@ -15,6 +16,7 @@ ghost use Rattle.libyaml_loader.specs.document.Refusals.{fault_by};
 use crate::anchors::{Anchors, id_or_none};
 use crate::context::accepted;
 use crate::ids::AnchoredNode;
+use crate::places::{place_by, yaml_place_t};
 use crate::refusal::{Refusal, fault_by};
 use crate::stack::{NO_PLACE, OpenCollections};
 use libyaml_composer::{Deed, place_t};
@@ -93,6 +95,28 @@ impl event_composer_t {
         let mut place = NO_PLACE;
         accepted(self.compose(event, &mut place)?)?;
         Ok(())
+    }
+
+    /// Composes an event, and returns where it belongs, if it has a place. After an error the value is
+    /// unspecified.
+    ///
+    /// # Errors
+    ///
+    /// Those of `take`.
+    pub(crate) fn take_placed(
+        &mut self,
+        event: &yaml_event_t,
+    ) -> Result<Option<yaml_place_t>, Refusal>
+        ensures composes { OnOk result (ComposesTo self.old event.now self.new) }
+        ensures places { IfOk result (λ place. PlacesEvent self.old event.now place self.new) }
+        ensures refuses { IfErr result (λ r. RefusesBy self.old event.now
+            (fault_by r (event_first_mark self.new.anchors event.now) event.now.start_mark)) }
+    {
+        let innermost = self.collections.innermost();
+        let depth = self.collections.depth();
+        let mut place = NO_PLACE;
+        let deed = accepted(self.compose(event, &mut place)?)?;
+        Ok(place_by(deed, place, innermost, depth))
     }
 
     /// Returns the error of a load at an event that a deed refuses, and `None` if the deed takes it.

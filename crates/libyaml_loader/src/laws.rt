@@ -3,7 +3,8 @@
 
 pub mod determined;
 
-ghost use Rattle.std.specs.Prelude.{◌≡◌, ◌≤◌, ◌*◌, ◌++◌, ℕ, List, [], Err, Some, length, false, true};
+ghost use Rattle.std.specs.Prelude.{◌≡◌, ◌≤◌, ◌*◌, ◌++◌, ℕ, pos, List, [], Err, Option, Some, length};
+ghost use Rattle.std.specs.Prelude.{false, true};
 ghost use Rattle.libyaml_types.specs.Fault.{Fault};
 ghost use Rattle.libyaml_types.specs.Source.{coming};
 ghost use Rattle.libyaml_grammar.specs.runs.Runs.{Ending, Ends, IsRun};
@@ -12,15 +13,27 @@ ghost use Rattle.libyaml_grammar.specs.grammar.Nesting.{NestsSoFar};
 ghost use Rattle.libyaml_grammar.specs.grammar.ValidLists.{has_end};
 ghost use Rattle.libyaml_grammar.specs.grammar.Tokens.{Token};
 ghost use Rattle.libyaml_documents.specs.Documents.{Document};
+ghost use Rattle.libyaml_documents.specs.Nodes.{node_at};
+ghost use Rattle.libyaml_documents.specs.declared.node.yaml_node_t.{yaml_node_t};
 ghost use Rattle.libyaml_events.specs.machine.Config.{Parser};
 ghost use Rattle.libyaml_events.specs.sources.History.{History};
 ghost use Rattle.libyaml_events.specs.sources.RunToCome.{RunToCome};
+ghost use Rattle.libyaml_composer.specs.Represents.{IsNode};
+ghost use Rattle.libyaml_graphs.specs.graphs.GraphParts.{part_of};
+ghost use Rattle.libyaml_graphs.specs.machine.Loader.{State};
 ghost use Rattle.libyaml_graphs.specs.loads.Bounds.{IsBoundedLoads, bounded_loads, next_bounded};
 ghost use Rattle.libyaml_graphs.specs.loads.Linear.{documents_size};
 ghost use Rattle.libyaml_graphs.specs.loads.Loads.{Load, last_load, left_over};
 ghost use Rattle.libyaml_loader.specs.composed.ComposedEvents.{ComposedEvents};
 ghost use Rattle.libyaml_loader.specs.composed.ComposedLoops.{AreComposedOf, LoopComposes};
-ghost use Rattle.libyaml_loader.specs.composed.EventComposer.{new_event_composer};
+ghost use Rattle.libyaml_loader.specs.composed.EventComposer.{EventComposer, StandsAt, new_event_composer};
+ghost use Rattle.libyaml_loader.specs.composed.Places.{PlacesEvent};
+ghost use Rattle.libyaml_loader.specs.declared.places.yaml_place_t.{yaml_place_t};
+ghost use Rattle.libyaml_loader.specs.composed.PlacedDocuments.{ForPlaced, HoldsOnceLoaded, held_item};
+ghost use Rattle.libyaml_loader.specs.composed.PlacedDocuments.{held_pair};
+ghost use Rattle.libyaml_loader.specs.composed.PlacedLoops.{ArePlacesIn, LoopPlaces, events_in};
+ghost use Rattle.libyaml_loader.specs.declared.places.yaml_role_t.TheVariants.{Item, Key, Root, Value};
+ghost use Rattle.libyaml_documents.specs.declared.pairs.yaml_node_pair_t.{yaml_node_pair_t};
 ghost use Rattle.libyaml_loader.specs.document.Ids.{magnitude};
 ghost use Rattle.libyaml_loader.specs.loads.Loading.{DocumentOrError, LoadsFrom};
 ghost use Rattle.libyaml_loader.specs.loads.LoadsInTurn.{AreLoadsOf, LoopYields};
@@ -60,6 +73,39 @@ pub fn composed_events_are_loads<S: yaml_token_source_t>()
         (e : List Event) (x : Ending) → old.composer ≡ new_event_composer n
         → RunToCome S.known old.parser e x → LoopComposes S.yaml_token_source_t old yielded ending new
         → AreComposedOf S.may_break new.parser n yielded ending e x }
+{}
+
+/// What an event's place says of the document that the load gives, if that is whole, whatever events come
+/// after it: the node, the item and the value are there, and the key, if its pair is. The first place of a
+/// document is its root's.
+pub fn placed_events_are_loaded()
+    ensures nodes { (old new : EventComposer) (e : Event) (p : yaml_place_t) (here : State)
+        → PlacesEvent old e (Some p) new → IsNode (part_of e) → StandsAt old here
+        → HoldsOnceLoaded old here e (λ nodes. (node : yaml_node_t) × (node_at nodes p.id ≡ Some node)
+        × (node.start_mark ≡ e.start_mark)) }
+    ensures items { ForPlaced Item (λ p nodes. held_item nodes p.parent p.index ≡ Some p.id) }
+    ensures values { ForPlaced Value (λ p nodes. (pair : yaml_node_pair_t)
+        × (held_pair nodes p.parent p.index ≡ Some pair) × (pair.value ≡ p.id)) }
+    ensures keys { ForPlaced Key (λ p nodes. (pair : yaml_node_pair_t)
+        → held_pair nodes p.parent p.index ≡ Some pair → pair.key ≡ p.id) }
+    ensures roots { (old new : EventComposer) (e : Event) (p : yaml_place_t)
+        → PlacesEvent old e (Some p) new → p.role ≡ Root
+        → (p.parent ≡ pos 0) × (p.index ≡ 0) × (p.depth ≡ 0) }
+    ensures first { (old new : EventComposer) (e : Event) (p : yaml_place_t) (here : State)
+        → PlacesEvent old e (Some p) new → StandsAt old here → old.collections.nodes ≡ 0
+        → p ≡ record { id = pos 1; parent = pos 0; role = Root; index = 0; depth = 0 } }
+{}
+
+/// What a whole loop over the placed events of a parser yielded: the events that one over its composed events
+/// does; and over events that were to come the place of each, which is in its document.
+pub fn placed_loops_are_loaded<S: yaml_token_source_t>()
+    ensures events { (old new : ComposedEvents S) (items : List (Event × Option yaml_place_t))
+        (ending : Ending) → LoopPlaces S.yaml_token_source_t old items ending new
+        → LoopComposes S.yaml_token_source_t old (events_in items) ending new }
+    ensures places { (n : ℕ) (old new : ComposedEvents S) (items : List (Event × Option yaml_place_t))
+        (ending : Ending) (e : List Event) (x : Ending) → old.composer ≡ new_event_composer n
+        → RunToCome S.known old.parser e x → LoopPlaces S.yaml_token_source_t old items ending new
+        → ArePlacesIn n items (bounded_loads n e x) }
 {}
 
 /// What a load says of each run that its parser had to come: a document is the run's first load, and the

@@ -3,6 +3,7 @@
 ghost use Rattle.std.specs.Prelude.{◌≡◌, ℕ, suc, length, nat_le, true, false, IfOk, OnErr, OnOk};
 ghost use Rattle.libyaml_composer.specs.Composing.{is_start, most_of, composer_step, told};
 ghost use Rattle.libyaml_composer.specs.Numbers.{is_id};
+ghost use Rattle.libyaml_loader.specs.composed.Places.{innermost_of};
 ghost use Rattle.libyaml_loader.specs.document.Stack.{with_document_begun, first_composer, roomy};
 
 use libyaml_composer::{Deed, composer_t, open_t, place_t};
@@ -66,6 +67,25 @@ impl OpenCollections {
             composer: composer_t::new(max_entries),
             entries: Vec::new(alloc),
         }
+    }
+
+    /// Returns the innermost open collection, if one is open.
+    #[tactic(auto, using(libyaml_composer::proofs::exported::Stacks::tops))]
+    pub(crate) fn innermost(&self) -> Option<open_t>
+        ensures { result ≡ innermost_of self.now.stack }
+    {
+        if self.composer.depth == 0 {
+            return None;
+        }
+        Some(self.entries[self.composer.depth - 1])
+    }
+
+    /// Returns how many collections are open.
+    #[tactic(auto, using(libyaml_composer::proofs::exported::Stacks::depth_is))]
+    pub(crate) fn depth(&self) -> usize
+        ensures { result ≡ length self.now.stack }
+    {
+        self.composer.depth
     }
 
     /// Begins a document.

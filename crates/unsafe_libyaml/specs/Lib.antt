@@ -105,8 +105,12 @@ pub use Rattle.libyaml_loader.specs.document.Stack as LoaderStack
 pub use Rattle.libyaml_loader.specs.composed.Anchoring
 pub use Rattle.libyaml_loader.specs.composed.EventComposer
 pub use Rattle.libyaml_loader.specs.composed.Telling
+pub use Rattle.libyaml_loader.specs.composed.Places
 pub use Rattle.libyaml_loader.specs.composed.ComposedEvents
+pub use Rattle.libyaml_loader.specs.composed.PlacedEvents
+pub use Rattle.libyaml_loader.specs.composed.PlacedDocuments
 pub use Rattle.libyaml_loader.specs.composed.ComposedLoops
+pub use Rattle.libyaml_loader.specs.composed.PlacedLoops
 pub use Rattle.libyaml_loader.specs.loads.Loading
 pub use Rattle.libyaml_loader.specs.loads.LoadsInTurn
 pub use Rattle.libyaml_loader.specs.loads.NextLoad

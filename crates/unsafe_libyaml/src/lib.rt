@@ -7,47 +7,108 @@ pub mod laws;
 mod load_all;
 mod parse_all;
 
-pub use libyaml_documents::{
-    laws as document_laws, unnamed_yaml_node_t_data, unnamed_yaml_node_t_data_mapping,
-    unnamed_yaml_node_t_data_scalar, unnamed_yaml_node_t_data_sequence, yaml_alias_data_t,
-    yaml_document_add_mapping, yaml_document_add_scalar, yaml_document_add_sequence,
-    yaml_document_append_mapping_pair, yaml_document_append_sequence_item, yaml_document_delete,
-    yaml_document_get_node, yaml_document_get_root_node, yaml_document_initialize, yaml_document_t,
-    yaml_node_item_t, yaml_node_items_t, yaml_node_pair_t, yaml_node_pairs_t, yaml_node_t,
-};
-pub use libyaml_events::{
-    MEMORY_FAULT, NO_FAULT, TokenTypes, yaml_list_source_t, yaml_parser_between_documents,
-    yaml_parser_delete, yaml_parser_initialize, yaml_parser_parse, yaml_parser_parse_into,
-    yaml_parser_set_max_entries, yaml_parser_t, yaml_parser_t_prefix, yaml_push_parser_t,
-    yaml_source_fault_t, yaml_token_source_t,
-};
+pub use libyaml_documents::laws as document_laws;
+pub use libyaml_documents::unnamed_yaml_node_t_data;
+pub use libyaml_documents::unnamed_yaml_node_t_data_mapping;
+pub use libyaml_documents::unnamed_yaml_node_t_data_scalar;
+pub use libyaml_documents::unnamed_yaml_node_t_data_sequence;
+pub use libyaml_documents::yaml_alias_data_t;
+pub use libyaml_documents::yaml_document_add_mapping;
+pub use libyaml_documents::yaml_document_add_scalar;
+pub use libyaml_documents::yaml_document_add_sequence;
+pub use libyaml_documents::yaml_document_append_mapping_pair;
+pub use libyaml_documents::yaml_document_append_sequence_item;
+pub use libyaml_documents::yaml_document_delete;
+pub use libyaml_documents::yaml_document_get_node;
+pub use libyaml_documents::yaml_document_get_root_node;
+pub use libyaml_documents::yaml_document_initialize;
+pub use libyaml_documents::yaml_document_t;
+pub use libyaml_documents::yaml_node_item_t;
+pub use libyaml_documents::yaml_node_items_t;
+pub use libyaml_documents::yaml_node_pair_t;
+pub use libyaml_documents::yaml_node_pairs_t;
+pub use libyaml_documents::yaml_node_t;
+pub use libyaml_events::MEMORY_FAULT;
+pub use libyaml_events::NO_FAULT;
+pub use libyaml_events::TokenTypes;
+pub use libyaml_events::yaml_list_source_t;
+pub use libyaml_events::yaml_parser_between_documents;
+pub use libyaml_events::yaml_parser_delete;
+pub use libyaml_events::yaml_parser_initialize;
+pub use libyaml_events::yaml_parser_parse;
+pub use libyaml_events::yaml_parser_parse_into;
+pub use libyaml_events::yaml_parser_set_max_entries;
+pub use libyaml_events::yaml_parser_t;
+pub use libyaml_events::yaml_parser_t_prefix;
+pub use libyaml_events::yaml_push_parser_t;
+pub use libyaml_events::yaml_source_fault_t;
+pub use libyaml_events::yaml_token_source_t;
 pub use libyaml_graphs::laws as graph_laws;
-pub use libyaml_loader::{
-    event_composer_t, laws as loader_laws, yaml_parser_composed_events,
-    yaml_parser_composed_events_t, yaml_parser_documents, yaml_parser_documents_t,
-    yaml_parser_load, yaml_push_loader_t,
-};
-pub use libyaml_types::{
-    ZERO_MARK, laws as type_laws, unnamed_yaml_event_t_data, unnamed_yaml_event_t_data_alias,
-    unnamed_yaml_event_t_data_document_end, unnamed_yaml_event_t_data_document_start,
-    unnamed_yaml_event_t_data_mapping_start, unnamed_yaml_event_t_data_scalar,
-    unnamed_yaml_event_t_data_sequence_start, unnamed_yaml_event_t_data_stream_start,
-    unnamed_yaml_token_t_data, unnamed_yaml_token_t_data_alias, unnamed_yaml_token_t_data_anchor,
-    unnamed_yaml_token_t_data_scalar, unnamed_yaml_token_t_data_stream_start,
-    unnamed_yaml_token_t_data_tag, unnamed_yaml_token_t_data_tag_directive,
-    unnamed_yaml_token_t_data_version_directive, yaml_alias_event_initialize, yaml_break_t,
-    yaml_document_end_event_initialize, yaml_document_start_event_initialize, yaml_encoding_t,
-    yaml_error_type_t, yaml_error_words, yaml_event_delete, yaml_event_t, yaml_event_type_t,
-    yaml_mapping_end_event_initialize, yaml_mapping_start_event_initialize, yaml_mapping_style_t,
-    yaml_mark_t, yaml_node_type_t, yaml_parser_state_t, yaml_refusal_t,
-    yaml_scalar_event_initialize, yaml_scalar_style_t, yaml_scanner_source_t, yaml_scanner_t,
-    yaml_sequence_end_event_initialize, yaml_sequence_start_event_initialize,
-    yaml_sequence_style_t, yaml_stream_end_event_initialize, yaml_stream_start_event_initialize,
-    yaml_tag_directive_t, yaml_token_delete, yaml_token_t, yaml_token_type_t,
-    yaml_version_directive_t,
-};
-pub use load_all::{yaml_documents_t, yaml_parser_load_all};
-pub use parse_all::{yaml_parser_parse_all, yaml_run_t};
+pub use libyaml_loader::event_composer_t;
+pub use libyaml_loader::laws as loader_laws;
+pub use libyaml_loader::yaml_parser_composed_events;
+pub use libyaml_loader::yaml_parser_composed_events_t;
+pub use libyaml_loader::yaml_parser_documents;
+pub use libyaml_loader::yaml_parser_documents_t;
+pub use libyaml_loader::yaml_parser_load;
+pub use libyaml_loader::yaml_parser_placed_events;
+pub use libyaml_loader::yaml_parser_placed_events_t;
+pub use libyaml_loader::yaml_place_t;
+pub use libyaml_loader::yaml_push_loader_t;
+pub use libyaml_loader::yaml_role_t;
+pub use libyaml_types::ZERO_MARK;
+pub use libyaml_types::laws as type_laws;
+pub use libyaml_types::unnamed_yaml_event_t_data;
+pub use libyaml_types::unnamed_yaml_event_t_data_alias;
+pub use libyaml_types::unnamed_yaml_event_t_data_document_end;
+pub use libyaml_types::unnamed_yaml_event_t_data_document_start;
+pub use libyaml_types::unnamed_yaml_event_t_data_mapping_start;
+pub use libyaml_types::unnamed_yaml_event_t_data_scalar;
+pub use libyaml_types::unnamed_yaml_event_t_data_sequence_start;
+pub use libyaml_types::unnamed_yaml_event_t_data_stream_start;
+pub use libyaml_types::unnamed_yaml_token_t_data;
+pub use libyaml_types::unnamed_yaml_token_t_data_alias;
+pub use libyaml_types::unnamed_yaml_token_t_data_anchor;
+pub use libyaml_types::unnamed_yaml_token_t_data_scalar;
+pub use libyaml_types::unnamed_yaml_token_t_data_stream_start;
+pub use libyaml_types::unnamed_yaml_token_t_data_tag;
+pub use libyaml_types::unnamed_yaml_token_t_data_tag_directive;
+pub use libyaml_types::unnamed_yaml_token_t_data_version_directive;
+pub use libyaml_types::yaml_alias_event_initialize;
+pub use libyaml_types::yaml_break_t;
+pub use libyaml_types::yaml_document_end_event_initialize;
+pub use libyaml_types::yaml_document_start_event_initialize;
+pub use libyaml_types::yaml_encoding_t;
+pub use libyaml_types::yaml_error_type_t;
+pub use libyaml_types::yaml_error_words;
+pub use libyaml_types::yaml_event_delete;
+pub use libyaml_types::yaml_event_t;
+pub use libyaml_types::yaml_event_type_t;
+pub use libyaml_types::yaml_mapping_end_event_initialize;
+pub use libyaml_types::yaml_mapping_start_event_initialize;
+pub use libyaml_types::yaml_mapping_style_t;
+pub use libyaml_types::yaml_mark_t;
+pub use libyaml_types::yaml_node_type_t;
+pub use libyaml_types::yaml_parser_state_t;
+pub use libyaml_types::yaml_refusal_t;
+pub use libyaml_types::yaml_scalar_event_initialize;
+pub use libyaml_types::yaml_scalar_style_t;
+pub use libyaml_types::yaml_scanner_source_t;
+pub use libyaml_types::yaml_scanner_t;
+pub use libyaml_types::yaml_sequence_end_event_initialize;
+pub use libyaml_types::yaml_sequence_start_event_initialize;
+pub use libyaml_types::yaml_sequence_style_t;
+pub use libyaml_types::yaml_stream_end_event_initialize;
+pub use libyaml_types::yaml_stream_start_event_initialize;
+pub use libyaml_types::yaml_tag_directive_t;
+pub use libyaml_types::yaml_token_delete;
+pub use libyaml_types::yaml_token_t;
+pub use libyaml_types::yaml_token_type_t;
+pub use libyaml_types::yaml_version_directive_t;
+pub use load_all::yaml_documents_t;
+pub use load_all::yaml_parser_load_all;
+pub use parse_all::yaml_parser_parse_all;
+pub use parse_all::yaml_run_t;
 // The variants of the enums, by their bare names.
 pub use libyaml_types::enums::yaml_break_t::{
     YAML_ANY_BREAK, YAML_CR_BREAK, YAML_CRLN_BREAK, YAML_LN_BREAK,

@@ -3,7 +3,7 @@ use Rattle.std.proofs.Common.{◌≡◌, ◌≤◌, ◌++◌, ℕ, List, suc, le
 use Rattle.std.proofs.lemmas.List.{take-append-le}
 use Rattle.libyaml_composer.specs.declared.records.open_t.{open_t}
 use Rattle.libyaml_composer.specs.Composing.{stack_of}
-pub use Rattle.libyaml_composer.proofs.Tops.{depth_is}
+pub use Rattle.libyaml_composer.proofs.Tops.{depth_is, none_open, top_below}
 
 -- entries more change nothing
 pub stack_among : (entries l : List open_t) (n : ℕ) → n ≤ length entries → stack_of n (entries ++ l) ≡ stack_of n entries
@@ -16,3 +16,6 @@ depth_within entries n h = let e = depth_is entries n h in grind arith
 
 -- for a stack that is made longer
 pub ruleset lengthened = (stack_among, depth_within)
+
+-- for what lies on top of the stack
+pub ruleset tops = (none_open, top_below)

@@ -46,7 +46,7 @@ record Composed {S : Type 0} (MayBreak : S → Fault → Type 0) (new : Parser S
 module _ {S : Type 0} (g : Ghosts S)
     (follows : (s t : S) (a : SourceResult) → g.gives s a t → Follows (g.may_break t) (g.known s) a (g.known t)) where
   -- the event is the first of the run
-  rest_of : (old new : Parser S) (e : Event) → YieldsEvent g old (Some (Ok e)) new → (events : List Event) (x : Ending)
+  pub rest_of : (old new : Parser S) (e : Event) → YieldsEvent g old (Some (Ok e)) new → (events : List Event) (x : Ending)
       → RunToCome g.known old events x → RestOfRun g.known new (e ∷ []) events x
   rest_of old new e y events x run = (took_one g follows old new e (y.1.next.carries_on y.0)).runs events x run
 

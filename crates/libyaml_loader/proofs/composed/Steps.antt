@@ -96,13 +96,13 @@ module _ (c : EventComposer) (e : Event) (room : ℕ) (before p : place_t) (d : 
     here = within o (loader_by c.collections h)
 
     -- its end
-    closed : (y : Closing) → closing_of e ≡ Some y
+    pub closed : (y : Closing) → closing_of e ≡ Some y
         → told d p new ≡ told deed.Ends before (record (roomy room c.collections) { is_within = false })
     closed y is = grind arith
 
     -- any other event
     module _ (without : closing_of e ≡ None) where
-      told_so : told d p new ≡ composer_step (event_type e.content) (event_fact h e) before (roomy room c.collections)
+      pub told_so : told d p new ≡ composer_step (event_type e.content) (event_fact h e) before (roomy room c.collections)
       told_so = grind arith
 
       goes_within : (IsRefused d → ⊥) → (d ≡ deed.FullStack → ⊥) → Goes here
