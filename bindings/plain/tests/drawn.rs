@@ -44,7 +44,8 @@ fn bytes_of(draw: &mut Draw) -> Vec<u8> {
 #[test]
 fn drawn_tokens_are_the_same_to_each_call() {
     let count = std::env::var("COUNT").map_or(4000, |count| count.parse().unwrap());
-    let (mut draw, mut all, mut ended) = (Draw(0x9E37_79B9_7F4A_7C15), Seen::default(), 0);
+    let (mut draw, mut all) = (Draw(0x9E37_79B9_7F4A_7C15), Seen::default());
+    let (mut ended, mut halves) = (0, 0);
     for number in 0..count {
         let bytes = match number % 4 {
             0 => (0..draw.below(20)).map(|_| draw.next() as u8).collect(),
@@ -56,12 +57,14 @@ fn drawn_tokens_are_the_same_to_each_call() {
         all.refused |= seen.refused;
         all.repeated |= seen.repeated;
         all.endless |= seen.endless;
+        all.half |= seen.half;
+        halves += usize::from(seen.half);
         ended += usize::from(seen.ended);
     }
     assert!(all.refused && all.repeated && all.endless, "{all:?}");
     assert!(
-        ended > count / 50 && all.documents > count / 4 && all.events > 5 * count,
-        "{ended} ended, {all:?}"
+        ended > count / 50 && halves > count / 4 && all.documents > count / 4 && all.events > 5 * count,
+        "{ended} ended, {halves} halves, {all:?}"
     );
-    println!("{ended} of {count} lists ended: {all:?}");
+    println!("{ended} of {count} lists ended, {halves} gave half a document: {all:?}");
 }

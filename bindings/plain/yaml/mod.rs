@@ -43,7 +43,7 @@ mod source;
 mod token;
 
 pub use error::{Error, ErrorKind};
-pub use parser::{ComposedEvents, Documents, Parser};
+pub use parser::{ComposedEvents, Documents, Half, Parser, PlacedEvents};
 pub use push::{PushLoader, PushParser};
 pub use source::{limited, tokens, Limited, SourceError, TokenIter, TokenSource, Tokens};
 
@@ -52,6 +52,8 @@ pub use crate::libyaml_documents::{
     unnamed_yaml_node_t_data as NodeData, yaml_document_t as Document, yaml_node_pair_t as NodePair,
     yaml_node_t as Node,
 };
+#[doc(inline)]
+pub use crate::libyaml_loader::{yaml_place_t as Place, yaml_role_t as Role, yaml_written_t as Written};
 #[doc(inline)]
 pub use crate::libyaml_types::{
     unnamed_yaml_event_t_data as EventData, unnamed_yaml_token_t_data as TokenData,

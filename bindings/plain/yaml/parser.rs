@@ -1,12 +1,16 @@
 //! Iterators over events and documents.
 
-use super::{Document, Error, Event, TokenSource};
+use super::{Document, Error, ErrorKind, Event, TokenSource};
 use crate::kit::Global;
 use crate::libyaml_events::{
     is_event, no_event, yaml_parser_delete, yaml_parser_initialize, yaml_parser_parse_into,
     yaml_parser_set_max_entries, yaml_parser_t,
 };
-use crate::libyaml_loader::{event_composer_t, yaml_parser_composed_events_t, yaml_parser_documents};
+use crate::libyaml_loader::{
+    event_composer_t, yaml_parser_composed_events_t, yaml_parser_documents, yaml_parser_load_partial,
+    yaml_parser_placed_events_t, yaml_place_t as Place,
+};
+use alloc::string::String;
 use core::fmt;
 use core::iter::FusedIterator;
 use core::num::NonZeroU32;
@@ -73,6 +77,19 @@ impl Default for Event {
     }
 }
 
+/// An error, with what there is of the document in which it stands: an outline of a text that is being typed.
+#[derive(Debug)]
+pub struct Half {
+    /// The error that ends the documents.
+    pub error: Error,
+    /// The anchor or alias that a composer's error is about.
+    pub name: Option<String>,
+    /// The document that is open there, with its nodes so far. Its open collections end where the last event before the
+    /// error does, and a key that waited for its value has an empty one. There is none between two documents, or if
+    /// an allocation failed.
+    pub document: Option<Document>,
+}
+
 /// The documents of a source: each [`Document`], or once the [`Error`] that ends them. libyaml:
 /// `yaml_parser_load`.
 ///
@@ -96,6 +113,21 @@ impl<S: TokenSource> Documents<S> {
     pub fn max_entries(mut self, most: NonZeroU32) -> Self {
         bound(&mut self.parser, most);
         self
+    }
+
+    /// Returns the next document, as the iterator does, and with an error what there is of the one that is open.
+    pub fn next_or_half(&mut self) -> Option<Result<Document, Half>> {
+        let has_failed = self.parser.prefix().error != ErrorKind::YAML_NO_ERROR;
+        match yaml_parser_load_partial(&mut self.parser) {
+            _ if has_failed => None,
+            Ok(document) if document.nodes().is_empty() => None,
+            Ok(document) => Some(Ok(document)),
+            Err(partial) => Some(Err(Half {
+                error: Error::from(*self.parser.prefix()),
+                name: partial.name.map(String::from),
+                document: partial.document,
+            })),
+        }
     }
 
     /// Returns the source, in its state after the last token that was asked for.
@@ -169,5 +201,52 @@ impl<S: TokenSource> FusedIterator for ComposedEvents<S> {}
 impl<S> fmt::Debug for ComposedEvents<S> {
     fn fmt(&self, f: &mut fmt::Formatter<'_>) -> fmt::Result {
         f.debug_struct("ComposedEvents").finish_non_exhaustive()
+    }
+}
+
+/// The events of [`ComposedEvents`], each with the place of its node or alias in the document.
+///
+/// The id is that of the node, or of the one that the alias names, as [`Document`] counts them. [`Written`] keeps what a
+/// document doesn't.
+pub struct PlacedEvents<S> {
+    parser: yaml_parser_t<S>,
+    composer: event_composer_t,
+}
+
+impl<S: TokenSource> PlacedEvents<S> {
+    /// Returns the events of the tokens of a source, which is at its stream's start. Takes no memory.
+    pub fn new(source: S) -> Self {
+        let parser = yaml_parser_initialize(Global, source);
+        let composer = event_composer_t::new(Global, i32::MAX as u32);
+        PlacedEvents { parser, composer }
+    }
+
+    /// Returns the source, in its state after the last token that was asked for.
+    pub fn into_source(self) -> S {
+        yaml_parser_delete(self.parser)
+    }
+}
+
+impl<S: TokenSource> Iterator for PlacedEvents<S> {
+    type Item = Result<(Event, Option<Place>), Error>;
+
+    fn next(&mut self) -> Option<Self::Item> {
+        let kept = event_composer_t::new(Global, 0);
+        let composer = core::mem::replace(&mut self.composer, kept);
+        let mut events = yaml_parser_placed_events_t {
+            parser: &mut self.parser,
+            composer,
+        };
+        let event = events.next();
+        self.composer = events.composer;
+        event.map(|event| event.map_err(Error::from))
+    }
+}
+
+impl<S: TokenSource> FusedIterator for PlacedEvents<S> {}
+
+impl<S> fmt::Debug for PlacedEvents<S> {
+    fn fmt(&self, f: &mut fmt::Formatter<'_>) -> fmt::Result {
+        f.debug_struct("PlacedEvents").finish_non_exhaustive()
     }
 }

@@ -6,3 +6,4 @@ pub mod Keys
 pub mod Placed
 pub mod Loops
 pub mod PlacedLoops
+pub mod Writings

@@ -1,3 +1,4 @@
 pub mod AnchorLemmas
 pub mod Deciding
 pub mod Putting
+pub mod Closing

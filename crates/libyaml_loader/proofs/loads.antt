@@ -9,3 +9,4 @@ pub mod Large
 pub mod OneLoads
 pub mod Items
 pub mod Loops
+pub mod Halves

@@ -7,3 +7,4 @@ pub mod PlacedEvents
 pub mod PlacedDocuments
 pub mod ComposedLoops
 pub mod PlacedLoops
+pub mod Written

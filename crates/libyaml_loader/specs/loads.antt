@@ -3,3 +3,5 @@ pub mod Loading
 pub mod NextLoad
 pub mod OneLoad
 pub mod LoadsInTurn
+pub mod HalfDocument
+pub mod PartialLoad

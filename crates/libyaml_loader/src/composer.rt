@@ -203,7 +203,7 @@ impl DocumentBuilder {
     }
 
     /// Ends the document that is open, and returns it.
-    fn end(&mut self, closing: Closing) -> yaml_document_t
+    pub(crate) fn end(&mut self, closing: Closing) -> yaml_document_t
         requires { self.old.max_entries ≤ 2147483647 }
         ensures none_open { self.new.is_open ≡ false }
         ensures sound { IsSound self.new }

@@ -157,7 +157,7 @@ impl loader_ctx {
     /// Appends a scalar to the nodes, and puts it into the innermost open collection.
     ///
     /// libyaml: `yaml_parser_load_scalar`.
-    fn yaml_parser_load_scalar(
+    pub(crate) fn yaml_parser_load_scalar(
         &mut self,
         scalar: &mut unnamed_yaml_event_t_data_scalar,
         start_mark: &yaml_mark_t,
@@ -241,7 +241,7 @@ impl loader_ctx {
     /// Closes the innermost open collection, if there is one, and sets its node's end mark.
     ///
     /// libyaml: `yaml_parser_load_sequence_end` and `yaml_parser_load_mapping_end`.
-    fn load_end(&mut self, end_mark: &yaml_mark_t)
+    pub(crate) fn load_end(&mut self, end_mark: &yaml_mark_t)
         requires { ComposerMatches self.old }
         ensures ok { Composed self.old self.new (Some (end_part end_mark.now)) }
         ensures stands { ComposerMatches self.new }

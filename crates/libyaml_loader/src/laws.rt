@@ -3,7 +3,7 @@
 
 pub mod determined;
 
-ghost use Rattle.std.specs.Prelude.{◌≡◌, ◌≤◌, ◌*◌, ◌++◌, ℕ, pos, List, [], Err, Option, Some, length};
+ghost use Rattle.std.specs.Prelude.{◌≡◌, ◌≤◌, ◌*◌, ◌+◌, ◌++◌, ℕ, pos, List, [], Err, Option, Some, length};
 ghost use Rattle.std.specs.Prelude.{false, true};
 ghost use Rattle.libyaml_types.specs.Fault.{Fault};
 ghost use Rattle.libyaml_types.specs.Source.{coming};
@@ -19,7 +19,7 @@ ghost use Rattle.libyaml_events.specs.machine.Config.{Parser};
 ghost use Rattle.libyaml_events.specs.sources.History.{History};
 ghost use Rattle.libyaml_events.specs.sources.RunToCome.{RunToCome};
 ghost use Rattle.libyaml_composer.specs.Represents.{IsNode};
-ghost use Rattle.libyaml_graphs.specs.graphs.GraphParts.{part_of};
+ghost use Rattle.libyaml_graphs.specs.graphs.GraphParts.{opening_of, part_of};
 ghost use Rattle.libyaml_graphs.specs.machine.Loader.{State};
 ghost use Rattle.libyaml_graphs.specs.loads.Bounds.{IsBoundedLoads, bounded_loads, next_bounded};
 ghost use Rattle.libyaml_graphs.specs.loads.Linear.{documents_size};
@@ -34,6 +34,7 @@ ghost use Rattle.libyaml_loader.specs.composed.PlacedDocuments.{held_pair};
 ghost use Rattle.libyaml_loader.specs.composed.PlacedLoops.{ArePlacesIn, LoopPlaces, events_in};
 ghost use Rattle.libyaml_loader.specs.declared.places.yaml_role_t.TheVariants.{Item, Key, Root, Value};
 ghost use Rattle.libyaml_documents.specs.declared.pairs.yaml_node_pair_t.{yaml_node_pair_t};
+ghost use Rattle.libyaml_loader.specs.composed.Written.{IsWrittenOf, Written, written_after};
 ghost use Rattle.libyaml_loader.specs.document.Ids.{magnitude};
 ghost use Rattle.libyaml_loader.specs.loads.Loading.{DocumentOrError, LoadsFrom};
 ghost use Rattle.libyaml_loader.specs.loads.LoadsInTurn.{AreLoadsOf, LoopYields};
@@ -106,6 +107,18 @@ pub fn placed_loops_are_loaded<S: yaml_token_source_t>()
         (ending : Ending) (e : List Event) (x : Ending) → old.composer ≡ new_event_composer n
         → RunToCome S.known old.parser e x → LoopPlaces S.yaml_token_source_t old items ending new
         → ArePlacesIn n items (bounded_loads n e x) }
+{}
+
+/// What is kept of placed events beside their document is there by the ids of its nodes: if it has as many nodes as
+/// the composer counts, it has them after the event, too, and that of the event's node is the last. No parser
+/// begins a document within another.
+pub fn written_is_by_id()
+    ensures counts { (old new : EventComposer) (e : Event) (place : Option yaml_place_t) (w : Written)
+        → PlacesEvent old e place new → (old.collections.is_within ≡ true → opening_of e ≡ None)
+        → IsWrittenOf old w → IsWrittenOf new (written_after e place w) }
+    ensures ids { (old new : EventComposer) (e : Event) (p : yaml_place_t) (w : Written)
+        → PlacesEvent old e (Some p) new → IsNode (part_of e) → IsWrittenOf old w
+        → p.id ≡ pos (length w.nodes + 1) }
 {}
 
 /// What a load says of each run that its parser had to come: a document is the run's first load, and the

@@ -5,6 +5,7 @@ ghost use Rattle.libyaml_composer.specs.Composing.{is_start, most_of, composer_s
 ghost use Rattle.libyaml_composer.specs.Numbers.{is_id};
 ghost use Rattle.libyaml_loader.specs.composed.Places.{innermost_of};
 ghost use Rattle.libyaml_loader.specs.document.Stack.{with_document_begun, first_composer, roomy};
+ghost use Rattle.libyaml_loader.specs.document.Stack.{waits_in};
 
 use libyaml_composer::{Deed, composer_t, open_t, place_t};
 use libyaml_types::yaml_event_type_t;
@@ -66,6 +67,16 @@ impl OpenCollections {
         OpenCollections {
             composer: composer_t::new(max_entries),
             entries: Vec::new(alloc),
+        }
+    }
+
+    /// Returns whether a key waits in the innermost open collection, if one is open.
+    pub(crate) fn waits(&self) -> Option<bool>
+        ensures { result ≡ waits_in self.now.stack }
+    {
+        match self.innermost() {
+            Some(open) => Some(open.key != 0),
+            None => None,
         }
     }
 

@@ -111,7 +111,10 @@ pub use Rattle.libyaml_loader.specs.composed.PlacedEvents
 pub use Rattle.libyaml_loader.specs.composed.PlacedDocuments
 pub use Rattle.libyaml_loader.specs.composed.ComposedLoops
 pub use Rattle.libyaml_loader.specs.composed.PlacedLoops
+pub use Rattle.libyaml_loader.specs.composed.Written
 pub use Rattle.libyaml_loader.specs.loads.Loading
+pub use Rattle.libyaml_loader.specs.loads.HalfDocument
+pub use Rattle.libyaml_loader.specs.loads.PartialLoad
 pub use Rattle.libyaml_loader.specs.loads.LoadsInTurn
 pub use Rattle.libyaml_loader.specs.loads.NextLoad
 pub use Rattle.libyaml_loader.specs.loads.OneLoad

@@ -1,6 +1,8 @@
 //! Makes tokens of bytes, and asks everything of them: what one call says, the others have to say too.
 
+use pokhvizi::kit::Global;
 use pokhvizi::yaml::*;
+use std::collections::HashMap;
 
 /// What was seen of some tokens, so that a test can tell that inputs reach everything.
 #[derive(Clone, Copy, Debug, Default, PartialEq, Eq)]
@@ -17,6 +19,8 @@ pub struct Seen {
     pub repeated: bool,
     /// Whether a document contains itself.
     pub endless: bool,
+    /// Whether half a document is given.
+    pub half: bool,
 }
 
 const NAMES: [&str; 4] = ["a", "b", "", "\u{e9}"];
@@ -149,6 +153,285 @@ fn assert_completed(bytes: &[u8], all: &[Event]) {
     assert!(parser.expected() == TokenTypes::none() && loader.expected() == TokenTypes::none());
 }
 
+/// A node, in words: its type, tag, text, style, children and place.
+fn node_line(tag: &str, text: &str, children: &[i32], place: (Mark, Mark), style: &str) -> String {
+    format!("{tag} {text:?} {children:?} {place:?} {style}")
+}
+
+fn lines_of(document: &Document) -> Vec<String> {
+    let line = |node: &Node| {
+        let (text, children, style): (&str, Vec<i32>, String) = match &node.content {
+            NodeData::Scalar(scalar) => (&scalar.value, Vec::new(), format!("{:?}", scalar.style)),
+            NodeData::Sequence(sequence) => ("", sequence.items.to_vec(), format!("{:?}", sequence.style)),
+            NodeData::Mapping(mapping) => (
+                "",
+                mapping
+                    .pairs
+                    .iter()
+                    .flat_map(|pair| [pair.key, pair.value])
+                    .collect(),
+                format!("{:?}", mapping.style),
+            ),
+        };
+        node_line(
+            &node.tag,
+            text,
+            &children,
+            (node.start_mark, node.end_mark),
+            &style,
+        )
+    };
+    document.nodes().iter().map(line).collect()
+}
+
+/// A node of half a document, as `half_of` makes it.
+struct Made {
+    tag: String,
+    text: String,
+    style: String,
+    children: Vec<i32>,
+    place: (Mark, Mark),
+    is_mapping: bool,
+}
+
+/// The nodes of the document that these events leave open, which a walk over them makes without the loader.
+fn half_of(events: &[Event]) -> Option<Vec<String>> {
+    let start = events
+        .iter()
+        .rposition(|event| event.type_() == EventType::YAML_DOCUMENT_START_EVENT)?;
+    let (mut nodes, mut open, mut anchors) = (Vec::<Made>::new(), Vec::<usize>::new(), HashMap::new());
+    let put = |nodes: &mut Vec<Made>, open: &[usize], id: usize| {
+        if let Some(&parent) = open.last() {
+            nodes[parent - 1].children.push(id as i32);
+        }
+    };
+    for event in &events[start + 1..] {
+        let place = (event.start_mark, event.end_mark);
+        let (tag, default, text, style, is_mapping) = match &event.content {
+            EventData::DocumentEnd(_) => return None,
+            EventData::Alias(alias) => {
+                put(&mut nodes, &open, anchors[&*alias.anchor]);
+                continue;
+            }
+            EventData::SequenceEnd | EventData::MappingEnd => {
+                nodes[open.pop().unwrap() - 1].place.1 = event.end_mark;
+                continue;
+            }
+            EventData::Scalar(scalar) => (
+                &scalar.tag,
+                "str",
+                &*scalar.value,
+                format!("{:?}", scalar.style),
+                false,
+            ),
+            EventData::SequenceStart(start) => (&start.tag, "seq", "", format!("{:?}", start.style), false),
+            EventData::MappingStart(start) => (&start.tag, "map", "", format!("{:?}", start.style), true),
+            _ => unreachable!(),
+        };
+        let tag = match tag.as_deref() {
+            Some(tag) if tag != "!" => tag.to_string(),
+            _ => format!("tag:yaml.org,2002:{default}"),
+        };
+        nodes.push(Made {
+            tag,
+            text: text.into(),
+            style,
+            children: Vec::new(),
+            place,
+            is_mapping,
+        });
+        let id = nodes.len();
+        put(&mut nodes, &open, id);
+        if let Some(anchor) = event.anchor() {
+            anchors.insert(anchor.to_string(), id);
+        }
+        if default != "str" {
+            open.push(id);
+        }
+    }
+    let end = events[events.len() - 1].end_mark;
+    while let Some(id) = open.pop() {
+        let half = &mut nodes[id - 1];
+        half.place.1 = end;
+        if half.is_mapping && half.children.len() % 2 == 1 {
+            let (tag, style) = (
+                "tag:yaml.org,2002:str".into(),
+                format!("{:?}", ScalarStyle::PLAIN),
+            );
+            let (text, children, place, is_mapping) = (String::new(), Vec::new(), (end, end), false);
+            nodes.push(Made {
+                tag,
+                text,
+                style,
+                children,
+                place,
+                is_mapping,
+            });
+            let value = nodes.len() as i32;
+            nodes[id - 1].children.push(value);
+        }
+    }
+    let line = |half: &Made| node_line(&half.tag, &half.text, &half.children, half.place, &half.style);
+    Some(nodes.iter().map(line).collect())
+}
+
+/// The anchor of the event after these, at which a load fails.
+fn name_of(bytes: &[u8], composed: &[Event]) -> Option<String> {
+    let mut events = Parser::new(TokenList::from(tokens_of(bytes)));
+    let refused = events.nth(composed.len())?.ok()?;
+    refused.anchor().map(String::from)
+}
+
+/// The documents, and at the error the half of the one that is open.
+fn assert_half(bytes: &[u8], composed: &Run<Event>, loaded: &Run<Document>) -> bool {
+    let mut documents = Documents::new(TokenList::from(tokens_of(bytes)));
+    for whole in &loaded.0 {
+        assert_eq!(
+            lines_of(&documents.next_or_half().unwrap().unwrap()),
+            lines_of(whole)
+        );
+    }
+    let last = documents.next_or_half();
+    assert!(documents.next_or_half().is_none());
+    let Some(failed) = last else {
+        assert!(loaded.1.is_none());
+        return false;
+    };
+    let Half {
+        error,
+        name,
+        document,
+    } = failed.err().unwrap();
+    assert_eq!(Some(error), loaded.1);
+    assert_eq!(name, name_of(bytes, &composed.0));
+    assert_eq!(document.as_ref().map(lines_of), half_of(&composed.0));
+    document.is_some_and(|half| {
+        half.end_mark() == composed.0[composed.0.len() - 1].end_mark && half.end_implicit()
+    })
+}
+
+/// The children of a node, and where each stands.
+fn child_at(document: &Document, place: &Place) -> Option<i32> {
+    let parent = document.nodes().get(place.parent as usize - 1)?;
+    match (&parent.content, place.role) {
+        (NodeData::Sequence(sequence), Role::Item) => sequence.items.get(place.index as usize).copied(),
+        (NodeData::Mapping(mapping), Role::Key) => {
+            mapping.pairs.get(place.index as usize).map(|pair| pair.key)
+        }
+        (NodeData::Mapping(mapping), Role::Value) => {
+            mapping.pairs.get(place.index as usize).map(|pair| pair.value)
+        }
+        _ => None,
+    }
+}
+
+/// The places of a document's nodes and aliases, by a walk over its events that knows no composer.
+#[derive(Default)]
+struct Walk {
+    open: Vec<(i32, bool, u32)>,
+    anchors: HashMap<String, i32>,
+    nodes: i32,
+}
+
+impl Walk {
+    fn place_of(&mut self, event: &Event) -> Option<Place> {
+        let opens = match &event.content {
+            EventData::DocumentStart(_) => {
+                *self = Walk::default();
+                return None;
+            }
+            EventData::SequenceEnd | EventData::MappingEnd => {
+                self.open.pop();
+                return None;
+            }
+            EventData::Alias(alias) => return Some(self.child(self.anchors[&*alias.anchor])),
+            EventData::Scalar(_) => None,
+            EventData::SequenceStart(_) => Some(false),
+            EventData::MappingStart(_) => Some(true),
+            _ => return None,
+        };
+        self.nodes += 1;
+        if let Some(anchor) = event.anchor() {
+            self.anchors.insert(anchor.to_string(), self.nodes);
+        }
+        let place = self.child(self.nodes);
+        self.open
+            .extend(opens.map(|is_mapping| (self.nodes, is_mapping, 0)));
+        Some(place)
+    }
+
+    fn child(&mut self, id: i32) -> Place {
+        let depth = self.open.len();
+        let Some((parent, is_mapping, children)) = self.open.last_mut() else {
+            return Place {
+                id,
+                parent: 0,
+                role: Role::Root,
+                index: 0,
+                depth,
+            };
+        };
+        let (role, index) = match (*is_mapping, *children % 2) {
+            (false, _) => (Role::Item, *children),
+            (true, 0) => (Role::Key, *children / 2),
+            (true, _) => (Role::Value, *children / 2),
+        };
+        *children += 1;
+        Place {
+            id,
+            parent: *parent,
+            role,
+            index,
+            depth,
+        }
+    }
+}
+
+/// Each event has the place that the walk and the document say, and what is kept beside the document is what was written.
+fn assert_placed(bytes: &[u8], composed: &Run<Event>, loaded: &Run<Document>) {
+    let placed = run_of(PlacedEvents::new(TokenList::from(tokens_of(bytes))));
+    assert_eq!(placed.1, composed.1);
+    assert_eq!(placed.0.len(), composed.0.len());
+    let (mut walk, mut written, mut documents) = (Walk::default(), Written::new(Global), loaded.0.iter());
+    let (mut places, mut anchors, mut aliases) = (Vec::new(), Vec::new(), Vec::new());
+    for ((event, place), same) in placed.0.iter().zip(&composed.0) {
+        assert_eq!(event, same);
+        assert_eq!(*place, walk.place_of(event));
+        written.take(event, *place).unwrap();
+        let tag = match &event.content {
+            EventData::DocumentStart(_) => {
+                (places, anchors, aliases) = (Vec::new(), Vec::new(), Vec::new());
+                continue;
+            }
+            EventData::DocumentEnd(_) => {
+                let document = documents.next().unwrap();
+                let is_there =
+                    |place: &Place| place.parent == 0 || child_at(document, place) == Some(place.id);
+                assert!(places.iter().all(is_there));
+                assert_eq!(anchors.len(), document.nodes().len());
+                continue;
+            }
+            EventData::Alias(_) => {
+                places.extend(*place);
+                aliases.extend(*place);
+                assert!(*written.aliases == aliases);
+                continue;
+            }
+            EventData::Scalar(scalar) => &scalar.tag,
+            EventData::SequenceStart(start) => &start.tag,
+            EventData::MappingStart(start) => &start.tag,
+            _ => continue,
+        };
+        places.extend(*place);
+        anchors.push((event.anchor(), tag.is_some()));
+        let kept = written
+            .nodes
+            .iter()
+            .map(|node| (node.anchor.as_deref(), node.is_tag_given));
+        assert!(kept.eq(anchors.iter().copied()));
+    }
+}
+
 /// Starts and ends fit, documents don't overlap, and no event ends before it begins.
 fn assert_nested(events: &[Event], is_whole: bool) {
     let mut open = Vec::new();
@@ -193,11 +476,13 @@ pub fn drive(bytes: &[u8]) -> Seen {
         .iter()
         .filter(|event| event.type_() == EventType::YAML_DOCUMENT_END_EVENT);
     assert_eq!(loaded.0.len(), ends.count());
+    assert_placed(bytes, &composed, &loaded);
     let mut seen = Seen {
         events: all.0.len(),
         documents: loaded.0.len(),
         ended: all.1.is_none(),
         refused: all.1 != loaded.1,
+        half: assert_half(bytes, &composed, &loaded),
         ..Seen::default()
     };
     for document in &loaded.0 {

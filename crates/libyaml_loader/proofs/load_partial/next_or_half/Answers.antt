@@ -1,0 +1,165 @@
+use Rattle.std.proofs.Common.{◌≡◌, ◌<◌, Ok, Err, ap, sym, ◌∙◌, refl, [], ◌∷◌, true, false, arith, Bool, Some}
+use Rattle.std.proofs.Math.Nat.{le_refl}
+use Rattle.libyaml_types.specs.Events.{zero_mark}
+use Rattle.libyaml_events.specs.parsers.EventsLeft.{events_left}
+use Rattle.libyaml_events.specs.parsers.Stages.{is_event}
+use Rattle.libyaml_events.specs.sources.Calls.{event_result}
+use Rattle.libyaml_events.specs.sources.History.{is_over}
+use Rattle.libyaml_types.specs.Fault.{fault_of}
+use Rattle.libyaml_graphs.specs.graphs.GraphParts.{closing_of}
+use Rattle.libyaml_loader.specs.declared.composer.DocumentBuilder.{DocumentBuilder}
+use Rattle.libyaml_loader.specs.document.Context.{loader_of, opening_of_document}
+use Rattle.libyaml_events.specs.sources.CallsInTurn.{Took}
+use Rattle.libyaml_loader.specs.pushes.Composing as composing
+use Rattle.libyaml_loader.specs.pushes.Composing.{closing_by, ended_by, state_by, composer_state}
+use Rattle.libyaml_loader.proofs.loads.Ended.{has_not_ended}
+use Rattle.libyaml_loader.proofs.loads.Halves.{half_by_loader, half_by_memory, half_by_parser, half_more, half_none, other_errors}
+use Rattle.libyaml_loader.proofs.loads.OnTheWay.{way_ends, way_fails, way_finds_end, way_refused}
+use Rattle.libyaml_loader.proofs.loads.Taking.{after_close, finds_end, parser_fails, running, took_event}
+use Rattle.libyaml_loader.proofs.load_partial.next_or_half.Given as given
+use Rattle.libyaml_loader.proofs.load_partial.next_or_half.Goals as goal
+use Rattle.libyaml_loader.proofs.load_partial.next_or_half.Goals.{After-yaml_parser_parse_into}
+
+-- an event came
+record Came (g : given.Over) (c : After-yaml_parser_parse_into g) : Type 0 where
+  took : Took g.S.yaml_token_source_t c.loop-error.parser
+      c.yaml_parser_parse_into.new.parser (c.yaml_parser_parse_into.new.event ∷ [])
+  runs : is_over c.loop-error.parser ≡ false
+  fell : events_left g.S.yaml_token_source_t.bound c.yaml_parser_parse_into.new.parser
+      < events_left g.S.yaml_token_source_t.bound c.loop-error.parser
+
+came : (g : given.Over) (c : After-yaml_parser_parse_into g) (u : Unit {0}) → c.yaml_parser_parse_into.result ≡ Ok u
+    → is_event c.yaml_parser_parse_into.new.event.content ≡ true → Came g c
+came g c u ok an_event =
+    let t = g.S.yaml_token_source_t in
+    let call = c.yaml_parser_parse_into in
+    let is = ap (λ r. event_result r call.new.event) ok in
+    let run = running t g.met.S.yaml_token_source_t.follows c.loop-error.parser call.new.parser
+    (event_result call.result call.new.event) call.ensures call.new.event is an_event in
+    record {
+      took = took_event t g.met.S.yaml_token_source_t.follows c.loop-error.parser call.new.parser
+          (event_result call.result call.new.event) call.ensures call.new.event is an_event;
+      runs = run;
+      fell = rw ok at (call.ensures.next.falls run);
+    }
+
+pub loop-error-init : goal.loop-error-init
+loop-error-init g c =
+    let h = half_none g.S.yaml_token_source_t c.args.composer.now.max_entries c.args.parser.now c.args.composer.now
+    c.requires.none_open in
+    (h.0, h.1, c.requires.sound, refl, le_refl _, λ ended. refl)
+
+pub loop-error-smaller : goal.loop-error-smaller
+loop-error-smaller g c = (came g (goal.at.loop-error-smaller g c).After-yaml_parser_parse_into _
+    c.in_default.is (sym c.is_event.ensures ∙ c.if-not-is_event.false)).fell
+
+pub loop-error-preserved : goal.loop-error-preserved
+loop-error-preserved g c =
+    let call = c.yaml_parser_parse_into in
+    let k = came g (goal.at.loop-error-preserved g c).After-yaml_parser_parse_into _
+    c.in_default.is (sym c.is_event.ensures ∙ c.if-not-is_event.false) in
+    let i = c.loop-error.invariant in
+    let more = half_more g.S.yaml_token_source_t c.args.composer.now.max_entries c.args.parser.now c.loop-error.parser
+    call.new.parser (composer_state c.loop-error.composer) (composer_state c.take_event.new.self) i.0 call.new.event k.took
+    (rw i.3 at (rw c.in-Ok-None.field-0-is at c.in-Ok-None.ensures.composes)) call.ensures.always.bound in (
+      more.0,
+      more.1,
+      c.take_event.ensures.sound,
+      c.take_event.ensures.bound ∙ i.3,
+      (let low = i.4 in let fell = k.fell in omega (arith, low, fell)),
+      λ ended. absurd (has_not_ended c.args.parser.now c.loop-error.parser i.5 k.runs ended),
+    )
+
+pub returns-in-Err-clause-loads : goal.returns-in-Err-clause-loads
+returns-in-Err-clause-loads g c =
+    let t = g.S.yaml_token_source_t in
+    let call = c.yaml_parser_parse_into in
+    way_fails t c.args.composer.now.max_entries c.args.parser.now c.loop-error.parser
+    (composer_state c.loop-error.composer) c.loop-error.invariant.0 call.new.parser
+    (parser_fails t g.met.S.yaml_token_source_t.follows c.loop-error.parser call.new.parser
+    (event_result call.result call.new.event) call.ensures c.in-Err.error
+    (ap (λ r. event_result r call.new.event) c.in-Err.is))
+
+pub returns-in-Err-clause-half : goal.returns-in-Err-clause-half
+returns-in-Err-clause-half g c =
+    let t = g.S.yaml_token_source_t in
+    let call = c.yaml_parser_parse_into in
+    let i = c.loop-error.invariant in
+    half_by_parser t c.args.composer.now.max_entries c.args.parser.now c.loop-error.parser
+    (composer_state c.loop-error.composer) i.0 c.loop-error.end_mark i.1 _ call.new.parser
+    (parser_fails t g.met.S.yaml_token_source_t.follows c.loop-error.parser call.new.parser
+    (event_result call.result call.new.event) call.ensures c.in-Err.error
+    (ap (λ r. event_result r call.new.event) c.in-Err.is))
+    (rw i.3 at c.end_half-document.ensures) refl
+
+pub returns-then-not-is_event-clause-loads : goal.returns-then-not-is_event-clause-loads
+returns-then-not-is_event-clause-loads g c =
+    let t = g.S.yaml_token_source_t in
+    let call = c.yaml_parser_parse_into in
+    let empty : is_event call.new.event.content ≡ false = sym c.is_event.ensures ∙ c.if-not-is_event.true in
+    way_finds_end t c.args.composer.now.max_entries c.args.parser.now c.loop-error.parser
+    (composer_state c.loop-error.composer) c.loop-error.invariant.0 call.new.parser c.empty_document.result
+    (finds_end t g.met.S.yaml_token_source_t.follows c.loop-error.parser call.new.parser
+    (event_result call.result call.new.event)
+    call.ensures call.new.event (ap (λ r. event_result r call.new.event) c.in_default.is) empty)
+    c.empty_document.ensures
+
+pub returns-in-Some-clause-loads : goal.returns-in-Some-clause-loads
+returns-in-Some-clause-loads g c =
+    let call = c.yaml_parser_parse_into in
+    let k = came g (goal.at.returns-in-Some-clause-loads g c).After-yaml_parser_parse_into _
+    c.in_default.is (sym c.is_event.ensures ∙ c.if-not-is_event.false) in
+    way_refused g.S.yaml_token_source_t c.args.composer.now.max_entries c.args.parser.now c.loop-error.parser
+    (composer_state c.loop-error.composer) c.loop-error.invariant.0 call.new.parser c.keep_fault-error.new.parser
+    call.new.event (fault_of c.in-Some.fault) k.took
+    (composing.by_loads (rw c.loop-error.invariant.3 at c.in-Some.ensures.refuses)) c.keep_fault-error.ensures.kept
+
+pub returns-in-Some-clause-half : goal.returns-in-Some-clause-half
+returns-in-Some-clause-half g c =
+    let call = c.yaml_parser_parse_into in
+    let k = came g (goal.at.returns-in-Some-clause-half g c).After-yaml_parser_parse_into _
+    c.in_default.is (sym c.is_event.ensures ∙ c.if-not-is_event.false) in
+    let i = c.loop-error.invariant in
+    half_by_loader g.S.yaml_token_source_t c.args.composer.now.max_entries c.args.parser.now c.loop-error.parser
+    (composer_state c.loop-error.composer) i.0 c.loop-error.end_mark i.1 _ call.new.parser c.keep_fault-error.new.parser call.new.event (fault_of c.in-Some.fault) k.took
+    (rw i.3 at c.in-Some.ensures.refuses) c.keep_fault-error.ensures.kept (rw i.3 at c.end_half-document-in-Some.ensures)
+    c.take_anchor-name.ensures
+
+pub returns-in-Ok-Some-clause-loads : goal.returns-in-Ok-Some-clause-loads
+returns-in-Ok-Some-clause-loads g c =
+    let t = g.S.yaml_token_source_t in
+    let call = c.yaml_parser_parse_into in
+    let k = came g (goal.at.returns-in-Ok-Some-clause-loads g c).After-yaml_parser_parse_into _
+    c.in_default.is (sym c.is_event.ensures ∙ c.if-not-is_event.false) in
+    let x = c.loop-error.composer in
+    let ends : (x.is_open ≡ true) × (closing_of call.new.event ≡ Some (closing_by c.in-Ok-Some.closing))
+    × (c.take_event.new.self ≡ x) = rw c.in-Ok-Some.field-0-is at c.in-Ok-Some.ensures.composes in
+    way_ends t c.args.composer.now.max_entries c.args.parser.now c.loop-error.parser
+    (composer_state x) c.loop-error.invariant.0 call.new.parser call.new.event (opening_of_document x.ctx.document) (loader_of x.ctx)
+    (closing_by c.in-Ok-Some.closing) c.end.result k.took (ap (λ (b : Bool). state_by b x.ctx) ends.0) ends.1
+    (c.end.ensures.ended ∙ ap (λ (y : DocumentBuilder). ended_by (closing_by c.in-Ok-Some.closing) y.ctx) ends.2)
+    (after_close t g.met.S.yaml_token_source_t.follows c.loop-error.parser call.new.parser
+    (event_result call.result call.new.event)
+    call.ensures call.new.event
+    (ap (λ r. event_result r call.new.event) c.in_default.is) (closing_by c.in-Ok-Some.closing) ends.1)
+
+pub returns-in-Err-take_event-clause-loads : goal.returns-in-Err-take_event-clause-loads
+returns-in-Err-take_event-clause-loads g c =
+    let call = c.yaml_parser_parse_into in
+    let k = came g (goal.at.returns-in-Err-take_event-clause-loads g c).After-yaml_parser_parse_into _
+    c.in_default.is (sym c.is_event.ensures ∙ c.if-not-is_event.false) in
+    way_refused g.S.yaml_token_source_t c.args.composer.now.max_entries c.args.parser.now c.loop-error.parser
+    (composer_state c.loop-error.composer) c.loop-error.invariant.0 call.new.parser c.keep_fault-error-in-Err-take_event.new.parser
+    call.new.event (fault_of c.take_event.new.self.fault) k.took
+    (rw c.loop-error.invariant.3 at c.in-Err-take_event.ensures.composes) c.keep_fault-error-in-Err-take_event.ensures.kept
+
+pub returns-in-Err-take_event-clause-half : goal.returns-in-Err-take_event-clause-half
+returns-in-Err-take_event-clause-half g c =
+    let call = c.yaml_parser_parse_into in
+    let x = c.loop-error.composer in
+    half_by_memory g.S.yaml_token_source_t c.args.composer.now.max_entries c.args.parser.now call.new.parser
+    c.keep_fault-error-in-Err-take_event.new.parser (composer_state x) call.new.event (fault_of c.take_event.new.self.fault)
+    (rw c.loop-error.invariant.3 at c.in-Err-take_event.ensures.composes)
+    (other_errors x call.new.event c.args.composer.now.max_entries c.loop-error.invariant.3
+    (c.in_default-anchor_fault.ensures.others refl))
+    c.keep_fault-error-in-Err-take_event.ensures.kept _ refl refl

@@ -1,0 +1,36 @@
+-- What a load gives that fails (docs/DEFINITIONS.md, "Half a document").
+use Rattle.std.specs.Prelude.{◌≡◌, ◌++◌, ◌∷◌, ℕ, List, [], None, Result, Ok, Err, option_map, string_bytes}
+use Rattle.libyaml_types.specs.Events.{zero_mark}
+use Rattle.libyaml_types.specs.Fault.{Fault, memory_fault}
+use Rattle.libyaml_types.specs.Types.{event_anchor}
+use Rattle.libyaml_types.specs.declared.source.yaml_token_source_t.{Ghosts}
+use Rattle.libyaml_grammar.specs.grammar.Events.{Event}
+use Rattle.libyaml_grammar.specs.runs.Runs.{Ending}
+use Rattle.libyaml_documents.specs.Documents.{Document}
+use Rattle.libyaml_events.specs.machine.Config.{Parser}
+use Rattle.libyaml_events.specs.sources.CallsInTurn.{Took}
+use Rattle.libyaml_graphs.specs.loads.Leads.{Leads, loads_from}
+use Rattle.libyaml_graphs.specs.machine.Loader.{State, between}
+use Rattle.libyaml_loader.specs.declared.load_partial.yaml_partial_t.{yaml_partial_t}
+use Rattle.libyaml_loader.specs.loads.HalfDocument.{IsHalf, last_end}
+use Rattle.libyaml_loader.specs.loads.Loading.{DocumentOrError, KeptBy, ParserFails}
+
+-- the same as a load's result, without the half
+abbrev pub as_load : Result Document yaml_partial_t → DocumentOrError
+as_load (Ok d) = Ok d
+as_load (Err p) = Err p.error
+
+-- After the events that it took the parser failed, or the next event has an error of a load, which is about its anchor: then
+-- the document that they leave open is closed where the last of them ends. Where an allocation failed at an event, none is
+-- given.
+pub data HalfOf {S : Type 0} (g : Ghosts S) (n : ℕ) (old new : Parser S) (p : yaml_partial_t) : Type 0 where
+  by_parser : (taken : List Event) (parser : Parser S) (here : State) → Took g old parser taken
+      → ParserFails g parser new → Leads n between taken [] here → IsHalf n (last_end zero_mark taken) here p.document
+      → p.name ≡ None → HalfOf g n old new p
+  by_loader : (taken : List Event) (e : Event) (parser : Parser S) (here : State) (f : Fault)
+      → Took g old parser (taken ++ e ∷ []) → KeptBy f parser new → Leads n between taken [] here
+      → ((rest : List Event) (x : Ending) → loads_from n here (e ∷ rest) x ≡ Err f ∷ [])
+      → IsHalf n (last_end zero_mark taken) here p.document
+      → option_map string_bytes p.name ≡ event_anchor e.content → HalfOf g n old new p
+  by_memory : (parser : Parser S) → KeptBy memory_fault parser new → p.document ≡ None → p.name ≡ None
+      → HalfOf g n old new p
