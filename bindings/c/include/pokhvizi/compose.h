@@ -35,6 +35,14 @@
  * has its anchor, for a node with an anchor the id of an earlier node that has it, or 0 if there is none; for any other event
  * it is ignored. pokhvizi_carrier finds it in a list, one anchor after the other; you may find the same number in another way.
  *
+ * Where an event belongs, if its deed is POKHVIZI_ROOT, _ITEM, _KEY or _VALUE:
+ *
+ *     the id of its node        place.child; of an alias that of the node that it names
+ *     the node that holds it    place.parent; 0 if it is the root
+ *     what it is there          the deed
+ *     the index, from 0         stack[composer.depth - 1].children before the call; of a value one less; of the root 0
+ *     collections around it     composer.depth before the call
+ *
  * `stack` has an entry for each open collection: with room for as many as are ever open at once it is never full. Its contents
  * before the first call don't matter; to make it larger, move its bytes, for example by realloc. Each list of a document, its
  * nodes and the items or pairs of each, may have as many entries as pokhvizi_composer_new said, and never more than
