@@ -1,5 +1,6 @@
 pub mod Steps
 pub mod Telling
+pub mod OnePlace
 pub mod Placing
 pub mod Staying
 pub mod Keys

@@ -78,8 +78,10 @@ pub fn composed_events_are_loads<S: yaml_token_source_t>()
 
 /// What an event's place says of the document that the load gives, if that is whole, whatever events come
 /// after it: the node, the item and the value are there, and the key, if its pair is. The first place of a
-/// document is its root's.
+/// document is its root's. An event has one place.
 pub fn placed_events_are_loaded()
+    ensures one { (old new other : EventComposer) (e : Event) (p q : Option yaml_place_t)
+        → PlacesEvent old e p new → PlacesEvent old e q other → p ≡ q }
     ensures nodes { (old new : EventComposer) (e : Event) (p : yaml_place_t) (here : State)
         → PlacesEvent old e (Some p) new → IsNode (part_of e) → StandsAt old here
         → HoldsOnceLoaded old here e (λ nodes. (node : yaml_node_t) × (node_at nodes p.id ≡ Some node)

@@ -1,3 +1,4 @@
+use Rattle.libyaml_loader.proofs.composed.OnePlace.{one_place}
 use Rattle.libyaml_loader.proofs.composed.Placed.{first_so, items_so, keys_so, nodes_so, root_so, values_so}
 use Rattle.libyaml_loader.proofs.laws.placed_events_are_loaded.Goals as goal
 
@@ -18,3 +19,6 @@ returns-clause-roots c = root_so
 
 pub returns-clause-first : goal.returns-clause-first
 returns-clause-first c = first_so
+
+pub returns-clause-one : goal.returns-clause-one
+returns-clause-one c = one_place
