@@ -21,8 +21,10 @@ measure.MEASURES.update({
     "plain place events": ("plain", "place-events"),
     "plain iterate events": ("plain", "iterate-events"),
     "plain composed events": ("plain", "composed-events"),
+    "plain placed events": ("plain", "placed-events"),
     "plain place nodes": ("plain", "place-nodes"),
     "plain iterate nodes": ("plain", "iterate-nodes"),
+    "plain half nodes": ("plain", "half-nodes"),
 })
 EVENTS = {
     "libyaml": "libyaml events",
@@ -31,6 +33,7 @@ EVENTS = {
     "`unsafe-libyaml`, moved": "moved events",
     "by rustc, by iterator": "plain iterate events",
     "composed": "plain composed events",
+    "placed": "plain placed events",
     "floor": "floor events",
 }
 NODES = {
@@ -38,6 +41,7 @@ NODES = {
     "`unsafe-libyaml`": "unsafe nodes",
     "by rustc, in place": "plain place nodes",
     "by iterator": "plain iterate nodes",
+    "with halves": "plain half nodes",
     "floor": "floor nodes",
 }
 

@@ -2,8 +2,8 @@
 //! that the parser passes to its source. WORK is one of:
 //!
 //! - `place-events`, `iterate-events`: `Parser::next_into`, and the parser as an iterator;
-//! - `composed-events`: `ComposedEvents`, with the errors of a load;
-//! - `place-nodes`, `iterate-nodes`: `yaml_parser_load`, and `Documents`.
+//! - `composed-events`: `ComposedEvents`, with the errors of a load; `placed-events`: `PlacedEvents`;
+//! - `place-nodes`, `iterate-nodes`: `yaml_parser_load`, and `Documents`; `half-nodes`: `Documents::next_or_half`.
 
 #[path = "../../../bindings/plain/tests/lines/mod.rs"]
 mod lines;
@@ -261,11 +261,24 @@ fn each_document(tokens: &[Token], seen: &mut Seen) -> Result<(), Error> {
     Ok(())
 }
 
+fn each_half(tokens: &[Token], seen: &mut Seen) -> Result<(), Error> {
+    let mut documents = Documents::new(Copies(tokens));
+    while let Some(document) = documents.next_or_half() {
+        seen.document(&document.map_err(|half| half.error)?);
+    }
+    Ok(())
+}
+
 fn run(work: &str, tokens: &[Token], seen: &mut Seen) -> Result<(), Error> {
     match work {
         "place-events" => parse_in_place(tokens, seen),
         "iterate-events" => each_event(Parser::new(Copies(tokens)), seen),
         "composed-events" => each_event(ComposedEvents::new(Copies(tokens)), seen),
+        "placed-events" => {
+            let placed = PlacedEvents::new(Copies(tokens));
+            each_event(placed.map(|item| item.map(|(event, _)| event)), seen)
+        }
+        "half-nodes" => each_half(tokens, seen),
         "place-nodes" => load(tokens, seen),
         "iterate-nodes" => each_document(tokens, seen),
         _ => panic!("unknown work {work}"),

@@ -305,7 +305,7 @@ fn assert_half(bytes: &[u8], composed: &Run<Event>, loaded: &Run<Document>) -> b
     assert_eq!(Some(error), loaded.1);
     assert_eq!(name, name_of(bytes, &composed.0));
     assert_eq!(document.as_ref().map(lines_of), half_of(&composed.0));
-    document.is_some_and(|half| {
+    document.map_or(false, |half| {
         half.end_mark() == composed.0[composed.0.len() - 1].end_mark && half.end_implicit()
     })
 }
