@@ -206,8 +206,8 @@ impl<S> fmt::Debug for ComposedEvents<S> {
 
 /// The events of [`ComposedEvents`], each with the place of its node or alias in the document.
 ///
-/// The id is that of the node, or of the one that the alias names, as [`Document`] counts them. [`Written`] keeps what a
-/// document doesn't.
+/// The id is that of the node, or of the one that the alias names, as [`Document`] counts them.
+/// [`Written`](super::Written) keeps what a document doesn't.
 pub struct PlacedEvents<S> {
     parser: yaml_parser_t<S>,
     composer: event_composer_t,
