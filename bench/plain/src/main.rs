@@ -3,7 +3,8 @@
 //!
 //! - `place-events`, `iterate-events`: `Parser::next_into`, and the parser as an iterator;
 //! - `composed-events`: `ComposedEvents`, with the errors of a load; `placed-events`: `PlacedEvents`;
-//! - `place-nodes`, `iterate-nodes`: `yaml_parser_load`, and `Documents`; `half-nodes`: `Documents::next_or_half`.
+//! - `place-nodes`, `iterate-nodes`: `yaml_parser_load`, and `Documents`;
+//! - `half-nodes`: `Documents::next_or_half`.
 
 #[path = "../../../bindings/plain/tests/lines/mod.rs"]
 mod lines;

@@ -30,8 +30,8 @@ impl<S: TokenSource> Parser<S> {
         Parser { parser }
     }
 
-    /// Puts the next event into a variable, as the iterator returns it: the quickest loop moves no event. `None`
-    /// says that there is none; the variable then has no event, [`Event::default`].
+    /// Puts the next event into a variable, as the iterator returns it: the quickest loop moves no event.
+    /// `None` says that there is none; the variable then has no event, [`Event::default`].
     #[inline]
     pub fn next_into(&mut self, event: &mut Event) -> Option<Result<(), Error>> {
         match yaml_parser_parse_into(&mut self.parser, event) {
@@ -84,18 +84,18 @@ pub struct Half {
     pub error: Error,
     /// The anchor or alias that a composer's error is about.
     pub name: Option<String>,
-    /// The document that is open there, with its nodes so far. Its open collections end where the last event before the
-    /// error does, and a key that waited for its value has an empty one. There is none between two documents, or if
-    /// an allocation failed.
+    /// The document that is open there, with its nodes so far. Its open collections end where the last
+    /// event before the error does, and a key that waited for its value has an empty one. There is none
+    /// between two documents, or if an allocation failed.
     pub document: Option<Document>,
 }
 
 /// The documents of a source: each [`Document`], or once the [`Error`] that ends them. libyaml:
 /// `yaml_parser_load`.
 ///
-/// Its errors are those of events, and a composer's: an alias whose anchor no node before it has, or a second
-/// node with an anchor. A document with a list of more than [`max_entries`](Self::max_entries) nodes, items or
-/// pairs is out of memory.
+/// Its errors are those of events, and a composer's: an alias whose anchor no node before it has, or a
+/// second node with an anchor. A document with a list of more than [`max_entries`](Self::max_entries)
+/// nodes, items or pairs is out of memory.
 pub struct Documents<S> {
     parser: yaml_parser_t<S>,
 }
@@ -107,15 +107,16 @@ impl<S: TokenSource> Documents<S> {
         Documents { parser }
     }
 
-    /// Bounds the nodes of each document, and the items or pairs of each node. There are at most 2,147,483,647
-    /// in any case.
+    /// Bounds the nodes of each document, and the items or pairs of each node. There are at most
+    /// 2,147,483,647 in any case.
     #[must_use]
     pub fn max_entries(mut self, most: NonZeroU32) -> Self {
         bound(&mut self.parser, most);
         self
     }
 
-    /// Returns the next document, as the iterator does, and with an error what there is of the one that is open.
+    /// Returns the next document, as the iterator does, and with an error what there is of the one that is
+    /// open.
     pub fn next_or_half(&mut self) -> Option<Result<Document, Half>> {
         let has_failed = self.parser.prefix().error != ErrorKind::YAML_NO_ERROR;
         match yaml_parser_load_partial(&mut self.parser) {

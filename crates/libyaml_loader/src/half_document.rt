@@ -23,8 +23,8 @@ use libyaml_types::{
 };
 
 impl loader_ctx {
-    /// Closes the open collections at `mark`, the innermost first. A key that waits gets an empty scalar as its
-    /// value.
+    /// Closes the open collections at `mark`, the innermost first. A key that waits gets an empty scalar as
+    /// its value.
     ///
     /// # Errors
     ///
@@ -70,8 +70,8 @@ impl loader_ctx {
 }
 
 impl DocumentBuilder {
-    /// Ends the document that is open at `mark`, after its open collections, and returns it; `None` if no document
-    /// is open, or if an allocation failed.
+    /// Ends the document that is open at `mark`, after its open collections, and returns it; `None` if no
+    /// document is open, or if an allocation failed.
     pub(crate) fn end_half(&mut self, mark: yaml_mark_t) -> Option<yaml_document_t>
         requires { IsSound self.old }
         ensures { IsHalf self.old.max_entries mark (composer_state self.old) result }

@@ -111,9 +111,9 @@ pub fn placed_loops_are_loaded<S: yaml_token_source_t>()
         → ArePlacesIn n items (bounded_loads n e x) }
 {}
 
-/// What is kept of placed events beside their document is there by the ids of its nodes: if it has as many nodes as
-/// the composer counts, it has them after the event, too, and that of the event's node is the last. No parser
-/// begins a document within another.
+/// What is kept of placed events beside their document is there by the ids of its nodes: if it has as many
+/// nodes as the composer counts, it has them after the event, too, and that of the event's node is the
+/// last. No parser begins a document within another.
 pub fn written_is_by_id()
     ensures counts { (old new : EventComposer) (e : Event) (place : Option yaml_place_t) (w : Written)
         → PlacesEvent old e place new → (old.collections.is_within ≡ true → opening_of e ≡ None)

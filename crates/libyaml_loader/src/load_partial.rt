@@ -31,8 +31,8 @@ pub struct yaml_partial_t {
     pub error: yaml_error_type_t,
     /// The anchor or alias that a composer error is about.
     pub name: Option<String>,
-    /// The document that was open, with its nodes so far. Its open collections, and the document, end where the last
-    /// event before the error does; a key that waited has an empty plain scalar as its value.
+    /// The document that was open, with its nodes so far. Its open collections, and the document, end where
+    /// the last event before the error does; a key that waited has an empty plain scalar as its value.
     pub document: Option<yaml_document_t>,
 }
 
@@ -40,8 +40,8 @@ pub struct yaml_partial_t {
 ///
 /// # Errors
 ///
-/// Those of `yaml_parser_load`, with the document that is open there. The document is missing if none is open, if an
-/// allocation failed, or if the parser kept the error already.
+/// Those of `yaml_parser_load`, with the document that is open there. The document is missing if none is
+/// open, if an allocation failed, or if the parser kept the error already.
 pub fn yaml_parser_load_partial<S: yaml_token_source_t>(
     parser: &mut yaml_parser_t<S>,
 ) -> Result<yaml_document_t, yaml_partial_t>

@@ -123,8 +123,8 @@ fn pushed(bytes: &[u8]) -> Run<Event> {
     (events, None)
 }
 
-/// Completes what stands before a token that isn't expected: then nothing is lacking, and the document that was open is
-/// given. What stands in a token may be an error.
+/// Completes what stands before a token that isn't expected: then nothing is lacking, and the document that
+/// was open is given. What stands in a token may be an error.
 fn assert_completed(bytes: &[u8], all: &[Event]) {
     let (mut parser, mut events) = (PushParser::new(), Vec::new());
     let (mut loader, mut documents) = (PushLoader::new(), Vec::new());
@@ -387,7 +387,8 @@ impl Walk {
     }
 }
 
-/// Each event has the place that the walk and the document say, and what is kept beside the document is what was written.
+/// Each event has the place that the walk and the document say, and what is kept beside the document is
+/// what was written.
 fn assert_placed(bytes: &[u8], composed: &Run<Event>, loaded: &Run<Document>) {
     let placed = run_of(PlacedEvents::new(TokenList::from(tokens_of(bytes))));
     assert_eq!(placed.1, composed.1);
