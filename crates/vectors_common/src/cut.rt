@@ -10,8 +10,6 @@ pub fn are_first_lines(front: &[u8], lines: &[u8]) -> bool {
 
 /// Whether this is the beginning of the lines, cut after an LF, and then the fault of a failed allocation.
 pub fn is_cut(written: &[u8], lines: &[u8]) -> bool {
-    match written.strip_suffix(FAILED) {
-        Some(front) => are_first_lines(front, lines),
-        None => false,
-    }
+    let front = written.strip_suffix(FAILED);
+    front.is_some_and(|front| are_first_lines(front, lines))
 }

@@ -35,3 +35,18 @@ pub fn read_text(rt: &(impl Files + AllocGlobal), name: &str) -> Result<String> 
     let path = path_of(rt, name)?;
     Ok(fs::read_to_string(rt, path.as_str())?)
 }
+
+/// Returns the text of the file `FOLDER/NAME.ENDING` of `data`.
+///
+/// # Errors
+///
+/// Those of `read_text`.
+pub fn read_part(
+    rt: &(impl Files + AllocGlobal),
+    folder: &str,
+    name: &str,
+    ending: &str,
+) -> Result<String> {
+    let path = format!(in rt.alloc(); "{folder}/{name}.{ending}")?;
+    read_text(rt, path.as_str())
+}

@@ -1,4 +1,4 @@
-//! What a parser returns after its end.
+//! Which events and documents come of a parser, also after its end.
 
 use unsafe_libyaml::{
     YAML_NO_ERROR, ZERO_MARK, unnamed_yaml_event_t_data, yaml_document_t, yaml_error_type_t,
@@ -29,6 +29,18 @@ fn gives_empty<S: yaml_token_source_t>(parser: &mut yaml_parser_t<S>) -> Option<
 /// Whether the next call gives an event, and not the empty one.
 pub fn gives_event<S: yaml_token_source_t>(parser: &mut yaml_parser_t<S>) -> bool {
     gives_empty(parser) == Some(false)
+}
+
+/// Counts the events that at most so many calls give, up to the first call that gives none.
+pub fn count_events<S: yaml_token_source_t>(parser: &mut yaml_parser_t<S>, most: u64) -> u64 {
+    let mut events = 0u64;
+    for _ in 0..most {
+        if !gives_event(parser) {
+            break;
+        }
+        events = events.saturating_add(1);
+    }
+    events
 }
 
 /// Whether this parser gives the empty event three times, and keeps its fault, if it has one.

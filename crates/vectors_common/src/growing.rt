@@ -66,17 +66,9 @@ impl yaml_scanner_t for ListScanner<'_> {
 
 /// The fault that ends a list's tokens.
 fn end_of_list() -> yaml_source_fault_t {
-    let problem = Some("no more tokens");
+    let (problem, at) = (Some("no more tokens"), ZERO_MARK);
     let context = Some("while reading a vector");
-    yaml_source_fault_t::new(
-        YAML_READER_ERROR,
-        problem,
-        7,
-        -3,
-        ZERO_MARK,
-        context,
-        ZERO_MARK,
-    )
+    yaml_source_fault_t::new(YAML_READER_ERROR, problem, 7, -3, at, context, at)
 }
 
 fn filled_with(alloc: Global, line: &str, place: u64, number: u64) -> Result<String, AllocError> {

@@ -16,13 +16,13 @@ mod tokens;
 mod vectors;
 
 pub use cut::{FAILED, are_first_lines, is_cut};
-pub use data::{read_data, read_text};
-pub use ends::{gives_event, is_empty, is_kept_by_loads, is_over, next_nodes};
+pub use data::{read_data, read_part, read_text};
+pub use ends::{count_events, gives_event, is_empty, is_kept_by_loads, is_over, next_nodes};
 pub use growing::{ListScanner, computed, filled, listed};
 pub use host::Host;
 pub use marks::mark;
 pub use pieces::{EVERY_CALL, PieceReader, PieceWriter};
 pub use runs::{LinesOf, list_of_lines, run_lines, write_lines};
-pub use texts::show_difference;
-pub use tokens::{list_of, push_tokens};
+pub use texts::{is_text, show_difference};
+pub use tokens::{list_of, next_type, push_tokens};
 pub use vectors::{Vector, Vectors, read_words};

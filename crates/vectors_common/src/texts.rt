@@ -45,3 +45,16 @@ pub fn show_difference(rt: &impl Print, wanted: &[u8], given: &[u8]) -> io::Resu
     println!(rt; "  line {number} is {given}")?;
     println!(rt; "  in place of {wanted}")
 }
+
+/// Whether the text that is wanted is given, and what else has to hold does. If not, shows the difference.
+///
+/// # Errors
+///
+/// Printing failed.
+pub fn is_text(rt: &impl Print, wanted: &[u8], given: &[u8], holds: bool) -> io::Result<bool> {
+    if wanted == given && holds {
+        return Ok(true);
+    }
+    show_difference(rt, wanted, given)?;
+    Ok(false)
+}

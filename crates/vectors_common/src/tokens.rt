@@ -2,8 +2,26 @@
 
 use std::alloc::{AllocError, Global};
 use unsafe_libyaml::{
-    ZERO_MARK, yaml_list_source_t, yaml_source_fault_t, yaml_token_source_t, yaml_token_t,
+    ZERO_MARK, yaml_list_source_t, yaml_parser_t_prefix, yaml_source_fault_t, yaml_token_source_t,
+    yaml_token_t, yaml_token_type_t,
 };
+
+fn type_of(
+    answer: &Result<yaml_token_t, yaml_source_fault_t>,
+) -> Result<yaml_token_type_t, yaml_parser_t_prefix> {
+    match answer {
+        Ok(token) => Ok(token.type_()),
+        Err(fault) => Err(fault.prefix()),
+    }
+}
+
+/// Returns the type of a source's next token, or all fields of the fault in its place.
+pub fn next_type<S: yaml_token_source_t>(
+    source: &mut S,
+) -> Result<yaml_token_type_t, yaml_parser_t_prefix> {
+    let answer = source.next_token();
+    type_of(&answer)
+}
 
 /// Appends a token. Returns the fault where there is none.
 fn push_token(

@@ -49,16 +49,11 @@ impl<'a> Vector<'a> {
 }
 
 /// How many test vectors ran, and how many of them differ.
-#[derive(Copy, Clone)]
+#[derive(Copy, Clone, Default)]
 struct Count {
     vectors: u64,
     differ: u64,
 }
-
-const NONE: Count = Count {
-    vectors: 0,
-    differ: 0,
-};
 
 impl Count {
     fn add(&mut self, vectors: u64, differ: u64) {
@@ -86,7 +81,8 @@ fn is_asked(asked: Option<&str>, name: &str) -> bool {
 }
 
 impl<'a> Vectors<'a> {
-    /// Asks for every test vector, for those of a table, or for one test vector: `[TABLE [VECTOR]]`.
+    /// Asks for every test vector, for those of a table, or for one test vector: `[TABLE [VECTOR]]`. The word
+    /// `failing` asks for the tables after `begin_failing`.
     ///
     /// # Errors
     ///
@@ -99,15 +95,22 @@ impl<'a> Vectors<'a> {
             asked: words.first().map(|word| word.as_str()),
             vector: words.get(1).map(|word| word.as_str()),
             table: "",
-            shown: NONE,
-            all: NONE,
+            shown: Count::default(),
+            all: Count::default(),
         })
+    }
+
+    /// Begins the tables that are also tried with allocations failing.
+    pub fn begin_failing(&mut self) {
+        if self.asked == Some("failing") {
+            self.asked = None;
+        }
     }
 
     /// Begins a table, and returns whether it is asked for.
     pub fn begin(&mut self, table: &'a str) -> bool {
         self.table = table;
-        self.shown = NONE;
+        self.shown = Count::default();
         is_asked(self.asked, table)
     }
 
@@ -143,16 +146,11 @@ impl<'a> Vectors<'a> {
         Ok(())
     }
 
-    /// Adds test vectors that ran, and those of them that differ.
-    pub fn add(&mut self, vectors: u64, differ: u64) {
-        self.all.add(vectors, differ);
-    }
-
     /// Prints how many test vectors of the table ran, if any did, and how many of them differ.
     pub fn show(&mut self, rt: &impl Print) -> io::Result<()> {
         let (table, Count { vectors, differ }) = (self.table, self.shown);
-        self.add(vectors, differ);
-        self.shown = NONE;
+        self.all.add(vectors, differ);
+        self.shown = Count::default();
         if vectors > 0 {
             println!(rt; "{table}: {vectors} vectors, {differ} differ")?;
         }

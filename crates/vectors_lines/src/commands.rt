@@ -9,7 +9,7 @@ use std::io;
 use std::io::Write;
 use token_lines::command::{no_memory, refuse_words, run_words};
 use vectors_common::{
-    EVERY_CALL, Host, PieceWriter, Vector, Vectors, read_data, read_text, show_difference,
+    EVERY_CALL, Host, PieceWriter, Vector, Vectors, is_text, read_data, read_text,
 };
 
 /// The exit status of words that ask for no run, for which nothing is read.
@@ -44,26 +44,10 @@ impl Command {
         let mut output = PieceWriter::new(rt.alloc(), EVERY_CALL, self.calls);
         let mut errors = Vec::new(rt.alloc());
         let holds = self.has_status(rt.alloc(), &mut output, &mut errors);
-        self.is_wanted(rt, output.written(), errors.as_slice(), holds)
-    }
-
-    /// Whether this was written and told, and what else has to hold does.
-    fn is_wanted(
-        &self,
-        rt: &impl Print,
-        output: &[u8],
-        errors: &[u8],
-        holds: bool,
-    ) -> io::Result<bool> {
-        if errors != self.errors.as_slice() {
-            show_difference(rt, self.errors.as_slice(), errors)?;
-            return Ok(false);
-        }
-        let is_right = output == self.output.as_slice() && holds;
-        if !is_right {
-            show_difference(rt, self.output.as_slice(), output)?;
-        }
-        Ok(is_right)
+        Ok(
+            is_text(rt, self.errors.as_slice(), errors.as_slice(), true)?
+                && is_text(rt, self.output.as_slice(), output.written(), holds)?,
+        )
     }
 
     /// Whether the run is right, and has its status and output also where its line for the user can't be
@@ -154,7 +138,9 @@ fn count_line(rt: &impl Host, vectors: &mut Vectors<'_>, name: &str, fields: &st
 
 /// Shows the table of the file `worked`.
 pub fn show(rt: &impl Host, vectors: &mut Vectors<'_>) -> Result<()> {
-    vectors.begin("worked");
+    if !vectors.begin("worked") {
+        return Ok(());
+    }
     let lines = read_text(rt, "worked")?;
     for line in lines.lines() {
         let (fields, _) = line.split_once(": ").context("nothing that it shows")?;

@@ -113,22 +113,8 @@ fn is_document_written(
     wrote == Ok(())
 }
 
-/// How parts go on: there may be more, or the run ended with this error or none, or a part is wrong.
-#[derive(Copy, Clone)]
-enum Part {
-    Written,
-    End(yaml_error_type_t),
-    Wrong,
-}
-
-/// A part that was written, if it was.
-fn part_of(is_written: bool) -> Part {
-    if is_written {
-        Part::Written
-    } else {
-        Part::Wrong
-    }
-}
+/// Whether a part was written as it has to be; or the error with which the run ended before it, or none.
+type Part = Result<bool, yaml_error_type_t>;
 
 fn write_parsed(
     alloc: Global,
@@ -136,9 +122,9 @@ fn write_parsed(
     room: &mut Room,
 ) -> Part {
     match parsed {
-        Ok(event) if is_empty(event) => Part::End(YAML_NO_ERROR),
-        Ok(event) => part_of(is_event_written(alloc, event, room)),
-        Err(error) => Part::End(*error),
+        Ok(event) if is_empty(event) => Err(YAML_NO_ERROR),
+        Ok(event) => Ok(is_event_written(alloc, event, room)),
+        Err(error) => Err(*error),
     }
 }
 
@@ -149,9 +135,9 @@ fn write_loaded(
     lines: &[u8],
 ) -> Part {
     match loaded {
-        Ok(document) if document.nodes().is_empty() => Part::End(YAML_NO_ERROR),
-        Ok(document) => part_of(is_document_written(alloc, document, room, lines)),
-        Err(error) => Part::End(*error),
+        Ok(document) if document.nodes().is_empty() => Err(YAML_NO_ERROR),
+        Ok(document) => Ok(is_document_written(alloc, document, room, lines)),
+        Err(error) => Err(*error),
     }
 }
 
@@ -167,11 +153,11 @@ fn write_next<S: yaml_token_source_t>(
         LinesOf::Documents if yaml_parser_between_documents(parser) => {
             write_loaded(alloc, &yaml_parser_load(parser), room, vector.lines)
         }
-        _ => Part::Wrong,
+        _ => Ok(false),
     }
 }
 
-/// Writes events or documents one by one, and returns how that ended.
+/// Writes events or documents one by one, and returns the last part: the first that is wrong, or an end.
 fn write_parts<S: yaml_token_source_t>(
     alloc: Global,
     vector: Run<'_>,
@@ -180,20 +166,20 @@ fn write_parts<S: yaml_token_source_t>(
 ) -> Part {
     for _ in 0..1000u32 {
         match write_next(alloc, vector, parser, room) {
-            Part::Written => {}
+            Ok(true) => {}
             part => return part,
         }
     }
-    Part::Wrong
+    Ok(false)
 }
 
 /// How a run came through that wrote this and then ended so.
 fn passage_of(lines: &[u8], written: &[u8], end: Part) -> Passage {
     match (end, lines.strip_prefix(written)) {
-        (Part::End(YAML_NO_ERROR), Some(rest)) if rest.is_empty() => Passage::Whole,
-        (Part::End(YAML_NO_ERROR), _) => Passage::Wrong,
-        (Part::End(YAML_MEMORY_ERROR), Some(_)) => Passage::Cut,
-        (Part::End(_), Some(rest)) if rest.starts_with(b"FAULT ") => Passage::Whole,
+        (Err(YAML_NO_ERROR), Some(rest)) if rest.is_empty() => Passage::Whole,
+        (Err(YAML_NO_ERROR), _) => Passage::Wrong,
+        (Err(YAML_MEMORY_ERROR), Some(_)) => Passage::Cut,
+        (Err(_), Some(rest)) if rest.starts_with(b"FAULT ") => Passage::Whole,
         _ => Passage::Wrong,
     }
 }

@@ -86,19 +86,13 @@ impl Write for FlushWriter<'_> {
     }
 }
 
-/// How many bytes of lines are settled by these tokens, after which the reader ends.
+/// How many bytes of lines are settled by these tokens, after which the reader ends; 0 where another fault
+/// comes than that of its end.
 fn settled(alloc: Global, of: LinesOf, tokens: &[u8]) -> usize {
     let mut written = Vec::new(alloc);
     run_lines(of, alloc, tokens, &mut written);
-    before_end(written.as_slice())
-}
-
-/// How many bytes stand before the fault of a reader that ended, or 0 where there is another fault.
-fn before_end(written: &[u8]) -> usize {
-    match written.strip_suffix(b"no more tokens\n") {
-        Some(front) => whole_lines(front).len(),
-        None => 0,
-    }
+    let front = written.strip_suffix(b"no more tokens\n").unwrap_or(b"");
+    whole_lines(front).len()
 }
 
 /// What a run did: how it ended, how many bytes were flushed at each call of the reader and at last at the

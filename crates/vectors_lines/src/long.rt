@@ -1,11 +1,12 @@
 //! The longest line, and more lines than are read.
 
 use crate::memory;
+use crate::named::ending_of;
 use crate::runs::Run;
-use anyhow::Result;
+use anyhow::{Context, Result};
 use std::alloc::Global;
 use token_lines::{Outcome, run_events};
-use vectors_common::{Host, LinesOf, Vector, read_text};
+use vectors_common::{Host, Vector, read_text};
 
 /// Whether a run is right in pieces that are none of a line's length, and in memory.
 fn is_run_right(rt: &impl Host, run: Run<'_>) -> Result<bool> {
@@ -28,26 +29,13 @@ pub fn read_long(rt: &impl Host, name: &str, len: u64) -> Result<String> {
 /// Whether the lines that are wanted come of a scalar as long as the test vector says.
 pub fn is_right(rt: &impl Host, vector: Vector<'_>) -> Result<bool> {
     let tokens = read_long(rt, "long_scalar", vector.number(0))?;
-    is_right_over(rt, vector, tokens.as_bytes())
-}
-
-fn is_right_over(rt: &impl Host, vector: Vector<'_>, tokens: &[u8]) -> Result<bool> {
     let lines = read_long(rt, vector.wanted(), vector.number(0))?;
-    let is_fault = lines.contains("FAULT ");
-    let of_events = vector.name.starts_with("events ");
+    let (of, outcome) = ending_of(vector.field(1)).context("no such run")?;
     let run = Run {
-        tokens,
-        of: if of_events {
-            LinesOf::Events
-        } else {
-            LinesOf::Documents
-        },
+        tokens: tokens.as_bytes(),
+        of,
         lines: lines.as_bytes(),
-        outcome: if is_fault {
-            Outcome::Faulted
-        } else {
-            Outcome::Ended
-        },
+        outcome,
     };
     is_run_right(rt, run)
 }

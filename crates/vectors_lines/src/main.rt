@@ -43,7 +43,7 @@ fn is_right(rt: &impl Host, vector: Vector<'_>) -> Result<bool> {
         "flushes where bytes are left" => flushes::is_flushed_with(rt, vector),
         "words that are refused" => commands::is_refused(rt, vector.name),
         "what is told without a run" => commands::is_told(rt, vector),
-        "what stays in a reader" => Ok(source::is_right(rt.alloc(), vector.name)),
+        "what stays in a reader" => source::is_right(rt, vector),
         "lines as long as any, and longer" => long::is_right(rt, vector),
         "more lines than are read" => long::are_too_many(rt, vector),
         _ => bail!("a table of no check"),
@@ -66,35 +66,15 @@ fn show_all(rt: &impl Host, words: &[String]) -> Result<()> {
     let mut vectors = Vectors::asked(words)?;
     commands::show(rt, &mut vectors)?;
     show_runs(rt, &mut vectors, &RUNS)?;
-    show_lines(
-        rt,
-        &mut vectors,
-        "lines of one token",
-        "good_lines",
-        "good_line.events",
-    )?;
-    show_lines(
-        rt,
-        &mut vectors,
-        "lines of no token",
-        "bad_lines",
-        "bad_line.events",
-    )?;
+    show_lines(rt, &mut vectors, "lines of one token", "good_line")?;
+    show_lines(rt, &mut vectors, "lines of no token", "bad_line")?;
     show_vectors(rt, &mut vectors, lines.as_str())?;
-    show_runs(rt, &mut vectors, &FAILING)?;
-    vectors.end(rt)
-}
-
-fn show_failing(rt: &impl Host) -> Result<()> {
-    let mut vectors = Vectors::asked(&[])?;
+    vectors.begin_failing();
     show_runs(rt, &mut vectors, &FAILING)?;
     vectors.end(rt)
 }
 
 fn main(rt: HostRuntime) -> Result<()> {
     let words = read_words(&rt)?;
-    match words.as_slice() {
-        [word] if word.as_str() == "failing" => show_failing(&rt),
-        words => show_all(&rt, words),
-    }
+    show_all(&rt, words.as_slice())
 }

@@ -6,7 +6,7 @@ use std::alloc::{AllocError, Global};
 use std::io;
 use token_lines::memory::{events_in_memory, memory_outcome_t, memory_run_t, nodes_in_memory};
 use token_lines::{MAX_TOKENS, Outcome};
-use vectors_common::{FAILED, Host, LinesOf, show_difference};
+use vectors_common::{FAILED, Host, LinesOf, is_text};
 
 /// How many bytes the buffer has: more than any run writes but those of long lines.
 const BUFFER: usize = 1024;
@@ -41,15 +41,8 @@ fn is_whole(run: Run<'_>, ran: memory_run_t, buffer: &[u8]) -> bool {
 pub fn is_right(rt: &impl Host, run: Run<'_>) -> io::Result<bool> {
     let mut buffer = [0; BUFFER];
     let ran = run_in_memory(rt.alloc(), run, &mut buffer, MAX_TOKENS);
-    let is_right = is_whole(run, ran, &buffer);
-    if !is_right {
-        show_difference(
-            rt,
-            run.lines,
-            buffer.get(..run.lines.len()).unwrap_or(&buffer),
-        )?;
-    }
-    Ok(is_right)
+    let shown = buffer.get(..run.lines.len()).unwrap_or(&buffer);
+    Ok(is_whole(run, ran, &buffer) || is_text(rt, run.lines, shown, false)?)
 }
 
 /// What a run returns that met a failed allocation.

@@ -4,7 +4,7 @@ use crate::runs::Run;
 use crate::{failing, flushes, memory};
 use anyhow::{Context, Result, bail};
 use token_lines::Outcome;
-use vectors_common::{Host, LinesOf, Vectors, read_data, read_text};
+use vectors_common::{Host, LinesOf, Vectors, read_data, read_part, read_text};
 
 /// Makes the check of this name.
 fn is_run_right(rt: &impl Host, run: Run<'_>, check: &str) -> Result<bool> {
@@ -24,13 +24,13 @@ fn is_run_right(rt: &impl Host, run: Run<'_>, check: &str) -> Result<bool> {
     })
 }
 
-/// Whose lines a test vector of `names` has, and how its run ends.
-fn ending_of(of: &str, outcome: &str) -> Option<(LinesOf, Outcome)> {
-    match (of, outcome) {
-        ("events", "ended") => Some((LinesOf::Events, Outcome::Ended)),
-        ("events", "faulted") => Some((LinesOf::Events, Outcome::Faulted)),
-        ("nodes", "ended") => Some((LinesOf::Documents, Outcome::Ended)),
-        ("nodes", "faulted") => Some((LinesOf::Documents, Outcome::Faulted)),
+/// Whose lines a run writes, and how it ends.
+pub fn ending_of(words: &str) -> Option<(LinesOf, Outcome)> {
+    match words {
+        "events ended" => Some((LinesOf::Events, Outcome::Ended)),
+        "events faulted" => Some((LinesOf::Events, Outcome::Faulted)),
+        "nodes ended" => Some((LinesOf::Documents, Outcome::Ended)),
+        "nodes faulted" => Some((LinesOf::Documents, Outcome::Faulted)),
         _ => None,
     }
 }
@@ -38,17 +38,14 @@ fn ending_of(of: &str, outcome: &str) -> Option<(LinesOf, Outcome)> {
 /// Makes a check of the run that a test vector of `names` names.
 fn is_right(rt: &impl Host, vector: &str, check: &str) -> Result<bool> {
     let (name, ending) = vector.split_once(' ').context("no name")?;
-    let (extension, outcome) = ending.split_once(' ').context("no outcome")?;
-    let (of, outcome) = ending_of(extension, outcome).context("no such run")?;
-    let tokens = read_data(rt, format!(in rt.alloc(); "runs/{name}.tokens")?.as_str())?;
-    let lines = read_data(
-        rt,
-        format!(in rt.alloc(); "runs/{name}.{extension}")?.as_str(),
-    )?;
+    let (of, outcome) = ending_of(ending).context("no such run")?;
+    let (extension, _) = ending.split_once(' ').context("no outcome")?;
+    let tokens = read_part(rt, "runs", name, "tokens")?;
+    let lines = read_part(rt, "runs", name, extension)?;
     let run = Run {
-        tokens: tokens.as_slice(),
+        tokens: tokens.as_bytes(),
         of,
-        lines: lines.as_slice(),
+        lines: lines.as_bytes(),
         outcome,
     };
     is_run_right(rt, run, check)
@@ -60,20 +57,16 @@ pub fn show_runs(
     vectors: &mut Vectors<'_>,
     checks: &'static [&'static str],
 ) -> Result<()> {
-    let names = read_text(rt, "names")?;
     for check in checks {
-        show_table(rt, vectors, check, names.as_str())?;
+        if vectors.begin(check) {
+            show_table(rt, vectors, check)?;
+        }
     }
     Ok(())
 }
 
-fn show_table(
-    rt: &impl Host,
-    vectors: &mut Vectors<'_>,
-    check: &'static str,
-    names: &str,
-) -> Result<()> {
-    vectors.begin(check);
+fn show_table(rt: &impl Host, vectors: &mut Vectors<'_>, check: &str) -> Result<()> {
+    let names = read_text(rt, "names")?;
     for vector in names.lines() {
         if vectors.has(vector) {
             vectors.count(rt, vector, is_right(rt, vector, check)?)?;
@@ -103,17 +96,18 @@ fn is_line_right(rt: &impl Host, line: &[u8], fault: &[u8]) -> Result<bool> {
     Ok(true)
 }
 
-/// Shows the table of the lines in `inputs`, whose fault is in `fault`.
+/// Shows the table of the lines in the file `KINDs`, whose fault is in `KIND.events`.
 pub fn show_lines(
     rt: &impl Host,
     vectors: &mut Vectors<'_>,
     table: &'static str,
-    inputs: &str,
-    fault: &str,
+    kind: &str,
 ) -> Result<()> {
-    vectors.begin(table);
-    let inputs = read_data(rt, inputs)?;
-    let fault = read_data(rt, fault)?;
+    if !vectors.begin(table) {
+        return Ok(());
+    }
+    let inputs = read_data(rt, format!(in rt.alloc(); "{kind}s")?.as_str())?;
+    let fault = read_data(rt, format!(in rt.alloc(); "{kind}.events")?.as_str())?;
     for line in inputs.as_slice().split_inclusive(|byte| *byte == b'\n') {
         let name = str::from_utf8(line).unwrap_or("a line that is no text");
         let name = name.trim_end_matches('\n');

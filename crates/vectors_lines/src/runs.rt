@@ -4,7 +4,7 @@ use std::alloc::{AllocError, Global};
 use std::io;
 use token_lines::Outcome;
 use vectors_common::{
-    EVERY_CALL, Host, LinesOf, PieceReader, PieceWriter, run_lines, show_difference,
+    EVERY_CALL, Host, LinesOf, PieceReader, PieceWriter, is_text, run_lines, show_difference,
 };
 
 /// How a run came through a failed read or a failed allocation.
@@ -38,11 +38,7 @@ impl Run<'_> {
 
     /// The same. If not, prints the first line that differs.
     pub fn is_wanted(self, rt: &impl Print, written: &[u8], ended: Outcome) -> io::Result<bool> {
-        let is_whole = self.is_whole(written, ended);
-        if !is_whole {
-            show_difference(rt, self.lines, written)?;
-        }
-        Ok(is_whole)
+        is_text(rt, self.lines, written, ended == self.outcome)
     }
 
     /// Whether the run is right in pieces of so many bytes.
@@ -72,7 +68,11 @@ impl Run<'_> {
     ) -> Result<(Vec<u8>, Outcome), AllocError> {
         let mut lines = Vec::new(alloc);
         let ended = run_lines(self.of, alloc, bytes, &mut lines);
-        name_problem(&mut lines, problem)?;
+        if let Some(begun) = lines.strip_suffix(b"no more tokens\n") {
+            let len = begun.len();
+            lines.truncate(len);
+            lines.extend_from_slice(problem)?;
+        }
         Ok((lines, ended))
     }
 
@@ -85,31 +85,20 @@ impl Run<'_> {
         }
     }
 
-    /// How a run whose reader failed after so many bytes came through, by what it wrote and returned. Where
-    /// that is wrong, prints the first line that differs.
-    fn passage_of(
-        self,
-        rt: &impl Host,
-        bytes: usize,
-        written: &[u8],
-        ended: Outcome,
-    ) -> io::Result<Passage> {
-        if self.is_whole(written, ended) {
-            return Ok(Passage::Whole);
-        }
-        if ended == Outcome::Faulted && self.is_cut_front(rt.alloc(), bytes, written) {
-            return Ok(Passage::Cut);
-        }
-        show_difference(rt, self.lines, written)?;
-        Ok(Passage::Wrong)
-    }
-
-    /// The same of a run whose reader hands out a byte a call, and fails after so many calls.
+    /// How a run came through whose reader hands out a byte a call, and fails after so many calls, by what it
+    /// wrote and returned. Where that is wrong, prints the first line that differs.
     fn comes_through(self, rt: &impl Host, calls: usize) -> io::Result<Passage> {
         let reader = PieceReader::new(self.tokens, 1, calls);
         let mut writer = PieceWriter::new(rt.alloc(), 4096, EVERY_CALL);
         let ended = run_lines(self.of, rt.alloc(), reader, &mut writer);
-        self.passage_of(rt, calls, writer.written(), ended)
+        if self.is_whole(writer.written(), ended) {
+            return Ok(Passage::Whole);
+        }
+        if ended == Outcome::Faulted && self.is_cut_front(rt.alloc(), calls, writer.written()) {
+            return Ok(Passage::Cut);
+        }
+        show_difference(rt, self.lines, writer.written())?;
+        Ok(Passage::Wrong)
     }
 
     /// Whether the run is cut at each read that fails, and at last comes through. There is a call for each
@@ -172,14 +161,4 @@ pub fn first_line(bytes: &[u8]) -> &[u8] {
     let end = bytes.iter().position(|byte| *byte == b'\n');
     let len = end.map_or(bytes.len(), |at| at.saturating_add(1));
     bytes.get(..len).unwrap_or(bytes)
-}
-
-/// Puts a problem in place of that of a reader's end, if lines end by that.
-fn name_problem(lines: &mut Vec<u8>, problem: &[u8]) -> Result<(), AllocError> {
-    let Some(begun) = lines.strip_suffix(b"no more tokens\n") else {
-        return Ok(());
-    };
-    let len = begun.len();
-    lines.truncate(len);
-    lines.extend_from_slice(problem)
 }
