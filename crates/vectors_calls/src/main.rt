@@ -11,6 +11,7 @@ mod documents;
 mod enums;
 mod limits;
 mod parsers;
+mod places;
 mod scanners;
 mod texts;
 mod tokens;
@@ -29,6 +30,7 @@ fn given(rt: &impl Host, vector: Vector<'_>) -> Result<String> {
         "tokens" => tokens::given(alloc, name),
         "documents" => documents::given(alloc, name),
         "parsers" => parsers::given(rt, name),
+        "places" => places::given(alloc, vector),
         "scanners" => scanners::given(alloc, vector),
         "limits" => limits::given(alloc, vector),
         _ => bail!("a table of no calls"),
