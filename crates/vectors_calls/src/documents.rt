@@ -15,7 +15,7 @@ use unsafe_libyaml::{
     yaml_document_initialize, yaml_document_t, yaml_parser_initialize, yaml_parser_load,
     yaml_refusal_t, yaml_version_directive_t,
 };
-use vectors_common::list_of_lines;
+use vectors_common::{Vector, list_of_lines};
 
 type Made = Result<yaml_document_t, yaml_refusal_t>;
 
@@ -115,15 +115,9 @@ fn refused_tag(alloc: Global) -> Result<String> {
     shown(alloc, &(added, document.nodes().len()))
 }
 
-/// The lines of a scalar whose document ends at the stream's end, there but later, and with a DOCUMENT-END.
-const ENDS: [&str; 3] = [
-    "STREAM-START 0:0:0 0:0:0 utf8\nSCALAR 0:0:0 1:0:1 =a plain\nSTREAM-END 2:0:2 2:0:2\n",
-    "STREAM-START 0:0:0 0:0:0 utf8\nSCALAR 0:0:0 1:0:1 =a plain\nSTREAM-END 3:0:3 3:0:3\n",
-    "STREAM-START 0:0:0 0:0:0 utf8\nSCALAR 0:0:0 1:0:1 =a plain\n\
-        DOCUMENT-END 2:0:2 2:0:2\nSTREAM-END 3:0:3 3:0:3\n",
-];
-
+/// Loads the document of these lines, which have `;` in place of each LF.
 fn loaded(alloc: Global, lines: &str) -> Result<yaml_document_t> {
+    let lines = lines.replace(alloc, ';', "\n")?;
     let mut parser = yaml_parser_initialize(alloc, list_of_lines(alloc, lines.as_bytes())?);
     yaml_parser_load(&mut parser).ok().context("no document")
 }
@@ -137,35 +131,31 @@ fn equal_to(one: &yaml_document_t, documents: [&yaml_document_t; 3]) -> [[bool; 
     ]
 }
 
-/// Shows which of three documents that are equal but for their ends are equal.
-fn equal(alloc: Global) -> Result<String> {
-    let [near, far, told] = ENDS;
-    let (near, far, told) = (
-        loaded(alloc, near)?,
-        loaded(alloc, far)?,
-        loaded(alloc, told)?,
-    );
+/// Shows which of three documents that are equal but for their ends are equal: that of a scalar which ends at
+/// the stream's end, there but later, and with a DOCUMENT-END.
+fn equal(alloc: Global, vector: Vector<'_>) -> Result<String> {
+    let near = loaded(alloc, vector.field(0))?;
+    let far = loaded(alloc, vector.field(1))?;
+    let told = loaded(alloc, vector.field(2))?;
     let all = [&near, &far, &told];
-    shown(
-        alloc,
-        &[
-            equal_to(&near, all),
-            equal_to(&far, all),
-            equal_to(&told, all),
-        ],
-    )
+    let equal = [
+        equal_to(&near, all),
+        equal_to(&far, all),
+        equal_to(&told, all),
+    ];
+    shown(alloc, &equal)
 }
 
-/// Returns the text of what the calls of the test vector of this name give.
-pub fn given(alloc: Global, name: &str) -> Result<String> {
-    match name {
+/// Returns the text of what the calls of the test vector give.
+pub fn given(alloc: Global, vector: Vector<'_>) -> Result<String> {
+    match vector.name {
         "ids count from one" => known_of_word(alloc),
         "items are appended in order" => lines_of(alloc, list_of_two(alloc)),
         "a given tag stays" => lines_of(alloc, tagged_word(alloc)),
         "a tag that is no text adds no node" => refused_tag(alloc),
         "a pair is appended" => lines_of(alloc, map_of_one(alloc)),
         "directives stay" => lines_of(alloc, with_directives(alloc)),
-        "documents differ by their ends" => equal(alloc),
+        "documents differ by their ends" => equal(alloc, vector),
         _ => bail!("no such document"),
     }
 }

@@ -10,7 +10,7 @@ use unsafe_libyaml::{
     yaml_parser_t_prefix, yaml_push_parser_t, yaml_source_fault_t, yaml_token_source_t,
     yaml_token_t,
 };
-use vectors_common::{Vector, listed, mark};
+use vectors_common::{Vector, listed, mark, next_type};
 
 type Source = yaml_limited_source_t<yaml_list_source_t>;
 
@@ -21,23 +21,24 @@ fn source(alloc: Global, vector: Vector<'_>) -> Result<Source> {
     Ok(yaml_limited_source_t::new(list, max_depth))
 }
 
-fn end_of_events(alloc: Global, source: Source) -> Result<Option<yaml_parser_t_prefix>> {
+fn end_of_events(alloc: Global, source: Source) -> Result<End> {
     let run = yaml_parser_parse_all(alloc, source)?;
-    Ok(run.fault)
+    Ok(end_of(run.fault))
 }
 
-fn end_of_documents(alloc: Global, source: Source) -> Result<Option<yaml_parser_t_prefix>> {
+fn end_of_documents(alloc: Global, source: Source) -> Result<End> {
     let all = yaml_parser_load_all(alloc, source)?;
-    Ok(all.fault)
+    Ok(end_of(all.fault))
 }
 
-/// Returns the fault of the first push, within the bound, that fails.
-fn end_of_pushes(alloc: Global, vector: Vector<'_>) -> Result<Option<yaml_parser_t_prefix>> {
+/// Returns the end of the first push, within the bound, that fails.
+fn end_of_pushes(alloc: Global, vector: Vector<'_>) -> Result<End> {
     let mut list = listed(alloc, vector.field(0), u32::try_from(vector.number(1))?)?;
     let mut limiter = token_limiter_t::new(usize::try_from(vector.number(2))?);
     let mut parser = yaml_push_parser_t::new(alloc);
     let mut events = Vec::new(alloc);
-    Ok(push_all(&mut limiter, &mut parser, &mut events, &mut list).err())
+    let end = push_all(&mut limiter, &mut parser, &mut events, &mut list);
+    Ok(end_of(end.err()))
 }
 
 fn push_all(
@@ -96,10 +97,7 @@ fn end_of(fault: Option<yaml_parser_t_prefix>) -> End {
 
 /// Returns how the next call of a source ends.
 fn next_end(source: &mut Source) -> End {
-    match source.next_token() {
-        Ok(_) => End::Whole,
-        Err(fault) => end_of(Some(fault.prefix())),
-    }
+    end_of(next_type(source).err())
 }
 
 /// Counts the tokens of a source before its first fault, and returns that.
@@ -116,14 +114,12 @@ fn count_tokens(source: &mut Source) -> (u64, End) {
 }
 
 /// Returns the column of a list's next token.
-fn column_of_next(list: yaml_list_source_t) -> Option<u64> {
-    let mut list = list;
+fn column_of_next(mut list: yaml_list_source_t) -> Option<u64> {
     list.next_token().ok().map(|token| token.start_mark.column)
 }
 
 /// Shows a source's number of tokens, its fault, a further call's, and its own source's next column.
-fn shown_calls(alloc: Global, source: Source) -> Result<String> {
-    let mut source = source;
+fn shown_calls(alloc: Global, mut source: Source) -> Result<String> {
     let (tokens, first) = count_tokens(&mut source);
     let again = next_end(&mut source);
     let next = column_of_next(source.into_source());
@@ -133,9 +129,9 @@ fn shown_calls(alloc: Global, source: Source) -> Result<String> {
 /// Returns the text of how events, documents and pushes end, and of what calls of the source give.
 pub fn given(alloc: Global, vector: Vector<'_>) -> Result<String> {
     let ends = [
-        end_of(end_of_events(alloc, source(alloc, vector)?)?),
-        end_of(end_of_documents(alloc, source(alloc, vector)?)?),
-        end_of(end_of_pushes(alloc, vector)?),
+        end_of_events(alloc, source(alloc, vector)?)?,
+        end_of_documents(alloc, source(alloc, vector)?)?,
+        end_of_pushes(alloc, vector)?,
     ];
     let calls = shown_calls(alloc, source(alloc, vector)?)?;
     Ok(format!(in alloc; "{ends:?} {calls}")?)

@@ -28,7 +28,7 @@ fn given(rt: &impl Host, vector: Vector<'_>) -> Result<String> {
         "enums" => enums::given(alloc, name),
         "constructors" => constructors::given(alloc, name),
         "tokens" => tokens::given(alloc, name),
-        "documents" => documents::given(alloc, name),
+        "documents" => documents::given(alloc, vector),
         "parsers" => parsers::given(rt, name),
         "places" => places::given(alloc, vector),
         "scanners" => scanners::given(alloc, vector),

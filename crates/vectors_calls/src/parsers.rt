@@ -58,25 +58,18 @@ fn source_without_memory(alloc: Global) -> yaml_list_source_t {
     yaml_list_source_t::new(Vec::new(alloc), fault)
 }
 
-fn is_error<T, E>(answer: &Result<T, E>) -> bool {
-    match answer {
-        Ok(_) => false,
-        Err(_) => true,
-    }
-}
-
 /// Shows whether all events and all documents of that source are errors.
 fn nothing_at_once(alloc: Global) -> Result<String> {
     let run = yaml_parser_parse_all(alloc, source_without_memory(alloc));
     let all = yaml_parser_load_all(alloc, source_without_memory(alloc));
-    shown(alloc, &[is_error(&run), is_error(&all)])
+    shown(alloc, &[run.is_err(), all.is_err()])
 }
 
 /// Shows whether a list without a fault of its own, and without a token, gives an event, and the kind of
 /// fault.
 fn ends_too_soon(alloc: Global) -> Result<String> {
     let mut parser = yaml_parser_initialize(alloc, yaml_list_source_t::from(Vec::new(alloc)));
-    let fails = is_error(&yaml_parser_parse(&mut parser));
+    let fails = yaml_parser_parse(&mut parser).is_err();
     shown(alloc, &(fails, parser.prefix().error))
 }
 

@@ -6,9 +6,7 @@
 use anyhow::Result;
 use std::alloc::Global;
 use token_lines::yaml_line_source_t;
-use unsafe_libyaml::{
-    yaml_event_t, yaml_parser_initialize, yaml_parser_t_prefix, yaml_token_source_t,
-};
+use unsafe_libyaml::{yaml_parser_initialize, yaml_token_source_t};
 use vectors_common::{Host, Vector, read_text};
 use yaml_bounds::{yaml_node_bounds_t, yaml_parser_bounded_events};
 
@@ -29,22 +27,14 @@ fn told<S: yaml_token_source_t + Drop>(
     let mut count = 0u64;
     let mut fault = None;
     for item in yaml_parser_bounded_events(&mut parser, bounds) {
-        match fault_of(&item) {
-            Some(found) => fault = Some(found),
-            None => count = count.saturating_add(1),
+        match &item {
+            Ok(_) => count = count.saturating_add(1),
+            Err(found) => fault = Some(*found),
         }
     }
     match fault {
         Some(fault) => Ok(format!(in alloc; "{count} events, {fault}")?),
         None => Ok(format!(in alloc; "{count} events")?),
-    }
-}
-
-/// Returns the error of an item.
-fn fault_of(item: &Result<yaml_event_t, yaml_parser_t_prefix>) -> Option<yaml_parser_t_prefix> {
-    match item {
-        Ok(_) => None,
-        Err(fault) => Some(*fault),
     }
 }
 

@@ -102,7 +102,7 @@ fn bad_texts(name: &str) -> Texts<'static> {
 }
 
 /// Whether a constructor, or a document, refuses bytes that are no text before it allocates for others.
-pub fn refuses_bytes_first(alloc: Global, name: &str) -> bool {
+pub fn refuses_first(alloc: Global, name: &str) -> bool {
     if name == "value of a document's scalar" {
         return refuses_value_first(alloc);
     }

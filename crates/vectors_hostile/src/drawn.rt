@@ -112,16 +112,12 @@ fn is_same_by_list(alloc: Global, of: LinesOf, lines: &[u8]) -> Result<bool> {
 /// are drawn are lines with `#` for the marks and `@` for each text.
 pub fn is_list_right(rt: &impl Host, vector: Vector<'_>) -> Result<bool> {
     let kinds = read_text(rt, "kinds")?;
-    let number = vector
-        .name
-        .strip_prefix("list ")
-        .unwrap_or("")
-        .parse::<u64>()?;
+    let number = vector.name.strip_prefix("list ").unwrap_or("");
     let mut drawn = Drawn {
         tokens: 0,
         lines: Vec::new(rt.alloc()),
     };
-    let is_drawn = drawn.draw(rt.alloc(), kinds.as_str(), number);
+    let is_drawn = drawn.draw(rt.alloc(), kinds.as_str(), number.parse::<u64>()?);
     is_drawn.and(is_right(rt, vector, &drawn))
 }
 

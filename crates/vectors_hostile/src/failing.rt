@@ -10,10 +10,9 @@ use crate::sizes::is_size_or_memory;
 use example_source::Letters;
 use std::alloc::Global;
 use unsafe_libyaml::{
-    yaml_parser_initialize, yaml_parser_load, yaml_parser_parse, yaml_parser_t_prefix,
-    yaml_source_fault_t, yaml_token_source_t, yaml_token_t,
+    yaml_parser_initialize, yaml_parser_load, yaml_parser_parse, yaml_token_source_t,
 };
-use vectors_common::{LinesOf, computed};
+use vectors_common::{LinesOf, computed, next_type};
 
 /// Whether the constructor of this name is right.
 pub fn is_constructor_right(alloc: Global, name: &str) -> bool {
@@ -23,7 +22,7 @@ pub fn is_constructor_right(alloc: Global, name: &str) -> bool {
 }
 
 /// Whether the document of these calls is right.
-pub fn is_document_right(alloc: Global, words: &str) -> bool {
+pub fn is_built_right(alloc: Global, words: &str) -> bool {
     let one = built(alloc, words);
     let other = built(alloc, words);
     are_same_or_cut(&one, &other)
@@ -58,25 +57,13 @@ fn are_read<S: yaml_token_source_t + Drop>(alloc: Global, parsed: S, loaded: S) 
     ] == [true; 3]
 }
 
-fn fault_of(next: &Result<yaml_token_t, yaml_source_fault_t>) -> Option<yaml_parser_t_prefix> {
-    match next {
-        Ok(_) => None,
-        Err(fault) => Some(fault.prefix()),
-    }
-}
-
-fn next_fault<S: yaml_token_source_t>(source: &mut S) -> Option<yaml_parser_t_prefix> {
-    let next = source.next_token();
-    fault_of(&next)
-}
-
 /// Whether a source returns its fault again, also that of a token whose allocation failed.
 fn keeps_its_fault(alloc: Global) -> bool {
     let mut letters = Letters::new(alloc, b"[a,b]");
     for _ in 0..8u8 {
-        let fault = next_fault(&mut letters);
-        if fault.is_some() {
-            return fault == next_fault(&mut letters);
+        let next = next_type(&mut letters);
+        if next.is_err() {
+            return next == next_type(&mut letters);
         }
     }
     false

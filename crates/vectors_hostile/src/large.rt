@@ -69,10 +69,7 @@ fn are_documents_told(rt: &impl Host, vector: Vector<'_>, all: &yaml_documents_t
 }
 
 fn count_nodes(documents: &[yaml_document_t]) -> usize {
-    match documents.first() {
-        Some(first) => first.nodes().len(),
-        None => 0,
-    }
+    documents.first().map_or(0, |first| first.nodes().len())
 }
 
 fn is_document(list: &str, document: &yaml_document_t, nodes: usize) -> bool {

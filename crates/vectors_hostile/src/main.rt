@@ -32,13 +32,9 @@ fn is_right(rt: &impl Host, vector: Vector<'_>) -> Result<bool> {
         "texts of every length" => texts::is_right(rt, vector)?,
         "drawn lists" => drawn::is_list_right(rt, vector)?,
         "what a failed allocation leaves" => failing::is_left(rt.alloc(), vector.name),
-        "bytes that are no text, refused first" => {
-            calls::refuses_bytes_first(rt.alloc(), vector.name)
-        }
+        "bytes that are no text, refused first" => calls::refuses_first(rt.alloc(), vector.name),
         "constructors, called again" => failing::is_constructor_right(rt.alloc(), vector.name),
-        "calls on a document, made again" => {
-            failing::is_document_right(rt.alloc(), vector.field(0))
-        }
+        "calls on a document, made again" => failing::is_built_right(rt.alloc(), vector.field(0)),
         "lists that are computed" => failing::is_list_right(rt.alloc(), vector.field(0)),
         _ => bail!("a table of no check"),
     })
@@ -62,14 +58,8 @@ fn show_all(rt: &impl Host, words: &[String]) -> Result<()> {
     let mut vectors = Vectors::asked(words)?;
     show_lines(rt, &mut vectors, lines.as_str())?;
     show_lines(rt, &mut vectors, drawn.as_str())?;
+    vectors.begin_failing();
     show_lines(rt, &mut vectors, failing.as_str())?;
-    vectors.end(rt)
-}
-
-fn show_failing(rt: &impl Host) -> Result<()> {
-    let lines = read_text(rt, "failing")?;
-    let mut vectors = Vectors::asked(&[])?;
-    show_lines(rt, &mut vectors, lines.as_str())?;
     vectors.end(rt)
 }
 
@@ -81,7 +71,6 @@ fn do_work(rt: &impl Host, work: &str, n: &str) -> Result<()> {
 fn main(rt: HostRuntime) -> Result<()> {
     let words = read_words(&rt)?;
     match words.as_slice() {
-        [word] if word.as_str() == "failing" => show_failing(&rt),
         [word, work, n] if word.as_str() == "work" => do_work(&rt, work.as_str(), n.as_str()),
         words => show_all(&rt, words),
     }

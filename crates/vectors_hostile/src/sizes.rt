@@ -103,29 +103,19 @@ pub fn is_shaped(rt: &impl Host, vector: Vector<'_>) -> Result<bool> {
     Ok(vector.is_wanted(rt, told.as_str())? && are_shaped(vector.name, document.nodes()))
 }
 
-fn size_of(
-    alloc: Global,
-    made: &Result<yaml_document_t, VectorError>,
-) -> Option<Result<u64, yaml_expansion_error_t>> {
-    match made {
-        Ok(document) => Some(expanded_size(alloc, document, 15)),
-        Err(_) => None,
-    }
-}
-
-/// Whether the size of a small document is told, and not that an allocation failed; None if neither.
-fn is_size_told(alloc: Global) -> Option<bool> {
-    match size_of(alloc, &document_of(alloc, "levels 3 2")) {
-        Some(Ok(15)) => Some(true),
-        None | Some(Err(yaml_expansion_error_t::Memory)) => Some(false),
-        _ => None,
+/// Returns the size of a document of 15 nodes; None where an allocation failed.
+fn size_told(alloc: Global) -> Option<Result<u64, yaml_expansion_error_t>> {
+    let document = document_of(alloc, "levels 3 2").ok()?;
+    match expanded_size(alloc, &document, 15) {
+        Err(yaml_expansion_error_t::Memory) => None,
+        size => Some(size),
     }
 }
 
 /// Whether one of two calls returns that size, and the other does too or finds no memory.
 pub fn is_size_or_memory(alloc: Global) -> bool {
-    match (is_size_told(alloc), is_size_told(alloc)) {
-        (Some(one), Some(other)) => one || other,
+    match (size_told(alloc), size_told(alloc)) {
+        (Some(Ok(15)), None | Some(Ok(15))) | (None, Some(Ok(15))) => true,
         _ => false,
     }
 }

@@ -58,16 +58,12 @@ fn are_read(alloc: Global, lines: &str) -> bool {
     ] == [Outcome::Ended; 2]
 }
 
-/// Whether no call with this text fails, nor a run over the lines, which have `@` in place of each text.
-fn is_taken(alloc: Global, lines: &str, text: &str) -> Result<bool> {
-    let lines = lines.replace(alloc, '@', text)?;
-    Ok(make_all(alloc, text.as_bytes()).is_ok() && are_read(alloc, lines.as_str()))
-}
-
-/// Whether a text of the length in the test vector's name is taken.
+/// Whether no call with a text of the length in the test vector's name fails, nor a run over the lines of
+/// `text.tokens`, which have `@` in place of each text.
 pub fn is_right(rt: &impl Host, vector: Vector<'_>) -> Result<bool> {
     let len = vector.name.strip_suffix(" bytes").unwrap_or("");
     let text = "a".repeat(rt.alloc(), len.parse::<usize>()?)?;
     let lines = read_text(rt, "text.tokens")?;
-    is_taken(rt.alloc(), lines.as_str(), text.as_str())
+    let lines = lines.replace(rt.alloc(), '@', text.as_str())?;
+    Ok(make_all(rt.alloc(), text.as_bytes()).is_ok() && are_read(rt.alloc(), lines.as_str()))
 }

@@ -1,7 +1,7 @@
 //! What the composer's steps do to the documents of events, and the count of nodes, deed by deed.
 
 use anyhow::Result;
-use document_sizes::{deed_of, sizes_t};
+use document_sizes::{Counted, deed_of, sizes_t};
 use document_steps::{anchor_t, carrier};
 use libyaml_composer::{Deed, composer_t, event_kind, open_t, place_t};
 use std::alloc::Global;
@@ -24,16 +24,6 @@ const NO_ENTRY: open_t = open_t {
 
 /// How many entries each list of a document may have.
 const MAX_ENTRIES: u32 = 50;
-
-/// The numbers of a stack without room, and of the first refusal for good.
-const FULL_STACK: u32 = 8;
-
-const REFUSED: u32 = 9;
-
-/// The numbers that C sees of a deed that was counted, and of a node without an entry.
-const WITHIN: u32 = 0;
-
-const FULL: u32 = 16;
 
 /// A composer over the steps, and a count over its deeds. Its stack and numbers have no room at first, and
 /// take one entry more where they are full.
@@ -82,37 +72,40 @@ impl Documents {
         if self.is_over {
             return Ok(());
         }
-        if self.compose(event.kind, anchor)? == FULL_STACK {
+        if let Deed::FullStack = self.compose(event.kind, anchor)? {
             self.stack.push(NO_ENTRY)?;
             self.compose(event.kind, anchor)?;
         }
         Ok(())
     }
 
-    /// Composes once, and returns the number of what was done.
-    fn compose(&mut self, kind: u8, anchor: Option<&[u8]>) -> Result<u32> {
-        let fact = self.fact(anchor);
+    /// Composes once, writes the line of the deed and its place, and returns the deed.
+    fn compose(&mut self, kind: u8, anchor: Option<&[u8]>) -> Result<Deed> {
+        let (fact, event) = (self.fact(anchor), event_kind(kind));
         let mut place = NO_PLACE;
-        let deed = self.composer.compose(
-            self.stack.as_mut_slice(),
-            event_kind(kind),
-            fact,
-            &mut place,
-        );
-        self.write(deed, &place)?;
-        if let Some(anchor) = anchor {
-            self.hold(anchor, place.node)?;
-        }
-        if let Deed::Begins = deed {
-            self.anchors.clear();
-            self.texts.clear();
-        }
+        let deed = self
+            .composer
+            .compose(self.stack.as_mut_slice(), event, fact, &mut place);
+        let (node, child, parent, key) = (place.node, place.child, place.parent, place.key);
         let number = deed.number();
-        self.is_over = number >= REFUSED;
-        if number < FULL_STACK {
-            self.count(number, kind, &place)?;
+        writeln!(&mut self.lines, "{number} {node} {child} {parent} {key}")?;
+        if let Some(anchor) = anchor {
+            self.hold(anchor, node)?;
         }
-        Ok(number)
+        match deed {
+            Deed::FullStack => return Ok(deed),
+            Deed::UndefinedAlias | Deed::RepeatedAnchor | Deed::FullList | Deed::Bad => {
+                self.is_over = true;
+                return Ok(deed);
+            }
+            Deed::Begins => {
+                self.anchors.clear();
+                self.texts.clear();
+            }
+            _ => {}
+        }
+        self.count(deed, kind, &place)?;
+        Ok(deed)
     }
 
     /// Returns the fact of an event with this anchor.
@@ -137,42 +130,26 @@ impl Documents {
         Ok(())
     }
 
-    /// Writes a line: the number of what was done, and the node, child, parent and key of its place.
-    fn write(&mut self, deed: Deed, place: &place_t) -> Result<()> {
-        let number = deed.number();
-        let place_t {
-            node,
-            child,
-            parent,
-            key,
-        } = *place;
-        writeln!(&mut self.lines, "{number} {node} {child} {parent} {key}")?;
-        Ok(())
-    }
-
-    /// Counts the deed of this number, unless it has stopped, and writes the lines of what is said.
-    fn count(&mut self, deed: u32, kind: u8, place: &place_t) -> Result<()> {
+    /// Counts a deed, unless the count has stopped, and writes the lines of what is said.
+    fn count(&mut self, deed: Deed, kind: u8, place: &place_t) -> Result<()> {
         if self.is_counted {
             return Ok(());
         }
         let mut said = self.count_once(deed, kind, place)?;
-        if said == FULL {
+        if let Counted::Full = said {
             self.numbers.push(0)?;
             said = self.count_once(deed, kind, place)?;
         }
-        self.is_counted = said != WITHIN;
+        self.is_counted = !matches!(said, Counted::Within);
         Ok(())
     }
 
     /// Counts once, and writes a line: the numbers of the deed and of what is said, and the total.
-    fn count_once(&mut self, deed: u32, kind: u8, place: &place_t) -> Result<u32> {
-        let (deed, numbers) = (deed_of(deed), self.numbers.as_mut_slice());
-        let said = self
-            .sizes
-            .count(numbers, deed, event_kind(kind), place)
-            .number();
-        let (deed, total) = (deed.number(), self.sizes.total);
-        writeln!(&mut self.counts, "{deed} {said} {total}")?;
+    fn count_once(&mut self, deed: Deed, kind: u8, place: &place_t) -> Result<Counted> {
+        let (deed, numbers) = (deed_of(deed.number()), self.numbers.as_mut_slice());
+        let said = self.sizes.count(numbers, deed, event_kind(kind), place);
+        let (deed, number, total) = (deed.number(), said.number(), self.sizes.total);
+        writeln!(&mut self.counts, "{deed} {number} {total}")?;
         Ok(said)
     }
 }

@@ -22,53 +22,38 @@ pub struct Read<'a> {
     pub directives: Vec<(&'a [u8], &'a [u8])>,
 }
 
-fn encoding_of(number: u32) -> yaml_encoding_t {
-    match number {
-        1 => yaml_encoding_t::YAML_UTF8_ENCODING,
-        2 => yaml_encoding_t::YAML_UTF16LE_ENCODING,
-        3 => yaml_encoding_t::YAML_UTF16BE_ENCODING,
+/// The text of a token's scalar or alias. Without a token a scalar is empty.
+fn text_of(token: Option<&yaml_token_t>) -> &[u8] {
+    match token.map(|token| &token.content) {
+        Some(unnamed_yaml_token_t_data::Scalar(scalar)) => scalar.value.as_bytes(),
+        Some(unnamed_yaml_token_t_data::Alias(alias)) => alias.value.as_bytes(),
+        _ => b"",
+    }
+}
+
+fn encoding_of(token: Option<&yaml_token_t>) -> yaml_encoding_t {
+    match token.map(|token| &token.content) {
+        Some(unnamed_yaml_token_t_data::StreamStart(start)) => start.encoding,
         _ => yaml_encoding_t::YAML_ANY_ENCODING,
     }
 }
 
-fn scalar_style_of(number: u32) -> yaml_scalar_style_t {
-    match number {
-        0 | 1 => yaml_scalar_style_t::YAML_PLAIN_SCALAR_STYLE,
-        2 => yaml_scalar_style_t::YAML_SINGLE_QUOTED_SCALAR_STYLE,
-        3 => yaml_scalar_style_t::YAML_DOUBLE_QUOTED_SCALAR_STYLE,
-        4 => yaml_scalar_style_t::YAML_LITERAL_SCALAR_STYLE,
-        5 => yaml_scalar_style_t::YAML_FOLDED_SCALAR_STYLE,
-        _ => yaml_scalar_style_t::YAML_ANY_SCALAR_STYLE,
-    }
-}
-
-/// The text of a token's scalar or alias, and the number of its style or encoding. Without a token a scalar
-/// is empty and plain.
-fn value_of(token: Option<&yaml_token_t>) -> (&[u8], u32) {
+/// The style of a token's scalar. Without a token it is plain.
+fn style_of(token: Option<&yaml_token_t>) -> yaml_scalar_style_t {
     match token.map(|token| &token.content) {
-        Some(unnamed_yaml_token_t_data::StreamStart(start)) => (b"", start.encoding.number()),
-        Some(unnamed_yaml_token_t_data::Scalar(scalar)) => {
-            (scalar.value.as_bytes(), scalar.style.number())
-        }
-        Some(unnamed_yaml_token_t_data::Alias(alias)) => (alias.value.as_bytes(), 0),
-        _ => (b"", 0),
+        Some(unnamed_yaml_token_t_data::Scalar(scalar)) => scalar.style,
+        _ => yaml_scalar_style_t::YAML_PLAIN_SCALAR_STYLE,
     }
 }
 
-fn sequence_style_of(event: &step_event_t) -> yaml_sequence_style_t {
+/// The style of a sequence and that of a mapping that begins with an event.
+fn styles_of(event: &step_event_t) -> (yaml_sequence_style_t, yaml_mapping_style_t) {
+    use yaml_mapping_style_t::{YAML_BLOCK_MAPPING_STYLE, YAML_FLOW_MAPPING_STYLE};
+    use yaml_sequence_style_t::{YAML_BLOCK_SEQUENCE_STYLE, YAML_FLOW_SEQUENCE_STYLE};
     if event.is_flow == 1 {
-        yaml_sequence_style_t::YAML_FLOW_SEQUENCE_STYLE
-    } else {
-        yaml_sequence_style_t::YAML_BLOCK_SEQUENCE_STYLE
+        return (YAML_FLOW_SEQUENCE_STYLE, YAML_FLOW_MAPPING_STYLE);
     }
-}
-
-fn mapping_style_of(event: &step_event_t) -> yaml_mapping_style_t {
-    if event.is_flow == 1 {
-        yaml_mapping_style_t::YAML_FLOW_MAPPING_STYLE
-    } else {
-        yaml_mapping_style_t::YAML_BLOCK_MAPPING_STYLE
-    }
+    (YAML_BLOCK_SEQUENCE_STYLE, YAML_BLOCK_MAPPING_STYLE)
 }
 
 impl<'a> Read<'a> {
@@ -79,7 +64,7 @@ impl<'a> Read<'a> {
         token: Option<&'a yaml_token_t>,
     ) -> Option<&'a [u8]> {
         match event.kind {
-            5 => Some(value_of(token).0),
+            5 => Some(text_of(token)),
             _ if event.has_anchor == 1 => self.anchor,
             _ => None,
         }
@@ -92,12 +77,13 @@ impl<'a> Read<'a> {
         event: &step_event_t,
         token: Option<&'a yaml_token_t>,
     ) -> Result<yaml_event_t> {
-        let implicit = event.implicit == 1;
+        let (implicit, quoted) = (event.implicit == 1, event.quoted_implicit == 1);
         let anchor = self.anchor_of(event, token);
         let tag = (event.has_tag == 1).then_some(self.tag.as_slice());
-        let (value, number) = value_of(token);
+        let (value, style) = (text_of(token), style_of(token));
+        let (list, map) = styles_of(event);
         Ok(match event.kind {
-            1 => yaml_stream_start_event_initialize(encoding_of(number)),
+            1 => yaml_stream_start_event_initialize(encoding_of(token)),
             2 => yaml_stream_end_event_initialize(),
             3 => {
                 let directives = self.directives.as_slice();
@@ -105,19 +91,10 @@ impl<'a> Read<'a> {
             }
             4 => yaml_document_end_event_initialize(implicit),
             5 => yaml_alias_event_initialize(alloc, value)?,
-            6 => {
-                let (quoted, style) = (event.quoted_implicit == 1, scalar_style_of(number));
-                yaml_scalar_event_initialize(alloc, anchor, tag, value, implicit, quoted, style)?
-            }
-            7 => {
-                let style = sequence_style_of(event);
-                yaml_sequence_start_event_initialize(alloc, anchor, tag, implicit, style)?
-            }
+            6 => yaml_scalar_event_initialize(alloc, anchor, tag, value, implicit, quoted, style)?,
+            7 => yaml_sequence_start_event_initialize(alloc, anchor, tag, implicit, list)?,
             8 => yaml_sequence_end_event_initialize(),
-            9 => {
-                let style = mapping_style_of(event);
-                yaml_mapping_start_event_initialize(alloc, anchor, tag, implicit, style)?
-            }
+            9 => yaml_mapping_start_event_initialize(alloc, anchor, tag, implicit, map)?,
             _ => yaml_mapping_end_event_initialize(),
         })
     }

@@ -1,13 +1,10 @@
 //! The types of token that steps expect, beside those that they take, tried one by one.
 
-use crate::parser::{NO_EVENT, NO_FAULT};
+use crate::parser::{NO_EVENT, NO_FAULT, STEPS};
 use anyhow::{Result, bail};
 use libyaml_types::{ZERO_MARK, yaml_mark_t};
 use std::alloc::Global;
 use token_steps::{Did, step_span_t, steps_t, token_kind};
-
-/// What a token takes at most of room in a stack, and of steps.
-const MOST: usize = 16;
 
 /// Whether steps over these stacks expect exactly the types of token that they take.
 pub fn is_right(
@@ -36,14 +33,8 @@ fn is_taken(
 ) -> Result<bool> {
     let mut steps = *steps;
     steps.tag = 3;
-    let mut states_here: Vec<u8> = Vec::new(alloc);
-    states_here.extend_from_slice(states)?;
-    let mut marks_here: Vec<yaml_mark_t> = Vec::new(alloc);
-    marks_here.extend_from_slice(marks)?;
-    for _ in 0..MOST {
-        states_here.push(0)?;
-        marks_here.push(ZERO_MARK)?;
-    }
+    let mut states = [states, &[0; STEPS]].concat(alloc)?;
+    let mut marks = [marks, &[ZERO_MARK; STEPS]].concat(alloc)?;
     let fact = match number {
         3 | 21 => 1,
         20 => 3,
@@ -53,10 +44,10 @@ fn is_taken(
         start_mark: ZERO_MARK,
         end_mark: ZERO_MARK,
     };
-    for _ in 0..MOST {
+    for _ in 0..STEPS {
         match steps.step(
-            states_here.as_mut_slice(),
-            marks_here.as_mut_slice(),
+            states.as_mut_slice(),
+            marks.as_mut_slice(),
             token_kind(number),
             fact,
             &at,

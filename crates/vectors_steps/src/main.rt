@@ -20,7 +20,7 @@ use libyaml_types::yaml_token_t;
 use line_reading::yaml_line_source_t;
 use std::alloc::Global;
 use std::io::Write;
-use vectors_common::{Host, Vectors, push_tokens, read_text, read_words, show_difference};
+use vectors_common::{Host, Vectors, is_text, push_tokens, read_part, read_text, read_words};
 
 /// A list has fewer tokens than this.
 const MAX_TOKENS: u64 = 100_000;
@@ -83,25 +83,18 @@ fn tokens_of(alloc: Global, lines: &str) -> Result<Vec<yaml_token_t>> {
 /// Compares the lines of a list with those that are wanted, and prints the first that differs.
 fn is_right(rt: &impl Host, folder: &str, name: &str, ending: &str) -> Result<bool> {
     let alloc = rt.alloc();
-    let tokens = read_text(rt, format!(in alloc; "{folder}/{name}.tokens")?.as_str())?;
-    let wanted = read_text(rt, format!(in alloc; "{folder}/{name}.{ending}")?.as_str())?;
+    let tokens = read_part(rt, folder, name, "tokens")?;
+    let wanted = read_part(rt, folder, name, ending)?;
     let tokens = tokens_of(alloc, tokens.as_str())?;
     let given = lines_of(alloc, ending, tokens.as_slice(), wanted.as_str())?;
-    if given.as_slice() == wanted.as_bytes() {
-        return Ok(true);
-    }
-    println!(rt; "{name}.{ending}:")?;
-    show_difference(rt, wanted.as_bytes(), given.as_slice())?;
-    Ok(false)
+    Ok(is_text(rt, wanted.as_bytes(), given.as_slice(), true)?)
 }
 
 /// Compares each list of a table that is asked for.
 fn show_table(rt: &impl Host, vectors: &mut Vectors<'_>, folder: &str, ending: &str) -> Result<()> {
     let index = read_text(rt, format!(in rt.alloc(); "{folder}/index")?.as_str())?;
     for line in index.lines() {
-        let (name, _) = line
-            .split_once(": ")
-            .context("a line of the index without ': '")?;
+        let (name, _) = line.split_once(": ").context("no list")?;
         if vectors.has(name) {
             let is_right = is_right(rt, folder, name, ending)?;
             vectors.count(rt, name, is_right)?;

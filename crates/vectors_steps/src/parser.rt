@@ -12,27 +12,12 @@ use line_writing::write_event;
 use std::alloc::Global;
 use std::io::Write;
 use token_steps::{
-    directive_fact, handle_t, step_event_t, step_fault_t, step_span_t, steps_t, tag, text_t,
+    Did, directive_fact, handle_t, step_event_t, step_fault_t, step_span_t, steps_t, tag, text_t,
     token_kind, version_fact,
 };
 
-/// A token takes fewer steps than this.
-const STEPS: usize = 16;
-
-/// The numbers of what a step did.
-const WANTS: u32 = 0;
-
-const GAVE: u32 = 1;
-
-const STAYS: u32 = 2;
-
-const FULL_STATES: u32 = 3;
-
-const FULL_MARKS: u32 = 4;
-
-const FAILED: u32 = 5;
-
-const BAD: u32 = 6;
+/// A token takes fewer steps than this, and less room in a stack.
+pub(crate) const STEPS: usize = 16;
 
 pub(crate) const NO_EVENT: step_event_t = step_event_t {
     kind: 0,
@@ -144,16 +129,16 @@ impl<'a> Parser<'a> {
         self.note_unless(is_right, b"types of token are expected, and others taken\n")?;
         for _ in 0..STEPS {
             match self.step(alloc, token)? {
-                WANTS | GAVE => return Ok(true),
-                FAILED => return Ok(false),
+                Did::Wants | Did::Gave => return Ok(true),
+                Did::Failed => return Ok(false),
                 _ => {}
             }
         }
         bail!("a token is never taken")
     }
 
-    /// Steps once, and returns the number of what the step did.
-    fn step(&mut self, alloc: Global, token: &'a yaml_token_t) -> Result<u32> {
+    /// Steps once, and returns what the step did.
+    fn step(&mut self, alloc: Global, token: &'a yaml_token_t) -> Result<Did> {
         let mut event = NO_EVENT;
         let mut fault = NO_FAULT;
         let fact = self.fact(alloc, token)?;
@@ -170,18 +155,18 @@ impl<'a> Parser<'a> {
             &mut event,
             &mut fault,
         );
-        if differs != 0 && did != FULL_STATES && did != FULL_MARKS {
+        if differs != 0 && !matches!(did, Did::FullStates | Did::FullMarks) {
             self.differs = true;
             self.write_difference(differs, &token.start_mark)?;
         }
         match did {
-            WANTS => self.hold(token)?,
-            GAVE => self.write(alloc, &event, Some(token))?,
-            STAYS => self.write(alloc, &event, None)?,
-            FULL_STATES => self.states.push(0)?,
-            FULL_MARKS => self.marks.push(ZERO_MARK)?,
-            FAILED => self.write_fault(&fault)?,
-            _ => bail!("the stacks are too small"),
+            Did::Wants => self.hold(token)?,
+            Did::Gave => self.write(alloc, &event, Some(token))?,
+            Did::Stays => self.write(alloc, &event, None)?,
+            Did::FullStates => self.states.push(0)?,
+            Did::FullMarks => self.marks.push(ZERO_MARK)?,
+            Did::Failed => self.write_fault(&fault)?,
+            Did::Bad => bail!("the stacks are too small"),
         }
         Ok(did)
     }
@@ -190,12 +175,12 @@ impl<'a> Parser<'a> {
     fn are_short_stacks_bad(&mut self, token: &yaml_token_t, fact: u8) -> bool {
         let states = self.steps.machine.states_count;
         let marks = self.steps.machine.marks_count;
-        (states == 0 || self.step_within(token, fact, states - 1, marks) == BAD)
-            && (marks == 0 || self.step_within(token, fact, states, marks - 1) == BAD)
+        (states == 0 || matches!(self.step_within(token, fact, states - 1, marks), Did::Bad))
+            && (marks == 0 || matches!(self.step_within(token, fact, states, marks - 1), Did::Bad))
     }
 
-    /// Steps a copy of the record over so much of its stacks, and returns the number of what that did.
-    fn step_within(&mut self, token: &yaml_token_t, fact: u8, states: usize, marks: usize) -> u32 {
+    /// Steps a copy of the record over so much of its stacks, and returns what that did.
+    fn step_within(&mut self, token: &yaml_token_t, fact: u8, states: usize, marks: usize) -> Did {
         let mut steps = self.steps;
         let states = states.min(self.states.len());
         let marks = marks.min(self.marks.len());
@@ -327,8 +312,8 @@ impl<'a> Parser<'a> {
 
     /// Writes the line of a token with which libyaml does something else: the place's number, its start.
     fn write_difference(&mut self, number: u8, mark: &yaml_mark_t) -> Result<()> {
-        let (index, line, column) = (mark.index, mark.line, mark.column);
         if !self.is_exact {
+            let (index, line, column) = (mark.index, mark.line, mark.column);
             writeln!(&mut self.lines, "DIFFERS {number} {index}:{line}:{column}")?;
         }
         Ok(())
@@ -336,12 +321,10 @@ impl<'a> Parser<'a> {
 
     /// Writes the line of a fault: its number, and where it was found and where its context starts.
     fn write_fault(&mut self, fault: &step_fault_t) -> Result<()> {
-        let problem = fault.problem;
-        let mark = fault.problem_mark;
-        let context = fault.context_mark;
+        let (problem, mark, from) = (fault.problem, fault.problem_mark, fault.context_mark);
         let (index, line, column) = (mark.index, mark.line, mark.column);
         write!(&mut self.lines, "FAULT {problem} {index}:{line}:{column}")?;
-        let (index, line, column) = (context.index, context.line, context.column);
+        let (index, line, column) = (from.index, from.line, from.column);
         writeln!(&mut self.lines, " {index}:{line}:{column}")?;
         Ok(())
     }
@@ -352,7 +335,7 @@ fn kind_of(token: &yaml_token_t) -> yaml_token_type_t {
     token_kind(u8::try_from(token.type_().number()).unwrap_or(u8::MAX))
 }
 
-/// Steps over these stacks, and returns the number of what that did.
+/// Steps over these stacks, and returns what that did.
 fn step_over(
     steps: &mut steps_t,
     is_exact: bool,
@@ -362,36 +345,29 @@ fn step_over(
     fact: u8,
     event: &mut step_event_t,
     fault: &mut step_fault_t,
-) -> u32 {
+) -> Did {
     let kind = kind_of(token);
     let span = step_span_t {
         start_mark: token.start_mark,
         end_mark: token.end_mark,
     };
-    let did = if is_exact {
-        steps.step_exact(states, marks, kind, fact, &span, event, fault)
-    } else {
-        steps.step(states, marks, kind, fact, &span, event, fault)
-    };
-    did.number()
-}
-
-/// The largest `has_anchor`, `has_tag`, `implicit`, `quoted_implicit` and `is_flow` of an event.
-fn flags_of_kind(kind: u8) -> [u8; 5] {
-    match kind {
-        3 | 4 => [0, 0, 1, 0, 0],
-        6 => [1, 1, 1, 1, 0],
-        7 | 9 => [1, 1, 1, 0, 1],
-        _ => [0, 0, 0, 0, 0],
+    if is_exact {
+        return steps.step_exact(states, marks, kind, fact, &span, event, fault);
     }
+    steps.step(states, marks, kind, fact, &span, event, fault)
 }
 
 /// Whether an event's flags are 1 or 0, and 0 where its kind has none.
 fn has_flags_of_its_kind(event: &step_event_t) -> bool {
-    let most = flags_of_kind(event.kind);
-    event.has_anchor <= most[0]
-        && event.has_tag <= most[1]
-        && event.implicit <= most[2]
-        && event.quoted_implicit <= most[3]
-        && event.is_flow <= most[4]
+    let [anchor, tag, implicit, quoted, flow] = match event.kind {
+        3 | 4 => [0, 0, 1, 0, 0],
+        6 => [1, 1, 1, 1, 0],
+        7 | 9 => [1, 1, 1, 0, 1],
+        _ => [0, 0, 0, 0, 0],
+    };
+    event.has_anchor <= anchor
+        && event.has_tag <= tag
+        && event.implicit <= implicit
+        && event.quoted_implicit <= quoted
+        && event.is_flow <= flow
 }

@@ -6,10 +6,8 @@ use std::alloc::Global;
 use std::fmt::Write;
 use std::io;
 use token_lines::{MAX_TOKENS, yaml_line_source_t};
-use unsafe_libyaml::{
-    yaml_parser_delete, yaml_parser_initialize, yaml_parser_t, yaml_token_source_t,
-};
-use vectors_common::{Host, gives_event};
+use unsafe_libyaml::{yaml_parser_delete, yaml_parser_initialize};
+use vectors_common::{Host, count_events};
 
 /// Whether the tokens that each call has asked for are those that are wanted: a number a line, up to the
 /// first call that gives no event.
@@ -31,19 +29,11 @@ fn write_counts(alloc: Global, tokens: &str, counts: &mut String) -> Result<()> 
     Ok(())
 }
 
-/// Whether the last of so many calls gives an event, and how many lines its reader has then.
+/// Whether each of so many calls gives an event, and how many lines the parser's reader has then.
 fn lines_left(alloc: Global, tokens: &str, calls: u64) -> (bool, usize) {
     let source = yaml_line_source_t::new(alloc, tokens.as_bytes(), MAX_TOKENS);
     let mut parser = yaml_parser_initialize(alloc, source);
-    let gives = last_gives_event(&mut parser, calls);
+    let gives = count_events(&mut parser, calls) == calls;
     let left = yaml_parser_delete(parser).into_reader();
     (gives, left.iter().filter(|byte| **byte == b'\n').count())
-}
-
-fn last_gives_event<S: yaml_token_source_t>(parser: &mut yaml_parser_t<S>, calls: u64) -> bool {
-    let mut gives = false;
-    for _ in 0..calls {
-        gives = gives_event(parser);
-    }
-    gives
 }

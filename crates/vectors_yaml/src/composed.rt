@@ -21,12 +21,7 @@ pub fn are_composed(rt: &impl Host, case: Case<'_>, most: i32, events: &str) -> 
     if is_written && is_up_to(text, events, case.wanted) {
         return Ok(true);
     }
-    case.is_wanted(
-        rt,
-        "composed events, or an item after their end",
-        text.as_bytes(),
-        false,
-    )
+    case.is_wanted(rt, "composed events", text.as_bytes(), false)
 }
 
 /// Writes the composed events of a list, where each list of a document has at most so many entries, and after

@@ -143,14 +143,7 @@ fn is_right(
         ends_right(out.as_slice(), case.wanted.as_bytes(), fault, is_whole),
         has_all_fields(&kept, &cut.end),
     ] == [true; 2];
-    is_front(rt, case, out.as_slice(), holds)
-}
-
-fn is_front(rt: &impl Print, case: Case<'_>, given: &[u8], holds: bool) -> io::Result<bool> {
-    if holds {
-        return Ok(true);
-    }
-    case.is_wanted(rt, "a cut list", given, false)
+    Ok(holds || case.is_wanted(rt, "a cut list", out.as_slice(), false)?)
 }
 
 /// Whether what is given is wanted, up to the fault of the source where that comes. After the last token it

@@ -10,28 +10,16 @@ use crate::lists::{Given, names_of};
 use anyhow::Result;
 use std::alloc::Global;
 use unsafe_libyaml::{YAML_MEMORY_ERROR, ZERO_MARK, yaml_parser_t_prefix, yaml_source_fault_t};
-use vectors_common::{FAILED, Host, Vectors, list_of_lines, read_text};
+use vectors_common::{FAILED, Host, Vectors, list_of_lines, read_part, read_text};
 
-/// How a list is read: call by call, or as an iterator over its composed events.
-#[derive(Copy, Clone)]
-enum Reading {
-    Calls(Given),
-    Composed,
-}
-
-/// How each list is read, and the name of its table. Loads are tried with few entries too.
-const READINGS: [(&str, Reading); 5] = [
-    ("lists, parsed", Reading::Calls(Given::Events)),
-    ("lists, composed events", Reading::Composed),
-    ("lists, loaded", Reading::Calls(Given::Nodes(i32::MAX))),
-    (
-        "lists, loaded into lists of two",
-        Reading::Calls(Given::Nodes(2)),
-    ),
-    (
-        "lists, loaded into lists of one",
-        Reading::Calls(Given::Nodes(1)),
-    ),
+/// The name of each table, and what is read of its lists call by call, of few entries too; or none where they
+/// are read as an iterator over composed events.
+const READINGS: [(&str, Option<Given>); 5] = [
+    ("lists, parsed", Some(Given::Events)),
+    ("lists, composed events", None),
+    ("lists, loaded", Some(Given::Nodes(i32::MAX))),
+    ("lists, loaded into lists of two", Some(Given::Nodes(2))),
+    ("lists, loaded into lists of one", Some(Given::Nodes(1))),
 ];
 
 /// The folders of the lists.
@@ -44,15 +32,10 @@ fn is_bare(kept: &yaml_parser_t_prefix) -> bool {
 }
 
 /// Writes what these lines give, and more where a fault of a failed allocation has other fields.
-fn write_list(alloc: Global, tokens: &str, reading: Reading, out: &mut Vec<u8>) -> Result<()> {
-    let kept = match reading {
-        Reading::Calls(given) => write_given(
-            alloc,
-            list_of_lines(alloc, tokens.as_bytes())?,
-            given,
-            out,
-        )?,
-        Reading::Composed => write_composed(alloc, tokens, i32::MAX, out)?,
+fn write_list(alloc: Global, tokens: &str, of: Option<Given>, out: &mut Vec<u8>) -> Result<()> {
+    let kept = match of {
+        Some(of) => write_given(alloc, list_of_lines(alloc, tokens.as_bytes())?, of, out)?,
+        None => write_composed(alloc, tokens, i32::MAX, out)?,
     };
     if !is_bare(&kept) {
         out.extend_from_slice(b"a fault with other fields\n")?;
@@ -61,9 +44,9 @@ fn write_list(alloc: Global, tokens: &str, reading: Reading, out: &mut Vec<u8>) 
 }
 
 /// What these lines give. None where an allocation for the list or for what is written failed.
-fn written(alloc: Global, tokens: &str, reading: Reading) -> Option<Vec<u8>> {
+fn written(alloc: Global, tokens: &str, of: Option<Given>) -> Option<Vec<u8>> {
     let mut out = Vec::new(alloc);
-    let whole = write_list(alloc, tokens, reading, &mut out);
+    let whole = write_list(alloc, tokens, of, &mut out);
     whole.ok().and(Some(out))
 }
 
@@ -79,25 +62,10 @@ fn are_same_or_cut(one: Option<&[u8]>, other: Option<&[u8]>) -> bool {
     }
 }
 
-fn is_right(alloc: Global, tokens: &str, reading: Reading) -> bool {
-    let one = written(alloc, tokens, reading);
-    let other = written(alloc, tokens, reading);
+fn is_right(alloc: Global, tokens: &str, of: Option<Given>) -> bool {
+    let one = written(alloc, tokens, of);
+    let other = written(alloc, tokens, of);
     are_same_or_cut(one.as_deref(), other.as_deref())
-}
-
-/// Counts a list of a folder.
-fn count_list(
-    rt: &impl Host,
-    vectors: &mut Vectors<'_>,
-    folder: &str,
-    name: &str,
-    reading: Reading,
-) -> Result<()> {
-    let tokens = read_text(
-        rt,
-        format!(in rt.alloc(); "{folder}/{name}.tokens")?.as_str(),
-    )?;
-    Ok(vectors.count(rt, name, is_right(rt.alloc(), tokens.as_str(), reading))?)
 }
 
 /// Counts each list of a folder that is asked for.
@@ -105,13 +73,14 @@ fn count_lists(
     rt: &impl Host,
     vectors: &mut Vectors<'_>,
     folder: &str,
-    reading: Reading,
+    of: Option<Given>,
 ) -> Result<()> {
     let index = read_text(rt, format!(in rt.alloc(); "{folder}/index")?.as_str())?;
     for line in index.lines() {
         let (name, _) = names_of(line);
         if vectors.has(name) {
-            count_list(rt, vectors, folder, name, reading)?;
+            let tokens = read_part(rt, folder, name, "tokens")?;
+            vectors.count(rt, name, is_right(rt.alloc(), tokens.as_str(), of))?;
         }
     }
     Ok(())
@@ -119,17 +88,17 @@ fn count_lists(
 
 /// Shows the tables of this module.
 pub fn show(rt: &impl Host, vectors: &mut Vectors<'_>) -> Result<()> {
-    for (name, reading) in READINGS {
+    for (name, of) in READINGS {
         if vectors.begin(name) {
-            show_table(rt, vectors, reading)?;
+            show_table(rt, vectors, of)?;
         }
     }
     Ok(())
 }
 
-fn show_table(rt: &impl Host, vectors: &mut Vectors<'_>, reading: Reading) -> Result<()> {
+fn show_table(rt: &impl Host, vectors: &mut Vectors<'_>, of: Option<Given>) -> Result<()> {
     for folder in FOLDERS {
-        count_lists(rt, vectors, folder, reading)?;
+        count_lists(rt, vectors, folder, of)?;
     }
     Ok(vectors.show(rt)?)
 }

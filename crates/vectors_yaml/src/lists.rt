@@ -3,7 +3,7 @@
 use crate::{asked, composed, cuts, pushed, whole};
 use anyhow::{Context, Result};
 use std::io;
-use vectors_common::{Host, Vectors, read_text, show_difference};
+use vectors_common::{Host, Vectors, read_part, read_text, show_difference};
 
 /// The table whose lists are named where they are as expected, too.
 const NAMED: &str = "worked";
@@ -74,7 +74,7 @@ pub fn show(rt: &impl Host, vectors: &mut Vectors<'_>, table: &'static str) -> R
     Ok(vectors.show(rt)?)
 }
 
-/// Compares the events and the nodes of a list, and its other texts.
+/// Compares and counts the events and the nodes of a list, and its other texts.
 fn show_list(
     rt: &impl Host,
     vectors: &mut Vectors<'_>,
@@ -82,22 +82,12 @@ fn show_list(
     name: &str,
     others: &str,
 ) -> Result<()> {
-    let place = Place {
-        table,
-        name,
-        text: "events",
-    };
-    let mut is_expected = is_counted(rt, vectors, place)?;
-    is_expected &= is_counted(
-        rt,
-        vectors,
-        Place {
-            text: "nodes",
-            ..place
-        },
-    )?;
-    for text in others.split_whitespace() {
-        is_expected &= is_counted(rt, vectors, Place { text, ..place })?;
+    let texts = format!(in rt.alloc(); "events nodes {others}")?;
+    let mut is_expected = true;
+    for text in texts.split_whitespace() {
+        let is_right = is_right(rt, Place { table, name, text })?;
+        vectors.count(rt, name, is_right)?;
+        is_expected &= is_right;
     }
     if is_expected && table == NAMED {
         println!(rt; "{table}/{name}: as expected")?;
@@ -105,25 +95,9 @@ fn show_list(
     Ok(())
 }
 
-/// Counts a text of a list, and returns whether it is right.
-fn is_counted(rt: &impl Host, vectors: &mut Vectors<'_>, place: Place<'_>) -> Result<bool> {
-    let is_right = is_right(rt, place)?;
-    vectors.count(rt, place.name, is_right)?;
-    Ok(is_right)
-}
-
-/// Reads a text of a list.
-fn read_part(rt: &impl Host, place: Place<'_>, part: &str) -> Result<String> {
-    let Place { table, name, .. } = place;
-    read_text(
-        rt,
-        format!(in rt.alloc(); "{table}/{name}.{part}")?.as_str(),
-    )
-}
-
 fn is_right(rt: &impl Host, place: Place<'_>) -> Result<bool> {
-    let tokens = read_part(rt, place, "tokens")?;
-    let wanted = read_part(rt, place, place.text)?;
+    let tokens = read_part(rt, place.table, place.name, "tokens")?;
+    let wanted = read_part(rt, place.table, place.name, place.text)?;
     let case = Case {
         place,
         tokens: tokens.as_str(),
@@ -161,7 +135,7 @@ fn are_composed(rt: &impl Host, case: Case<'_>) -> Result<bool> {
     match case.given {
         Given::Events => Ok(true),
         Given::Nodes(most) => {
-            let events = read_part(rt, case.place, "events")?;
+            let events = read_part(rt, case.place.table, case.place.name, "events")?;
             Ok(composed::are_composed(rt, case, most, events.as_str())?)
         }
     }

@@ -35,20 +35,12 @@ fn show_all(rt: &impl Host, words: &[String]) -> Result<()> {
     for table in TABLES {
         lists::show(rt, &mut vectors, table)?;
     }
-    failing::show(rt, &mut vectors)?;
-    vectors.end(rt)
-}
-
-fn show_failing(rt: &impl Host) -> Result<()> {
-    let mut vectors = Vectors::asked(&[])?;
+    vectors.begin_failing();
     failing::show(rt, &mut vectors)?;
     vectors.end(rt)
 }
 
 fn main(rt: HostRuntime) -> Result<()> {
     let words = read_words(&rt)?;
-    match words.as_slice() {
-        [word] if word.as_str() == "failing" => show_failing(&rt),
-        words => show_all(&rt, words),
-    }
+    show_all(&rt, words.as_slice())
 }

@@ -8,7 +8,7 @@ use unsafe_libyaml::{
     yaml_parser_parse_into, yaml_parser_t, yaml_push_parser_t, yaml_refusal_t,
     yaml_scalar_event_initialize, yaml_token_delete, yaml_token_source_t, yaml_token_t,
 };
-use vectors_common::{gives_event, list_of_lines, next_nodes};
+use vectors_common::{count_events, list_of_lines, next_nodes};
 
 /// A text of so many bytes is longer than one that a parser keeps.
 const LONG: usize = 65_537;
@@ -55,21 +55,10 @@ pub fn placed(alloc: Global, lines: &str, tokens: u64, most: u64, event: &mut ya
     events
 }
 
-fn count_given<S: yaml_token_source_t>(parser: &mut yaml_parser_t<S>, most: u64) -> u64 {
-    let mut events = 0u64;
-    for _ in 0..most {
-        if !gives_event(parser) {
-            break;
-        }
-        events = events.saturating_add(1);
-    }
-    events
-}
-
 /// Takes at most so many events of a source by value, deletes the parser, and counts the events.
 pub fn given<S: yaml_token_source_t + Drop>(alloc: Global, source: S, most: u64) -> u64 {
     let mut parser = yaml_parser_initialize(alloc, source);
-    let events = count_given(&mut parser, most);
+    let events = count_events(&mut parser, most);
     yaml_parser_delete(parser);
     events
 }
