@@ -21,10 +21,10 @@ measure.MEASURES.update({
     "plain place events": ("plain", "place-events"),
     "plain iterate events": ("plain", "iterate-events"),
     "plain composed events": ("plain", "composed-events"),
-    "plain placed events": ("plain", "placed-events"),
+    "plain placed events": ("plain_more", "placed-events"),
     "plain place nodes": ("plain", "place-nodes"),
     "plain iterate nodes": ("plain", "iterate-nodes"),
-    "plain half nodes": ("plain", "half-nodes"),
+    "plain half nodes": ("plain_more", "half-nodes"),
 })
 EVENTS = {
     "libyaml": "libyaml events",
@@ -57,6 +57,9 @@ def build(work):
     run(cc, *flags, "-o", f"{work}/libyaml", "libyaml.c", objects, "-Wl,-Bstatic", "-lyaml", "-Wl,-Bdynamic")
     run("cargo", "build", "-q", "--release", "--manifest-path", "plain/Cargo.toml", CARGO_TARGET_DIR=f"{work}/cargo", CARGO_NET_OFFLINE="true")
     os.symlink(f"{work}/cargo/release/plain", f"{work}/plain")
+    run("cargo", "build", "-q", "--release", "--features", "more", "--manifest-path", "plain/Cargo.toml",
+        CARGO_TARGET_DIR=f"{work}/more", CARGO_NET_OFFLINE="true")
+    os.symlink(f"{work}/more/release/plain", f"{work}/plain_more")
     for by in ("libyaml", "moved") if "UNSAFE_LIBYAML" in os.environ else ():
         options = ["-O", "-C", "codegen-units=1", "-C", "panic=abort", "-C", f"link-arg={objects}", "-C", "link-arg=-lyaml"]
         run("rustc", "--edition", "2021", *options, "--cfg", by, "-o", f"{work}/unsafe_{by}", "unsafe_libyaml.rs")

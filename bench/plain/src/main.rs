@@ -2,9 +2,9 @@
 //! that the parser passes to its source. WORK is one of:
 //!
 //! - `place-events`, `iterate-events`: `Parser::next_into`, and the parser as an iterator;
-//! - `composed-events`: `ComposedEvents`, with the errors of a load; `placed-events`: `PlacedEvents`;
+//! - `composed-events`: `ComposedEvents`, with the errors of a load;
 //! - `place-nodes`, `iterate-nodes`: `yaml_parser_load`, and `Documents`;
-//! - `half-nodes`: `Documents::next_or_half`.
+//! - with the feature `more`, `placed-events` and `half-nodes`: `PlacedEvents`, and `Documents::next_or_half`.
 
 #[path = "../../../bindings/plain/tests/lines/mod.rs"]
 mod lines;
@@ -262,6 +262,7 @@ fn each_document(tokens: &[Token], seen: &mut Seen) -> Result<(), Error> {
     Ok(())
 }
 
+#[cfg(feature = "more")]
 fn each_half(tokens: &[Token], seen: &mut Seen) -> Result<(), Error> {
     let mut documents = Documents::new(Copies(tokens));
     while let Some(document) = documents.next_or_half() {
@@ -275,10 +276,12 @@ fn run(work: &str, tokens: &[Token], seen: &mut Seen) -> Result<(), Error> {
         "place-events" => parse_in_place(tokens, seen),
         "iterate-events" => each_event(Parser::new(Copies(tokens)), seen),
         "composed-events" => each_event(ComposedEvents::new(Copies(tokens)), seen),
+        #[cfg(feature = "more")]
         "placed-events" => {
             let placed = PlacedEvents::new(Copies(tokens));
             each_event(placed.map(|item| item.map(|(event, _)| event)), seen)
         }
+        #[cfg(feature = "more")]
         "half-nodes" => each_half(tokens, seen),
         "place-nodes" => load(tokens, seen),
         "iterate-nodes" => each_document(tokens, seen),
