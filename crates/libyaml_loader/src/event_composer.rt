@@ -59,8 +59,8 @@ impl event_composer_t {
         }
     }
 
-    /// Takes an event. Returns what is to be done to the document, never `FullStack`, and puts where its node or
-    /// alias goes: zeros if it has none. If the deed refuses the event nothing changes.
+    /// Takes an event. Returns what is to be done to the document, never `FullStack`, and puts where its node
+    /// or alias goes: zeros if it has none. If the deed refuses the event nothing changes.
     ///
     /// # Errors
     ///

@@ -1,5 +1,5 @@
-//! Where the events of a list belong, beside the documents that its loads give. A test vector has the parts of
-//! a list; and for each place its id, role, parent, index and depth, and whether all documents have them.
+//! Where the events of a list belong, beside the documents that its loads give. A test vector has the parts
+//! of a list; and for each place its id, role, parent, index and depth, and whether all documents have them.
 
 use crate::texts::shown;
 use anyhow::Result;
