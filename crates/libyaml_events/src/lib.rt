@@ -20,7 +20,9 @@ mod texts;
 
 pub use event_kinds::{is_event, is_stream_end, no_event};
 pub use libyaml_automaton::TokenTypes;
-pub use parse::{yaml_parser_parse, yaml_parser_parse_into};
+pub use parse::{
+    yaml_named_error_t, yaml_parser_parse, yaml_parser_parse_into, yaml_parser_parse_named,
+};
 pub use parser::{
     yaml_parser_between_documents, yaml_parser_delete, yaml_parser_initialize,
     yaml_parser_set_max_entries, yaml_parser_t,

@@ -10,6 +10,7 @@ ghost use Rattle.libyaml_events.specs.sources.History.{History, ForHistory, Reme
 ghost use Rattle.libyaml_events.specs.sources.History.{is_over, has_failed, kept_fault, keeping};
 ghost use Rattle.libyaml_events.specs.sources.History.{between_documents};
 ghost use Rattle.libyaml_events.specs.sources.RunToCome.{RunToCome, ForRun};
+ghost use Rattle.libyaml_events.specs.sources.Naming.{is_undefined_handle};
 ghost use Rattle.libyaml_events.specs.sources.Pushes.{done_by};
 ghost use Rattle.libyaml_types.specs.declared.token.yaml_token_t.{yaml_token_t};
 ghost use Rattle.libyaml_types.specs.declared.event.yaml_event_t.{yaml_event_t};
@@ -265,6 +266,19 @@ impl TokenParser {
         ensures { result ≡ is_fault self.now.fault.error }
     {
         !matches!(self.prefix.error, yaml_error_type_t::YAML_NO_ERROR)
+    }
+
+    /// Returns whether the error that is kept is that of a tag handle which is not defined.
+    pub(crate) fn has_undefined_handle(&self) -> bool
+        ensures { result ≡ is_undefined_handle self.now.fault }
+    {
+        match self.prefix.problem {
+            Some(problem) => {
+                self.prefix.error == yaml_error_type_t::YAML_PARSER_ERROR
+                    && problem == "found undefined tag handle"
+            }
+            None => false,
+        }
     }
 
     /// Returns whether no document is open, or an error is kept.

@@ -15,7 +15,7 @@ ghost use Rattle.libyaml_automaton.specs.Growth.{stack_part_of};
 ghost use Rattle.libyaml_events.specs.machine.Config.{with_fault};
 ghost use Rattle.libyaml_events.specs.machine.Machine.{fault_with, step};
 ghost use Rattle.libyaml_events.specs.machine.Steps.{Steps};
-ghost use Rattle.libyaml_events.specs.machine.Outcomes.{result_of, wanted};
+ghost use Rattle.libyaml_events.specs.machine.Outcomes.{StillHeld, held_handle, result_of, wanted};
 ghost use Rattle.libyaml_events.specs.machine.Growth.{may_grow};
 ghost use Rattle.libyaml_events.specs.automaton.AutomatonResults.{GrowsAfter, IsPut, FollowsAutomaton, Puts};
 ghost use Rattle.libyaml_events.specs.automaton.View.{Ready};
@@ -80,6 +80,7 @@ impl TokenParser {
         ensures ready { result ≡ Step.Wants → Ready pending.new self.new }
         ensures grows { result ≡ Step.Failed → self.new.fault.error ≡ yaml_error_type_t.YAML_MEMORY_ERROR
             → may_grow (wanted pending.old) self.old token.old.content ≡ true }
+        ensures held { result ≡ Step.Failed → StillHeld (wanted pending.old) pending.new }
     {
         match self.step_automaton(token, pending) {
             Action::FullStates => self.step_again(Action::FullStates, token, pending, out),
@@ -104,6 +105,7 @@ impl TokenParser {
         ensures steps { Steps (step (wanted pending.old) self.old token.old)
             (result_of result pending.new out.new token.new self.new) self.new }
         ensures ready { result ≡ Step.Wants → Ready pending.new self.new }
+        ensures held { result ≡ Step.Failed → StillHeld (wanted pending.old) pending.new }
     {
         if !self.automaton.grow(full) {
             return self.fail_out_of_memory();
@@ -158,6 +160,7 @@ impl TokenParser {
         ensures puts { Puts led token.old pending.old self.old result token.new pending.new out.new self.new }
         ensures grows { result ≡ Step.Failed → self.new.fault.error ≡ yaml_error_type_t.YAML_MEMORY_ERROR
             → (led ≡ Action.AsksContent) × GrowsAfter pending.old self.old token.old }
+        ensures handle { result ≡ Step.Failed → held_handle pending.new ≡ held_handle pending.old }
     {
         match led {
             Action::Wants => Step::Wants,

@@ -1,5 +1,5 @@
 -- What a step returned, and the event and the rest that it left, as the machine's result.
-use Rattle.std.specs.Prelude.{Bool, true, false, Option, None, Some, Result, Ok, Err}
+use Rattle.std.specs.Prelude.{◌≡◌, ℕ, List, Bool, true, false, Option, None, Some, Result, Ok, Err}
 use Rattle.libyaml_types.specs.declared.event.yaml_event_t.{yaml_event_t}
 use Rattle.libyaml_types.specs.declared.enums.yaml_error_type_t.{yaml_error_type_t}
 use Rattle.libyaml_automaton.specs.Automaton.{AfterDirective, AfterProperties}
@@ -9,6 +9,7 @@ use Rattle.libyaml_events.specs.declared.step.Step.{Step}
 use Rattle.libyaml_events.specs.declared.step.Step.TheVariants as stepped
 use Rattle.libyaml_events.specs.declared.pending.Pending.{Pending}
 use Rattle.libyaml_types.specs.declared.token.yaml_token_t.{yaml_token_t}
+use Rattle.libyaml_types.specs.declared.token.unnamed_yaml_token_t_data_tag.{unnamed_yaml_token_t_data_tag}
 use Rattle.libyaml_events.specs.machine.Config.{Machine, holding}
 use Rattle.libyaml_events.specs.machine.Read.{PropertyTexts, DirectiveTexts}
 use Rattle.libyaml_events.specs.machine.Want.{Texts, no_texts, Want, Progress, Given, Wants}
@@ -38,6 +39,17 @@ wanted p = record {
   next = purposes.purpose_of p.reading;
   texts = texts_for (purposes.purpose_of p.reading) p.properties p.directives;
 }
+
+-- the handle of the tag that was read last, which a step that failed leaves
+abbrev pub handle_in : Option unnamed_yaml_token_t_data_tag → Option (List ℕ)
+handle_in None = None
+handle_in (Some g) = Some g.handle
+
+abbrev pub held_handle : Pending → Option (List ℕ)
+held_handle p = handle_in p.properties.tag
+
+abbrev pub StillHeld : Want → Pending → Type 0
+StillHeld w p = (g : unnamed_yaml_token_t_data_tag) → w.texts.tag ≡ Some g → held_handle p ≡ Some g.handle
 
 -- the token t is held where the event comes before it; a step that failed has the kind of the error that is kept
 abbrev pub result_of : Step → Pending → yaml_event_t → (t : yaml_token_t) → Machine → Result Progress yaml_error_type_t

@@ -9,7 +9,7 @@ ghost use Rattle.libyaml_grammar.specs.grammar.Events.{event};
 ghost use Rattle.libyaml_types.specs.declared.enums.yaml_token_type_t.TheVariants.{YAML_SCALAR_TOKEN};
 ghost use Rattle.libyaml_automaton.specs.Numbers.{flag, place_of};
 ghost use Rattle.libyaml_automaton.specs.Fits.{FitsContent, IsFull, opens_at};
-ghost use Rattle.libyaml_events.specs.machine.Outcomes.{only_if, result_of};
+ghost use Rattle.libyaml_events.specs.machine.Outcomes.{held_handle, only_if, result_of};
 ghost use Rattle.libyaml_events.specs.machine.Growth.{joins};
 ghost use Rattle.libyaml_events.specs.machine.Machine.{Progressed};
 ghost use Rattle.libyaml_events.specs.machine.Steps.{Steps};
@@ -44,6 +44,7 @@ impl TokenParser {
             out.new self.new }
         ensures grows { result ≡ Step.Failed → self.new.fault.error ≡ yaml_error_type_t.YAML_MEMORY_ERROR
             → GrowsAfter pending.old self.old token.old }
+        ensures handle { result ≡ Step.Failed → held_handle pending.new ≡ held_handle pending.old }
     {
         let tag = match self.take_tag(pending) {
             Ok(tag) => tag,
@@ -65,6 +66,7 @@ impl TokenParser {
             out.new self.new }
         ensures grows { result ≡ Step.Failed → self.new.fault.error ≡ yaml_error_type_t.YAML_MEMORY_ERROR
             → GrowsAfter pending.old self.old token.old }
+        ensures handle { result ≡ Step.Failed → held_handle pending.new ≡ held_handle pending.old }
     {
         self.put_content(None, token, pending, out)
     }
@@ -86,6 +88,7 @@ impl TokenParser {
             × (result ≡ Step.Wants → ⊥) }
         ensures grows { result ≡ Step.Failed → self.new.fault.error ≡ yaml_error_type_t.YAML_MEMORY_ERROR
             → opens_at (place_of pending.old.reading.place) (token_type token.old.content) ≡ true }
+        ensures handle { result ≡ Step.Failed → held_handle pending.new ≡ held_handle pending.old }
     {
         forget_earlier(pending);
         out.start_mark = pending.reading.start_mark;
@@ -111,6 +114,7 @@ impl TokenParser {
             × (result ≡ Step.Wants → ⊥) }
         ensures grows { result ≡ Step.Failed → self.new.fault.error ≡ yaml_error_type_t.YAML_MEMORY_ERROR
             → opens_at (place_of pending.old.reading.place) (token_type token.old.content) ≡ true }
+        ensures handle { result ≡ Step.Failed → held_handle pending.new ≡ held_handle pending.old }
     {
         self.put_content_of::<false>(tag, token, pending, out)
     }
@@ -133,6 +137,7 @@ impl TokenParser {
             × (result ≡ Step.Wants → ⊥) }
         ensures grows { result ≡ Step.Failed → self.new.fault.error ≡ yaml_error_type_t.YAML_MEMORY_ERROR
             → opens_at (place_of pending.old.reading.place) (token_type token.old.content) ≡ true }
+        ensures handle { result ≡ Step.Failed → held_handle pending.new ≡ held_handle pending.old }
     {
         let end_mark = pending.reading.end_mark;
         match self.lead_content::<IS_SCALAR>(token, pending) {
@@ -166,6 +171,7 @@ impl TokenParser {
     fn take_tag(&mut self, pending: &mut Pending) -> Result<Option<String>, yaml_error_type_t>
         ensures reading { pending.new.reading ≡ pending.old.reading }
         ensures anchor { pending.new.properties.anchor ≡ pending.old.properties.anchor }
+        ensures handle { held_handle pending.new ≡ held_handle pending.old }
         ensures ok { OnOk result (self.new ≡ self.old) }
         ensures tag { IfOk result (λ g. ReadsTag
             (only_if (flag pending.old.reading.has_tag) pending.old.properties.tag) self.old

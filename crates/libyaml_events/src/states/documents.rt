@@ -166,6 +166,7 @@ impl TokenParser {
         ensures steps { Steps (step (wanted pending.old) self.old token.old)
             (result_of result pending.new out.new token.new self.new) self.new }
         ensures ready { result ≡ Step.Wants → Ready pending.new self.new }
+        ensures untagged { (wanted pending.old).texts.tag ≡ None }
         ensures grows { result ≡ Step.Failed → self.new.fault.error ≡ yaml_error_type_t.YAML_MEMORY_ERROR
             → may_grow (wanted pending.old) self.old token.old.content ≡ true }
     {

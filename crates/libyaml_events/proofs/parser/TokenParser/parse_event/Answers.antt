@@ -1,6 +1,6 @@
 use Rattle.std.proofs.Common.{◌≡◌, ◌∙◌, None, Err, ap, pos, rules, sym}
 use Rattle.libyaml_events.specs.machine.Config.{is_fault, parser, token_if, with_lookahead}
-use Rattle.libyaml_events.proofs.calls.CallLemmas.{asks_less, fetched, faulted, first_reading, gave_event, gave_fault, wants_more}
+use Rattle.libyaml_events.proofs.calls.CallLemmas.{asks_less, fetched, faulted, faulted_holds, first_reading, gave_event, gave_fault, names_held, wants_more}
 use Rattle.libyaml_events.proofs.calls.FailedCalls.{fault_left, steps_empty}
 use Rattle.libyaml_events.proofs.layer.Agreeing.{fetched_fault, fetched_ready, kept_fault}
 use Rattle.libyaml_events.proofs.parser.TokenParser.parse_event.Goals as goal
@@ -108,3 +108,28 @@ returns-in-Failed-clause-call g c = λ max.
     (gave_fault g.S.yaml_token_source_t.gives _ _ _ _ _ (c.loop-lookahead.invariant.0 max) max _ _
     (steps_empty _ c.step.new.self c.step.new.self.fault.error
     (rw c.in-Failed.is at c.step.ensures.steps)) (λ m. c.step.ensures.grows c.in-Failed.is m))
+
+pub returns-in_err-next_token-clause-handle : goal.returns-in_err-next_token-clause-handle
+returns-in_err-next_token-clause-handle g c = λ max.
+    let gives = g.S.yaml_token_source_t.gives in
+    let e : c.from_residual.result ≡ Err c.in_err-next_token.field-0.0 = search rules in
+    rw (e, c.next_token.ensures.taken) (faulted_holds gives _ _ (token_if c.args.lookahead.now.stays c.args.lookahead.now.token) c.args.source.now c.next_token.new.source c.args.self.now c.next_token.new.self
+    c.in_err-next_token.field-0.0 max _ (first_reading gives
+    (parser max c.args.source.now (with_lookahead c.args.lookahead.now c.args.self.now))
+    (sym c.is_over.ensures ∙ c.if-is_over.false)) c.in_err-next_token.ensures.fetches)
+
+pub returns-in_err-ask_source-in-Wants-clause-handle : goal.returns-in_err-ask_source-in-Wants-clause-handle
+returns-in_err-ask_source-in-Wants-clause-handle g c = λ max.
+    let gives = g.S.yaml_token_source_t.gives in
+    let e : c.from_residual-in_err-ask_source-in-Wants.result ≡ Err c.in_err-ask_source-in-Wants.field-0.0 = search rules in
+    rw (e, c.loop-lookahead.invariant.2) (faulted_holds gives _ _ None c.loop-lookahead.source c.ask_source.new.source c.step.new.self c.ask_source.new.self
+    c.in_err-ask_source-in-Wants.field-0.0 max _ (wants_more gives _ _ _ _ _ (c.loop-lookahead.invariant.0 max) _ _
+    (rw c.in-Wants.is at c.step.ensures.steps)) c.in_err-ask_source-in-Wants.ensures.fetches)
+
+pub returns-in-Failed-clause-handle : goal.returns-in-Failed-clause-handle
+returns-in-Failed-clause-handle g c = λ max.
+    rw (c.fail.ensures.error, c.fail.ensures.left, c.loop-lookahead.invariant.2)
+    (names_held g.S.yaml_token_source_t.gives _ _ _ _ _ (c.loop-lookahead.invariant.0 max) _ _ max c.step.new.pending
+    (steps_empty _ c.step.new.self c.step.new.self.fault.error
+    (rw c.in-Failed.is at c.step.ensures.steps)) (λ m. c.step.ensures.grows c.in-Failed.is m)
+    (c.step.ensures.held c.in-Failed.is))

@@ -63,4 +63,5 @@ returns-in_default g c =
           (c.lead_content.ensures.led o h c.args.pending.now.properties.anchor (option_map string_bytes c.args.tag))
           (c.put_opening.ensures.puts c.lead_content.result _ opening c.lead_content.ensures.fits);
       grows = λ f. absurd cc;
+      handle = λ f. absurd cc;
     }
