@@ -82,7 +82,7 @@ impl Default for Event {
 pub struct Half {
     /// The error that ends the documents.
     pub error: Error,
-    /// The anchor or alias that a composer's error is about.
+    /// The anchor, alias or undefined tag handle that the error is about.
     pub name: Option<String>,
     /// The document that is open there, with its nodes so far. Its open collections end where the last
     /// event before the error does, and a key that waited for its value has an empty one. There is none

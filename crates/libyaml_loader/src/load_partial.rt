@@ -18,7 +18,8 @@ use crate::load::bound_of;
 use crate::refusal::{has_failed, keep_fault};
 use libyaml_documents::yaml_document_t;
 use libyaml_events::{
-    is_event, no_event, yaml_parser_parse_into, yaml_parser_t, yaml_token_source_t,
+    is_event, no_event, yaml_named_error_t, yaml_parser_parse_named, yaml_parser_t,
+    yaml_token_source_t,
 };
 use libyaml_types::{ZERO_MARK, unnamed_yaml_event_t_data, yaml_error_type_t, yaml_event_t};
 use std::alloc::Global;
@@ -29,7 +30,7 @@ use std::mem;
 pub struct yaml_partial_t {
     /// The kind of the error, which the parser keeps.
     pub error: yaml_error_type_t,
-    /// The anchor or alias that a composer error is about.
+    /// The anchor, alias or undefined tag handle that the error is about.
     pub name: Option<String>,
     /// The document that was open, with its nodes so far. Its open collections, and the document, end where
     /// the last event before the error does; a key that waited has an empty plain scalar as its value.
@@ -106,11 +107,11 @@ fn next_or_half<S: yaml_token_source_t>(
 {
     let mut end_mark = ZERO_MARK;
     loop {
-        if let Err(error) = yaml_parser_parse_into(parser, event) {
+        if let Err(yaml_named_error_t { error, handle }) = yaml_parser_parse_named(parser, event) {
             let document = composer.end_half(end_mark);
             return Err(yaml_partial_t {
                 error,
-                name: None,
+                name: handle,
                 document,
             });
         }

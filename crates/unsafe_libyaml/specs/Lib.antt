@@ -61,6 +61,7 @@ pub use Rattle.libyaml_events.specs.sources.CallsInTurn
 pub use Rattle.libyaml_events.specs.sources.Determined
 pub use Rattle.libyaml_events.specs.sources.History
 pub use Rattle.libyaml_types.specs.ListLaws
+pub use Rattle.libyaml_events.specs.sources.Naming
 pub use Rattle.libyaml_events.specs.sources.Needs
 pub use Rattle.libyaml_events.specs.sources.Iterates
 pub use Rattle.libyaml_events.specs.sources.Iterated

@@ -275,11 +275,21 @@ fn half_of(events: &[Event]) -> Option<Vec<String>> {
     Some(nodes.iter().map(line).collect())
 }
 
-/// The anchor of the event after these, at which a load fails.
+/// The anchor of the event after these, at which a load fails, or the undefined handle of the TAG at the error.
 fn name_of(bytes: &[u8], composed: &[Event]) -> Option<String> {
     let mut events = Parser::new(TokenList::from(tokens_of(bytes)));
-    let refused = events.nth(composed.len())?.ok()?;
-    refused.anchor().map(String::from)
+    let error = match events.nth(composed.len())? {
+        Ok(refused) => return refused.anchor().map(String::from),
+        Err(error) => error,
+    };
+    let tokens = tokens_of(bytes);
+    let bad = tokens.iter().find(|token| token.start_mark == error.mark())?;
+    match &bad.content {
+        TokenData::Tag(tag) if error.problem() == Some("found undefined tag handle") => {
+            Some(tag.handle.to_string())
+        }
+        _ => None,
+    }
 }
 
 /// The documents, and at the error the half of the one that is open.

@@ -21,6 +21,7 @@ use Rattle.libyaml_loader.specs.declared.load_partial.yaml_partial_t.{yaml_parti
 use Rattle.libyaml_loader.specs.document.Context.{loader_of}
 use Rattle.libyaml_loader.specs.loads.HalfDocument.{IsHalf, last_end}
 use Rattle.libyaml_loader.specs.loads.Loading.{ParserFails}
+use Rattle.libyaml_events.specs.sources.Naming.{NamesHandle}
 use Rattle.libyaml_loader.specs.loads.PartialLoad.{HalfOf, by_loader, by_memory, by_parser}
 use Rattle.libyaml_loader.specs.pushes.Composing as composing
 use Rattle.libyaml_loader.specs.declared.composer.DocumentBuilder.{DocumentBuilder}
@@ -64,9 +65,10 @@ module _ {S : Type 0} (g : Ghosts S) (n : ℕ) (first now : Parser S) (here : St
   at_last_end : IsHalf n m here p.document → IsHalf n (last_end zero_mark w.taken) here p.document
   at_last_end half = subst (λ (q : Mark). IsHalf n q here p.document) same half
 
-  pub half_by_parser : (new : Parser S) → ParserFails g now new → IsHalf n m here p.document → p.name ≡ None
+  pub half_by_parser : (new : Parser S) → ParserFails g now new → IsHalf n m here p.document
+      → NamesHandle g.gives now p.error new (option_map string_bytes p.name)
       → HalfOf g n first new p
-  half_by_parser new fails half none = by_parser w.taken now here w.took fails w.leads (at_last_end half) none
+  half_by_parser new fails half names = by_parser w.taken now here w.took fails w.leads (at_last_end half) names
 
   pub half_by_loader : (mid new : Parser S) (e : Event) (f : Fault) → Took g now mid (e ∷ [])
       → ((rest : List Event) (x : Ending) → loads_from n here (e ∷ rest) x ≡ Err f ∷ []) → new ≡ keeping f mid

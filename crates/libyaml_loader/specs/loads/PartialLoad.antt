@@ -9,6 +9,7 @@ use Rattle.libyaml_grammar.specs.runs.Runs.{Ending}
 use Rattle.libyaml_documents.specs.Documents.{Document}
 use Rattle.libyaml_events.specs.machine.Config.{Parser}
 use Rattle.libyaml_events.specs.sources.CallsInTurn.{Took}
+use Rattle.libyaml_events.specs.sources.Naming.{NamesHandle}
 use Rattle.libyaml_graphs.specs.loads.Leads.{Leads, loads_from}
 use Rattle.libyaml_graphs.specs.machine.Loader.{State, between}
 use Rattle.libyaml_loader.specs.declared.load_partial.yaml_partial_t.{yaml_partial_t}
@@ -20,13 +21,14 @@ abbrev pub as_load : Result Document yaml_partial_t → DocumentOrError
 as_load (Ok d) = Ok d
 as_load (Err p) = Err p.error
 
--- After the events that it took the parser failed, or the next event has an error of a load, which is about its anchor: then
+-- After the events that it took the parser failed, with the name of an undefined handle, or the next event has an error of a
+-- load, which is about its anchor: then
 -- the document that they leave open is closed where the last of them ends. Where an allocation failed at an event, none is
 -- given.
 pub data HalfOf {S : Type 0} (g : Ghosts S) (n : ℕ) (old new : Parser S) (p : yaml_partial_t) : Type 0 where
   by_parser : (taken : List Event) (parser : Parser S) (here : State) → Took g old parser taken
       → ParserFails g parser new → Leads n between taken [] here → IsHalf n (last_end zero_mark taken) here p.document
-      → p.name ≡ None → HalfOf g n old new p
+      → NamesHandle g.gives parser p.error new (option_map string_bytes p.name) → HalfOf g n old new p
   by_loader : (taken : List Event) (e : Event) (parser : Parser S) (here : State) (f : Fault)
       → Took g old parser (taken ++ e ∷ []) → KeptBy f parser new → Leads n between taken [] here
       → ((rest : List Event) (x : Ending) → loads_from n here (e ∷ rest) x ≡ Err f ∷ [])

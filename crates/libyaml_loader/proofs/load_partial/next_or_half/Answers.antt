@@ -5,6 +5,7 @@ use Rattle.libyaml_events.specs.parsers.EventsLeft.{events_left}
 use Rattle.libyaml_events.specs.parsers.Stages.{is_event}
 use Rattle.libyaml_events.specs.sources.Calls.{event_result}
 use Rattle.libyaml_events.specs.sources.History.{is_over}
+use Rattle.libyaml_events.specs.sources.Naming.{without_name}
 use Rattle.libyaml_types.specs.Fault.{fault_of}
 use Rattle.libyaml_graphs.specs.graphs.GraphParts.{closing_of}
 use Rattle.libyaml_loader.specs.declared.composer.DocumentBuilder.{DocumentBuilder}
@@ -18,29 +19,29 @@ use Rattle.libyaml_loader.proofs.loads.OnTheWay.{way_ends, way_fails, way_finds_
 use Rattle.libyaml_loader.proofs.loads.Taking.{after_close, finds_end, parser_fails, running, took_event}
 use Rattle.libyaml_loader.proofs.load_partial.next_or_half.Given as given
 use Rattle.libyaml_loader.proofs.load_partial.next_or_half.Goals as goal
-use Rattle.libyaml_loader.proofs.load_partial.next_or_half.Goals.{After-yaml_parser_parse_into}
+use Rattle.libyaml_loader.proofs.load_partial.next_or_half.Goals.{After-yaml_parser_parse_named}
 
 -- an event came
-record Came (g : given.Over) (c : After-yaml_parser_parse_into g) : Type 0 where
+record Came (g : given.Over) (c : After-yaml_parser_parse_named g) : Type 0 where
   took : Took g.S.yaml_token_source_t c.loop-error.parser
-      c.yaml_parser_parse_into.new.parser (c.yaml_parser_parse_into.new.event ∷ [])
+      c.yaml_parser_parse_named.new.parser (c.yaml_parser_parse_named.new.event ∷ [])
   runs : is_over c.loop-error.parser ≡ false
-  fell : events_left g.S.yaml_token_source_t.bound c.yaml_parser_parse_into.new.parser
+  fell : events_left g.S.yaml_token_source_t.bound c.yaml_parser_parse_named.new.parser
       < events_left g.S.yaml_token_source_t.bound c.loop-error.parser
 
-came : (g : given.Over) (c : After-yaml_parser_parse_into g) (u : Unit {0}) → c.yaml_parser_parse_into.result ≡ Ok u
-    → is_event c.yaml_parser_parse_into.new.event.content ≡ true → Came g c
+came : (g : given.Over) (c : After-yaml_parser_parse_named g) (u : Unit {0}) → c.yaml_parser_parse_named.result ≡ Ok u
+    → is_event c.yaml_parser_parse_named.new.event.content ≡ true → Came g c
 came g c u ok an_event =
     let t = g.S.yaml_token_source_t in
-    let call = c.yaml_parser_parse_into in
-    let is = ap (λ r. event_result r call.new.event) ok in
+    let call = c.yaml_parser_parse_named in
+    let is = ap (λ r. event_result (without_name r) call.new.event) ok in
     let run = running t g.met.S.yaml_token_source_t.follows c.loop-error.parser call.new.parser
-    (event_result call.result call.new.event) call.ensures call.new.event is an_event in
+    (event_result (without_name call.result) call.new.event) call.ensures.parses call.new.event is an_event in
     record {
       took = took_event t g.met.S.yaml_token_source_t.follows c.loop-error.parser call.new.parser
-          (event_result call.result call.new.event) call.ensures call.new.event is an_event;
+          (event_result (without_name call.result) call.new.event) call.ensures.parses call.new.event is an_event;
       runs = run;
-      fell = rw ok at (call.ensures.next.falls run);
+      fell = rw ok at (call.ensures.parses.next.falls run);
     }
 
 pub loop-error-init : goal.loop-error-init
@@ -50,18 +51,18 @@ loop-error-init g c =
     (h.0, h.1, c.requires.sound, refl, le_refl _, λ ended. refl)
 
 pub loop-error-smaller : goal.loop-error-smaller
-loop-error-smaller g c = (came g (goal.at.loop-error-smaller g c).After-yaml_parser_parse_into _
+loop-error-smaller g c = (came g (goal.at.loop-error-smaller g c).After-yaml_parser_parse_named _
     c.in_default.is (sym c.is_event.ensures ∙ c.if-not-is_event.false)).fell
 
 pub loop-error-preserved : goal.loop-error-preserved
 loop-error-preserved g c =
-    let call = c.yaml_parser_parse_into in
-    let k = came g (goal.at.loop-error-preserved g c).After-yaml_parser_parse_into _
+    let call = c.yaml_parser_parse_named in
+    let k = came g (goal.at.loop-error-preserved g c).After-yaml_parser_parse_named _
     c.in_default.is (sym c.is_event.ensures ∙ c.if-not-is_event.false) in
     let i = c.loop-error.invariant in
     let more = half_more g.S.yaml_token_source_t c.args.composer.now.max_entries c.args.parser.now c.loop-error.parser
     call.new.parser (composer_state c.loop-error.composer) (composer_state c.take_event.new.self) i.0 call.new.event k.took
-    (rw i.3 at (rw c.in-Ok-None.field-0-is at c.in-Ok-None.ensures.composes)) call.ensures.always.bound in (
+    (rw i.3 at (rw c.in-Ok-None.field-0-is at c.in-Ok-None.ensures.composes)) call.ensures.parses.always.bound in (
       more.0,
       more.1,
       c.take_event.ensures.sound,
@@ -73,41 +74,41 @@ loop-error-preserved g c =
 pub returns-in-Err-clause-loads : goal.returns-in-Err-clause-loads
 returns-in-Err-clause-loads g c =
     let t = g.S.yaml_token_source_t in
-    let call = c.yaml_parser_parse_into in
+    let call = c.yaml_parser_parse_named in
     way_fails t c.args.composer.now.max_entries c.args.parser.now c.loop-error.parser
     (composer_state c.loop-error.composer) c.loop-error.invariant.0 call.new.parser
     (parser_fails t g.met.S.yaml_token_source_t.follows c.loop-error.parser call.new.parser
-    (event_result call.result call.new.event) call.ensures c.in-Err.error
-    (ap (λ r. event_result r call.new.event) c.in-Err.is))
+    (event_result (without_name call.result) call.new.event) call.ensures.parses c.in-Err.field-0.error
+    (ap (λ r. event_result (without_name r) call.new.event) c.in-Err.is))
 
 pub returns-in-Err-clause-half : goal.returns-in-Err-clause-half
 returns-in-Err-clause-half g c =
     let t = g.S.yaml_token_source_t in
-    let call = c.yaml_parser_parse_into in
+    let call = c.yaml_parser_parse_named in
     let i = c.loop-error.invariant in
     half_by_parser t c.args.composer.now.max_entries c.args.parser.now c.loop-error.parser
     (composer_state c.loop-error.composer) i.0 c.loop-error.end_mark i.1 _ call.new.parser
     (parser_fails t g.met.S.yaml_token_source_t.follows c.loop-error.parser call.new.parser
-    (event_result call.result call.new.event) call.ensures c.in-Err.error
-    (ap (λ r. event_result r call.new.event) c.in-Err.is))
-    (rw i.3 at c.end_half-document.ensures) refl
+    (event_result (without_name call.result) call.new.event) call.ensures.parses c.in-Err.field-0.error
+    (ap (λ r. event_result (without_name r) call.new.event) c.in-Err.is))
+    (rw i.3 at c.end_half-document.ensures) c.in-Err.ensures.names
 
 pub returns-then-not-is_event-clause-loads : goal.returns-then-not-is_event-clause-loads
 returns-then-not-is_event-clause-loads g c =
     let t = g.S.yaml_token_source_t in
-    let call = c.yaml_parser_parse_into in
+    let call = c.yaml_parser_parse_named in
     let empty : is_event call.new.event.content ≡ false = sym c.is_event.ensures ∙ c.if-not-is_event.true in
     way_finds_end t c.args.composer.now.max_entries c.args.parser.now c.loop-error.parser
     (composer_state c.loop-error.composer) c.loop-error.invariant.0 call.new.parser c.empty_document.result
     (finds_end t g.met.S.yaml_token_source_t.follows c.loop-error.parser call.new.parser
-    (event_result call.result call.new.event)
-    call.ensures call.new.event (ap (λ r. event_result r call.new.event) c.in_default.is) empty)
+    (event_result (without_name call.result) call.new.event)
+    call.ensures.parses call.new.event (ap (λ r. event_result (without_name r) call.new.event) c.in_default.is) empty)
     c.empty_document.ensures
 
 pub returns-in-Some-clause-loads : goal.returns-in-Some-clause-loads
 returns-in-Some-clause-loads g c =
-    let call = c.yaml_parser_parse_into in
-    let k = came g (goal.at.returns-in-Some-clause-loads g c).After-yaml_parser_parse_into _
+    let call = c.yaml_parser_parse_named in
+    let k = came g (goal.at.returns-in-Some-clause-loads g c).After-yaml_parser_parse_named _
     c.in_default.is (sym c.is_event.ensures ∙ c.if-not-is_event.false) in
     way_refused g.S.yaml_token_source_t c.args.composer.now.max_entries c.args.parser.now c.loop-error.parser
     (composer_state c.loop-error.composer) c.loop-error.invariant.0 call.new.parser c.keep_fault-error.new.parser
@@ -116,8 +117,8 @@ returns-in-Some-clause-loads g c =
 
 pub returns-in-Some-clause-half : goal.returns-in-Some-clause-half
 returns-in-Some-clause-half g c =
-    let call = c.yaml_parser_parse_into in
-    let k = came g (goal.at.returns-in-Some-clause-half g c).After-yaml_parser_parse_into _
+    let call = c.yaml_parser_parse_named in
+    let k = came g (goal.at.returns-in-Some-clause-half g c).After-yaml_parser_parse_named _
     c.in_default.is (sym c.is_event.ensures ∙ c.if-not-is_event.false) in
     let i = c.loop-error.invariant in
     half_by_loader g.S.yaml_token_source_t c.args.composer.now.max_entries c.args.parser.now c.loop-error.parser
@@ -128,8 +129,8 @@ returns-in-Some-clause-half g c =
 pub returns-in-Ok-Some-clause-loads : goal.returns-in-Ok-Some-clause-loads
 returns-in-Ok-Some-clause-loads g c =
     let t = g.S.yaml_token_source_t in
-    let call = c.yaml_parser_parse_into in
-    let k = came g (goal.at.returns-in-Ok-Some-clause-loads g c).After-yaml_parser_parse_into _
+    let call = c.yaml_parser_parse_named in
+    let k = came g (goal.at.returns-in-Ok-Some-clause-loads g c).After-yaml_parser_parse_named _
     c.in_default.is (sym c.is_event.ensures ∙ c.if-not-is_event.false) in
     let x = c.loop-error.composer in
     let ends : (x.is_open ≡ true) × (closing_of call.new.event ≡ Some (closing_by c.in-Ok-Some.closing))
@@ -139,14 +140,14 @@ returns-in-Ok-Some-clause-loads g c =
     (closing_by c.in-Ok-Some.closing) c.end.result k.took (ap (λ (b : Bool). state_by b x.ctx) ends.0) ends.1
     (c.end.ensures.ended ∙ ap (λ (y : DocumentBuilder). ended_by (closing_by c.in-Ok-Some.closing) y.ctx) ends.2)
     (after_close t g.met.S.yaml_token_source_t.follows c.loop-error.parser call.new.parser
-    (event_result call.result call.new.event)
-    call.ensures call.new.event
-    (ap (λ r. event_result r call.new.event) c.in_default.is) (closing_by c.in-Ok-Some.closing) ends.1)
+    (event_result (without_name call.result) call.new.event)
+    call.ensures.parses call.new.event
+    (ap (λ r. event_result (without_name r) call.new.event) c.in_default.is) (closing_by c.in-Ok-Some.closing) ends.1)
 
 pub returns-in-Err-take_event-clause-loads : goal.returns-in-Err-take_event-clause-loads
 returns-in-Err-take_event-clause-loads g c =
-    let call = c.yaml_parser_parse_into in
-    let k = came g (goal.at.returns-in-Err-take_event-clause-loads g c).After-yaml_parser_parse_into _
+    let call = c.yaml_parser_parse_named in
+    let k = came g (goal.at.returns-in-Err-take_event-clause-loads g c).After-yaml_parser_parse_named _
     c.in_default.is (sym c.is_event.ensures ∙ c.if-not-is_event.false) in
     way_refused g.S.yaml_token_source_t c.args.composer.now.max_entries c.args.parser.now c.loop-error.parser
     (composer_state c.loop-error.composer) c.loop-error.invariant.0 call.new.parser c.keep_fault-error-in-Err-take_event.new.parser
@@ -155,7 +156,7 @@ returns-in-Err-take_event-clause-loads g c =
 
 pub returns-in-Err-take_event-clause-half : goal.returns-in-Err-take_event-clause-half
 returns-in-Err-take_event-clause-half g c =
-    let call = c.yaml_parser_parse_into in
+    let call = c.yaml_parser_parse_named in
     let x = c.loop-error.composer in
     half_by_memory g.S.yaml_token_source_t c.args.composer.now.max_entries c.args.parser.now call.new.parser
     c.keep_fault-error-in-Err-take_event.new.parser (composer_state x) call.new.event (fault_of c.take_event.new.self.fault)
