@@ -3,7 +3,7 @@
 //!     cargo run --example lint < FILE.yaml
 
 use pokhvizi::libyaml_documents::yaml_document_get_node;
-use pokhvizi::yaml::{ComposedEvents, Document, Documents, DuplicateKey, Event, EventData, Mark};
+use pokhvizi::yaml::{Document, Documents, DuplicateKey, Event, EventData, Mark, PlacedEvents};
 use scanner::Scanner;
 use std::collections::BTreeMap;
 use std::error::Error;
@@ -21,29 +21,21 @@ fn main() -> Result<(), Box<dyn Error>> {
 
 /// Prints the anchors that no alias names, and the collections that are nested too deep.
 fn look_at_events(text: &[u8]) -> Result<(), Box<dyn Error>> {
-    let (mut unused, mut depth) = (BTreeMap::new(), 0);
-    for event in ComposedEvents::new(Scanner::new(text).ok_or("out of memory")?) {
-        let event = event?;
+    let mut unused = BTreeMap::new();
+    for item in PlacedEvents::new(Scanner::new(text).ok_or("out of memory")?) {
+        let (event, place) = item?;
         note_anchor(&mut unused, &event);
-        let before = depth;
-        depth = depth_after(&event, before);
-        if before == MAX_DEPTH && depth > before {
-            println!("{}: more than {MAX_DEPTH} levels deep", event.start_mark);
-        }
-        if let EventData::DocumentEnd(_) = event.content {
-            print_anchors(std::mem::take(&mut unused));
+        match (&event.content, place) {
+            (EventData::SequenceStart(_) | EventData::MappingStart(_), Some(place))
+                if place.depth == MAX_DEPTH =>
+            {
+                println!("{}: more than {MAX_DEPTH} levels deep", event.start_mark);
+            }
+            (EventData::DocumentEnd(_), _) => print_anchors(std::mem::take(&mut unused)),
+            _ => {}
         }
     }
     Ok(())
-}
-
-/// Returns how many collections are open after an event.
-fn depth_after(event: &Event, depth: usize) -> usize {
-    match event.content {
-        EventData::SequenceStart(_) | EventData::MappingStart(_) => depth + 1,
-        EventData::SequenceEnd | EventData::MappingEnd => depth - 1,
-        _ => depth,
-    }
 }
 
 /// Notes the anchor of a node, or that an alias names one.

@@ -9,6 +9,7 @@
 mod constructors;
 mod documents;
 mod enums;
+mod halves;
 mod limits;
 mod parsers;
 mod places;
@@ -31,6 +32,7 @@ fn given(rt: &impl Host, vector: Vector<'_>) -> Result<String> {
         "documents" => documents::given(alloc, vector),
         "parsers" => parsers::given(rt, name),
         "places" => places::given(alloc, vector),
+        "halves" => halves::given(alloc, vector),
         "scanners" => scanners::given(alloc, vector),
         "limits" => limits::given(alloc, vector),
         _ => bail!("a table of no calls"),
