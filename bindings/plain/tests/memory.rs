@@ -150,6 +150,18 @@ fn ask(document: Document) -> Result<(), Error> {
     Ok(())
 }
 
+/// Puts each event into one variable, over the event before it.
+fn parse_in_place(tokens: impl TokenSource) -> Outcome {
+    let (mut parser, mut event, mut count) = (Parser::new(tokens), Event::default(), 0);
+    while let Some(parsed) = parser.next_into(&mut event) {
+        if let Err(error) = parsed {
+            return (count, Some(error));
+        }
+        count += 1;
+    }
+    (count, None)
+}
+
 fn push_all(tokens: &[Token]) -> Outcome {
     let (mut parser, mut events, mut pushed) = (PushParser::new(), Vec::new(), 0);
     for token in made_anew(tokens) {
@@ -181,6 +193,7 @@ fn push_documents(tokens: &[Token]) -> Outcome {
 /// Does everything with a list. Returns how many allocations that takes.
 fn refuse_all(name: &str, list: &[Token]) -> u64 {
     refuse_each(name, || outcome_of(Parser::new(tokens(made_anew(list)))))
+        + refuse_each(name, || parse_in_place(tokens(made_anew(list))))
         + refuse_each(name, || {
             outcome_of(Parser::new(limited(tokens(made_anew(list)), 100)))
         })

@@ -1,6 +1,6 @@
 //! Iterators over events and documents.
 
-use super::{Document, Error, ErrorKind, Event, TokenSource};
+use super::{Document, Error, ErrorKind, Event, EventData, TokenSource};
 use crate::kit::Global;
 use crate::libyaml_events::{
     is_event, no_event, yaml_parser_delete, yaml_parser_initialize, yaml_parser_parse_into,
@@ -13,6 +13,7 @@ use crate::libyaml_loader::{
 use alloc::string::String;
 use core::fmt;
 use core::iter::FusedIterator;
+use core::mem;
 use core::num::NonZeroU32;
 
 /// The events of a source: each [`Event`], or once the [`Error`] that ends them.
@@ -21,13 +22,17 @@ use core::num::NonZeroU32;
 /// `yaml_parser_parse`.
 pub struct Parser<S> {
     parser: yaml_parser_t<S>,
+    /// Where the iterator puts the next event, before it moves it out.
+    slot: Event,
 }
 
 impl<S: TokenSource> Parser<S> {
     /// Returns a parser of the tokens of a source, which is at its stream's start. Takes no memory.
     pub fn new(source: S) -> Self {
-        let parser = yaml_parser_initialize(Global, source);
-        Parser { parser }
+        Parser {
+            parser: yaml_parser_initialize(Global, source),
+            slot: no_event(),
+        }
     }
 
     /// Puts the next event into a variable, as the iterator returns it: the quickest loop moves no event.
@@ -53,9 +58,8 @@ impl<S: TokenSource> Iterator for Parser<S> {
 
     #[inline]
     fn next(&mut self) -> Option<Self::Item> {
-        let mut event = no_event();
-        match yaml_parser_parse_into(&mut self.parser, &mut event) {
-            Ok(()) if is_event(&event) => Some(Ok(event)),
+        match yaml_parser_parse_into(&mut self.parser, &mut self.slot) {
+            Ok(()) if is_event(&self.slot) => Some(Ok(take_event(&mut self.slot))),
             Ok(()) => None,
             Err(_) => Some(Err(Error::from(*self.parser.prefix()))),
         }
@@ -63,6 +67,17 @@ impl<S: TokenSource> Iterator for Parser<S> {
 }
 
 impl<S: TokenSource> FusedIterator for Parser<S> {}
+
+/// Moves an event out. Its marks stay, so that nothing but its kind is written.
+#[inline(always)]
+fn take_event(slot: &mut Event) -> Event {
+    let none = Event {
+        content: EventData::NoEvent,
+        start_mark: slot.start_mark,
+        end_mark: slot.end_mark,
+    };
+    mem::replace(slot, none)
+}
 
 impl<S> fmt::Debug for Parser<S> {
     fn fmt(&self, f: &mut fmt::Formatter<'_>) -> fmt::Result {
