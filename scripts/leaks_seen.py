@@ -1,15 +1,19 @@
 #!/usr/bin/env python3
 """Plants leaks, which no contract rules out, and fails where `gate/flat_memory.sh` sees one not.
 
-    python3 scripts/leaks_seen.py [LEAK..]        (no word: each of LEAKS)
+    python3 scripts/leaks_seen.py [LEAK..]              (no word: each of LEAKS)
+    python3 scripts/leaks_seen.py by_rustc [LEAK..]     (no further word: each but those of KEPT)
 
-In a copy each is planted in turn, and `rt run` proves and builds `vectors_hostile` over it. Texts are let go of by hand in
+In a copy each is planted in turn, and `rt run` proves and builds `vectors_hostile` over it. With `by_rustc` the crate `pokhvizi`
+is built over it instead, in seconds, and its test `memory.rs` has to see the leak. Texts are let go of by hand in
 `libyaml_events/src/states`, where `mem::forget` stands in place of a drop: LEAKS has one at each such place but
 `forget_anchor`, over which no run is known that holds an anchor, and one for the bound on what is kept, for handles, and for
-half a document. Some minutes each; needs `rt`, and GNU time.
+half a document. Some minutes each; needs `rt`, and GNU time. KEPT has those whose texts are freed with their parser, or
+which need a source that keeps texts, so that test sees none of them; `by_rustc` needs cargo.
 
 Run by hand, after such a place or `flat_memory.sh` changed.
 """
+import os
 import shutil
 import subprocess
 import sys
@@ -45,6 +49,7 @@ LEAKS = {
     "later_handles_forgotten": (HANDLES, "clear", "self.others = BTreeMap::new(*self.first.allocator());", "std::mem::forget(std::mem::replace(&mut self.others, BTreeMap::new(*self.first.allocator())));"),
     "half_a_document_forgotten": ("libyaml_loader/src/composer.rt", "keep", "self.ctx = loader_ctx::new(self.ctx.alloc, self.max_entries);", "let fresh = loader_ctx::new(self.ctx.alloc, self.max_entries); mem::forget(mem::replace(&mut self.ctx, fresh));"),
 }
+KEPT = {"text_kept_before_forgotten", "long_text_kept"}
 
 
 def planted(leak, crates):
@@ -76,17 +81,35 @@ def seen(leak, room):
     return (f"seen in {' '.join(works)}", True) if works else ("not seen", False)
 
 
+def seen_by_rustc(leak, room):
+    """Whether the test of the crate `pokhvizi` sees a leak, planted in this copy; what was said if it isn't built."""
+    path, text = planted(leak, room / "crates")
+    was = path.read_text()
+    path.write_text(text)
+    run = subprocess.run(["cargo", "test", "-q", "--release", "--offline", "--features", "alloc", "--test", "memory"], cwd=room,
+                         env={**os.environ, "CARGO_TARGET_DIR": str(room / "target")}, stdin=subprocess.DEVNULL, capture_output=True, text=True)
+    path.write_text(was)
+    if "running" not in run.stdout:
+        return f"not built: {run.stderr[-1000:]}", False
+    return ("seen by memory.rs", True) if run.returncode and "what is left behind" in run.stdout + run.stderr else ("not seen", False)
+
+
 def main(words):
+    by_rustc = words[:1] == ["by_rustc"]
+    words = words[by_rustc:]
     if not set(words) <= set(LEAKS):
         sys.exit(__doc__)
     unseen = 0
     with tempfile.TemporaryDirectory() as folder:
-        room = Path(folder)
-        copied(room)
-        (room / "scripts/gate").mkdir(parents=True)
-        shutil.copy2(TOP / "scripts/gate/flat_memory.sh", room / "scripts/gate")
-        for leak in words or LEAKS:
-            says, is_seen = seen(leak, room)
+        room = Path(folder) / "copy"
+        if by_rustc:
+            shutil.copytree(TOP, room, symlinks=True, ignore=shutil.ignore_patterns(".git", "out", "target"))
+        else:
+            copied(room)
+            (room / "scripts/gate").mkdir(parents=True)
+            shutil.copy2(TOP / "scripts/gate/flat_memory.sh", room / "scripts/gate")
+        for leak in words or [leak for leak in LEAKS if not by_rustc or leak not in KEPT]:
+            says, is_seen = (seen_by_rustc if by_rustc else seen)(leak, room)
             print(f"{leak}: {says}", flush=True)
             unseen += not is_seen
     if unseen:

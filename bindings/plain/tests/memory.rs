@@ -264,3 +264,46 @@ fn each_allocation_of_a_large_document_is_refused() {
     );
     assert!(refuse_all("a large document", &list) > 2_000);
 }
+
+/// Nodes with an anchor, a tag and a text, each longer or each shorter than the one before it, and scalars that get
+/// longer; after each an event that has none.
+fn texts_of_all_lengths() -> Vec<Token> {
+    use TokenData::*;
+    let mark = Mark {
+        index: 0,
+        line: 0,
+        column: 0,
+    };
+    let mut data = vec![TokenData::stream_start(Encoding::UTF8), FlowSequenceStart];
+    for lengths in [[2, 20, 60], [60, 20, 2]] {
+        let scalar = TokenData::scalar(&"x".repeat(lengths[2]), ScalarStyle::PLAIN).unwrap();
+        let contents = [
+            vec![scalar],
+            vec![FlowSequenceStart, FlowSequenceEnd],
+            vec![FlowMappingStart, Key, Value, FlowMappingEnd],
+        ];
+        for content in contents {
+            let name = format!("{:a>width$}", data.len(), width = lengths[0]);
+            data.push(TokenData::anchor(&name).unwrap());
+            data.push(TokenData::tag("!", &"t".repeat(lengths[1])).unwrap());
+            data.extend(content);
+            data.extend([FlowEntry, FlowSequenceStart, FlowSequenceEnd, FlowEntry]);
+        }
+    }
+    for length in [2, 20, 60] {
+        data.push(TokenData::scalar(&"x".repeat(length), ScalarStyle::PLAIN).unwrap());
+        data.extend([FlowEntry, FlowSequenceStart, FlowSequenceEnd, FlowEntry]);
+    }
+    data.extend([FlowSequenceEnd, StreamEnd]);
+    data.into_iter()
+        .map(|data| Token::new(data, mark, mark))
+        .collect()
+}
+
+#[test]
+fn each_text_goes_with_the_event_over_it() {
+    let list = texts_of_all_lengths();
+    let mut documents = Documents::new(tokens(made_anew(&list)));
+    assert_eq!(documents.next().unwrap().unwrap().nodes().len(), 23);
+    assert!(refuse_all("texts of all lengths", &list) > 200);
+}
