@@ -13,7 +13,7 @@ use Rattle.libyaml_events.specs.sources.Determined.{BeginsEachRun, OneBegins}
 use Rattle.libyaml_events.specs.sources.History.{source_results}
 use Rattle.libyaml_events.specs.sources.Needs.{EachNeeded, EachWasNeeded, NeedsMore}
 use Rattle.libyaml_events.specs.sources.Parsing.{HasFailed, IsWhole, StopsShort, after_viable_prefix, amid_properties}
-use Rattle.libyaml_grammar.proofs.exported.Injectivity.{head_same, tail_same, not_cons}
+use Rattle.libyaml_grammar.proofs.exported.Injectivity.{head_same, not_cons, ok_not_err, ok_same, tail_same}
 use Rattle.libyaml_events.proofs.exported.OneOutcome.{answers_then, same_tokens, not_faulted, same_ends, ends_there, ends_here, Compared, same, first_longer, second_longer, compared, faulty_run, failed_needs_no_more}
 
 -- Where a run stopped: at the end of tokens after which none is needed, whatever was given, or at the source's
@@ -80,12 +80,9 @@ further : (l asked : List Token) (last : List SourceResult) (x : SourceResult) (
 further l [] last x rest e = after l refl e
 further [] (u ∷ asked) last x rest e = among u asked refl
 further (t ∷ l) (u ∷ asked) last x rest e
-    = go (token_same (head_same (Ok u) (Ok t) (source_results asked last) (source_results l (x ∷ rest)) e))
+    = go (ok_same u t (head_same (Ok u) (Ok t) (source_results asked last) (source_results l (x ∷ rest)) e))
     (further l asked last x rest (tail_same (Ok u) (Ok t) (source_results asked last) (source_results l (x ∷ rest)) e))
   where
-    token_same : ◌≡◌ {A = SourceResult} (Ok u) (Ok t) → u ≡ t
-    token_same h = cc
-
     go : u ≡ t → Further l asked last x rest → Further (t ∷ l) (u ∷ asked) last x rest
     go h (among v following i) = among v following (ap (λ (z : Token). z ∷ asked) h ∙ ap (λ (z : List Token). t ∷ z) i)
     go h (after front i j) = after front (ap (λ (z : Token). z ∷ l) (sym h) ∙ ap (λ (z : List Token). u ∷ z) i) j
@@ -132,22 +129,15 @@ same_runs a c d x y (at_fault l g e r) (at_fault m h f s) =
   where
     same_fronts : (m l : List Token) (h g : Fault) → source_results m (Err h ∷ []) ≡ source_results l (Err g ∷ []) → m ≡ l
     same_fronts [] [] h g i = refl
-    same_fronts [] (u ∷ l) h g i = absurd (not (head_same (Err h) (Ok u) [] (source_results l (Err g ∷ [])) i))
-      where
-        not : ◌≡◌ {A = SourceResult} (Err h) (Ok u) → ⊥
-        not j = cc
-    same_fronts (t ∷ m) [] h g i = absurd (not (head_same (Ok t) (Err g) (source_results m (Err h ∷ [])) [] i))
-      where
-        not : ◌≡◌ {A = SourceResult} (Ok t) (Err g) → ⊥
-        not j = cc
+    same_fronts [] (u ∷ l) h g i
+        = absurd (ok_not_err u h (sym (head_same (Err h) (Ok u) [] (source_results l (Err g ∷ [])) i)))
+    same_fronts (t ∷ m) [] h g i
+        = absurd (ok_not_err t g (head_same (Ok t) (Err g) (source_results m (Err h ∷ [])) [] i))
     same_fronts (t ∷ m) (u ∷ l) h g i
         = ap (λ (z : Token). z ∷ m)
-        (token_same (head_same (Ok t) (Ok u) (source_results m (Err h ∷ [])) (source_results l (Err g ∷ [])) i))
+        (ok_same t u (head_same _ _ (source_results m (Err h ∷ [])) (source_results l (Err g ∷ [])) i))
         ∙ ap (λ (z : List Token). u ∷ z)
         (same_fronts m l h g (tail_same (Ok t) (Ok u) (source_results m (Err h ∷ [])) (source_results l (Err g ∷ [])) i))
-      where
-        token_same : ◌≡◌ {A = SourceResult} (Ok t) (Ok u) → t ≡ u
-        token_same j = cc
 
 -- two runs that were asked for, each of them stopped: by the same results they are one
 pub record AskedRun (given : List Event) (x : Ending) : Type 0 where
@@ -195,12 +185,10 @@ token_prefix [] b r s o = inl (b, refl)
 token_prefix (t ∷ a) [] r s o = inr (t ∷ a, refl)
 token_prefix (t ∷ a) (u ∷ b) r s o = go (heads o) (token_prefix a b r s (tails o))
   where
-    token_same : ◌≡◌ {A = SourceResult} (Ok t) (Ok u) → t ≡ u
-    token_same h = cc
-
     heads : OneBegins (Ok t ∷ source_results a r) (Ok u ∷ source_results b s) → t ≡ u
-    heads (inl (rest, e)) = token_same (sym (head_same (Ok u) (Ok t) (source_results b s) (source_results a r ++ rest) e))
-    heads (inr (rest, e)) = token_same (head_same (Ok t) (Ok u) (source_results a r) (source_results b s ++ rest) e)
+    heads (inl (rest, e))
+        = ok_same t u (sym (head_same _ _ (source_results b s) (source_results a r ++ rest) e))
+    heads (inr (rest, e)) = ok_same t u (head_same _ _ (source_results a r) (source_results b s ++ rest) e)
 
     tails : OneBegins (Ok t ∷ source_results a r) (Ok u ∷ source_results b s) → OneBegins (source_results a r) (source_results b s)
     tails (inl (rest, e)) = inl (rest, tail_same (Ok u) (Ok t) (source_results b s) (source_results a r ++ rest) e)
@@ -231,12 +219,9 @@ pub not_past_fault : (l : List Token) (t : Token) (rest : List Token) (r s : Lis
     → OneBegins (source_results (l ++ t ∷ rest) r) (source_results l (Err f ∷ s)) → ⊥
 not_past_fault [] t rest r s f o = go o
   where
-    no : ◌≡◌ {A = SourceResult} (Ok t) (Err f) → ⊥
-    no h = cc
-
     go : OneBegins (source_results (t ∷ rest) r) (Err f ∷ s) → ⊥
-    go (inl (k, e)) = no (sym (head_same (Err f) (Ok t) s (source_results rest r ++ k) e))
-    go (inr (k, e)) = no (head_same (Ok t) (Err f) (source_results rest r) (s ++ k) e)
+    go (inl (k, e)) = ok_not_err t f (sym (head_same (Err f) (Ok t) s (source_results rest r ++ k) e))
+    go (inr (k, e)) = ok_not_err t f (head_same (Ok t) (Err f) (source_results rest r) (s ++ k) e)
 not_past_fault (u ∷ l) t rest r s f o = not_past_fault l t rest r s f (go o)
   where
     go : OneBegins (Ok u ∷ source_results (l ++ t ∷ rest) r) (Ok u ∷ source_results l (Err f ∷ s))
