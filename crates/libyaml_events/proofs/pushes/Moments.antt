@@ -1,11 +1,13 @@
 -- Each moment has one next, but for the token that is handed over; so two moments by the same tokens and events are one.
-use Rattle.std.proofs.Common.{◌≡◌, ◌≤◌, ◌+◌, ◌⊎◌, inl, inr, ◌++◌, ◌∷◌, ℕ, arith, List, [], length, Some, None, Ok, Err, refl, sym, ap, ◌∙◌, subst, append_assoc, append-nil}
+use Rattle.std.proofs.Common.{◌≡◌, ◌≤◌, ◌<◌, ◌+◌, ◌⊎◌, inl, inr, ◌++◌, ◌∷◌, ℕ, arith, List, [], length, Some, None, Ok, Err, refl, sym, ap, ◌∙◌, subst, append_assoc, append-nil}
+use Rattle.std.proofs.lemmas.List.{length_push}
 use Rattle.libyaml_grammar.specs.grammar.Tokens.{Token}
 use Rattle.libyaml_grammar.specs.grammar.Events.{Event}
 use Rattle.libyaml_grammar.proofs.exported.Injectivity.{head_same, not_cons, tail_same}
 use Rattle.libyaml_events.specs.machine.Config.{Config, Machine}
 use Rattle.libyaml_events.specs.machine.Machine.{Progressed, step}
 use Rattle.libyaml_events.specs.machine.Want.{Want, Given, Wants}
+use Rattle.libyaml_events.proofs.calls.Keeping.{KeptBy, keeps}
 use Rattle.libyaml_events.specs.sources.Pushed.{Pushed, PushParser, push_parser_at}
 use Rattle.libyaml_events.specs.sources.Trace.{Moment, Next, Reached, StepLeads, Trace, after_event, amid, goes_on, here}
 
@@ -27,32 +29,20 @@ record Further (a b : Moment) : Type 0 where
   all : tokens b ≡ tokens a ++ more
   counts : count a ≤ count b
 
-same_tokens : (a b : Moment) → tokens b ≡ tokens a → count a ≤ count b → Further a b
-same_tokens a b e k = record { more = []; all = e ∙ sym (append-nil (tokens a)); counts = k }
-
-snoc_length : (g : List Event) (e : Event) → length g + 1 ≤ length (g ++ e ∷ [])
-snoc_length [] e = omega arith
-snoc_length (x ∷ g) e = let h = snoc_length g e in omega arith
-
-next_further : (a b : Moment) → Next a b → Further a b
-next_further (after_event c l g) b h = subst (Further (after_event c l g)) (sym h) (same_tokens _ _ refl (omega arith))
-next_further (amid w c None l g) b (i, (t, h))
-    = subst (Further (amid w c None l g)) (sym h) (record { more = t ∷ []; all = refl; counts = omega arith })
-next_further (amid w c (Some t) l g) b h = by (step w c t) h
-  where
-    by : (o : Progressed) → StepLeads o l g b → Further (amid w c (Some t) l g) b
-    by o i = grind (arith, same_tokens, snoc_length)
+step_further : (a : Moment) (o : Progressed) (w : Want) (c : Machine) (t : Token) (l : List Token)
+    (g : List Event) → Further a (amid w c (Some t) l g) → KeptBy (Further a) l g o
+step_further a o w c t l g f = grind (arith, length_push)
 
 further : {a b : Moment} → Trace a b → Further a b
-further {a} here = same_tokens a a refl (omega arith)
-further {a} (goes_on {b} n t) =
-    let f = next_further a b n in
-    let g = further t in
-    record {
-      more = f.more ++ g.more;
-      all = g.all ∙ (ap (λ (l : List Token). l ++ g.more) f.all ∙ append_assoc (tokens a) f.more g.more);
-      counts = let i = f.counts in let j = g.counts in omega arith;
-    }
+further {a} u = keeps (Further a)
+    (λ c l g f. record { more = f.more; all = f.all; counts = let i = f.counts in omega arith })
+    (λ w c t l g i f. record {
+      more = f.more ++ t ∷ [];
+      all = ap (λ (y : List Token). y ++ t ∷ []) f.all ∙ append_assoc (tokens a) f.more (t ∷ []);
+      counts = f.counts;
+    })
+    (λ w c t l g f. step_further a (step w c t) w c t l g f) u
+    (record { more = []; all = sym (append-nil (tokens a)); counts = omega arith })
 
 one_next : (a x y : Moment) → Next a x → Next a y → (r s : List Token) → tokens x ++ r ≡ tokens y ++ s → x ≡ y
 one_next (after_event c l g) x y h k r s e = h ∙ sym k
@@ -90,6 +80,17 @@ no_event_more {g} {h} (goes_on {b = x} n u) e =
     let j : count x ≡ length g + 1 = ap count n in
     let k : length g ≡ length h = ap length e in
     absurd (omega arith)
+
+-- of two moments after events that of the further event is the further one
+pub event_more : {c d : Config} {l m : List Token} {g h : List Event} → Reached (after_event c l g)
+    → Reached (after_event d m h) → (more : List Token) → m ≡ l ++ more → length g < length h
+    → Trace (after_event c l g) (after_event d m h)
+event_more {c} {d} {l} {m} {g} {h} t u more e k = by (compared t u more [] (sym e ∙ sym (append-nil m)))
+  where
+    by : Trace (after_event c l g) (after_event d m h) ⊎ Trace (after_event d m h) (after_event c l g)
+        → Trace (after_event c l g) (after_event d m h)
+    by (inl v) = v
+    by (inr v) = let i = (further v).counts in absurd (omega arith)
 
 -- a further moment that wants a token comes of a further token alone
 no_token_more : {w v : Want} {c d : Machine} {l m : List Token} {g h : List Event}
