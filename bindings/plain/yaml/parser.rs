@@ -101,7 +101,7 @@ pub struct Half {
     pub name: Option<String>,
     /// The document that is open there, with its nodes so far. Its open collections end where the last
     /// event before the error does, and a key that waited for its value has an empty one. There is none
-    /// between two documents, or if an allocation failed.
+    /// between two documents, or if the load is out of memory.
     pub document: Option<Document>,
 }
 

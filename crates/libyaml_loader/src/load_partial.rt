@@ -42,7 +42,7 @@ pub struct yaml_partial_t {
 /// # Errors
 ///
 /// Those of `yaml_parser_load`, with the document that is open there. The document is missing if none is
-/// open, if an allocation failed, or if the parser kept the error already.
+/// open, if an allocation failed or a list is full, or if the parser kept the error already.
 pub fn yaml_parser_load_partial<S: yaml_token_source_t>(
     parser: &mut yaml_parser_t<S>,
 ) -> Result<yaml_document_t, yaml_partial_t>

@@ -77,21 +77,21 @@ module _ {S : Type 0} (g : Ghosts S) (n : ℕ) (first now : Parser S) (here : St
       (took_both g first now mid w.taken (e ∷ []) w.took took)
       (λ (asked : List Token) (given : List Event) (h : History mid asked given). keeps) w.leads refuses (at_last_end half) name
 
--- no memory was left for an event
-pub half_by_memory : {S : Type 0} (g : Ghosts S) (n : ℕ) (first mid new : Parser S) (here : State) (e : Event) (f : Fault)
-    → RefusesEvent ⊥ n here e f
-    → ((o : Opening) (l : Loader) → here ≡ within o l → (x : Fault) → bounded_option n l (part_of e) ≡ failed x → x ≡ memory_fault)
-    → new ≡ keeping f mid → (p : yaml_partial_t) → p.document ≡ None → p.name ≡ None → HalfOf g n first new p
-half_by_memory g n first mid new here e f refuses only keeps p document name = by_memory mid
-    (λ (asked : List Token) (given : List Event) (h : History mid asked given). keeps ∙ ap (λ (v : Fault). keeping v mid) is)
-    document name
-  where
-    of : RefusesEvent ⊥ n here e f → f ≡ memory_fault
-    of (composing.by_loads loads) = memory_only n here e f only loads
-    of (composing.by_memory is needs) = is
+  -- no memory was left for an event
+  pub half_by_memory : (mid new : Parser S) (e : Event) (f : Fault) → Took g now mid (e ∷ []) → RefusesEvent ⊥ n here e f
+      → ((o : Opening) (l : Loader) → here ≡ within o l → (x : Fault) → bounded_option n l (part_of e) ≡ failed x → x ≡ memory_fault)
+      → new ≡ keeping f mid → p.document ≡ None → p.name ≡ None → HalfOf g n first new p
+  half_by_memory mid new e f took refuses only keeps document name = by_memory w.taken e mid here
+      (took_both g first now mid w.taken (e ∷ []) w.took took)
+      (λ (asked : List Token) (given : List Event) (h : History mid asked given). keeps ∙ ap (λ (v : Fault). keeping v mid) is)
+      w.leads (subst (λ (v : Fault). RefusesEvent ⊥ n here e v) is refuses) document name
+    where
+      of : RefusesEvent ⊥ n here e f → f ≡ memory_fault
+      of (composing.by_loads loads) = memory_only n here e f only loads
+      of (composing.by_memory is needs) = is
 
-    is : f ≡ memory_fault
-    is = of refuses
+      is : f ≡ memory_fault
+      is = of refuses
 
 last_end_more : (m : Mark) (l : List Event) (e : Event) → last_end m (l ++ e ∷ []) ≡ e.end_mark
 last_end_more m [] e = refl

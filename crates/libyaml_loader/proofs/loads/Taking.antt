@@ -1,5 +1,5 @@
 -- What one call of the parser says of the events that a load takes.
-use Rattle.std.proofs.Common.{◌≡◌, ◌∷◌, List, [], Some, Bool, Ok, Err, true, false, refl, sym, ap, ◌∙◌, subst, arith}
+use Rattle.std.proofs.Common.{◌≡◌, ◌<◌, ◌∷◌, List, [], Some, Bool, Ok, Err, true, false, refl, sym, ap, ◌∙◌, subst, arith}
 use Rattle.std.proofs.lemmas.Bool.{true≢false}
 use Rattle.libyaml_types.specs.declared.enums.yaml_error_type_t.{yaml_error_type_t}
 use Rattle.libyaml_types.specs.declared.event.unnamed_yaml_event_t_data.{unnamed_yaml_event_t_data}
@@ -17,6 +17,7 @@ use Rattle.libyaml_events.specs.sources.RunToCome.{RestOfRun, RunToCome}
 use Rattle.libyaml_grammar.specs.runs.Runs.{Ending, Ends}
 use Rattle.libyaml_types.specs.Source.{Follows}
 use Rattle.libyaml_types.specs.declared.source.yaml_token_source_t.{Ghosts}
+use Rattle.libyaml_events.specs.parsers.EventsLeft.{events_left}
 use Rattle.libyaml_events.specs.parsers.OutsideEvents.{is_outside_event}
 use Rattle.libyaml_events.specs.parsers.Stages.{is_event}
 use Rattle.libyaml_grammar.specs.grammar.Tokens.{Token}
@@ -31,6 +32,12 @@ outside_end : (k : unnamed_yaml_event_t_data) (m : yaml_mark_t) (c : Closing) �
 outside_end k m c h = grind arith
 
 module _ {S : Type 0} (g : Ghosts S) where
+  -- an event came
+  pub record Came (old new : Parser S) (e : Event) : Type 0 where
+    pub took : Took g old new (e ∷ [])
+    pub runs : is_over old ≡ false
+    pub fell : events_left g.bound new < events_left g.bound old
+
   -- no event was left
   pub record FindsEnd (old new : Parser S) : Type 0 where
     pub took : Took g old new []
@@ -48,7 +55,7 @@ module _ {S : Type 0} (g : Ghosts S) where
       same : r ≡ Ok empty_event → e ≡ empty_event
       same h = grind arith
 
-      pub running : is_event e.content ≡ true → is_over old ≡ false
+      running : is_event e.content ≡ true → is_over old ≡ false
       running an_event = go (is_over old) refl
         where
           go : (b : Bool) → is_over old ≡ b → is_over old ≡ false
@@ -59,8 +66,15 @@ module _ {S : Type 0} (g : Ghosts S) where
           → CarriesOn g.gives old e new asked given
       carried an_event = rw is at (c.next.carries_on (running an_event))
 
-      pub took_event : is_event e.content ≡ true → Took g old new (e ∷ [])
+      took_event : is_event e.content ≡ true → Took g old new (e ∷ [])
       took_event an_event = took_one g follows old new e (carried an_event)
+
+      pub event_came : is_event e.content ≡ true → Came old new e
+      event_came an_event = record {
+        took = took_event an_event;
+        runs = running an_event;
+        fell = rw is at (c.next.falls (running an_event));
+      }
 
       -- after a document's end the parser stands between documents
       pub after_close : (d : Closing) → closing_of e ≡ Some d → between_documents new ≡ true

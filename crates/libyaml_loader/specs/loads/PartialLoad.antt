@@ -15,6 +15,7 @@ use Rattle.libyaml_graphs.specs.machine.Loader.{State, between}
 use Rattle.libyaml_loader.specs.declared.load_partial.yaml_partial_t.{yaml_partial_t}
 use Rattle.libyaml_loader.specs.loads.HalfDocument.{IsHalf, last_end}
 use Rattle.libyaml_loader.specs.loads.Loading.{DocumentOrError, KeptBy, ParserFails}
+use Rattle.libyaml_loader.specs.pushes.Composing.{RefusesEvent}
 
 -- the same as a load's result, without the half
 abbrev pub as_load : Result Document yaml_partial_t → DocumentOrError
@@ -23,8 +24,8 @@ as_load (Err p) = Err p.error
 
 -- After the events that it took the parser failed, with the name of an undefined handle, or the next event has an error of a
 -- load, which is about its anchor: then
--- the document that they leave open is closed where the last of them ends. Where an allocation failed at an event, none is
--- given.
+-- the document that they leave open is closed where the last of them ends. None is given if the next event is refused as out
+-- of memory: its list is full, or an allocation failed where the load takes memory.
 pub data HalfOf {S : Type 0} (g : Ghosts S) (n : ℕ) (old new : Parser S) (p : yaml_partial_t) : Type 0 where
   by_parser : (taken : List Event) (parser : Parser S) (here : State) → Took g old parser taken
       → ParserFails g parser new → Leads n between taken [] here → IsHalf n (last_end zero_mark taken) here p.document
@@ -34,5 +35,6 @@ pub data HalfOf {S : Type 0} (g : Ghosts S) (n : ℕ) (old new : Parser S) (p : 
       → ((rest : List Event) (x : Ending) → loads_from n here (e ∷ rest) x ≡ Err f ∷ [])
       → IsHalf n (last_end zero_mark taken) here p.document
       → option_map string_bytes p.name ≡ event_anchor e.content → HalfOf g n old new p
-  by_memory : (parser : Parser S) → KeptBy memory_fault parser new → p.document ≡ None → p.name ≡ None
-      → HalfOf g n old new p
+  by_memory : (taken : List Event) (e : Event) (parser : Parser S) (here : State) → Took g old parser (taken ++ e ∷ [])
+      → KeptBy memory_fault parser new → Leads n between taken [] here → RefusesEvent ⊥ n here e memory_fault
+      → p.document ≡ None → p.name ≡ None → HalfOf g n old new p

@@ -1,47 +1,32 @@
-use Rattle.std.proofs.Common.{◌≡◌, ◌<◌, Ok, Err, ap, rules, sym, ◌∙◌, subst, [], ◌∷◌, true, false, arith, Bool, Some}
+use Rattle.std.proofs.Common.{◌≡◌, Ok, Err, ap, rules, sym, ◌∙◌, subst, true, false, arith, Bool, Some}
 use Rattle.std.proofs.Math.Nat.{le_refl}
-use Rattle.libyaml_events.specs.parsers.EventsLeft.{events_left}
 use Rattle.libyaml_events.specs.parsers.Stages.{is_event}
 use Rattle.libyaml_events.specs.sources.Calls.{event_result}
-use Rattle.libyaml_events.specs.sources.History.{is_over}
 use Rattle.libyaml_types.specs.Fault.{fault_of}
 use Rattle.libyaml_graphs.specs.graphs.GraphParts.{closing_of}
 use Rattle.libyaml_graphs.specs.loads.Bounds.{next_bounded}
 use Rattle.libyaml_graphs.specs.loads.Loads.{left_over}
 use Rattle.libyaml_loader.specs.declared.composer.DocumentBuilder.{DocumentBuilder}
 use Rattle.libyaml_loader.specs.document.Context.{loader_of, opening_of_document}
-use Rattle.libyaml_events.specs.sources.CallsInTurn.{Took}
 use Rattle.libyaml_loader.specs.loads.Loading.{DocumentOrError, LoadsFrom}
 use Rattle.libyaml_loader.specs.pushes.Composing.{closing_by, ended_by, state_by, composer_state}
 use Rattle.libyaml_loader.proofs.loads.Ended.{has_not_ended}
 use Rattle.libyaml_loader.proofs.loads.OnTheWay.{way_ends, way_fails, way_finds_end, way_more, way_none, way_refused}
-use Rattle.libyaml_loader.proofs.loads.Taking.{after_close, finds_end, parser_fails, running, took_event}
+use Rattle.libyaml_loader.proofs.loads.Taking.{Came, after_close, event_came, finds_end, parser_fails}
 use Rattle.libyaml_loader.proofs.load.next_document.Given as given
 use Rattle.libyaml_loader.proofs.load.next_document.Goals as goal
 use Rattle.libyaml_loader.proofs.load.next_document.Goals.{After-yaml_parser_parse_into}
 
 -- an event came
-record Came (g : given.Over) (c : After-yaml_parser_parse_into g) : Type 0 where
-  took : Took g.S.yaml_token_source_t c.loop-composer.parser
-      c.yaml_parser_parse_into.new.parser (c.yaml_parser_parse_into.new.event ∷ [])
-  runs : is_over c.loop-composer.parser ≡ false
-  fell : events_left g.S.yaml_token_source_t.bound c.yaml_parser_parse_into.new.parser
-      < events_left g.S.yaml_token_source_t.bound c.loop-composer.parser
+abbrev CameBy : (g : given.Over) (c : After-yaml_parser_parse_into g) → Type 0
+CameBy g c = Came g.S.yaml_token_source_t c.loop-composer.parser c.yaml_parser_parse_into.new.parser c.yaml_parser_parse_into.new.event
 
 came : (g : given.Over) (c : After-yaml_parser_parse_into g) (u : Unit {0}) → c.yaml_parser_parse_into.result ≡ Ok u
-    → is_event c.yaml_parser_parse_into.new.event.content ≡ true → Came g c
-came g c u ok an_event =
-    let t = g.S.yaml_token_source_t in
+    → is_event c.yaml_parser_parse_into.new.event.content ≡ true → CameBy g c
+came g c u ok =
     let call = c.yaml_parser_parse_into in
-    let is = ap (λ r. event_result r call.new.event) ok in
-    let run = running t g.met.S.yaml_token_source_t.follows c.loop-composer.parser call.new.parser
-    (event_result call.result call.new.event) call.ensures call.new.event is an_event in
-    record {
-      took = took_event t g.met.S.yaml_token_source_t.follows c.loop-composer.parser call.new.parser
-          (event_result call.result call.new.event) call.ensures call.new.event is an_event;
-      runs = run;
-      fell = rw ok at (call.ensures.next.falls run);
-    }
+    event_came g.S.yaml_token_source_t g.met.S.yaml_token_source_t.follows c.loop-composer.parser call.new.parser
+    (event_result call.result call.new.event) call.ensures call.new.event (ap (λ r. event_result r call.new.event) ok)
 
 pub loop-composer-init : goal.loop-composer-init
 loop-composer-init g c = grind (arith, way_none, le_refl)

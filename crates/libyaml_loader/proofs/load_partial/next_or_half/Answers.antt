@@ -1,48 +1,33 @@
-use Rattle.std.proofs.Common.{◌≡◌, ◌<◌, Ok, Err, ap, sym, ◌∙◌, refl, [], ◌∷◌, true, false, arith, Bool, Some}
+use Rattle.std.proofs.Common.{◌≡◌, Ok, Err, ap, sym, ◌∙◌, refl, true, false, arith, Bool, Some}
 use Rattle.std.proofs.Math.Nat.{le_refl}
 use Rattle.libyaml_types.specs.Events.{zero_mark}
-use Rattle.libyaml_events.specs.parsers.EventsLeft.{events_left}
 use Rattle.libyaml_events.specs.parsers.Stages.{is_event}
 use Rattle.libyaml_events.specs.sources.Calls.{event_result}
-use Rattle.libyaml_events.specs.sources.History.{is_over}
 use Rattle.libyaml_events.specs.sources.Naming.{without_name}
 use Rattle.libyaml_types.specs.Fault.{fault_of}
 use Rattle.libyaml_graphs.specs.graphs.GraphParts.{closing_of}
 use Rattle.libyaml_loader.specs.declared.composer.DocumentBuilder.{DocumentBuilder}
 use Rattle.libyaml_loader.specs.document.Context.{loader_of, opening_of_document}
-use Rattle.libyaml_events.specs.sources.CallsInTurn.{Took}
 use Rattle.libyaml_loader.specs.pushes.Composing as composing
 use Rattle.libyaml_loader.specs.pushes.Composing.{closing_by, ended_by, state_by, composer_state}
 use Rattle.libyaml_loader.proofs.loads.Ended.{has_not_ended}
 use Rattle.libyaml_loader.proofs.loads.Halves.{half_by_loader, half_by_memory, half_by_parser, half_more, half_none, other_errors}
 use Rattle.libyaml_loader.proofs.loads.OnTheWay.{way_ends, way_fails, way_finds_end, way_refused}
-use Rattle.libyaml_loader.proofs.loads.Taking.{after_close, finds_end, parser_fails, running, took_event}
+use Rattle.libyaml_loader.proofs.loads.Taking.{Came, after_close, event_came, finds_end, parser_fails}
 use Rattle.libyaml_loader.proofs.load_partial.next_or_half.Given as given
 use Rattle.libyaml_loader.proofs.load_partial.next_or_half.Goals as goal
 use Rattle.libyaml_loader.proofs.load_partial.next_or_half.Goals.{After-yaml_parser_parse_named}
 
 -- an event came
-record Came (g : given.Over) (c : After-yaml_parser_parse_named g) : Type 0 where
-  took : Took g.S.yaml_token_source_t c.loop-error.parser
-      c.yaml_parser_parse_named.new.parser (c.yaml_parser_parse_named.new.event ∷ [])
-  runs : is_over c.loop-error.parser ≡ false
-  fell : events_left g.S.yaml_token_source_t.bound c.yaml_parser_parse_named.new.parser
-      < events_left g.S.yaml_token_source_t.bound c.loop-error.parser
+abbrev CameBy : (g : given.Over) (c : After-yaml_parser_parse_named g) → Type 0
+CameBy g c = Came g.S.yaml_token_source_t c.loop-error.parser c.yaml_parser_parse_named.new.parser c.yaml_parser_parse_named.new.event
 
 came : (g : given.Over) (c : After-yaml_parser_parse_named g) (u : Unit {0}) → c.yaml_parser_parse_named.result ≡ Ok u
-    → is_event c.yaml_parser_parse_named.new.event.content ≡ true → Came g c
-came g c u ok an_event =
-    let t = g.S.yaml_token_source_t in
+    → is_event c.yaml_parser_parse_named.new.event.content ≡ true → CameBy g c
+came g c u ok =
     let call = c.yaml_parser_parse_named in
-    let is = ap (λ r. event_result (without_name r) call.new.event) ok in
-    let run = running t g.met.S.yaml_token_source_t.follows c.loop-error.parser call.new.parser
-    (event_result (without_name call.result) call.new.event) call.ensures.parses call.new.event is an_event in
-    record {
-      took = took_event t g.met.S.yaml_token_source_t.follows c.loop-error.parser call.new.parser
-          (event_result (without_name call.result) call.new.event) call.ensures.parses call.new.event is an_event;
-      runs = run;
-      fell = rw ok at (call.ensures.parses.next.falls run);
-    }
+    event_came g.S.yaml_token_source_t g.met.S.yaml_token_source_t.follows c.loop-error.parser call.new.parser
+    (event_result (without_name call.result) call.new.event) call.ensures.parses call.new.event (ap (λ r. event_result (without_name r) call.new.event) ok)
 
 pub loop-error-init : goal.loop-error-init
 loop-error-init g c =
@@ -157,10 +142,12 @@ returns-in-Err-take_event-clause-loads g c =
 pub returns-in-Err-take_event-clause-half : goal.returns-in-Err-take_event-clause-half
 returns-in-Err-take_event-clause-half g c =
     let call = c.yaml_parser_parse_named in
+    let k = came g (goal.at.returns-in-Err-take_event-clause-half g c).After-yaml_parser_parse_named _
+    c.in_default.is (sym c.is_event.ensures ∙ c.if-not-is_event.false) in
     let x = c.loop-error.composer in
-    half_by_memory g.S.yaml_token_source_t c.args.composer.now.max_entries c.args.parser.now call.new.parser
-    c.keep_fault-error-in-Err-take_event.new.parser (composer_state x) call.new.event (fault_of c.take_event.new.self.fault)
-    (rw c.loop-error.invariant.3 at c.in-Err-take_event.ensures.composes)
-    (other_errors x call.new.event c.args.composer.now.max_entries c.loop-error.invariant.3
-    (c.in_default-anchor_fault.ensures.others refl))
-    c.keep_fault-error-in-Err-take_event.ensures.kept _ refl refl
+    let i = c.loop-error.invariant in
+    half_by_memory g.S.yaml_token_source_t c.args.composer.now.max_entries c.args.parser.now c.loop-error.parser
+    (composer_state x) i.0 c.loop-error.end_mark i.1 _ call.new.parser c.keep_fault-error-in-Err-take_event.new.parser
+    call.new.event (fault_of c.take_event.new.self.fault) k.took (rw i.3 at c.in-Err-take_event.ensures.composes)
+    (other_errors x call.new.event c.args.composer.now.max_entries i.3 (c.in_default-anchor_fault.ensures.others refl))
+    c.keep_fault-error-in-Err-take_event.ensures.kept refl refl
