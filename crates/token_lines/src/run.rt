@@ -1,8 +1,7 @@
 //! Runs: from token lines to the lines of events or of documents.
-ghost use Rattle.std.specs.Prelude.{◌≡◌, ◌⊎◌};
+ghost use Rattle.std.specs.Prelude.{◌≡◌, ◌≢◌, ◌⊎◌};
 ghost use Rattle.std.specs.Io.KnownBytes.{Keeps};
-ghost use Rattle.libyaml_types.specs.Fault.{fault_of};
-ghost use Rattle.token_lines.specs.lines.LineRun.{WroteFault, outcome_of};
+ghost use Rattle.token_lines.specs.lines.LineRun.{ClosedBy, outcome_of};
 
 mod events;
 mod nodes;
@@ -62,13 +61,18 @@ enum RunStep {
     OutputFailed,
 }
 
-/// Writes the text of an error.
-fn faulted<W: Write>(prefix: &yaml_parser_t_prefix, writer: &mut W) -> run_end_t
-    ensures { WroteFault result (fault_of prefix.now) (W.contents writer.old) (W.contents writer.new) }
+/// Ends a run after its last step: writes the text of the error by which that failed, and flushes the writer.
+fn closed<W: Write>(step: &RunStep, writer: &mut W) -> run_end_t
+    requires { step.now ≢ RunStep.Written }
+    ensures { ClosedBy step.now result (W.contents writer.old) (W.contents writer.new) }
 {
-    match write_fault(prefix, writer) {
-        Ok(()) => flushed(run_end_t::Faulted(*prefix), writer),
-        Err(_) => run_end_t::OutputFailed,
+    match step {
+        RunStep::Written | RunStep::Ended => flushed(run_end_t::Ended, writer),
+        RunStep::Failed(fault) => match write_fault(fault, writer) {
+            Ok(()) => flushed(run_end_t::Faulted(*fault), writer),
+            Err(_) => run_end_t::OutputFailed,
+        },
+        RunStep::OutputFailed => run_end_t::OutputFailed,
     }
 }
 

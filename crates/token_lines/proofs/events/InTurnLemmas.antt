@@ -9,9 +9,9 @@ use Rattle.libyaml_types.specs.declared.event.yaml_event_t.{yaml_event_t}
 use Rattle.libyaml_types.specs.declared.token.yaml_token_t.{yaml_token_t}
 use Rattle.libyaml_events.specs.machine.Config.{Parser}
 use Rattle.libyaml_events.specs.sources.History.{History, is_over, is_stream_end}
-use Rattle.libyaml_types.specs.Fault.{SourceResult, Fault}
+use Rattle.libyaml_types.specs.Fault.{SourceResult}
 use Rattle.libyaml_events.proofs.exported.CallsInTurn.{both_calls, no_call, one_call}
-use Rattle.token_lines.specs.events.InTurn.{AllWritten, CallSays, WrittenInTurn, gave_event, failed}
+use Rattle.token_lines.specs.events.InTurn.{AllWritten, CallSays, gave_event, failed}
 
 module _ {S : Type 0} (text : yaml_event_t → List ℕ) (gives : S → SourceResult → S → Type 0) where
   pub none_yet : (p : Parser S) (x : Option (List ℕ)) (asked : List yaml_token_t) (given : List yaml_event_t)
@@ -48,20 +48,3 @@ module _ {S : Type 0} (text : yaml_event_t → List ℕ) (gives : S → SourceRe
             (Appends-trans a b c (concat (map text w.events)) (text e) w.wrote wrote.1);
       }
       go (failed by wrote) = absurd wrote
-
-  pub last_call : {W : Type 0} (ForEvent : yaml_event_t → (before after : Option (List ℕ)) → Type 0)
-      (ForFault : Fault → (before after : Option (List ℕ))
-      → Type 0) (contents : W → Option (List ℕ)) (first p q : Parser S) (writer : W) (a d : Option (List ℕ))
-      (asked : List yaml_token_t)
-      (given : List yaml_event_t) → AllWritten text gives first p a (contents writer) asked given
-      → (is_over p ≡ false → (asked' : List yaml_token_t) (given' : List yaml_event_t) → History p asked' given'
-      → CallSays gives (λ e. ForEvent e (contents writer) d) (λ f. ForFault f (contents writer) d) p q asked' given')
-      → WrittenInTurn text ForEvent ForFault gives contents first q a d asked given
-  last_call ForEvent ForFault contents first p q writer a d asked given w closes
-      = record {
-        parser = p;
-        writer = writer;
-        earlier = w;
-        call = closes w.running (asked ++ w.carried.more)
-            (given ++ w.events) w.carried.history;
-      }

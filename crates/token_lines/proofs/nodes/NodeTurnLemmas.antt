@@ -1,18 +1,17 @@
 -- How a run's steps write each document in its turn.
-use Rattle.std.proofs.Common.{◌≡◌, ◌⊎◌, ◌++◌, ◌∷◌, ◌==◌, ℕ, ℤ, List, [], length, Option, Bool, true, false, Ok, Err, sym, ◌∙◌, subst, arith, ◌≢◌, ap}
+use Rattle.std.proofs.Common.{◌≡◌, ◌++◌, ◌∷◌, ◌==◌, ℕ, ℤ, List, [], length, Option, Bool, true, false, Ok, Err, refl, sym, ◌∙◌, subst, arith, ◌≢◌, ap}
 use Rattle.std.proofs.KnownBytes.{Appends-nil, Appends-trans}
 use Rattle.std.proofs.lemmas.Bool.{eqb-true}
 use Rattle.std.proofs.lemmas.List.{append-nil, nil_from_length}
 use Rattle.std.proofs.lemmas.List.Concat.{flat_map-append}
 use Rattle.std.proofs.lemmas.List.Folds.{concat-append}
 use Rattle.std.specs.List.{concat, flat_map}
-use Rattle.std.specs.Io.KnownBytes.{Appends, Keeps}
+use Rattle.std.specs.Io.KnownBytes.{Appends}
 use Rattle.libyaml_types.specs.declared.event.yaml_event_t.{yaml_event_t}
 use Rattle.libyaml_types.specs.declared.token.yaml_token_t.{yaml_token_t}
 use Rattle.libyaml_documents.specs.declared.node.yaml_node_t.{yaml_node_t}
 use Rattle.libyaml_documents.specs.Documents.{Document}
 use Rattle.libyaml_events.specs.machine.Config.{Parser}
-use Rattle.libyaml_types.specs.declared.fault.yaml_parser_t_prefix.{yaml_parser_t_prefix}
 use Rattle.libyaml_types.specs.Fault.{Fault, fault_of}
 use Rattle.libyaml_events.specs.sources.History.{ForHistory, has_failed, kept_fault}
 use Rattle.libyaml_types.specs.declared.source.yaml_token_source_t.{Ghosts}
@@ -30,8 +29,8 @@ use Rattle.token_lines.specs.declared.run.run_end_t.TheVariants.{Ended, Faulted,
 use Rattle.token_lines.specs.declared.run.RunStep.{RunStep}
 use Rattle.token_lines.specs.declared.run.RunStep.TheVariants as step
 use Rattle.token_lines.specs.nodes.LastLoad.{AllLoaded, LastLoad, WroteForLoad}
-use Rattle.token_lines.specs.nodes.NodeStep.{LoadTurn, StepForLoad}
-use Rattle.token_lines.specs.lines.LineRun.{WroteFault}
+use Rattle.token_lines.specs.nodes.NodeStep.{IsKept, LoadTurn, StepForLoad}
+use Rattle.token_lines.specs.lines.LineRun.{ClosedBy, WroteFault}
 use Rattle.token_lines.proofs.events.LastCallLemmas.{fault_after}
 
 -- whether a document has nodes, by their count
@@ -83,20 +82,15 @@ module _ {S : Type 0} (g : Ghosts S) (n : ℕ) where
       }
       go (Err x) load wrote = absurd wrote
 
--- nothing more was written
-pub loads_end : (end : run_end_t) (kept : Fault) (b c d : Option (List ℕ)) → (end ≡ Ended) ⊎ (end ≡ OutputFailed)
-    → Keeps c d → (r : DocumentOrError)
-    → StepForLoad step.Ended r kept b c → WroteForLoad end r kept b d
-loads_end end kept b c d is keeps r w = grind arith
-
--- the text of an error was written
-pub loads_failed : (end : run_end_t) (f : yaml_parser_t_prefix) (kept : Fault) (b c d : Option (List ℕ))
-    → WroteFault end (fault_of f) c d
-    → (r : DocumentOrError) → StepForLoad (step.Failed f) r kept b c → WroteForLoad end r kept b d
-loads_failed Ended f kept b c d wrote r w = absurd wrote
-loads_failed (Faulted told) f kept b c d wrote (Ok x) w =
+-- what was written of a load, by its step and after it
+for_load : (s : RunStep) (end : run_end_t) (kept : Fault) (b c d : Option (List ℕ)) (r : DocumentOrError)
+    → StepForLoad s r kept b c → ClosedBy s end c d → WroteForLoad end r kept b d
+for_load step.Written end kept b c d r w h = absurd h
+for_load step.Ended end kept b c d r w h = grind arith
+for_load (step.Failed f) Ended kept b c d r w h = absurd h
+for_load (step.Failed f) (Faulted told) kept b c d (Ok x) w h =
     let cut = w.2 in (
-      wrote.0 ∙ w.0,
+      h.0 ∙ w.0,
       w.1,
       record {
         written = cut.written;
@@ -105,17 +99,27 @@ loads_failed (Faulted told) f kept b c d wrote (Ok x) w =
         all = cut.all;
         wrote
             = subst (λ (g : Fault). Appends b d (concat cut.written ++ fault_text g)) w.0
-            (Appends-trans b c d (concat cut.written) (fault_text (fault_of f)) cut.wrote wrote.1);
+            (Appends-trans b c d (concat cut.written) (fault_text (fault_of f)) cut.wrote h.1);
       },
     )
-loads_failed OutputFailed f kept b c d wrote (Ok x) w = tt
-loads_failed (Faulted told) f kept b c d wrote (Err x) w = fault_after (Faulted told) f kept b c d w wrote
-loads_failed OutputFailed f kept b c d wrote (Err x) w = tt
+for_load (step.Failed f) (Faulted told) kept b c d (Err x) w h = fault_after (Faulted told) f kept b c d w h
+for_load (step.Failed f) OutputFailed kept b c d (Ok x) w h = tt
+for_load (step.Failed f) OutputFailed kept b c d (Err x) w h = tt
+for_load step.OutputFailed end kept b c d r w h = grind arith
 
--- the output failed at a document's text
-pub loads_output : (kept : Fault) (b c d : Option (List ℕ)) (r : DocumentOrError) → StepForLoad step.OutputFailed r kept b c
-    → WroteForLoad OutputFailed r kept b d
-loads_output kept b c d r w = grind arith
+only_ended : (s : RunStep) (end : run_end_t) (c d : Option (List ℕ)) → ClosedBy s end c d → end ≡ Ended → s ≡ step.Ended
+only_ended step.Written end c d h is = absurd h
+only_ended step.Ended end c d h is = refl
+only_ended (step.Failed f) end c d h is = absurd (rw is at h)
+only_ended step.OutputFailed end c d h is = cc
+
+-- the text of an error that was kept before
+pub kept_closed : (s : RunStep) (kept : Fault) (end : run_end_t) (c d : Option (List ℕ)) → IsKept s kept → ClosedBy s end c d
+    → WroteFault end kept c d
+kept_closed (step.Failed f) kept end c d is h = subst (λ (x : Fault). WroteFault end x c d) is h
+kept_closed step.Written kept end c d is h = absurd is
+kept_closed step.Ended kept end c d is h = absurd is
+kept_closed step.OutputFailed kept end c d is h = absurd is
 
 -- the bound of the first parser
 module _ {S : Type 0} (g : Ghosts S) (s : RunStep) (p q : Parser S) (b c : Option (List ℕ)) (z w : ℤ) (same : z ≡ w) where
@@ -128,11 +132,8 @@ pub last_load_at : {S W : Type 0} (g : Ghosts S) (contents : W → Option (List 
     (given : List yaml_event_t) → p.max_entries ≡ first.max_entries
     → AllLoaded g.gives (magnitude first.max_entries) first p a (contents writer) asked given
     → (has_failed p ≡ false → LoadTurn g (magnitude p.max_entries) s p q (contents writer) c)
-    → ((r : DocumentOrError) → StepForLoad s r (kept_fault q) (contents writer) c
-    → WroteForLoad end r (kept_fault q) (contents writer) d)
-    → (end ≡ Ended → s ≡ step.Ended)
-    → LastLoad g contents (magnitude first.max_entries) end first q a d asked given
-last_load_at g contents end s first p q writer a c d asked given bound earlier turns wrote ended =
+    → ClosedBy s end c d → LastLoad g contents (magnitude first.max_entries) end first q a d asked given
+last_load_at g contents end s first p q writer a c d asked given bound earlier turns closed =
     let before = earlier.loaded.carried in
     let running = histories.faultless p (asked ++ before.more) (given ++ earlier.loaded.taken) before.history in
     let turn = turn_at g s p q (contents writer) c p.max_entries first.max_entries bound turns running in
@@ -142,7 +143,7 @@ last_load_at g contents end s first p q writer a c d asked given bound earlier t
       earlier = earlier;
       loaded = turn.loaded;
       load = turn.load;
-      wrote = wrote turn.loaded turn.wrote;
-      ends = λ (is : end ≡ Ended). turn.ends (ended is) (asked ++ before.more)
+      wrote = for_load s end (kept_fault q) (contents writer) c d turn.loaded turn.wrote closed;
+      ends = λ (is : end ≡ Ended). turn.ends (only_ended s end c d closed is) (asked ++ before.more)
           (given ++ earlier.loaded.taken) before.history;
     }

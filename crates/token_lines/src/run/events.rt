@@ -11,7 +11,7 @@ ghost use Rattle.token_lines.specs.events.EventStep.{Turn};
 ghost use Rattle.token_lines.specs.events.LastCall.{LastCall, NothingLeft, RunsOver};
 ghost use Rattle.token_lines.specs.lines.LineRun.{Writes};
 
-use super::{Outcome, RunStep, faulted, flushed, run_end_t, show};
+use super::{Outcome, RunStep, closed, run_end_t, show};
 use crate::MAX_TOKENS;
 use libyaml_events::{
     MEMORY_FAULT, is_event, is_stream_end, no_event, yaml_parser_initialize,
@@ -67,9 +67,7 @@ pub fn write_events<S: yaml_token_source_t, W: Write>(
     loop {
         match write_next(parser, &mut event, &mut line, writer) {
             RunStep::Written => {}
-            RunStep::Ended => return flushed(run_end_t::Ended, writer),
-            RunStep::Failed(fault) => return faulted(&fault, writer),
-            RunStep::OutputFailed => return run_end_t::OutputFailed,
+            step => return closed(&step, writer),
         }
     }
 }

@@ -12,7 +12,7 @@ ghost use Rattle.token_lines.specs.nodes.LastLoad.{LastLoad, NodesOver, WritesKe
 ghost use Rattle.token_lines.specs.nodes.NodeRun.{WritesLoads};
 ghost use Rattle.token_lines.specs.nodes.NodeStep.{IsKept, LoadTurn};
 
-use super::{Outcome, RunStep, faulted, flushed, run_end_t, show};
+use super::{Outcome, RunStep, closed, run_end_t, show};
 use crate::MAX_TOKENS;
 use libyaml_events::{MEMORY_FAULT, yaml_parser_initialize, yaml_parser_t, yaml_token_source_t};
 use libyaml_loader::yaml_parser_load;
@@ -65,9 +65,7 @@ pub fn write_nodes<S: yaml_token_source_t, W: Write>(
     loop {
         match write_next(parser, writer) {
             RunStep::Written => {}
-            RunStep::Ended => return flushed(run_end_t::Ended, writer),
-            RunStep::Failed(fault) => return faulted(&fault, writer),
-            RunStep::OutputFailed => return run_end_t::OutputFailed,
+            step => return closed(&step, writer),
         }
     }
 }
