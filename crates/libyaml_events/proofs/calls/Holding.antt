@@ -1,8 +1,8 @@
 -- The tag that is held within a call is the last one that came.
-use Rattle.std.proofs.Common.{◌≡◌, ◌∙◌, ap, sym, subst, ◌++◌, ◌∷◌, [], refl, List, ℕ, Bool, true, false, Option, None, Some, Ok, Err, is_some, arith}
+use Rattle.std.proofs.Common.{◌≡◌, ◌∙◌, ap, sym, subst, ◌++◌, ◌∷◌, [], refl, List, ℕ, true, Option, None, Some, Ok, Err, is_some, arith}
 use Rattle.libyaml_types.specs.declared.token.unnamed_yaml_token_t_data_tag.{unnamed_yaml_token_t_data_tag}
 use Rattle.std.proofs.lemmas.Bool.{true≢false}
-use Rattle.libyaml_types.specs.Fault.{Fault, SourceResult, memory_fault}
+use Rattle.libyaml_types.specs.Fault.{Fault, SourceResult}
 use Rattle.libyaml_types.specs.Errors.{IsSourceError}
 use Rattle.libyaml_types.specs.declared.enums.yaml_error_type_t.{yaml_error_type_t}
 use Rattle.libyaml_types.specs.declared.enums.yaml_error_type_t.TheVariants.{YAML_MEMORY_ERROR, YAML_PARSER_ERROR}

@@ -9,7 +9,7 @@ use Rattle.libyaml_grammar.specs.grammar.Tokens.{Mark}
 use Rattle.libyaml_composer.specs.declared.deed.Deed.{Deed}
 use Rattle.libyaml_composer.specs.declared.deed.Deed.TheVariants as deed
 use Rattle.libyaml_composer.specs.declared.records.place_t.{place_t}
-use Rattle.libyaml_composer.specs.Composing.{Composer, Told, at_start, between_step, composer_step, deed_for, deed_in, if_placed, step_in, told, unless, within_step}
+use Rattle.libyaml_composer.specs.Composing.{Composer, Told, at_start, between_step, deed_for, deed_in, if_placed, step_in, told, unless, within_step}
 use Rattle.libyaml_composer.specs.declared.records.open_t.{open_t}
 use Rattle.libyaml_composer.specs.DocumentSoFar.{IsRefused}
 use Rattle.libyaml_composer.specs.Numbers.{is_id, is_set}

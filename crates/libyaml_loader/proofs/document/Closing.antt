@@ -1,5 +1,5 @@
 -- The document that is open, closed where a load fails.
-use Rattle.std.proofs.Common.{◌≡◌, List, None, Option, Some, refl, Bool, true, false, sym, ap, subst, ◌∙◌, arith}
+use Rattle.std.proofs.Common.{◌≡◌, List, None, Option, Some, refl, Bool, true, false, sym, ap, subst, ◌∙◌}
 use Rattle.libyaml_grammar.specs.grammar.Tokens.{Mark}
 use Rattle.libyaml_documents.specs.Documents.{Document}
 use Rattle.libyaml_documents.specs.declared.node.yaml_node_t.{yaml_node_t}

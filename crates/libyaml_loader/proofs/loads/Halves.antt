@@ -1,5 +1,5 @@
 -- A load that fails, with the document that is open there.
-use Rattle.std.proofs.Common.{◌≡◌, ◌++◌, ◌∷◌, ℕ, List, [], Bool, false, true, Option, None, Some, Ok, Err, refl, sym, ap, ◌∙◌, subst, option_map, string_bytes, arith}
+use Rattle.std.proofs.Common.{◌≡◌, ◌++◌, ◌∷◌, ℕ, List, [], Bool, false, true, Option, None, Some, Err, refl, sym, ap, ◌∙◌, subst, option_map, string_bytes, arith}
 use Rattle.libyaml_types.specs.Events.{zero_mark}
 use Rattle.libyaml_types.specs.Fault.{Fault, memory_fault}
 use Rattle.libyaml_types.specs.Types.{event_anchor}

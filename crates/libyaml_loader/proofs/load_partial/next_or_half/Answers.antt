@@ -1,6 +1,5 @@
-use Rattle.std.proofs.Common.{◌≡◌, Ok, Err, ap, sym, ◌∙◌, refl, true, false, arith, Bool, Some}
+use Rattle.std.proofs.Common.{◌≡◌, Ok, ap, sym, ◌∙◌, refl, true, false, arith, Bool, Some}
 use Rattle.std.proofs.Math.Nat.{le_refl}
-use Rattle.libyaml_types.specs.Events.{zero_mark}
 use Rattle.libyaml_events.specs.parsers.Stages.{is_event}
 use Rattle.libyaml_events.specs.sources.Calls.{event_result}
 use Rattle.libyaml_events.specs.sources.Naming.{without_name}

@@ -1,4 +1,3 @@
-use Rattle.std.proofs.Common.{rules}
 use Rattle.libyaml_loader.proofs.document.Closing.{half_here, none_here, no_memory}
 use Rattle.libyaml_loader.proofs.composer.DocumentBuilder.end_half.Goals as goal
 
