@@ -4,7 +4,8 @@
 //! - `place-events`, `iterate-events`: `Parser::next_into`, and the parser as an iterator;
 //! - `composed-events`: `ComposedEvents`, with the errors of a load;
 //! - `place-nodes`, `iterate-nodes`: `yaml_parser_load`, and `Documents`;
-//! - with the feature `more`, `placed-events` and `half-nodes`: `PlacedEvents`, and `Documents::next_or_half`.
+//! - with the feature `more`, `placed-events` and `half-nodes`: `PlacedEvents`, and `Documents::next_or_half`;
+//! - with the feature `written`, `written-events`: `PlacedEvents`, of which `Written` keeps what a document doesn't.
 
 #[path = "../../../bindings/plain/tests/lines/mod.rs"]
 mod lines;
@@ -271,6 +272,17 @@ fn each_half(tokens: &[Token], seen: &mut Seen) -> Result<(), Error> {
     Ok(())
 }
 
+#[cfg(feature = "written")]
+fn each_written(tokens: &[Token], seen: &mut Seen) -> Result<(), Error> {
+    let mut written = Written::new(Global);
+    for item in PlacedEvents::new(Copies(tokens)) {
+        let (event, place) = item?;
+        written.take(&event, place).expect("there is memory");
+        seen.event(&event);
+    }
+    Ok(())
+}
+
 fn run(work: &str, tokens: &[Token], seen: &mut Seen) -> Result<(), Error> {
     match work {
         "place-events" => parse_in_place(tokens, seen),
@@ -283,6 +295,8 @@ fn run(work: &str, tokens: &[Token], seen: &mut Seen) -> Result<(), Error> {
         }
         #[cfg(feature = "more")]
         "half-nodes" => each_half(tokens, seen),
+        #[cfg(feature = "written")]
+        "written-events" => each_written(tokens, seen),
         "place-nodes" => load(tokens, seen),
         "iterate-nodes" => each_document(tokens, seen),
         _ => panic!("unknown work {work}"),
