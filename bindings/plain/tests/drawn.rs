@@ -45,7 +45,7 @@ fn bytes_of(draw: &mut Draw) -> Vec<u8> {
 fn drawn_tokens_are_the_same_to_each_call() {
     let count = std::env::var("COUNT").map_or(4000, |count| count.parse().unwrap());
     let (mut draw, mut all) = (Draw(0x9E37_79B9_7F4A_7C15), Seen::default());
-    let (mut ended, mut halves) = (0, 0);
+    let (mut ended, mut halves, mut full) = (0, 0, 0);
     for number in 0..count {
         let bytes = match number % 4 {
             0 => (0..draw.below(20)).map(|_| draw.next() as u8).collect(),
@@ -58,7 +58,9 @@ fn drawn_tokens_are_the_same_to_each_call() {
         all.repeated |= seen.repeated;
         all.endless |= seen.endless;
         all.half |= seen.half;
+        all.full |= seen.full;
         halves += usize::from(seen.half);
+        full += usize::from(seen.full);
         ended += usize::from(seen.ended);
     }
     assert!(all.refused && all.repeated && all.endless, "{all:?}");
@@ -66,5 +68,8 @@ fn drawn_tokens_are_the_same_to_each_call() {
         ended > count / 50 && halves > count / 4 && all.documents > count / 4 && all.events > 5 * count,
         "{ended} ended, {halves} halves, {all:?}"
     );
-    println!("{ended} of {count} lists ended, {halves} gave half a document: {all:?}");
+    assert!(full > count / 8, "{full} halves where a list is full");
+    println!(
+        "{ended} of {count} lists ended, {halves} gave half a document, {full} where a list is full: {all:?}"
+    );
 }

@@ -100,8 +100,8 @@ pub struct Half {
     /// The anchor, alias or undefined tag handle that the error is about.
     pub name: Option<String>,
     /// The document that is open there, with its nodes so far. Its open collections end where the last
-    /// event before the error does, and a key that waited for its value has an empty one. There is none
-    /// between two documents, or if the load is out of memory.
+    /// event before the error does, and a key that waited for its value has an empty one, unless the list of
+    /// nodes is full. There is none between two documents, or if an allocation failed.
     pub document: Option<Document>,
 }
 

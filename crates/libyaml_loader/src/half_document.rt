@@ -1,15 +1,15 @@
 //! The document that is open where a load fails, closed there.
 ghost use Rattle.std.specs.Prelude.{◌≡◌, ◌⊎◌, ◌∷◌, [], List, Err, IfSome, None, OnErr, OnOk, Some, true};
-ghost use Rattle.libyaml_types.specs.Fault.{Fault, fault_of, memory_fault};
+ghost use Rattle.libyaml_types.specs.Fault.{Fault, fault_of};
 ghost use Rattle.libyaml_grammar.specs.grammar.Events.{Event};
 ghost use Rattle.libyaml_grammar.specs.runs.Runs.{Ending};
-ghost use Rattle.libyaml_graphs.specs.graphs.GraphParts.{leaf_part, part_of};
+ghost use Rattle.libyaml_graphs.specs.graphs.GraphParts.{closing_of, leaf_part, part_of};
 ghost use Rattle.libyaml_graphs.specs.loads.Leads.{loads_from};
 ghost use Rattle.libyaml_graphs.specs.machine.Loader.{bounded_option, failed, going};
 ghost use Rattle.libyaml_loader.specs.document.Context.{Composed, ComposerMatches, loader_of};
 ghost use Rattle.libyaml_loader.specs.document.Context.{with_nodes};
-ghost use Rattle.libyaml_loader.specs.loads.HalfDocument.{IsHalf, bounded_parts, closing_parts};
-ghost use Rattle.libyaml_loader.specs.loads.HalfDocument.{empty_scalar_node, has_waiting_key};
+ghost use Rattle.libyaml_loader.specs.loads.HalfDocument.{IsHalf, closed_at, empty_scalar_node};
+ghost use Rattle.libyaml_loader.specs.loads.HalfDocument.{has_waiting_key};
 ghost use Rattle.libyaml_loader.specs.pushes.Composing.{IsSound, composer_state};
 
 use crate::composer::{Closing, DocumentBuilder};
@@ -24,21 +24,21 @@ use libyaml_types::{
 
 impl loader_ctx {
     /// Closes the open collections at `mark`, the innermost first. A key that waits gets an empty scalar as
-    /// its value.
+    /// its value, unless the list of nodes is full.
     ///
     /// # Errors
     ///
-    /// `Memory`, at such a value.
+    /// `Memory`, if an allocation failed for such a value.
     fn close(&mut self, mark: &yaml_mark_t) -> Result<(), Refusal>
         requires { ComposerMatches self.old }
-        ensures closed { OnOk result (bounded_parts self.old.collections.most (loader_of self.old)
-            (closing_parts mark.now (loader_of self.old).stack) ≡ going (loader_of self.new)) }
+        ensures closed { OnOk result (closed_at self.old.collections.most mark.now
+            (loader_of self.old).stack (loader_of self.old) ≡ going (loader_of self.new)) }
         ensures document { OnOk result (self.new.document
             ≡ with_nodes self.new.document.nodes self.old.document) }
         ensures err { OnErr result (has_waiting_key (loader_of self.old).stack ≡ true) }
     {
         while let Some(is_waiting) = self.collections.waits() {
-            if is_waiting {
+            if is_waiting && self.collections.has_room() {
                 self.add_empty_scalar(mark)?;
             }
             self.load_end(mark);
@@ -67,6 +67,42 @@ impl loader_ctx {
         };
         self.yaml_parser_load_scalar(&mut scalar, mark, mark)
     }
+
+    /// Returns the error of an event that the document refuses: an alias whose anchor no node has, a node
+    /// whose anchor another node has, or either if a list is full.
+    #[tactic(auto, using(libyaml_composer::proofs::exported::Follows::list_is))]
+    fn fault_at(&self, event: &yaml_event_t) -> Option<yaml_parser_t_prefix>
+        requires { ComposerMatches self.now }
+        ensures refuses { IfSome result (λ f. bounded_option self.now.collections.most
+            (loader_of self.now) (part_of event.now) ≡ failed (fault_of f)) }
+        ensures accepts { result ≡ None → (f : Fault) → bounded_option self.now.collections.most
+            (loader_of self.now) (part_of event.now) ≡ failed f → ⊥ }
+        ensures not_end { IfSome result (λ _. closing_of event.now ≡ None) }
+        ensures of_loader { IfSome result (λ f. (f.error ≡ yaml_error_type_t.YAML_MEMORY_ERROR)
+            ⊎ (f.error ≡ yaml_error_type_t.YAML_COMPOSER_ERROR)) }
+    {
+        let mark = event.start_mark;
+        let is_alias = match event.type_() {
+            yaml_event_type_t::YAML_ALIAS_EVENT => true,
+            yaml_event_type_t::YAML_SCALAR_EVENT
+            | yaml_event_type_t::YAML_SEQUENCE_START_EVENT
+            | yaml_event_type_t::YAML_MAPPING_START_EVENT => false,
+            _ => return None,
+        };
+        if !is_alias && !self.collections.has_room() {
+            return Some(fault_by(Refusal::Memory, mark, mark));
+        }
+        let anchored_node = match event.anchor() {
+            Some(anchor) => self.anchors.find(anchor),
+            None => None,
+        };
+        match anchored_node {
+            None if is_alias => Some(fault_by(Refusal::UndefinedAlias, mark, mark)),
+            Some(first) if !is_alias => Some(fault_by(Refusal::RepeatedAnchor, first.mark, mark)),
+            _ if self.collections.is_list_full() => Some(fault_by(Refusal::Memory, mark, mark)),
+            _ => None,
+        }
+    }
 }
 
 impl DocumentBuilder {
@@ -88,35 +124,21 @@ impl DocumentBuilder {
         }
     }
 
-    /// Returns the error of an alias whose anchor no node has, or of a node whose anchor another node has.
-    pub(crate) fn anchor_fault(&self, event: &yaml_event_t) -> Option<yaml_parser_t_prefix>
+    /// Returns the error of an event that the document that is open refuses.
+    pub(crate) fn event_fault(&self, event: &yaml_event_t) -> Option<yaml_parser_t_prefix>
         requires { IsSound self.now }
         ensures refuses { IfSome result (λ f. (rest : List Event) (x : Ending)
             → loads_from self.now.max_entries (composer_state self.now) (event.now ∷ rest) x
             ≡ Err (fault_of f) ∷ []) }
-        // any other error is that of a list that is full
-        ensures others { result ≡ None → self.now.is_open ≡ true → (f : Fault)
+        ensures accepts { result ≡ None → self.now.is_open ≡ true → (f : Fault)
             → bounded_option self.now.max_entries (loader_of self.now.ctx) (part_of event.now) ≡ failed f
-            → f ≡ memory_fault }
+            → ⊥ }
         ensures of_loader { IfSome result (λ f. (f.error ≡ yaml_error_type_t.YAML_MEMORY_ERROR)
             ⊎ (f.error ≡ yaml_error_type_t.YAML_COMPOSER_ERROR)) }
     {
-        let anchor = event.anchor()?;
         if !self.is_open {
             return None;
         }
-        let is_alias = event.type_() == yaml_event_type_t::YAML_ALIAS_EVENT;
-        match self.ctx.anchors.find(anchor) {
-            None if is_alias => Some(fault_by(
-                Refusal::UndefinedAlias,
-                event.start_mark,
-                event.start_mark,
-            )),
-            Some(first)
-                if !is_alias && self.ctx.document.nodes().len() < self.max_entries as usize => Some(
-                fault_by(Refusal::RepeatedAnchor, first.mark, event.start_mark),
-            ),
-            _ => None,
-        }
+        self.ctx.fault_at(event)
     }
 }

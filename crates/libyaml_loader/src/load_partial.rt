@@ -9,7 +9,7 @@ ghost use Rattle.libyaml_graphs.specs.loads.Bounds.{next_bounded};
 ghost use Rattle.libyaml_graphs.specs.loads.Loads.{left_over};
 ghost use Rattle.libyaml_loader.specs.document.Ids.{magnitude};
 ghost use Rattle.libyaml_loader.specs.loads.Loading.{LoadsFrom};
-ghost use Rattle.libyaml_loader.specs.loads.PartialLoad.{HalfOf, as_load};
+ghost use Rattle.libyaml_loader.specs.loads.PartialLoad.{HalfOf, as_load, named_by};
 ghost use Rattle.libyaml_loader.specs.pushes.Composing.{IsSound};
 
 use crate::composer::DocumentBuilder;
@@ -33,7 +33,8 @@ pub struct yaml_partial_t {
     /// The anchor, alias or undefined tag handle that the error is about.
     pub name: Option<String>,
     /// The document that was open, with its nodes so far. Its open collections, and the document, end where
-    /// the last event before the error does; a key that waited has an empty plain scalar as its value.
+    /// the last event before the error does; a key that waited has an empty plain scalar as its value, unless
+    /// the list of nodes is full.
     pub document: Option<yaml_document_t>,
 }
 
@@ -42,7 +43,7 @@ pub struct yaml_partial_t {
 /// # Errors
 ///
 /// Those of `yaml_parser_load`, with the document that is open there. The document is missing if none is
-/// open, if an allocation failed or a list is full, or if the parser kept the error already.
+/// open, if an allocation failed, or if the parser kept the error already.
 pub fn yaml_parser_load_partial<S: yaml_token_source_t>(
     parser: &mut yaml_parser_t<S>,
 ) -> Result<yaml_document_t, yaml_partial_t>
@@ -118,10 +119,10 @@ fn next_or_half<S: yaml_token_source_t>(
         if !is_event(event) {
             return Ok(empty_document(parser.allocator()));
         }
-        if let Some(fault) = composer.anchor_fault(event) {
+        if let Some(fault) = composer.event_fault(event) {
             let error = keep_fault(parser, fault);
             let document = composer.end_half(end_mark);
-            let name = take_anchor(event, parser.allocator());
+            let name = take_name(error, event, parser.allocator());
             return Err(yaml_partial_t {
                 error,
                 name,
@@ -144,10 +145,13 @@ fn next_or_half<S: yaml_token_source_t>(
     }
 }
 
-/// Moves the anchor or alias out of an event, if it has one.
-fn take_anchor(event: &mut yaml_event_t, alloc: Global) -> Option<String>
-    ensures { option_map string_bytes result ≡ event_anchor event.old.content }
+/// Moves the anchor or alias out of an event whose error is about it. If a list is full, there is none.
+fn take_name(error: yaml_error_type_t, event: &mut yaml_event_t, alloc: Global) -> Option<String>
+    ensures { option_map string_bytes result ≡ named_by error (event_anchor event.old.content) }
 {
+    if let yaml_error_type_t::YAML_MEMORY_ERROR = error {
+        return None;
+    }
     match &mut event.content {
         unnamed_yaml_event_t_data::Alias(alias) => {
             Some(mem::replace(&mut alias.anchor, String::new(alloc)))

@@ -1,7 +1,8 @@
 //! The open collections of a document on the way: the composer, with a stack of its own.
 
-ghost use Rattle.std.specs.Prelude.{◌≡◌, ℕ, suc, length, nat_le, true, false, IfOk, OnErr, OnOk};
-ghost use Rattle.libyaml_composer.specs.Composing.{is_start, most_of, composer_step, told};
+ghost use Rattle.std.specs.Prelude.{◌≡◌, ℕ, suc, length, nat_le, nat_lt, true, false, IfOk, OnErr, OnOk};
+ghost use Rattle.libyaml_composer.specs.Composing.{composer_step, is_list_full, is_start, most_of};
+ghost use Rattle.libyaml_composer.specs.Composing.{told};
 ghost use Rattle.libyaml_composer.specs.Numbers.{is_id};
 ghost use Rattle.libyaml_loader.specs.composed.Places.{innermost_of};
 ghost use Rattle.libyaml_loader.specs.document.Stack.{with_document_begun, first_composer, roomy};
@@ -97,6 +98,36 @@ impl OpenCollections {
         ensures { result ≡ length self.now.stack }
     {
         self.composer.depth
+    }
+
+    /// Returns how many entries each list of a document may have.
+    fn most(&self) -> u32
+        ensures { result ≡ self.now.most }
+    {
+        if self.composer.max_entries < 2147483647 {
+            self.composer.max_entries
+        } else {
+            2147483647
+        }
+    }
+
+    /// Returns whether the list of nodes has room for one more.
+    pub(crate) fn has_room(&self) -> bool
+        ensures { result ≡ nat_lt self.now.nodes self.now.most }
+    {
+        self.composer.nodes < self.most()
+    }
+
+    /// Returns whether the list of the innermost open collection has no room for what a child needs.
+    pub(crate) fn is_list_full(&self) -> bool
+        ensures { result ≡ is_list_full self.now.most self.now.stack }
+    {
+        match self.innermost() {
+            Some(open) => {
+                open.children >= self.most() && (open.is_mapping == 0 || open.key == 0)
+            }
+            None => false,
+        }
     }
 
     /// Begins a document.

@@ -1,12 +1,13 @@
-//! Loads that fail. A test vector has the parts of a list; and the kind of the error, the name that it is
-//! about, and the lines of half a document.
+//! Loads that fail. A test vector has the parts of a list, and the bound on each list of a document; and the
+//! kind of the error, the name that it is about, and the lines of half a document.
 
 use crate::texts::joined;
 use anyhow::{Result, bail};
 use std::alloc::Global;
 use token_lines::write_document;
 use unsafe_libyaml::{
-    yaml_document_t, yaml_parser_initialize, yaml_parser_load_partial, yaml_partial_t,
+    yaml_document_t, yaml_parser_initialize, yaml_parser_load_partial, yaml_parser_set_max_entries,
+    yaml_partial_t,
 };
 use vectors_common::{Vector, listed};
 
@@ -38,6 +39,11 @@ fn text_of_failed(
 
 /// Returns the text of what the first load gives with its error.
 pub fn given(alloc: Global, vector: Vector<'_>) -> Result<String> {
+    let max_entries = i32::try_from(vector.number(1))?;
+    if max_entries < 1 {
+        bail!("no bound");
+    }
     let mut parser = yaml_parser_initialize(alloc, listed(alloc, vector.field(0), 1)?);
+    yaml_parser_set_max_entries(&mut parser, max_entries);
     text_of_failed(alloc, &yaml_parser_load_partial(&mut parser))
 }

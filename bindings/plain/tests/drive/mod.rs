@@ -3,6 +3,7 @@
 use pokhvizi::kit::Global;
 use pokhvizi::yaml::*;
 use std::collections::HashMap;
+use std::num::NonZeroU32;
 
 /// What was seen of some tokens, so that a test can tell that inputs reach everything.
 #[derive(Clone, Copy, Debug, Default, PartialEq, Eq)]
@@ -21,6 +22,8 @@ pub struct Seen {
     pub endless: bool,
     /// Whether half a document is given.
     pub half: bool,
+    /// Whether half a document is given where a list is full.
+    pub full: bool,
 }
 
 const NAMES: [&str; 4] = ["a", "b", "", "\u{e9}"];
@@ -194,8 +197,46 @@ struct Made {
     is_mapping: bool,
 }
 
-/// The nodes of the document that these events leave open, which a walk over them makes without the loader.
-fn half_of(events: &[Event]) -> Option<Vec<String>> {
+/// How many of these events documents take whose lists have at most `most` entries, by a walk that counts.
+/// Beside it, how many nodes the last document has then.
+fn taken_within(events: &[Event], most: usize) -> (usize, usize) {
+    let (mut nodes, mut open) = (0, Vec::<(bool, usize)>::new());
+    for (taken, event) in events.iter().enumerate() {
+        let opens = match &event.content {
+            EventData::Alias(_) | EventData::Scalar(_) => None,
+            EventData::SequenceStart(_) => Some(false),
+            EventData::MappingStart(_) => Some(true),
+            EventData::DocumentStart(_) => {
+                nodes = 0;
+                continue;
+            }
+            EventData::SequenceEnd | EventData::MappingEnd => {
+                open.pop();
+                continue;
+            }
+            _ => continue,
+        };
+        let is_node = event.type_() != EventType::YAML_ALIAS_EVENT;
+        // a value is in the pair of its key
+        let entries = match open.last() {
+            Some(&(false, children)) => children,
+            Some(&(true, children)) if children % 2 == 0 => children / 2,
+            _ => 0,
+        };
+        if is_node && nodes >= most || entries >= most {
+            return (taken, nodes);
+        }
+        nodes += usize::from(is_node);
+        if let Some((_, children)) = open.last_mut() {
+            *children += 1;
+        }
+        open.extend(opens.map(|is_mapping| (is_mapping, 0)));
+    }
+    (events.len(), nodes)
+}
+
+/// The nodes of the document that these events leave open, at most `most`, made by a walk without the loader.
+fn half_of(events: &[Event], most: usize) -> Option<Vec<String>> {
     let start = events
         .iter()
         .rposition(|event| event.type_() == EventType::YAML_DOCUMENT_START_EVENT)?;
@@ -251,9 +292,11 @@ fn half_of(events: &[Event]) -> Option<Vec<String>> {
     }
     let end = events[events.len() - 1].end_mark;
     while let Some(id) = open.pop() {
-        let half = &mut nodes[id - 1];
-        half.place.1 = end;
-        if half.is_mapping && half.children.len() % 2 == 1 {
+        nodes[id - 1].place.1 = end;
+        let waits = nodes[id - 1].is_mapping && nodes[id - 1].children.len() % 2 == 1;
+        if waits && nodes.len() >= most {
+            nodes[id - 1].children.pop();
+        } else if waits {
             let (tag, style) = (
                 "tag:yaml.org,2002:str".into(),
                 format!("{:?}", ScalarStyle::PLAIN),
@@ -292,10 +335,33 @@ fn name_of(bytes: &[u8], composed: &[Event]) -> Option<String> {
     }
 }
 
-/// The documents, and at the error the half of the one that is open.
-fn assert_half(bytes: &[u8], composed: &Run<Event>, loaded: &Run<Document>) -> bool {
-    let mut documents = Documents::new(TokenList::from(tokens_of(bytes)));
-    for whole in &loaded.0 {
+/// How many of the composed events documents take within the bound, and whether a list is full there. At a
+/// second node with an anchor the list of nodes is looked at first.
+fn stopped_by(all: &[Event], composed: &[Event], most: usize) -> (usize, bool) {
+    let (taken, nodes) = taken_within(composed, most);
+    let next = all.get(taken).map(Event::type_);
+    let is_last_node =
+        taken == composed.len() && next.is_some_and(|kind| kind != EventType::YAML_ALIAS_EVENT);
+    (taken, taken < composed.len() || is_last_node && nodes >= most)
+}
+
+/// The documents whose lists have at most `most` entries, and at the error the half of the open one. Returns
+/// whether there is a half, and whether a list was full.
+fn assert_half(
+    bytes: &[u8],
+    all: &[Event],
+    composed: &Run<Event>,
+    loaded: &Run<Document>,
+    most: u32,
+) -> (bool, bool) {
+    let (taken, is_full) = stopped_by(all, &composed.0, most as usize);
+    let events = &composed.0[..taken];
+    let ends = events
+        .iter()
+        .filter(|event| event.type_() == EventType::YAML_DOCUMENT_END_EVENT);
+    let source = TokenList::from(tokens_of(bytes));
+    let mut documents = Documents::new(source).max_entries(NonZeroU32::new(most).unwrap());
+    for whole in &loaded.0[..ends.count()] {
         assert_eq!(
             lines_of(&documents.next_or_half().unwrap().unwrap()),
             lines_of(whole)
@@ -304,20 +370,25 @@ fn assert_half(bytes: &[u8], composed: &Run<Event>, loaded: &Run<Document>) -> b
     let last = documents.next_or_half();
     assert!(documents.next_or_half().is_none());
     let Some(failed) = last else {
-        assert!(loaded.1.is_none());
-        return false;
+        assert!(!is_full && loaded.1.is_none());
+        return (false, false);
     };
     let Half {
         error,
         name,
         document,
     } = failed.err().unwrap();
-    assert_eq!(Some(error), loaded.1);
-    assert_eq!(name, name_of(bytes, &composed.0));
-    assert_eq!(document.as_ref().map(lines_of), half_of(&composed.0));
-    document.map_or(false, |half| {
-        half.end_mark() == composed.0[composed.0.len() - 1].end_mark && half.end_implicit()
-    })
+    if is_full {
+        assert_eq!((error.kind(), name), (ErrorKind::MEMORY, None));
+    } else {
+        assert_eq!(Some(error), loaded.1);
+        assert_eq!(name, name_of(bytes, &composed.0));
+    }
+    assert_eq!(document.as_ref().map(lines_of), half_of(events, most as usize));
+    let is_half = document.map_or(false, |half| {
+        half.end_mark() == events[events.len() - 1].end_mark && half.end_implicit()
+    });
+    (is_half, is_full)
 }
 
 /// The children of a node, and where each stands.
@@ -493,9 +564,12 @@ pub fn drive(bytes: &[u8]) -> Seen {
         documents: loaded.0.len(),
         ended: all.1.is_none(),
         refused: all.1 != loaded.1,
-        half: assert_half(bytes, &composed, &loaded),
+        half: assert_half(bytes, &all.0, &composed, &loaded, u32::MAX).0,
         ..Seen::default()
     };
+    for most in [1, 2, 4] {
+        seen.full |= assert_half(bytes, &all.0, &composed, &loaded, most) == (true, true);
+    }
     for document in &loaded.0 {
         let nodes = document.nodes().len() as u64;
         seen.repeated |= document.duplicate_key().unwrap().is_some();

@@ -374,3 +374,9 @@ module _ (c : Composer) (h : DocumentSoFar) (o : Opening) (stands : Represents c
       go (goes g) = absurd (not_part t.deed refused g.part)
       go (fails refused fault) = fault
       go (full is) = absurd (subst IsRefused is refused)
+
+-- the parent's list is full for the machine where it is for the composer
+pub list_is : (c : Composer) (h : DocumentSoFar) (o : Opening) → Represents c h o
+    → parent_full c.most (map open_of c.stack) h.nodes ≡ is_list_full c.most c.stack
+list_is c h o stands = room_is c.most 0 o c.stack h stands.opening stands.opens stands.carried
+    (record { node = pos 0; child = pos 0; parent = pos 0; key = pos 0 })

@@ -8,7 +8,7 @@ use Rattle.libyaml_graphs.specs.machine.Loader.{going}
 use Rattle.libyaml_loader.specs.declared.composer.DocumentBuilder.{DocumentBuilder}
 use Rattle.libyaml_loader.specs.declared.context.loader_ctx.{loader_ctx}
 use Rattle.libyaml_loader.specs.document.Context.{loader_of, opening_of_document, with_nodes}
-use Rattle.libyaml_loader.specs.loads.HalfDocument.{IsHalf, bounded_parts, closing_parts, has_waiting_key}
+use Rattle.libyaml_loader.specs.loads.HalfDocument.{IsHalf, closed_at, has_waiting_key}
 use Rattle.libyaml_loader.specs.pushes.Composing.{IsSound, composer_state, ended_by, state_by}
 
 module _ (b : DocumentBuilder) (m : Mark) where
@@ -23,8 +23,7 @@ module _ (b : DocumentBuilder) (m : Mark) where
   no_memory here waits = subst (Half None) (sym here) waits
 
   pub half_here : (x : loader_ctx) (y : Document) → b.is_open ≡ true → IsSound b
-      → bounded_parts b.ctx.collections.most (loader_of b.ctx) (closing_parts m (loader_of b.ctx).stack)
-      ≡ going (loader_of x) → x.document ≡ with_nodes x.document.nodes b.ctx.document
+      → closed_at b.ctx.collections.most m (loader_of b.ctx).stack (loader_of b.ctx) ≡ going (loader_of x) → x.document ≡ with_nodes x.document.nodes b.ctx.document
       → y ≡ ended_by (record { is_implicit = true; mark = m }) x → IsHalf b.max_entries m (composer_state b) (Some y)
   half_here x y here sound closed document ended = subst (Half (Some y)) (sym here)
       (loader_of x, rw sound.bound at closed, ended ∙ ap (λ (d : Document). ended_as d x.document.nodes) document)

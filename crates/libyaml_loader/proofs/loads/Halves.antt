@@ -1,7 +1,7 @@
 -- A load that fails, with the document that is open there.
 use Rattle.std.proofs.Common.{◌≡◌, ◌++◌, ◌∷◌, ℕ, List, [], Bool, false, true, Option, None, Some, Err, refl, sym, ap, ◌∙◌, subst, option_map, string_bytes, arith}
 use Rattle.libyaml_types.specs.Events.{zero_mark}
-use Rattle.libyaml_types.specs.Fault.{Fault, memory_fault}
+use Rattle.libyaml_types.specs.Fault.{Fault}
 use Rattle.libyaml_types.specs.Types.{event_anchor}
 use Rattle.libyaml_types.specs.declared.source.yaml_token_source_t.{Ghosts}
 use Rattle.libyaml_grammar.specs.grammar.Events.{Event}
@@ -16,13 +16,13 @@ use Rattle.libyaml_graphs.specs.graphs.GraphParts.{Closing, Opening, closing_of,
 use Rattle.libyaml_graphs.specs.loads.Leads.{Leads, as_loads, loads_from}
 use Rattle.libyaml_graphs.specs.loads.Loads.{Load, last_load}
 use Rattle.libyaml_graphs.specs.machine.Loader.{Loader, Loading, State, between, bounded_option, failed, going, within}
-use Rattle.libyaml_graphs.proofs.exported.Leading.{closes_there, from_none, goes_there, leads_both, leads_none, opens_there, passes_by, refused_there}
+use Rattle.libyaml_graphs.proofs.exported.Leading.{closes_there, from_none, goes_there, leads_both, leads_none, opens_there, passes_by}
 use Rattle.libyaml_loader.specs.declared.load_partial.yaml_partial_t.{yaml_partial_t}
 use Rattle.libyaml_loader.specs.document.Context.{loader_of}
 use Rattle.libyaml_loader.specs.loads.HalfDocument.{IsHalf, last_end}
 use Rattle.libyaml_loader.specs.loads.Loading.{ParserFails}
 use Rattle.libyaml_events.specs.sources.Naming.{NamesHandle}
-use Rattle.libyaml_loader.specs.loads.PartialLoad.{HalfOf, by_loader, by_memory, by_parser}
+use Rattle.libyaml_loader.specs.loads.PartialLoad.{HalfOf, by_loader, by_memory, by_parser, named_by}
 use Rattle.libyaml_loader.specs.pushes.Composing as composing
 use Rattle.libyaml_loader.specs.declared.composer.DocumentBuilder.{DocumentBuilder}
 use Rattle.libyaml_loader.specs.pushes.Composing.{RefusesEvent, composer_state, state_by}
@@ -38,27 +38,26 @@ not_refused : (n : ℕ) (s t : State) (e : Event) (d : List Document) (f : Fault
 not_refused n s t e d f leads h = not_first d f
     (sym (leads.loads [] Ends ∙ ap (λ (l : List Load). as_loads d ++ l) (from_none n t Ends)) ∙ h)
 
--- an error at an event of which no other is known is that of a list that is full
-pub memory_only : (n : ℕ) (s : State) (e : Event) (f : Fault)
-    → ((o : Opening) (l : Loader) → s ≡ within o l → (x : Fault) → bounded_option n l (part_of e) ≡ failed x → x ≡ memory_fault)
-    → ((rest : List Event) (x : Ending) → loads_from n s (e ∷ rest) x ≡ Err f ∷ []) → f ≡ memory_fault
-memory_only n between e f only h = by (opening_of e) refl
-  where
-    by : (o : Option Opening) → opening_of e ≡ o → f ≡ memory_fault
-    by None is = absurd (not_refused n between between e [] f (passes_by n e is) (h [] Ends))
-    by (Some o) is = absurd (not_refused n between _ e [] f (opens_there n e o is) (h [] Ends))
-memory_only n (within o l) e f only h = by (closing_of e) refl
-  where
-    first : (x : Fault) → ◌≡◌ {A = List Load} (Err x ∷ []) (Err f ∷ []) → x ≡ f
-    first x e = cc
+-- an event that the document takes isn't refused
+abbrev pub IsTaken : ℕ → State → Event → Type 0
+IsTaken n s e = (o : Opening) (l : Loader) → s ≡ within o l → (x : Fault) → bounded_option n l (part_of e) ≡ failed x → ⊥
 
-    on : closing_of e ≡ None → (r : Loading) → bounded_option n l (part_of e) ≡ r → f ≡ memory_fault
-    on none (going k) is = absurd (not_refused n (within o l) (within o k) e [] f (goes_there n o l k e none is) (h [] Ends))
-    on none (failed x) is = sym (first x (sym (refused_there n o l e x none is [] Ends) ∙ h [] Ends)) ∙ only o l refl x is
+never : (n : ℕ) (s : State) (e : Event) (f : Fault) → IsTaken n s e
+    → ((rest : List Event) (x : Ending) → loads_from n s (e ∷ rest) x ≡ Err f ∷ []) → ⊥
+never n between e f taken h = by (opening_of e) refl
+  where
+    by : (o : Option Opening) → opening_of e ≡ o → ⊥
+    by None is = not_refused n between between e [] f (passes_by n e is) (h [] Ends)
+    by (Some o) is = not_refused n between _ e [] f (opens_there n e o is) (h [] Ends)
+never n (within o l) e f taken h = by (closing_of e) refl
+  where
+    on : closing_of e ≡ None → (r : Loading) → bounded_option n l (part_of e) ≡ r → ⊥
+    on none (going k) is = not_refused n (within o l) (within o k) e [] f (goes_there n o l k e none is) (h [] Ends)
+    on none (failed x) is = taken o l refl x is
 
-    by : (c : Option Closing) → closing_of e ≡ c → f ≡ memory_fault
+    by : (c : Option Closing) → closing_of e ≡ c → ⊥
     by None is = on is (bounded_option n l (part_of e)) refl
-    by (Some c) is = absurd (not_refused n (within o l) between e _ f (closes_there n o l e c is) (h [] Ends))
+    by (Some c) is = not_refused n (within o l) between e _ f (closes_there n o l e c is) (h [] Ends)
 
 module _ {S : Type 0} (g : Ghosts S) (n : ℕ) (first now : Parser S) (here : State) (w : OnTheWay g n first now here)
     (m : Mark) (same : m ≡ last_end zero_mark w.taken) (p : yaml_partial_t) where
@@ -72,26 +71,19 @@ module _ {S : Type 0} (g : Ghosts S) (n : ℕ) (first now : Parser S) (here : St
 
   pub half_by_loader : (mid new : Parser S) (e : Event) (f : Fault) → Took g now mid (e ∷ [])
       → ((rest : List Event) (x : Ending) → loads_from n here (e ∷ rest) x ≡ Err f ∷ []) → new ≡ keeping f mid
-      → IsHalf n m here p.document → option_map string_bytes p.name ≡ event_anchor e.content → HalfOf g n first new p
+      → IsHalf n m here p.document → option_map string_bytes p.name ≡ named_by f.error (event_anchor e.content) → HalfOf g n first new p
   half_by_loader mid new e f took refuses keeps half name = by_loader w.taken e mid here f
       (took_both g first now mid w.taken (e ∷ []) w.took took)
       (λ (asked : List Token) (given : List Event) (h : History mid asked given). keeps) w.leads refuses (at_last_end half) name
 
-  -- no memory was left for an event
+  -- an allocation failed at an event that the document takes
   pub half_by_memory : (mid new : Parser S) (e : Event) (f : Fault) → Took g now mid (e ∷ []) → RefusesEvent ⊥ n here e f
-      → ((o : Opening) (l : Loader) → here ≡ within o l → (x : Fault) → bounded_option n l (part_of e) ≡ failed x → x ≡ memory_fault)
-      → new ≡ keeping f mid → p.document ≡ None → p.name ≡ None → HalfOf g n first new p
-  half_by_memory mid new e f took refuses only keeps document name = by_memory w.taken e mid here
+      → IsTaken n here e → new ≡ keeping f mid → p.document ≡ None → p.name ≡ None → HalfOf g n first new p
+  half_by_memory mid new e f took (composing.by_loads loads) taken keeps document name = absurd (never n here e f taken loads)
+  half_by_memory mid new e f took (composing.by_memory is needs) taken keeps document name = by_memory w.taken e mid here
       (took_both g first now mid w.taken (e ∷ []) w.took took)
       (λ (asked : List Token) (given : List Event) (h : History mid asked given). keeps ∙ ap (λ (v : Fault). keeping v mid) is)
-      w.leads (subst (λ (v : Fault). RefusesEvent ⊥ n here e v) is refuses) document name
-    where
-      of : RefusesEvent ⊥ n here e f → f ≡ memory_fault
-      of (composing.by_loads loads) = memory_only n here e f only loads
-      of (composing.by_memory is needs) = is
-
-      is : f ≡ memory_fault
-      is = of refuses
+      w.leads needs document name
 
 last_end_more : (m : Mark) (l : List Event) (e : Event) → last_end m (l ++ e ∷ []) ≡ e.end_mark
 last_end_more m [] e = refl
@@ -119,12 +111,11 @@ module _ {S : Type 0} (g : Ghosts S) (n : ℕ) where
     sym (last_end_more zero_mark w.taken e),
   )
 
-pub other_errors : (b : DocumentBuilder) (e : Event) (n : ℕ) → b.max_entries ≡ n
-    → (b.is_open ≡ true → (x : Fault) → bounded_option b.max_entries (loader_of b.ctx) (part_of e) ≡ failed x → x ≡ memory_fault)
-    → (o : Opening) (l : Loader) → composer_state b ≡ within o l
-    → (x : Fault) → bounded_option n l (part_of e) ≡ failed x → x ≡ memory_fault
-other_errors b e n is only o l at x fails = by b.is_open refl
+pub no_error : (b : DocumentBuilder) (e : Event) (n : ℕ) → b.max_entries ≡ n
+    → (b.is_open ≡ true → (x : Fault) → bounded_option b.max_entries (loader_of b.ctx) (part_of e) ≡ failed x → ⊥)
+    → IsTaken n (composer_state b) e
+no_error b e n is none o l at x fails = by b.is_open refl
   where
-    by : (i : Bool) → b.is_open ≡ i → x ≡ memory_fault
+    by : (i : Bool) → b.is_open ≡ i → ⊥
     by true here = grind arith
     by false here = grind arith

@@ -1,5 +1,5 @@
 -- The document that is open where a load fails, closed there (docs/DEFINITIONS.md, "Half a document").
-use Rattle.std.specs.Prelude.{◌≡◌, ◌++◌, ◌∷◌, ℕ, ℤ, List, [], Option, Some, None, Bool, true, false}
+use Rattle.std.specs.Prelude.{◌≡◌, ◌++◌, ◌∷◌, ℕ, ℤ, List, [], length, nat_lt, Option, Some, None, Bool, true, false}
 use Rattle.libyaml_types.specs.declared.enums.yaml_scalar_style_t.TheVariants.{YAML_PLAIN_SCALAR_STYLE}
 use Rattle.libyaml_grammar.specs.grammar.Events.{Event}
 use Rattle.libyaml_grammar.specs.grammar.Tokens.{Mark}
@@ -21,30 +21,35 @@ empty_scalar_node m = scalar_loaded (record {
   style = YAML_PLAIN_SCALAR_STYLE;
 }) m m
 
--- What closes these open collections at m, the innermost first: a key that waits gets an empty value, and the collection ends.
-abbrev pub waiting_value : Mark → Option ℤ → List Part
-waiting_value m None = []
-waiting_value m (Some k) = leaf_part None (empty_scalar_node m) ∷ []
+-- What ends the innermost open collection at m: a key that waits gets an empty value first, if there is room for it.
+abbrev pub waiting_value : (has_room : Bool) → Mark → Option ℤ → List Part
+waiting_value b m None = []
+waiting_value false m (Some k) = []
+waiting_value true m (Some k) = leaf_part None (empty_scalar_node m) ∷ []
 
-abbrev pub closing_parts : Mark → List OpenNode → List Part
-closing_parts m [] = []
-closing_parts m (o ∷ s) = waiting_value m o.key ++ end_part m ∷ closing_parts m s
+abbrev pub ending_parts : (has_room : Bool) → Mark → Option ℤ → List Part
+ending_parts b m k = waiting_value b m k ++ end_part m ∷ []
 
 -- parts in turn, within the bound n
 abbrev pub bounded_parts : ℕ → Loader → List Part → Loading
 bounded_parts n l [] = going l
 bounded_parts n l (p ∷ r) = if_going failed (bounded_part n l p) (λ k. bounded_parts n k r)
 
+-- these open collections ended at m, the innermost first
+abbrev pub closed_at : ℕ → Mark → List OpenNode → Loader → Loading
+closed_at n m [] l = going l
+closed_at n m (o ∷ s) l = if_going failed (bounded_parts n l (ending_parts (nat_lt (length l.nodes) n) m o.key)) (closed_at n m s)
+
 -- a key waits for its value
 abbrev pub has_waiting_key : List OpenNode → Bool
 has_waiting_key [] = false
 has_waiting_key (o ∷ s) = elim o.key [ Some k ↦ true | None ↦ has_waiting_key s ]
 
--- The document that is open, closed at m; none, if no document is open, or no memory was left for an empty value.
+-- The document that is open, closed at m; none, if no document is open, or an allocation failed for an empty value.
 abbrev pub IsHalf : ℕ → Mark → State → Option Document → Type 0
 IsHalf n m between d = d ≡ None
 IsHalf n m (within o l) None = has_waiting_key l.stack ≡ true
-IsHalf n m (within o l) (Some d) = (k : Loader) × (bounded_parts n l (closing_parts m l.stack) ≡ going k)
+IsHalf n m (within o l) (Some d) = (k : Loader) × (closed_at n m l.stack l ≡ going k)
     × (d ≡ document o k.nodes (record { is_implicit = true; mark = m }))
 
 -- where the last of these events ends

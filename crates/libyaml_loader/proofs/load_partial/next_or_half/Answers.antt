@@ -2,15 +2,19 @@ use Rattle.std.proofs.Common.{◌≡◌, Ok, ap, sym, ◌∙◌, refl, true, fal
 use Rattle.std.proofs.Math.Nat.{le_refl}
 use Rattle.libyaml_events.specs.parsers.Stages.{is_event}
 use Rattle.libyaml_events.specs.sources.Calls.{event_result}
+use Rattle.libyaml_events.specs.sources.History.{kept_fault}
 use Rattle.libyaml_events.specs.sources.Naming.{without_name}
 use Rattle.libyaml_types.specs.Fault.{fault_of}
+use Rattle.libyaml_types.specs.Types.{event_anchor}
+use Rattle.libyaml_types.specs.declared.enums.yaml_error_type_t.{yaml_error_type_t}
 use Rattle.libyaml_graphs.specs.graphs.GraphParts.{closing_of}
 use Rattle.libyaml_loader.specs.declared.composer.DocumentBuilder.{DocumentBuilder}
 use Rattle.libyaml_loader.specs.document.Context.{loader_of, opening_of_document}
+use Rattle.libyaml_loader.specs.loads.PartialLoad.{named_by}
 use Rattle.libyaml_loader.specs.pushes.Composing as composing
 use Rattle.libyaml_loader.specs.pushes.Composing.{closing_by, ended_by, state_by, composer_state}
 use Rattle.libyaml_loader.proofs.loads.Ended.{has_not_ended}
-use Rattle.libyaml_loader.proofs.loads.Halves.{half_by_loader, half_by_memory, half_by_parser, half_more, half_none, other_errors}
+use Rattle.libyaml_loader.proofs.loads.Halves.{half_by_loader, half_by_memory, half_by_parser, half_more, half_none, no_error}
 use Rattle.libyaml_loader.proofs.loads.OnTheWay.{way_ends, way_fails, way_finds_end, way_refused}
 use Rattle.libyaml_loader.proofs.loads.Taking.{Came, after_close, event_came, finds_end, parser_fails}
 use Rattle.libyaml_loader.proofs.load_partial.next_or_half.Given as given
@@ -108,7 +112,8 @@ returns-in-Some-clause-half g c =
     half_by_loader g.S.yaml_token_source_t c.args.composer.now.max_entries c.args.parser.now c.loop-error.parser
     (composer_state c.loop-error.composer) i.0 c.loop-error.end_mark i.1 _ call.new.parser c.keep_fault-error.new.parser call.new.event (fault_of c.in-Some.fault) k.took
     (rw i.3 at c.in-Some.ensures.refuses) c.keep_fault-error.ensures.kept (rw i.3 at c.end_half-document-in-Some.ensures)
-    c.take_anchor-name.ensures
+    (c.take_name-name.ensures ∙ ap (λ (x : yaml_error_type_t). named_by x (event_anchor call.new.event.content))
+    (c.keep_fault-error.ensures.error ∙ ap (λ q. (kept_fault q).error) c.keep_fault-error.ensures.kept))
 
 pub returns-in-Ok-Some-clause-loads : goal.returns-in-Ok-Some-clause-loads
 returns-in-Ok-Some-clause-loads g c =
@@ -148,5 +153,5 @@ returns-in-Err-take_event-clause-half g c =
     half_by_memory g.S.yaml_token_source_t c.args.composer.now.max_entries c.args.parser.now c.loop-error.parser
     (composer_state x) i.0 c.loop-error.end_mark i.1 _ call.new.parser c.keep_fault-error-in-Err-take_event.new.parser
     call.new.event (fault_of c.take_event.new.self.fault) k.took (rw i.3 at c.in-Err-take_event.ensures.composes)
-    (other_errors x call.new.event c.args.composer.now.max_entries i.3 (c.in_default-anchor_fault.ensures.others refl))
+    (no_error x call.new.event c.args.composer.now.max_entries i.3 (c.in_default-event_fault.ensures.accepts refl))
     c.keep_fault-error-in-Err-take_event.ensures.kept refl refl
