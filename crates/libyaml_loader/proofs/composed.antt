@@ -5,6 +5,8 @@ pub mod Placing
 pub mod Staying
 pub mod Keys
 pub mod Placed
+pub mod Waiting
+pub mod Pairing
 pub mod Loops
 pub mod PlacedLoops
 pub mod Writings

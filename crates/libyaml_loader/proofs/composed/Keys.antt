@@ -9,7 +9,7 @@ use Rattle.libyaml_documents.specs.declared.node.yaml_node_t.{yaml_node_t}
 use Rattle.libyaml_documents.specs.declared.pairs.yaml_node_pair_t.{yaml_node_pair_t}
 use Rattle.libyaml_graphs.specs.machine.Loader.{OpenNode, closed_by, content_and_child, hand, handed, key_after, key_after_child, outer, with_child}
 use Rattle.libyaml_composer.proofs.exported.Opens.{get_last}
-use Rattle.libyaml_loader.proofs.composed.Staying.{IsKept, OfId, OfNode, of_changed, of_child, of_end, of_more, of_next, of_other, same_id}
+use Rattle.libyaml_loader.proofs.composed.Staying.{IsKept, OfId, OfNode, id_kept, of_changed, of_child, of_end, of_more, of_next, of_other, same_id}
 
 -- entries of a list
 pub get_more : {A : Type 0} (xs more : List A) (n : ℕ) (x : A) → slice_get xs n ≡ Some x → slice_get (xs ++ more) n ≡ Some x
@@ -37,7 +37,7 @@ pairs_stay (Some k) i (Mapping s) n p h = get_more s.pairs _ n p h
 
 -- the pair of a key, and the pairs before it
 module _ (parent id : ℤ) (index : ℕ) where
-  abbrev IsPaired : yaml_node_t → Type 0
+  abbrev pub IsPaired : yaml_node_t → Type 0
   IsPaired x = (p : yaml_node_pair_t) × (slice_get (pairs_of x.content) index ≡ Some p) × (p.key ≡ id)
 
   abbrev IsBefore : yaml_node_t → Type 0
@@ -56,6 +56,9 @@ module _ (parent id : ℤ) (index : ℕ) where
 
   paired_end : (m : Mark) (x : yaml_node_t) → IsPaired x → IsPaired (with_end m x)
   paired_end m x h = h
+
+  pub paired_kept : IsKept (λ nodes s. OfId IsPaired parent nodes)
+  paired_kept = id_kept IsPaired paired_child paired_end parent
 
   before_end : (m : Mark) (x : yaml_node_t) → IsBefore x → IsBefore (with_end m x)
   before_end m x h = h

@@ -1,5 +1,5 @@
 -- An event's place is its place in the document that a load gives.
-use Rattle.std.proofs.Common.{◌≡◌, ◌⊎◌, inl, inr, ◌<◌, ◌-◌, ◌∷◌, ◌++◌, ◌∙◌, ℕ, suc, ℤ, pos, List, [], map, Option, Some, None, Bool, true, false, true≢false, Err, length, slice_get, option_and_then, if◌then◌else◌, ◌≤◌, refl, sym, ap, subst, arith}
+use Rattle.std.proofs.Common.{◌≡◌, ◌⊎◌, inl, inr, ◌<◌, ◌-◌, ◌∷◌, ◌++◌, ◌∙◌, ℕ, suc, ℤ, pos, List, [], map, Option, Some, None, Bool, true, false, true≢false, Ok, Err, length, slice_get, option_and_then, if◌then◌else◌, ◌≤◌, refl, sym, ap, subst, arith}
 use Rattle.std.proofs.lemmas.Int.{ints}
 use Rattle.libyaml_types.specs.Fault.{Fault}
 use Rattle.libyaml_types.specs.Types.{event_anchor, event_type}
@@ -10,6 +10,7 @@ use Rattle.libyaml_grammar.specs.grammar.Tokens.{Mark}
 use Rattle.libyaml_documents.specs.LoadedNodes.{mapping_loaded, scalar_loaded, sequence_loaded}
 use Rattle.libyaml_grammar.specs.grammar.Events.{Event}
 use Rattle.libyaml_grammar.specs.runs.Runs.{Ending}
+use Rattle.libyaml_documents.specs.Documents.{Document}
 use Rattle.libyaml_documents.specs.Nodes.{items_of, node_at, pair_after, item_after, pairs_of, with_changed, with_item, with_pair}
 use Rattle.libyaml_documents.specs.declared.node.unnamed_yaml_node_t_data.{unnamed_yaml_node_t_data}
 use Rattle.libyaml_documents.specs.declared.node.unnamed_yaml_node_t_data.TheVariants.{Scalar, Sequence, Mapping}
@@ -17,6 +18,7 @@ use Rattle.libyaml_documents.specs.declared.node.yaml_node_t.{yaml_node_t}
 use Rattle.libyaml_documents.specs.declared.pairs.yaml_node_pair_t.{yaml_node_pair_t}
 use Rattle.libyaml_graphs.specs.graphs.Graphs.{AnchoredNode, id_or}
 use Rattle.libyaml_graphs.specs.graphs.GraphParts.{Closing, Opening, Part, closing_of, part_in, part_of}
+use Rattle.libyaml_graphs.specs.loads.Loads.{end_of_document}
 use Rattle.libyaml_graphs.specs.machine.Loader.{Anchors, Loader, Loading, OpenNode, State, bounded_option, if_going, load_from, within}
 use Rattle.libyaml_graphs.proofs.exported.LoaderSteps.{within_event}
 use Rattle.libyaml_composer.specs.declared.deed.Deed.{Deed}
@@ -34,12 +36,13 @@ use Rattle.libyaml_loader.specs.declared.places.yaml_place_t.{yaml_place_t}
 use Rattle.libyaml_loader.specs.declared.places.yaml_role_t.{yaml_role_t}
 use Rattle.libyaml_loader.specs.declared.places.yaml_role_t.TheVariants as place_role
 use Rattle.libyaml_loader.specs.composed.Anchoring.{event_node}
-use Rattle.libyaml_loader.specs.composed.EventComposer.{EventComposer, StandsAt, is_between, is_within}
+use Rattle.libyaml_loader.specs.composed.EventComposer.{EventComposer, StandsAt, entries_bound, is_between, is_within}
 use Rattle.libyaml_loader.specs.composed.Places.{PlacesEvent, index_by, innermost_of, place_by, role_of}
 use Rattle.libyaml_loader.specs.composed.PlacedDocuments.{ForPlaced, HoldsOnceLoaded, held_item, held_pair}
 use Rattle.libyaml_loader.specs.composed.Telling.{no_place}
 use Rattle.libyaml_loader.specs.document.Stack.{roomy}
-use Rattle.libyaml_loader.proofs.composed.Keys.{KeyHeld, Waits, get_at_end, items_stay, key_kept, pairs_stay}
+use Rattle.libyaml_loader.proofs.composed.Keys.{IsPaired, KeyHeld, Waits, get_at_end, items_stay, key_kept, pairs_stay}
+use Rattle.libyaml_loader.proofs.composed.Pairing.{IsOpen, PairedFrom, node_held, pair_comes}
 use Rattle.libyaml_loader.proofs.composed.Placing.{IsOpened, Puts, none_opened, one_opened, puts}
 use Rattle.libyaml_loader.proofs.composed.Staying.{IsKept, OfId, OfNode, document_keeps, id_kept, of_changed, of_more, of_other, same_id}
 use Rattle.libyaml_loader.proofs.composed.Steps.{closed, told_so}
@@ -192,6 +195,17 @@ waits total nodes n (y ∷ s) is (k, at, lt, here, key, rest) i id opened new in
     go true false is = ((λ e. key_some i id), waits_around total nodes y.node i index k at k s (omega arith) rest)
     go true true is = absurd (cc)
 
+-- and that mapping is open
+open_around : (parent : ℤ) (opened s : List open_t) → IsOpen parent s → IsOpen parent (opened ++ s)
+open_around parent [] s h = h
+open_around parent (o ∷ opened) s h = inr (open_around parent opened s h)
+
+open_there : (s : List open_t) → deed_for s ≡ deed.Key → (i : ℤ) (opened : List open_t)
+    → IsOpen (parent_in s) (opened ++ holding_top i s)
+open_there [] is i opened = absurd (cc)
+open_there (y ∷ s) is i opened = open_around y.node opened (holding_top i (y ∷ s))
+    (inl (node_held i y (is_set y.is_mapping) (is_id y.key)))
+
 -- of the nodes in the end
 item_held : (nodes : List yaml_node_t) (parent : ℤ) (n : ℕ) (i : ℤ)
     → OfId (λ x. slice_get (items_of x.content) n ≡ Some i) parent nodes → held_item nodes parent n ≡ Some i
@@ -216,6 +230,15 @@ some_same x y e = cc
 
 none_not_some : {A : Type 0} (x : A) → ◌≡◌ {A = Option A} None (Some x) → ⊥
 none_not_some x e = cc
+
+paired_held : (nodes : List yaml_node_t) (parent i : ℤ) (n : ℕ) → OfId (IsPaired parent i n) parent nodes
+    → (r : yaml_node_pair_t) × (held_pair nodes parent n ≡ Some r) × (r.key ≡ i)
+paired_held nodes parent i n h = go (node_at nodes parent) h
+  where
+    go : (y : Option yaml_node_t) → OfNode (IsPaired parent i n) y
+        → (r : yaml_node_pair_t) × (option_and_then (λ node. slice_get (pairs_of node.content) n) y ≡ Some r) × (r.key ≡ i)
+    go None h = absurd h
+    go (Some x) h = h
 
 key_held : (nodes : List yaml_node_t) (parent i : ℤ) (n : ℕ) (s : List OpenNode) → KeyHeld parent i n nodes s
     → (p : yaml_node_pair_t) → held_pair nodes parent n ≡ Some p → p.key ≡ i
@@ -428,11 +451,9 @@ module _ (old new : EventComposer) (e : Event) (p : yaml_place_t) (event : Place
         put = moved IsPair (index_told place_role.Value is) told_fields.id_is parent_told
             (nodes_by place_role.Value is ∙ ap (λ (z : ℤ). with_changed z (with_pair q.key q.child) made) step.parent) there
 
-    key_within : p.role ≡ place_role.Key → HoldsOnceLoaded old here e (λ nodes. (r : yaml_node_pair_t)
-        → held_pair nodes p.parent p.index ≡ Some r → r.key ≡ p.id)
-    key_within is rest x c doc ends loads =
-        let k = keeps (KeyHeld p.parent p.id p.index) (key_kept p.parent p.id p.index) (inr (put, waiting)) rest x c doc ends loads in
-        key_held doc.nodes p.parent p.id p.index k.0 k.1
+    -- a key waits in its mapping, which is open
+    key_begun : p.role ≡ place_role.Key → KeyHeld p.parent p.id p.index after.nodes (map open_of new.collections.stack)
+    key_begun is = inr (put, waiting)
       where
         AreBefore : ℕ → ℤ → yaml_node_t → Type 0
         AreBefore n i y = length (pairs_of y.content) ≡ n
@@ -455,6 +476,26 @@ module _ (old new : EventComposer) (e : Event) (p : yaml_place_t) (event : Place
             (subst (λ (t : List open_t). Waits (parent_in s) q.child p.index (map open_of t)) (sym step.stack)
             (waits (length h.nodes) h.nodes (length h.nodes) s (deed_told place_role.Key is) stands.opens q.child step.id step.opened opens
             p.index)))
+
+    key_open : p.role ≡ place_role.Key → IsOpen p.parent new.collections.stack
+    key_open is = subst (λ (z : ℤ). IsOpen z new.collections.stack) (sym parent_told)
+        (subst (IsOpen (parent_in s)) (sym step.stack) (open_there s (deed_told place_role.Key is) q.child step.opened))
+
+    key_within : p.role ≡ place_role.Key → HoldsOnceLoaded old here e (λ nodes. (r : yaml_node_pair_t)
+        → held_pair nodes p.parent p.index ≡ Some r → r.key ≡ p.id)
+    key_within is rest x c doc ends loads =
+        let k = keeps (KeyHeld p.parent p.id p.index) (key_kept p.parent p.id p.index) (key_begun is) rest x c doc ends loads in
+        key_held doc.nodes p.parent p.id p.index k.0 k.1
+
+    -- its pair, where no collection ends in which a key waits
+    pair_within : p.role ≡ place_role.Key → (rest : List Event) (x : Ending) (c : Closing) (doc : Document)
+        → PairedFrom new.collections rest → end_of_document rest ≡ Some c
+        → load_from old.collections.most here (e ∷ rest) x ≡ Ok doc
+        → (r : yaml_node_pair_t) × (held_pair doc.nodes p.parent p.index ≡ Some r) × (r.key ≡ p.id)
+    pair_within is rest x c doc paired ends loads = paired_held doc.nodes p.parent p.id p.index
+        (pair_comes p.parent p.id p.index o x c doc rest new.collections after goes.stands paired (key_begun is) (key_open is)
+        ends (subst (λ (m : ℕ). load_from m (within o (loader_by new.collections after)) rest x ≡ Ok doc) (sym goes.bound)
+        (sym (loads_so rest x) ∙ loads)))
 
     -- the event's own node, if it makes one
     own_within : IsNode (part_of e) → HoldsOnceLoaded old here e (λ nodes. (y : yaml_node_t) × (node_at nodes p.id ≡ Some y)
@@ -537,6 +578,17 @@ pub keys_so : ForPlaced place_role.Key (λ p nodes. (r : yaml_node_pair_t) → h
 keys_so old new e p at event is stands = anywhere old new e p event
     (λ nodes. (r : yaml_node_pair_t) → held_pair nodes p.parent p.index ≡ Some r → r.key ≡ p.id)
     (λ o h r same. key_within old new e p event o h r same is) at stands
+
+-- in a run, whose events nest
+pub pairs_so : (old new : EventComposer) (e : Event) (p : yaml_place_t) (at : State) → PlacesEvent old e (Some p) new
+    → p.role ≡ place_role.Key → StandsAt old at → (rest : List Event) (x : Ending) (c : Closing) (d : Document)
+    → PairedFrom new.collections rest → end_of_document rest ≡ Some c → load_from (entries_bound old) at (e ∷ rest) x ≡ Ok d
+    → (r : yaml_node_pair_t) × (held_pair d.nodes p.parent p.index ≡ Some r) × (r.key ≡ p.id)
+pairs_so old new e p at event is (is_between none same) rest x c d paired ends loads =
+    absurd (true≢false (sym (step old new e p event).within ∙ none))
+pairs_so old new e p at event is (is_within o h stands same there) rest x c d paired ends loads =
+    pair_within old new e p event o h stands same is rest x c d paired ends
+    (subst (λ (z : State). load_from (entries_bound old) z (e ∷ rest) x ≡ Ok d) there loads)
 
 pub nodes_so : (old new : EventComposer) (e : Event) (p : yaml_place_t) (at : State) → PlacesEvent old e (Some p) new
     → IsNode (part_of e) → StandsAt old at → HoldsOnceLoaded old at e (λ nodes. (y : yaml_node_t) × (node_at nodes p.id ≡ Some y)

@@ -24,7 +24,7 @@ pub record IsKept (Holds : List yaml_node_t → List OpenNode → Type 0) : Type
   pub end : (m : Mark) (s : List OpenNode) (nodes : List yaml_node_t) → Holds nodes s → Holds (closed_by m s nodes) (outer s)
 
 module _ (Holds : List yaml_node_t → List OpenNode → Type 0) (kept : IsKept Holds) where
-  abbrev Stays : Loading → Type 0
+  abbrev pub Stays : Loading → Type 0
   Stays (failed f) = Unit {0}
   Stays (going l) = Holds l.nodes l.stack
 
@@ -59,7 +59,7 @@ module _ (Holds : List yaml_node_t → List OpenNode → Type 0) (kept : IsKept 
   if_stays b (failed f) h = tt
   if_stays b (going l) h = unless_stays b (going l) h
 
-  step_stays : (n : ℕ) (l : Loader) (q : Option Part) → Holds l.nodes l.stack → Stays (bounded_option n l q)
+  pub step_stays : (n : ℕ) (l : Loader) (q : Option Part) → Holds l.nodes l.stack → Stays (bounded_option n l q)
   step_stays n l None h = h
   step_stays n l (Some p) h = unless_stays (nodes_full n l p) _ (if_stays (list_full n l p) _ (part_stays p l h))
 

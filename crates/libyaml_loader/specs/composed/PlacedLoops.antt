@@ -35,7 +35,7 @@ events_in items = map (λ i. i.0) items
 abbrev pub HasEntry : yaml_role_t → List yaml_node_t → (parent : ℤ) → (index : ℕ) → (id : ℤ) → Type 0
 HasEntry Root nodes parent index id = parent ≡ pos 0
 HasEntry Item nodes parent index id = held_item nodes parent index ≡ Some id
-HasEntry Key nodes parent index id = (pair : yaml_node_pair_t) → held_pair nodes parent index ≡ Some pair → pair.key ≡ id
+HasEntry Key nodes parent index id = (pair : yaml_node_pair_t) × (held_pair nodes parent index ≡ Some pair) × (pair.key ≡ id)
 HasEntry Value nodes parent index id = (pair : yaml_node_pair_t) × (held_pair nodes parent index ≡ Some pair) × (pair.value ≡ id)
 
 -- Each place is in the document of its event: the one that the loads give after those that ended before the event.
