@@ -341,7 +341,7 @@ fn stopped_by(all: &[Event], composed: &[Event], most: usize) -> (usize, bool) {
     let (taken, nodes) = taken_within(composed, most);
     let next = all.get(taken).map(Event::type_);
     let is_last_node =
-        taken == composed.len() && next.is_some_and(|kind| kind != EventType::YAML_ALIAS_EVENT);
+        taken == composed.len() && next.map_or(false, |kind| kind != EventType::YAML_ALIAS_EVENT);
     (taken, taken < composed.len() || is_last_node && nodes >= most)
 }
 
