@@ -54,8 +54,8 @@ ALIASES = {
     "rust_original.specs.loader.Loader": "orig_loader",
     "rust_original.specs.parser.Parser": "orig",
     "std.specs.Cmp.Lexicographic": "lex",
+    "token_lines.specs.declared.run.LastStep.TheVariants": "step",
     "token_lines.specs.declared.run.Outcome.TheVariants": "outcome",
-    "token_lines.specs.declared.run.RunStep.TheVariants": "step",
     "token_steps.specs.Facts": "facts",
     "token_steps.specs.declared.did.Did.TheVariants": "did",
 }

@@ -1,5 +1,5 @@
 //! Runs: from token lines to the lines of events or of documents.
-ghost use Rattle.std.specs.Prelude.{◌≡◌, ◌≢◌, ◌⊎◌};
+ghost use Rattle.std.specs.Prelude.{◌≡◌, ◌⊎◌};
 ghost use Rattle.std.specs.Io.KnownBytes.{Keeps};
 ghost use Rattle.token_lines.specs.lines.LineRun.{ClosedBy, outcome_of};
 
@@ -48,12 +48,10 @@ impl run_end_t {
     }
 }
 
-/// What came of the next event or document.
+/// What ends a run.
 #[derive(Copy, Clone)]
-enum RunStep {
-    /// It was written, and more is to come.
-    Written,
-    /// The last was written, or none was left.
+enum LastStep {
+    /// The last line was written, or none was left.
     Ended,
     /// An error came, whose text is still to be written.
     Failed(yaml_parser_t_prefix),
@@ -62,17 +60,16 @@ enum RunStep {
 }
 
 /// Ends a run after its last step: writes the text of the error by which that failed, and flushes the writer.
-fn closed<W: Write>(step: &RunStep, writer: &mut W) -> run_end_t
-    requires { step.now ≢ RunStep.Written }
-    ensures { ClosedBy step.now result (W.contents writer.old) (W.contents writer.new) }
+fn closed<W: Write>(last: &LastStep, writer: &mut W) -> run_end_t
+    ensures { ClosedBy last.now result (W.contents writer.old) (W.contents writer.new) }
 {
-    match step {
-        RunStep::Written | RunStep::Ended => flushed(run_end_t::Ended, writer),
-        RunStep::Failed(fault) => match write_fault(fault, writer) {
+    match last {
+        LastStep::Ended => flushed(run_end_t::Ended, writer),
+        LastStep::Failed(fault) => match write_fault(fault, writer) {
             Ok(()) => flushed(run_end_t::Faulted(*fault), writer),
             Err(_) => run_end_t::OutputFailed,
         },
-        RunStep::OutputFailed => run_end_t::OutputFailed,
+        LastStep::OutputFailed => run_end_t::OutputFailed,
     }
 }
 

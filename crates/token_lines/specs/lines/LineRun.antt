@@ -5,10 +5,10 @@ use Rattle.std.specs.Io.KnownBytes.{Appends, Keeps}
 use Rattle.libyaml_types.specs.Fault.{Fault, fault_of, memory_fault}
 use Rattle.libyaml_grammar.specs.runs.Runs.{Ending, Ends, Fails}
 use Rattle.line_writing.specs.FaultText.{fault_text}
+use Rattle.token_lines.specs.declared.run.LastStep.{LastStep}
+use Rattle.token_lines.specs.declared.run.LastStep.TheVariants as step
 use Rattle.token_lines.specs.declared.run.Outcome.{Outcome}
 use Rattle.token_lines.specs.declared.run.Outcome.TheVariants as outcome
-use Rattle.token_lines.specs.declared.run.RunStep.{RunStep}
-use Rattle.token_lines.specs.declared.run.RunStep.TheVariants as step
 use Rattle.token_lines.specs.declared.run.run_end_t.{run_end_t}
 use Rattle.token_lines.specs.declared.run.run_end_t.TheVariants.{Ended, Faulted, OutputFailed}
 
@@ -34,8 +34,7 @@ WroteFault (Faulted told) f before after = (fault_of told ≡ f) × Appends befo
 WroteFault OutputFailed f before after = Unit {0}
 
 -- how a run ends after its last step, and what it writes then
-abbrev pub ClosedBy : RunStep → run_end_t → (before after : Option (List ℕ)) → Type 0
-ClosedBy step.Written end before after = ⊥
+abbrev pub ClosedBy : LastStep → run_end_t → (before after : Option (List ℕ)) → Type 0
 ClosedBy step.Ended end before after = ((end ≡ Ended) ⊎ (end ≡ OutputFailed)) × Keeps before after
 ClosedBy (step.Failed f) end before after = WroteFault end (fault_of f) before after
 ClosedBy step.OutputFailed end before after = end ≡ OutputFailed

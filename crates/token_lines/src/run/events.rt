@@ -1,5 +1,5 @@
 //! Runs that write the lines of events.
-ghost use Rattle.std.specs.Prelude.{◌≡◌, ◌<◌, List, true, false};
+ghost use Rattle.std.specs.Prelude.{◌≡◌, ◌<◌, List, Some, None, true, false};
 ghost use Rattle.libyaml_types.specs.declared.event.yaml_event_t.{yaml_event_t};
 ghost use Rattle.libyaml_types.specs.declared.token.yaml_token_t.{yaml_token_t};
 ghost use Rattle.libyaml_events.specs.parsers.EventsLeft.{events_left};
@@ -11,7 +11,7 @@ ghost use Rattle.token_lines.specs.events.EventStep.{Turn};
 ghost use Rattle.token_lines.specs.events.LastCall.{LastCall, NothingLeft, RunsOver};
 ghost use Rattle.token_lines.specs.lines.LineRun.{Writes};
 
-use super::{Outcome, RunStep, closed, run_end_t, show};
+use super::{LastStep, Outcome, closed, run_end_t, show};
 use crate::MAX_TOKENS;
 use libyaml_events::{
     MEMORY_FAULT, is_event, is_stream_end, no_event, yaml_parser_initialize,
@@ -65,23 +65,22 @@ pub fn write_events<S: yaml_token_source_t, W: Write>(
     let mut line = String::new(parser.allocator());
     let mut event = no_event();
     loop {
-        match write_next(parser, &mut event, &mut line, writer) {
-            RunStep::Written => {}
-            step => return closed(&step, writer),
+        if let Some(last) = write_next(parser, &mut event, &mut line, writer) {
+            return closed(&last, writer);
         }
     }
 }
 
-/// Writes the line of the next event, which is put into `event`, and whose text is made in `line`.
+/// Writes the line of the next event, which is put into `event`, and whose text is made in `line`. Returns
+/// `None` if more is to come.
 fn write_next<S: yaml_token_source_t, W: Write>(
     parser: &mut yaml_parser_t<S>,
     event: &mut yaml_event_t,
     line: &mut String,
     writer: &mut W,
-) -> RunStep
-    ensures falls { result ≡ RunStep.Written
-        → events_left S.bound parser.new < events_left S.bound parser.old }
-    ensures ended { is_over parser.old ≡ true → (result ≡ RunStep.Ended) × (parser.new ≡ parser.old)
+) -> Option<LastStep>
+    ensures falls { result ≡ None → events_left S.bound parser.new < events_left S.bound parser.old }
+    ensures ended { is_over parser.old ≡ true → (result ≡ Some LastStep.Ended) × (parser.new ≡ parser.old)
         × (writer.new ≡ writer.old) }
     ensures turn { is_over parser.old ≡ false → (asked : List yaml_token_t) (given : List yaml_event_t)
         → History parser.old asked given
@@ -91,23 +90,23 @@ fn write_next<S: yaml_token_source_t, W: Write>(
 {
     let parsed = yaml_parser_parse_into(parser, event);
     let Ok(()) = parsed else {
-        return RunStep::Failed(*parser.prefix());
+        return Some(LastStep::Failed(*parser.prefix()));
     };
     if !is_event(event) {
-        return RunStep::Ended;
+        return Some(LastStep::Ended);
     }
     line.clear();
     let Ok(()) = append_event(line, event) else {
-        return RunStep::Failed(MEMORY_FAULT);
+        return Some(LastStep::Failed(MEMORY_FAULT));
     };
     let Ok(()) = write_line(line, writer) else {
-        return RunStep::OutputFailed;
+        return Some(LastStep::OutputFailed);
     };
     if is_stream_end(event) {
-        return RunStep::Ended;
+        return Some(LastStep::Ended);
     }
     let Ok(()) = show(parser, writer) else {
-        return RunStep::OutputFailed;
+        return Some(LastStep::OutputFailed);
     };
-    RunStep::Written
+    None
 }

@@ -1,5 +1,5 @@
 //! Runs that write the texts of documents.
-ghost use Rattle.std.specs.Prelude.{◌≡◌, ◌<◌, List, true, false};
+ghost use Rattle.std.specs.Prelude.{◌≡◌, ◌<◌, List, None, true, false};
 ghost use Rattle.libyaml_types.specs.declared.event.yaml_event_t.{yaml_event_t};
 ghost use Rattle.libyaml_types.specs.declared.token.yaml_token_t.{yaml_token_t};
 ghost use Rattle.libyaml_events.specs.parsers.EventsLeft.{events_left};
@@ -12,7 +12,7 @@ ghost use Rattle.token_lines.specs.nodes.LastLoad.{LastLoad, NodesOver, WritesKe
 ghost use Rattle.token_lines.specs.nodes.NodeRun.{WritesLoads};
 ghost use Rattle.token_lines.specs.nodes.NodeStep.{IsKept, LoadTurn};
 
-use super::{Outcome, RunStep, closed, run_end_t, show};
+use super::{LastStep, Outcome, closed, run_end_t, show};
 use crate::MAX_TOKENS;
 use libyaml_events::{MEMORY_FAULT, yaml_parser_initialize, yaml_parser_t, yaml_token_source_t};
 use libyaml_loader::yaml_parser_load;
@@ -63,21 +63,19 @@ pub fn write_nodes<S: yaml_token_source_t, W: Write>(
     ensures bound { parser.new.max_entries ≡ parser.old.max_entries }
 {
     loop {
-        match write_next(parser, writer) {
-            RunStep::Written => {}
-            step => return closed(&step, writer),
+        if let Some(last) = write_next(parser, writer) {
+            return closed(&last, writer);
         }
     }
 }
 
-/// Writes the text of the next document.
+/// Writes the text of the next document. Returns `None` if more is to come.
 fn write_next<S: yaml_token_source_t, W: Write>(
     parser: &mut yaml_parser_t<S>,
     writer: &mut W,
-) -> RunStep
+) -> Option<LastStep>
     requires between { between_documents parser.old ≡ true }
-    ensures falls { result ≡ RunStep.Written
-        → events_left S.bound parser.new < events_left S.bound parser.old }
+    ensures falls { result ≡ None → events_left S.bound parser.new < events_left S.bound parser.old }
     ensures between { between_documents parser.new ≡ true }
     ensures bound { parser.new.max_entries ≡ parser.old.max_entries }
     ensures kept { has_failed parser.old ≡ true → IsKept result (kept_fault parser.old)
@@ -88,18 +86,18 @@ fn write_next<S: yaml_token_source_t, W: Write>(
 {
     let loaded = yaml_parser_load(parser);
     let Ok(document) = &loaded else {
-        return RunStep::Failed(*parser.prefix());
+        return Some(LastStep::Failed(*parser.prefix()));
     };
     if document.nodes().is_empty() {
-        return RunStep::Ended;
+        return Some(LastStep::Ended);
     }
     match write_document(parser.allocator(), document, writer) {
         Ok(()) => {}
-        Err(line_refusal_t::Memory) => return RunStep::Failed(MEMORY_FAULT),
-        Err(line_refusal_t::Output) => return RunStep::OutputFailed,
+        Err(line_refusal_t::Memory) => return Some(LastStep::Failed(MEMORY_FAULT)),
+        Err(line_refusal_t::Output) => return Some(LastStep::OutputFailed),
     }
     let Ok(()) = show(parser, writer) else {
-        return RunStep::OutputFailed;
+        return Some(LastStep::OutputFailed);
     };
-    RunStep::Written
+    None
 }

@@ -7,8 +7,8 @@ use Rattle.libyaml_events.specs.sources.History.{History, is_over}
 use Rattle.libyaml_events.specs.parsers.EventsLeft.{events_left}
 use Rattle.token_lines.proofs.run.events.write_events.Given as goal
 
-abbrev pub invariant-loop-step : goal.invariant-loop-step
-invariant-loop-step g l = record {
+abbrev pub invariant-loop-last : goal.invariant-loop-last
+invariant-loop-last g l = record {
   ended : is_over l.initial.parser ≡ true → (l.parser ≡ l.initial.parser) × (l.writer ≡ l.initial.writer);
   in_turn : is_over l.initial.parser ≡ false → (asked : List yaml_token_t) (given : List yaml_event_t)
       → History l.initial.parser asked given
@@ -17,5 +17,5 @@ invariant-loop-step g l = record {
   bound : l.parser.max_entries ≡ l.initial.parser.max_entries;
 }
 
-abbrev pub decreases-loop-step : goal.decreases-loop-step
-decreases-loop-step g l = events_left g.S.yaml_token_source_t.bound l.parser
+abbrev pub decreases-loop-last : goal.decreases-loop-last
+decreases-loop-last g l = events_left g.S.yaml_token_source_t.bound l.parser

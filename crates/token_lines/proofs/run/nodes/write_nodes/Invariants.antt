@@ -5,8 +5,8 @@ use Rattle.libyaml_loader.specs.document.Ids.{magnitude}
 use Rattle.token_lines.specs.nodes.LastLoad.{AllLoaded}
 use Rattle.token_lines.proofs.run.nodes.write_nodes.Given as goal
 
-abbrev pub invariant-loop-step : goal.invariant-loop-step
-invariant-loop-step g l = record {
+abbrev pub invariant-loop-last : goal.invariant-loop-last
+invariant-loop-last g l = record {
   between : between_documents l.parser ≡ true;
   bound : l.parser.max_entries ≡ l.initial.parser.max_entries;
   kept : has_failed l.initial.parser ≡ true → (l.parser ≡ l.initial.parser) × (l.writer ≡ l.initial.writer);
@@ -15,5 +15,5 @@ invariant-loop-step g l = record {
       (g.W.Write.contents l.writer));
 }
 
-abbrev pub decreases-loop-step : goal.decreases-loop-step
-decreases-loop-step g l = events_left g.S.yaml_token_source_t.bound l.parser
+abbrev pub decreases-loop-last : goal.decreases-loop-last
+decreases-loop-last g l = events_left g.S.yaml_token_source_t.bound l.parser
