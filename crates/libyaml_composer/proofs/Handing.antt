@@ -4,7 +4,7 @@ use Rattle.libyaml_composer.specs.declared.deed.Deed.{Deed}
 use Rattle.libyaml_composer.specs.declared.deed.Deed.TheVariants as deed
 use Rattle.libyaml_composer.specs.declared.records.open_t.{open_t}
 use Rattle.libyaml_composer.specs.declared.records.place_t.{place_t}
-use Rattle.libyaml_composer.specs.Composing.{Composer, Told, deed_for, deed_in, does_nothing, is_list_full, unless}
+use Rattle.libyaml_composer.specs.Composing.{Composer, Told, deed_for, does_nothing, is_list_full, unless}
 
 done_for : (s : List open_t) → does_nothing (deed_for s) ≡ false
 done_for s = grind arith
