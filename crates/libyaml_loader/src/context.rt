@@ -245,6 +245,7 @@ impl loader_ctx {
         requires { ComposerMatches self.old }
         ensures ok { Composed self.old self.new (Some (end_part end_mark.now)) }
         ensures stands { ComposerMatches self.new }
+        ensures count { self.new.collections.nodes ≡ self.old.collections.nodes }
     {
         let mut place = NO_PLACE;
         let deed = self

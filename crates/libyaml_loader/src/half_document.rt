@@ -8,8 +8,8 @@ ghost use Rattle.libyaml_graphs.specs.loads.Leads.{loads_from};
 ghost use Rattle.libyaml_graphs.specs.machine.Loader.{bounded_option, failed, going};
 ghost use Rattle.libyaml_loader.specs.document.Context.{Composed, ComposerMatches, loader_of};
 ghost use Rattle.libyaml_loader.specs.document.Context.{with_nodes};
-ghost use Rattle.libyaml_loader.specs.loads.HalfDocument.{IsHalf, closed_at, empty_scalar_node};
-ghost use Rattle.libyaml_loader.specs.loads.HalfDocument.{has_waiting_key};
+ghost use Rattle.libyaml_loader.specs.loads.HalfDocument.{IsHalf, NeedsValue, closed_at};
+ghost use Rattle.libyaml_loader.specs.loads.HalfDocument.{empty_scalar_node};
 ghost use Rattle.libyaml_loader.specs.pushes.Composing.{IsSound, composer_state};
 
 use crate::composer::{Closing, DocumentBuilder};
@@ -35,7 +35,7 @@ impl loader_ctx {
             (loader_of self.old).stack (loader_of self.old) ≡ going (loader_of self.new)) }
         ensures document { OnOk result (self.new.document
             ≡ with_nodes self.new.document.nodes self.old.document) }
-        ensures err { OnErr result (has_waiting_key (loader_of self.old).stack ≡ true) }
+        ensures err { OnErr result (NeedsValue self.old.collections.most (loader_of self.old)) }
     {
         while let Some(is_waiting) = self.collections.waits() {
             if is_waiting && self.collections.has_room() {

@@ -8,7 +8,7 @@ use Rattle.libyaml_graphs.specs.machine.Loader.{going}
 use Rattle.libyaml_loader.specs.declared.composer.DocumentBuilder.{DocumentBuilder}
 use Rattle.libyaml_loader.specs.declared.context.loader_ctx.{loader_ctx}
 use Rattle.libyaml_loader.specs.document.Context.{loader_of, opening_of_document, with_nodes}
-use Rattle.libyaml_loader.specs.loads.HalfDocument.{IsHalf, closed_at, has_waiting_key}
+use Rattle.libyaml_loader.specs.loads.HalfDocument.{IsHalf, NeedsValue, closed_at}
 use Rattle.libyaml_loader.specs.pushes.Composing.{IsSound, composer_state, ended_by, state_by}
 
 module _ (b : DocumentBuilder) (m : Mark) where
@@ -18,9 +18,9 @@ module _ (b : DocumentBuilder) (m : Mark) where
   pub none_here : b.is_open ≡ false → IsHalf b.max_entries m (composer_state b) None
   none_here closed = subst (Half None) (sym closed) refl
 
-  pub no_memory : b.is_open ≡ true → has_waiting_key (loader_of b.ctx).stack ≡ true
+  pub no_memory : b.is_open ≡ true → IsSound b → NeedsValue b.ctx.collections.most (loader_of b.ctx)
       → IsHalf b.max_entries m (composer_state b) None
-  no_memory here waits = subst (Half None) (sym here) waits
+  no_memory here sound needs = subst (Half None) (sym here) (rw sound.bound at needs)
 
   pub half_here : (x : loader_ctx) (y : Document) → b.is_open ≡ true → IsSound b
       → closed_at b.ctx.collections.most m (loader_of b.ctx).stack (loader_of b.ctx) ≡ going (loader_of x) → x.document ≡ with_nodes x.document.nodes b.ctx.document

@@ -45,10 +45,14 @@ abbrev pub has_waiting_key : List OpenNode → Bool
 has_waiting_key [] = false
 has_waiting_key (o ∷ s) = elim o.key [ Some k ↦ true | None ↦ has_waiting_key s ]
 
+-- an empty value is needed: a key waits, and the list of nodes has room
+abbrev pub NeedsValue : ℕ → Loader → Type 0
+NeedsValue n l = (has_waiting_key l.stack ≡ true) × (nat_lt (length l.nodes) n ≡ true)
+
 -- The document that is open, closed at m; none, if no document is open, or an allocation failed for an empty value.
 abbrev pub IsHalf : ℕ → Mark → State → Option Document → Type 0
 IsHalf n m between d = d ≡ None
-IsHalf n m (within o l) None = has_waiting_key l.stack ≡ true
+IsHalf n m (within o l) None = NeedsValue n l
 IsHalf n m (within o l) (Some d) = (k : Loader) × (closed_at n m l.stack l ≡ going k)
     × (d ≡ document o k.nodes (record { is_implicit = true; mark = m }))
 

@@ -9,4 +9,4 @@ pub returns-then-not-self : goal.returns-then-not-self
 returns-then-not-self c = none_here c.args.self.now c.args.mark c.if-not-self.true
 
 pub returns-in-Err : goal.returns-in-Err
-returns-in-Err c = no_memory c.args.self.now c.args.mark c.if-not-self.false c.in-Err.ensures.err
+returns-in-Err c = no_memory c.args.self.now c.args.mark c.if-not-self.false c.requires c.in-Err.ensures.err
