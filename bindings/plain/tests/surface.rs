@@ -123,6 +123,41 @@ fn pushes_give_the_same_and_expect_each_token() {
     });
 }
 
+#[test]
+fn what_is_expected_has_words() {
+    use TokenData::*;
+    let mut parser = PushParser::new();
+    let mut told = vec![parser.expected().to_string()];
+    let start = TokenData::stream_start(Encoding::UTF8);
+    for data in [
+        start,
+        BlockMappingStart,
+        Key,
+        plain("a"),
+        Value,
+        FlowSequenceStart,
+        plain("b"),
+    ] {
+        parser
+            .push(Token::new(data, ZERO, ZERO), &mut Vec::new())
+            .unwrap();
+        told.push(parser.expected().to_string());
+    }
+    assert_eq!(
+        told,
+        [
+            "the start of the stream",
+            "a node, %YAML, %TAG, '---' or the end of the stream",
+            "a key, a value or the end of the block mapping",
+            "a node, '-', a key, a value or the end of the block mapping",
+            "a key, a value or the end of the block mapping",
+            "a node, '-', a key, a value or the end of the block mapping",
+            "a flow node, a key or ']'",
+            "',' or ']'",
+        ]
+    );
+}
+
 const ZERO: Mark = Mark {
     index: 0,
     line: 0,
@@ -195,6 +230,13 @@ fn a_source_ends_by_its_error() {
     assert_eq!(asked, 3);
     let none = Parser::new(tokens([])).next().unwrap().unwrap_err();
     assert_eq!(none.to_string(), "no more tokens at line 1, column 1");
+    let read = SourceError::new(ErrorKind::READER, Some("invalid octet"), 3, 255, ZERO, None, ZERO);
+    let read = Parser::new(tokens([Err(read)])).next().unwrap().unwrap_err();
+    assert_eq!(
+        (read.to_string().as_str(), read.position()),
+        ("invalid octet at position 3", Some(3))
+    );
+    assert_eq!(given[3].as_ref().unwrap_err().position(), None);
 }
 
 #[test]

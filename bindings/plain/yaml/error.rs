@@ -2,7 +2,7 @@
 
 use super::{Mark, SourceError};
 use crate::kit::AllocError;
-use crate::libyaml_types::{yaml_error_type_t, yaml_parser_t_prefix, MEMORY_FAULT};
+use crate::libyaml_types::{yaml_error_type_t, yaml_parser_t_prefix, MEMORY_FAULT, ZERO_MARK};
 use core::fmt;
 
 /// Which part refused the input. libyaml: `yaml_error_type_t`.
@@ -25,7 +25,8 @@ impl yaml_error_type_t {
 /// Why there are no more events or documents: libyaml's words, and places in the text.
 ///
 /// As text it is the problem and its place, or the kind if there is no problem, and then the context and its
-/// place, if there is one. Lines and columns count from 1 there, and from 0 in marks.
+/// place, if there is one. Lines and columns count from 1 there, and from 0 in marks. A reader's error that has a
+/// position and no mark has that in the mark's place.
 #[derive(Clone, Copy, PartialEq, Eq)]
 pub struct Error(yaml_parser_t_prefix);
 
@@ -43,6 +44,12 @@ impl Error {
     /// Returns where it went wrong.
     pub fn mark(&self) -> Mark {
         self.0.problem_mark
+    }
+
+    /// Returns how far a reader had come when the input could not be read: with libyaml's scanner the byte, from 0.
+    /// Its errors have no mark. Of other errors `None`.
+    pub fn position(&self) -> Option<u64> {
+        (self.0.error == ErrorKind::READER).then_some(self.0.problem_offset)
     }
 
     /// Returns what was being read, in words.
@@ -96,7 +103,12 @@ impl fmt::Debug for Error {
 
 impl fmt::Display for Error {
     fn fmt(&self, f: &mut fmt::Formatter<'_>) -> fmt::Result {
-        self.0.fmt(f)
+        match (self.0.problem, self.position()) {
+            (Some(problem), Some(position)) if position > 0 && self.0.problem_mark == ZERO_MARK => {
+                write!(f, "{problem} at position {position}")
+            }
+            _ => self.0.fmt(f),
+        }
     }
 }
 

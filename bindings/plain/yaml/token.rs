@@ -10,6 +10,7 @@ use crate::libyaml_types::{
     unnamed_yaml_token_t_data_tag_directive, unnamed_yaml_token_t_data_version_directive,
 };
 use crate::token_steps::token_kind;
+use core::fmt;
 
 impl Encoding {
     /// UTF-8.
@@ -105,9 +106,89 @@ impl TokenData {
     }
 }
 
+/// The types of token in the order in which they are told, and the words of each.
+const WORDS: [(TokenType, &str); 21] = [
+    (TokenType::YAML_STREAM_START_TOKEN, "the start of the stream"),
+    (TokenType::YAML_SCALAR_TOKEN, "a scalar"),
+    (TokenType::YAML_ALIAS_TOKEN, "an alias"),
+    (TokenType::YAML_ANCHOR_TOKEN, "an anchor"),
+    (TokenType::YAML_TAG_TOKEN, "a tag"),
+    (TokenType::YAML_FLOW_SEQUENCE_START_TOKEN, "'['"),
+    (TokenType::YAML_FLOW_MAPPING_START_TOKEN, "'{'"),
+    (TokenType::YAML_BLOCK_SEQUENCE_START_TOKEN, "a block sequence"),
+    (TokenType::YAML_BLOCK_MAPPING_START_TOKEN, "a block mapping"),
+    (TokenType::YAML_BLOCK_ENTRY_TOKEN, "'-'"),
+    (TokenType::YAML_KEY_TOKEN, "a key"),
+    (TokenType::YAML_VALUE_TOKEN, "a value"),
+    (TokenType::YAML_FLOW_ENTRY_TOKEN, "','"),
+    (TokenType::YAML_FLOW_SEQUENCE_END_TOKEN, "']'"),
+    (TokenType::YAML_FLOW_MAPPING_END_TOKEN, "'}'"),
+    (TokenType::YAML_BLOCK_END_TOKEN, "the end of the block sequence"),
+    (TokenType::YAML_VERSION_DIRECTIVE_TOKEN, "%YAML"),
+    (TokenType::YAML_TAG_DIRECTIVE_TOKEN, "%TAG"),
+    (TokenType::YAML_DOCUMENT_START_TOKEN, "'---'"),
+    (TokenType::YAML_DOCUMENT_END_TOKEN, "'...'"),
+    (TokenType::YAML_STREAM_END_TOKEN, "the end of the stream"),
+];
+
+/// The types with which a node begins: in a flow collection, and else, too.
+const FLOW_NODE: [TokenType; 6] = [
+    TokenType::YAML_ALIAS_TOKEN,
+    TokenType::YAML_ANCHOR_TOKEN,
+    TokenType::YAML_TAG_TOKEN,
+    TokenType::YAML_SCALAR_TOKEN,
+    TokenType::YAML_FLOW_SEQUENCE_START_TOKEN,
+    TokenType::YAML_FLOW_MAPPING_START_TOKEN,
+];
+const BLOCK_NODE: [TokenType; 2] = [
+    TokenType::YAML_BLOCK_SEQUENCE_START_TOKEN,
+    TokenType::YAML_BLOCK_MAPPING_START_TOKEN,
+];
+
 impl TokenTypes {
     /// Returns the types of the set, in the order of their numbers.
     pub fn iter(self) -> impl Iterator<Item = TokenType> {
         (0..=21).map(token_kind).filter(move |kind| self.contains(*kind))
+    }
+
+    /// Returns the words of what may come, such as `a node` or `','`.
+    pub fn words(self) -> impl Iterator<Item = &'static str> + Clone {
+        let has_all = |kinds: &[TokenType]| kinds.iter().all(|&kind| self.contains(kind));
+        let is_flow_node = has_all(&FLOW_NODE);
+        let is_node = is_flow_node && has_all(&BLOCK_NODE);
+        let node = match (is_node, is_flow_node) {
+            (true, _) => Some("a node"),
+            (_, true) => Some("a flow node"),
+            _ => None,
+        };
+        let is_told = move |kind: &TokenType| {
+            is_flow_node && FLOW_NODE.contains(kind) || is_node && BLOCK_NODE.contains(kind)
+        };
+        let others = WORDS
+            .iter()
+            .filter(move |(kind, _)| self.contains(*kind) && !is_told(kind));
+        let told = others.map(move |&(kind, words)| match kind {
+            TokenType::YAML_BLOCK_END_TOKEN if self.contains(TokenType::YAML_KEY_TOKEN) => {
+                "the end of the block mapping"
+            }
+            _ => words,
+        });
+        node.into_iter().chain(told)
+    }
+}
+
+impl fmt::Display for TokenTypes {
+    /// Writes the words, such as `a node, a key or the end of the block mapping`.
+    fn fmt(&self, f: &mut fmt::Formatter<'_>) -> fmt::Result {
+        let count = self.words().count();
+        for (place, word) in self.words().enumerate() {
+            let before = match place {
+                0 => "",
+                _ if place + 1 == count => " or ",
+                _ => ", ",
+            };
+            write!(f, "{before}{word}")?;
+        }
+        Ok(())
     }
 }
