@@ -147,7 +147,7 @@ fn token_if_any(line: &str) -> Option<yaml_token_t> {
 pub fn source_of(lines: &str) -> yaml_list_source_t {
     let mut tokens = List::new(Global);
     let mut is_bad = false;
-    for line in lines.lines() {
+    for line in lines.split_terminator('\n') {
         let Some(token) = token_if_any(line) else {
             is_bad = true;
             break;
