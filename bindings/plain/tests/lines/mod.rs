@@ -19,37 +19,22 @@ const ERRORS: [&str; 8] = [
 
 // ---- Tokens of lines ----
 
-/// A number, which has no sign and no leading zero.
-fn number_of(field: &str) -> Option<u64> {
-    let is_number =
-        field.bytes().all(|byte| byte.is_ascii_digit()) && (field == "0" || !field.starts_with('0'));
-    is_number.then(|| field.parse().ok()).flatten()
-}
-
-fn mark_of(field: &str) -> Option<yaml_mark_t> {
-    let mut numbers = field.split(':').map(number_of);
-    let (index, line, column) = (numbers.next()??, numbers.next()??, numbers.next()??);
-    numbers
-        .next()
-        .is_none()
-        .then_some(yaml_mark_t { index, line, column })
-}
-
-/// Half of a version, which may be below 0.
-fn half_of(field: &str) -> Option<i32> {
-    match field.strip_prefix('-') {
-        Some("0") => None,
-        digits => number_of(digits.unwrap_or(field)).and_then(|_| field.parse().ok()),
+fn mark_of(field: &str) -> yaml_mark_t {
+    let numbers: Vec<u64> = field.split(':').map(|number| number.parse().unwrap()).collect();
+    yaml_mark_t {
+        index: numbers[0],
+        line: numbers[1],
+        column: numbers[2],
     }
 }
 
 /// The bytes of a text field, which is escaped after its `=`.
-fn text_of(field: &str) -> Option<Vec<u8>> {
-    let (bytes, mut text, mut place) = (field.strip_prefix('=')?.as_bytes(), Vec::new(), 0);
+fn text_of(field: &str) -> Vec<u8> {
+    let (bytes, mut text, mut place) = (field.as_bytes(), Vec::new(), 1);
+    assert_eq!(bytes[0], b'=');
     while place < bytes.len() {
         let digits = bytes
             .get(place + 1..place + 3)
-            .filter(|two| two.iter().all(u8::is_ascii_hexdigit))
             .and_then(|two| std::str::from_utf8(two).ok());
         match digits.and_then(|two| u8::from_str_radix(two, 16).ok()) {
             Some(byte) if bytes[place] == b'%' => {
@@ -62,10 +47,10 @@ fn text_of(field: &str) -> Option<Vec<u8>> {
             }
         }
     }
-    Some(text)
+    text
 }
 
-fn encoding_of(word: &str) -> Option<yaml_encoding_t> {
+fn encoding_of(word: &str) -> yaml_encoding_t {
     use yaml_encoding_t::*;
     let all = [
         YAML_ANY_ENCODING,
@@ -73,56 +58,44 @@ fn encoding_of(word: &str) -> Option<yaml_encoding_t> {
         YAML_UTF16LE_ENCODING,
         YAML_UTF16BE_ENCODING,
     ];
-    Some(all[ENCODINGS.iter().position(|&name| name == word)?])
+    all[ENCODINGS.iter().position(|&name| name == word).unwrap()]
 }
 
-fn style_of(word: &str) -> Option<yaml_scalar_style_t> {
+fn style_of(word: &str) -> yaml_scalar_style_t {
     use yaml_scalar_style_t::*;
-    Some(match word {
-        "any" => YAML_ANY_SCALAR_STYLE,
+    match word {
         "plain" => YAML_PLAIN_SCALAR_STYLE,
         "single" => YAML_SINGLE_QUOTED_SCALAR_STYLE,
         "double" => YAML_DOUBLE_QUOTED_SCALAR_STYLE,
         "literal" => YAML_LITERAL_SCALAR_STYLE,
         "folded" => YAML_FOLDED_SCALAR_STYLE,
-        _ => return None,
-    })
+        _ => YAML_ANY_SCALAR_STYLE,
+    }
 }
 
 pub fn token_of(line: &str) -> yaml_token_t {
-    token_if_any(line).unwrap()
-}
-
-/// The token of a line, if it is a token line.
-fn token_if_any(line: &str) -> Option<yaml_token_t> {
     use unnamed_yaml_token_t_data::*;
     let fields: Vec<&str> = line.split(' ').collect();
-    let wanted = match fields[0] {
-        "STREAM-START" | "VERSION-DIRECTIVE" | "ALIAS" | "ANCHOR" => 4,
-        "TAG-DIRECTIVE" | "TAG" | "SCALAR" => 5,
-        _ => 3,
-    };
-    if fields.len() != wanted {
-        return None;
-    }
-    let (start, end) = (mark_of(fields[1])?, mark_of(fields[2])?);
+    let (start, end) = (mark_of(fields[1]), mark_of(fields[2]));
     let text = |place: usize| text_of(fields[place]);
     let content = match fields[0] {
-        "STREAM-START" => return Some(yaml_token_t::stream_start(encoding_of(fields[3])?, start, end)),
+        "STREAM-START" => return yaml_token_t::stream_start(encoding_of(fields[3]), start, end),
         "VERSION-DIRECTIVE" => {
-            let (major, minor) = fields[3].split_once('.')?;
-            return Some(yaml_token_t::version_directive(
-                half_of(major)?,
-                half_of(minor)?,
+            let (major, minor) = fields[3].split_once('.').unwrap();
+            return yaml_token_t::version_directive(
+                major.parse().unwrap(),
+                minor.parse().unwrap(),
                 start,
                 end,
-            ));
+            );
         }
-        "TAG-DIRECTIVE" => return yaml_token_t::tag_directive(Global, &text(3)?, &text(4)?, start, end).ok(),
-        "ALIAS" => return yaml_token_t::alias(Global, &text(3)?, start, end).ok(),
-        "ANCHOR" => return yaml_token_t::anchor(Global, &text(3)?, start, end).ok(),
-        "TAG" => return yaml_token_t::tag(Global, &text(3)?, &text(4)?, start, end).ok(),
-        "SCALAR" => return yaml_token_t::scalar(Global, &text(3)?, style_of(fields[4])?, start, end).ok(),
+        "TAG-DIRECTIVE" => {
+            return yaml_token_t::tag_directive(Global, &text(3), &text(4), start, end).unwrap()
+        }
+        "ALIAS" => return yaml_token_t::alias(Global, &text(3), start, end).unwrap(),
+        "ANCHOR" => return yaml_token_t::anchor(Global, &text(3), start, end).unwrap(),
+        "TAG" => return yaml_token_t::tag(Global, &text(3), &text(4), start, end).unwrap(),
+        "SCALAR" => return yaml_token_t::scalar(Global, &text(3), style_of(fields[4]), start, end).unwrap(),
         "STREAM-END" => StreamEnd,
         "DOCUMENT-START" => DocumentStart,
         "DOCUMENT-END" => DocumentEnd,
@@ -137,22 +110,16 @@ fn token_if_any(line: &str) -> Option<yaml_token_t> {
         "FLOW-ENTRY" => FlowEntry,
         "KEY" => Key,
         "VALUE" => Value,
-        "NO-TOKEN" => NoToken,
-        _ => return None,
+        _ => NoToken,
     };
-    Some(yaml_token_t::new(content, start, end))
+    yaml_token_t::new(content, start, end)
 }
 
 /// A source of the tokens of these lines, which ends as a source over lines does.
 pub fn source_of(lines: &str) -> yaml_list_source_t {
     let mut tokens = List::new(Global);
-    let mut is_bad = false;
-    for line in lines.split_terminator('\n') {
-        let Some(token) = token_if_any(line) else {
-            is_bad = true;
-            break;
-        };
-        tokens.push(token).unwrap();
+    for line in lines.lines() {
+        tokens.push(token_of(line)).unwrap();
     }
     let count = tokens.len() as u64;
     let mark = yaml_mark_t {
@@ -160,11 +127,8 @@ pub fn source_of(lines: &str) -> yaml_list_source_t {
         line: count,
         column: 0,
     };
-    let (error, problem) = match is_bad {
-        true => (yaml_error_type_t::YAML_SCANNER_ERROR, "bad token line"),
-        false => (yaml_error_type_t::YAML_READER_ERROR, "no more tokens"),
-    };
-    let fault = yaml_source_fault_t::new(error, Some(problem), count, -1, mark, None, ZERO_MARK);
+    let error = yaml_error_type_t::YAML_READER_ERROR;
+    let fault = yaml_source_fault_t::new(error, Some("no more tokens"), count, -1, mark, None, ZERO_MARK);
     yaml_list_source_t::new(tokens, fault)
 }
 
