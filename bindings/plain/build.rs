@@ -27,6 +27,8 @@ const WITH_TEXTS: [&str; 8] = [
     "yaml_keys",
     "token_limits",
 ];
+/// With the feature `std` also what reads and writes lines.
+const WITH_LINES: [&str; 3] = ["line_reading", "line_writing", "token_lines"];
 
 /// Enums with fields that are looked at for each token or event. Without a tag of their own rustc says their
 /// variant by what another field never is, and computes it at each look, or packs it into a number with the
@@ -71,22 +73,30 @@ fn write(of: &Crate<'_>, from: &Path, to: &Path, below: (&Path, &Path)) {
 fn main() {
     let [top, out] =
         ["CARGO_MANIFEST_DIR", "OUT_DIR"].map(|name| PathBuf::from(env::var_os(name).expect(name)));
-    let has_alloc = env::var_os("CARGO_FEATURE_ALLOC").is_some();
-    let (with_texts, mut modules) = (if has_alloc { &WITH_TEXTS[..] } else { &[] }, String::new());
-    let all = [&CRATES, with_texts].concat();
+    let [has_alloc, has_std] = ["ALLOC", "STD"].map(|name| env::var_os(format!("CARGO_FEATURE_{name}")).is_some());
+    let with_texts = if has_alloc { &WITH_TEXTS[..] } else { &[] };
+    let with_lines = if has_std { &WITH_LINES[..] } else { &[] };
+    let (all, mut modules) = ([&CRATES, with_texts, with_lines].concat(), String::new());
     for name in all.iter().copied() {
         let takes = if name == "libyaml_types" && !has_alloc {
             takes_of_types
         } else {
             takes
         };
-        let has_kit = has_alloc && (name == "libyaml_types" || with_texts.contains(&name));
+        let has_texts = has_alloc && (name == "libyaml_types" || with_texts.contains(&name));
+        let prelude = if with_lines.contains(&name) {
+            "AllocGlobal, HostRuntime, String, Vec"
+        } else if has_texts {
+            "String, Vec"
+        } else {
+            ""
+        };
         let (from, to) = (top.join("crates").join(name).join("src"), out.join(name));
         let of = Crate {
             name,
             all: &all,
             takes,
-            has_kit,
+            prelude,
             tags: &TAGS,
         };
         write(&of, &from.join("lib.rt"), &to.join("mod.rs"), (&from, &to));

@@ -17,8 +17,8 @@ pub struct Crate<'a> {
     pub all: &'a [&'a str],
     /// Whether a module of it is taken.
     pub takes: fn(&str) -> bool,
-    /// Whether texts and lists are those of the module `kit`.
-    pub has_kit: bool,
+    /// What it needs no import for, of the module `kit`.
+    pub prelude: &'a str,
     /// Enums with fields, each with the type of the tag that says its variant.
     pub tags: &'a [(&'a str, &'a str)],
 }
@@ -50,9 +50,12 @@ const DERIVES: [&str; 9] = [
 ];
 /// Derived by the prover's compiler alone.
 const OWN_DERIVES: [&str; 2] = ["Drop", "Error"];
-const MACROS: [&str; 3] = ["matches", "unreachable", "write"];
-/// The modules of `std` whose items are those of `kit`.
+const MACROS: [&str; 5] = ["ascii_set", "matches", "unreachable", "write", "writeln"];
+/// The modules of `std` whose items are those of `kit`, and those that are modules of it.
 const KIT: [&str; 4] = ["alloc", "collections", "marker", "vec"];
+const WITHIN_KIT: [&str; 5] = ["env", "io", "process", "rt", "simd"];
+/// The crates of the prover's library whose items are those of `kit`.
+const PORTED: [&str; 3] = ["itoa", "memchr", "percent_encoding"];
 /// Words of the prover's, and Rust's that need a look first.
 const RESERVED: [&str; 7] = ["asm", "assume", "ghost", "ensures", "prove", "requires", "unsafe"];
 
@@ -273,14 +276,16 @@ fn is_balanced(text: &str) -> bool {
         && text.matches('[').count() == text.matches(']').count()
 }
 
-/// How many bytes a block has that `text` begins with. It has no comments and no quotes.
+/// How many bytes a block has that `text` begins with. It has no comments and no characters in quotes.
 fn block_end(text: &str) -> Option<usize> {
-    let mut depth = 0usize;
+    let (mut depth, mut behind) = (0usize, 0);
     for (place, c) in text.char_indices() {
         match c {
+            _ if place < behind => continue,
             '{' => depth += 1,
             '}' => depth -= 1,
-            '"' | '\'' => return None,
+            '"' => behind = place + quoted(&text[place..], '"')?,
+            '\'' => return None,
             '/' if text[place..].starts_with("//") || text[place..].starts_with("/*") => return None,
             _ => {}
         }
@@ -568,6 +573,14 @@ impl<'b> Writer<'_, 'b> {
                 self.out.push_str("crate::kit");
                 return Ok(());
             }
+            "std"
+                if is_path && before != ":" && WITHIN_KIT.contains(&self.ahead(3))
+                    || self.is_next(&["std", ":", ":", "{", "env", ",", "io", "}"]) =>
+            {
+                self.take(1, false);
+                self.out.push_str("crate::kit");
+                return Ok(());
+            }
             "std" if is_path && before != ":" => {
                 self.take(1, false);
                 self.out.push_str("core");
@@ -575,6 +588,9 @@ impl<'b> Writer<'_, 'b> {
             }
             name if is_path && before != ":" && before != "." && self.of.all.contains(&name) => {
                 self.out.push_str("crate::")
+            }
+            name if is_path && before != ":" && before != "." && PORTED.contains(&name) => {
+                self.out.push_str("crate::kit::")
             }
             "extern" => {
                 if !self.is_next(&["extern", "\"C\"", "fn"]) {
@@ -652,10 +668,8 @@ pub fn erase(of: &Crate<'_>, text: &str) -> Result<Plain, Unknown> {
     while writer.place < pieces.len() {
         writer.piece()?;
     }
-    if of.has_kit {
-        writer
-            .out
-            .push_str("#[allow(unused_imports)] use crate::kit::{String, Vec};\n");
+    if !of.prelude.is_empty() {
+        writer.out += &format!("#[allow(unused_imports)] use crate::kit::{{{}}};\n", of.prelude);
     }
     if let Some((name, variants)) = &writer.error {
         let arms = variants.iter().map(

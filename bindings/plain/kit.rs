@@ -3,7 +3,11 @@
 //! What takes memory gives an [`AllocError`] if there is none, and changes nothing then. Lists and texts are
 //! made of Rust's own and become such, without a copy.
 
+#[cfg(feature = "std")]
+mod host;
 mod map;
+#[cfg(feature = "std")]
+mod ported;
 
 use alloc::{string, vec};
 use core::borrow::Borrow;
@@ -11,7 +15,11 @@ use core::fmt;
 use core::mem::{self, ManuallyDrop};
 use core::ops::{Deref, DerefMut};
 
+#[cfg(feature = "std")]
+pub use host::{env, io, process, rt, AllocGlobal, HostRuntime};
 pub use map::BTreeMap;
+#[cfg(feature = "std")]
+pub use ported::{itoa, memchr, percent_encoding, simd};
 
 /// A type with a model, which only the prover reads.
 pub trait Model {}
@@ -150,6 +158,18 @@ impl<T> Vec<T> {
 }
 
 impl<T: Clone> Vec<T> {
+    /// Appends copies of values.
+    ///
+    /// # Errors
+    ///
+    /// There is no memory.
+    #[inline]
+    pub fn extend_from_slice(&mut self, values: &[T]) -> Result<(), AllocError> {
+        self.reserve(values.len())?;
+        self.0.extend_from_slice(values);
+        Ok(())
+    }
+
     /// Lengthens the list by copies of a value, or shortens it.
     ///
     /// # Errors
@@ -297,6 +317,28 @@ impl String {
         let mut made = String::with_capacity(alloc, text.len())?;
         made.0.push_str(text);
         Ok(made)
+    }
+
+    /// Returns these bytes as a text, without a copy.
+    ///
+    /// # Errors
+    ///
+    /// They are no UTF-8.
+    pub fn from_utf8(bytes: Vec<u8>) -> Result<Self, string::FromUtf8Error> {
+        string::String::from_utf8(bytes.into()).map(String)
+    }
+
+    /// Makes room for so many more bytes.
+    ///
+    /// # Errors
+    ///
+    /// There is no memory.
+    #[inline]
+    pub fn reserve(&mut self, more: usize) -> Result<(), AllocError> {
+        match more > self.0.capacity() - self.0.len() {
+            true => self.grow(more),
+            false => Ok(()),
+        }
     }
 
     /// Appends a text.

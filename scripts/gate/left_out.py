@@ -34,7 +34,7 @@ KINDS = {
 }
 # What may stand at the end of a file: the prelude of texts, and the Display of an enum of errors.
 ADDED = re.compile(
-    r"#\[allow\(unused_imports\)\] use crate::kit::\{String, Vec\};|impl core::error::Error for \w+ \{\}|"
+    r"#\[allow\(unused_imports\)\] use crate::kit::\{(AllocGlobal, HostRuntime, )?String, Vec\};|impl core::error::Error for \w+ \{\}|"
     r"impl core::fmt::Display for \w+ \{ fn fmt\(&self, f: &mut core::fmt::Formatter<'_>\) -> core::fmt::Result \{ match self \{ "
     r"(Self::\w+(\(field\) => write!\(f, \"[^\"]*\", field\)| => f\.write_str\(\"[^\"]*\"\)),)+ \} \} \}"
 )
@@ -54,8 +54,8 @@ WRONG = [
 
 
 def built(directory):
-    """The folder of what rustc is given, with the feature `alloc`."""
-    words = ["cargo", "build", "-q", "--features", "alloc", "--message-format=json"]
+    """The folder of what rustc is given."""
+    words = ["cargo", "build", "-q", "--lib", "--message-format=json"]
     environment = dict(os.environ, CARGO_TARGET_DIR=directory, CARGO_NET_OFFLINE="true")
     output = subprocess.run(words, cwd=TOP, env=environment, check=True, stdout=subprocess.PIPE).stdout
     messages = [json.loads(line) for line in output.splitlines()]
@@ -127,7 +127,9 @@ def rewritten(line, name, crates):
     change("path", r"simdutf8::compat::", "core::str::")
     change("path", r"(?<![:\w])crate::", f"crate::{name}::")
     change("path", r"(?<![:\w])std::(alloc|collections|marker|vec)::", r"crate::kit::")
+    change("path", r"(?<![:\w])std::(?=(env|io|process|rt|simd)\b|\{env, io\})", "crate::kit::")
     change("path", r"(?<![:\w])std::", "core::")
+    change("path", r"(?<![:\w])(itoa|memchr|percent_encoding)::", r"crate::kit::\1::")
     change("path", rf"(?<![:\w])({'|'.join(crates)})::", r"crate::\1::")
     return out, kinds
 

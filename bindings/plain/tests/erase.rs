@@ -9,7 +9,7 @@ const OF: Crate<'static> = Crate {
     name: "upper",
     all: &["lower", "upper"],
     takes: |module| module != "laws",
-    has_kit: false,
+    prelude: "",
     tags: &[("A", "u8")],
 };
 
@@ -33,6 +33,25 @@ fn contracts_are_left_out() {
     let wanted = "//! A module.\n\n\nuse crate::lower::x;\n\n/// Adds { one.\n#[inline]\n\npub fn f(a: &[u8], b: u8) -> u8\n\n\n\n{\n    \
         crate::upper::g('{', \"}\\\"\", b'\\'') // ensures { }\n}\n";
     assert_eq!(plain(text), wanted);
+}
+
+#[test]
+fn what_is_of_the_kit_is_named_there() {
+    let text = "use std::alloc::Global;\nuse std::{env, io};\nuse std::io;\nuse std::io::{Read, Write};\n\
+        use std::process::ExitCode;\nuse std::fmt;\nuse itoa::Buffer;\nuse memchr::memchr;\n";
+    let wanted = "use crate::kit::Global;\nuse crate::kit::{env, io};\nuse crate::kit::io;\nuse crate::kit::io::{Read, Write};\n\
+        use crate::kit::process::ExitCode;\nuse core::fmt;\nuse crate::kit::itoa::Buffer;\nuse crate::kit::memchr::memchr;\n";
+    assert_eq!(plain(text), wanted);
+    let of = Crate { prelude: "String, Vec", ..OF };
+    let made = erase(&of, "fn f() {}\n").unwrap().text;
+    assert_eq!(made, "fn f() {}\n#[allow(unused_imports)] use crate::kit::{String, Vec};\n");
+}
+
+#[test]
+fn a_clause_may_quote() {
+    let text = "fn f(a: &[u8]) -> bool\n    ensures { a ≡ codes \" }\\n\" }\n{\n    g()\n}\n";
+    assert_eq!(plain(text), "fn f(a: &[u8]) -> bool\n\n{\n    g()\n}\n");
+    refused(2, "fn f()\n    ensures { a ≡ ' }\n{}\n");
 }
 
 #[test]
@@ -107,7 +126,7 @@ fn what_is_unknown_ends_the_build() {
     refused(2, "fn f() {\n    requires { a }\n}\n");
     refused(3, "fn f() {\n    while a\n        invariant { b }\n    {}\n}\n");
     refused(2, "fn f()\n    measure { a }\n{}\n");
-    refused(2, "fn f()\n    ensures { \"}\" }\n{}\n");
+    refused(2, "fn f()\n    ensures { \"} }\n{}\n");
     refused(
         2,
         "fn f()\n    ensures { a -- b }\n    ensures { // c }\n{}\n"
