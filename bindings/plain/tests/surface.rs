@@ -158,6 +158,101 @@ fn what_is_expected_has_words() {
     );
 }
 
+/// Between events a parser expects what one that is handed the same tokens does, or the token that gave the next
+/// event before it was taken itself.
+#[test]
+fn a_parser_says_what_may_come_next() {
+    let (mut compared, mut later) = (0, 0);
+    each_list(|name, lines, tokens| {
+        let (mut parser, mut push) = (Parser::new(source_of(lines)), PushParser::new());
+        assert_eq!(parser.expected(), push.expected());
+        let mut documents = Documents::new(source_of(lines));
+        assert_eq!(documents.expected(), push.expected());
+        assert!(documents.by_ref().all(|document| document.is_ok()) || documents.expected().words().count() == 0);
+        for token in tokens {
+            let (kind, mut given) = (token.type_(), Vec::new());
+            let pushed = push.push(token, &mut given);
+            given.iter().for_each(|event| assert_eq!(event_line(&parser.next().unwrap().unwrap()), event_line(event)));
+            if pushed.is_err() {
+                return assert!(parser.next().unwrap().is_err() && parser.expected() == push.expected(), "{name}");
+            }
+            if !given.is_empty() {
+                let is_same = parser.expected() == push.expected();
+                assert!(is_same || parser.expected().contains(kind), "{name}");
+                *(if is_same { &mut compared } else { &mut later }) += 1;
+            }
+        }
+    });
+    assert!(compared > 10 * later && later > 0, "{compared} and {later}");
+}
+
+/// What an error is about, and what was expected.
+#[test]
+fn errors_are_explained() {
+    use TokenData::*;
+    let explained = |data: Vec<TokenData>| {
+        let source = || list(data.clone_tokens());
+        let found: Vec<Error> = [
+            Parser::new(source()).find_map(Result::err),
+            Documents::new(source()).find_map(Result::err),
+            ComposedEvents::new(source()).find_map(Result::err),
+        ]
+        .into_iter()
+        .flatten()
+        .map(|error| error.explained(source()))
+        .collect();
+        let last = found.last().unwrap().clone();
+        assert!(found.iter().all(|error| *error == last && error.expected() == last.expected()));
+        let other = last.clone().explained(list(vec![]));
+        assert_eq!(other.expected(), last.expected());
+        (last.expected().to_string(), found[found.len() - 2].name().map(String::from), last.name().map(String::from))
+    };
+    let (alias, anchor) = (|| TokenData::alias("a").unwrap(), || TokenData::anchor("a").unwrap());
+    let none = String::new;
+    assert_eq!(explained(vec![FlowSequenceStart, plain("a"), plain("b")]), ("',' or ']'".into(), None, None));
+    let a = || Some("a".to_string());
+    assert_eq!(explained(vec![alias()]), (none(), a(), a()));
+    let twice = vec![FlowSequenceStart, anchor(), plain("b"), FlowEntry, anchor(), plain("c"), FlowSequenceEnd];
+    assert_eq!(explained(twice), (none(), a(), a()));
+    let tag = TokenData::tag("!x!", "y").unwrap();
+    let (expected, name, _) = explained(vec![tag, plain("b")]);
+    assert_eq!((expected, name), (none(), Some("!x!".into())));
+    // Each list that the grammar refuses.
+    let mut refused = 0;
+    each_list(|name, lines, _| {
+        if let Some(error) = Parser::new(source_of(lines)).find_map(Result::err) {
+            let other = ErrorKind::PARSER != error.kind();
+            let error = error.explained(source_of(lines));
+            let is_told = error.expected() != TokenTypes::none();
+            assert!(!(other && is_told), "{name}");
+            refused += usize::from(is_told);
+            assert!(error.problem().map_or(true, |problem| is_told || !problem.starts_with("did not find")), "{name}");
+        }
+    });
+    assert!(refused >= 10, "only {refused}");
+}
+
+/// A copy of tokens, of those that these lists have.
+trait CloneTokens {
+    fn clone_tokens(&self) -> Vec<TokenData>;
+}
+
+impl CloneTokens for Vec<TokenData> {
+    fn clone_tokens(&self) -> Vec<TokenData> {
+        use TokenData::*;
+        let copy = |data: &TokenData| match data {
+            Scalar(scalar) => plain(&scalar.value),
+            Alias(alias) => TokenData::alias(&alias.value).unwrap(),
+            Anchor(anchor) => TokenData::anchor(&anchor.value).unwrap(),
+            Tag(tag) => TokenData::tag(&tag.handle, &tag.suffix).unwrap(),
+            FlowSequenceStart => FlowSequenceStart,
+            FlowSequenceEnd => FlowSequenceEnd,
+            _ => FlowEntry,
+        };
+        self.iter().map(copy).collect()
+    }
+}
+
 const ZERO: Mark = Mark {
     index: 0,
     line: 0,
@@ -312,7 +407,14 @@ fn documents_have_paths_sizes_and_duplicate_keys() {
         Some("found too many nodes, with aliases written out")
     );
     let repeated = document.duplicate_key().unwrap().unwrap();
-    assert_eq!((repeated.mapping, repeated.first, repeated.second), (1, 0, 2));
+    assert_eq!((repeated.pairs(), repeated.text()), ([0, 2], Some("x")));
+    assert_eq!(repeated.mapping(), document.at(&[]).unwrap());
+    assert_eq!(repeated.keys().map(|key| key.start_mark.column), [3, 20]);
+    assert_eq!(repeated.mark().column, 20);
+    assert_eq!(
+        repeated.to_string(),
+        "found duplicate key \"x\" at line 1, column 21; first at line 1, column 4"
+    );
 }
 
 /// Lists of tokens, joined.

@@ -1,8 +1,10 @@
 //! The error of everything in this module.
 
-use super::{Mark, SourceError};
+use super::{Documents, Mark, PushParser, SourceError, TokenSource, TokenTypes};
 use crate::kit::AllocError;
 use crate::libyaml_types::{yaml_error_type_t, yaml_parser_t_prefix, MEMORY_FAULT, ZERO_MARK};
+use alloc::string::String;
+use alloc::vec::Vec;
 use core::fmt;
 
 /// Which part refused the input. libyaml: `yaml_error_type_t`.
@@ -26,58 +28,128 @@ impl yaml_error_type_t {
 ///
 /// As text it is the problem and its place, or the kind if there is no problem, and then the context and its
 /// place, if there is one. Lines and columns count from 1 there, and from 0 in marks. A reader's error that has a
-/// position and no mark has that in the mark's place.
-#[derive(Clone, Copy, PartialEq, Eq)]
-pub struct Error(yaml_parser_t_prefix);
+/// position and no mark has that in the mark's place. Two errors are the same whatever else is told of them:
+/// [`name`](Self::name) and [`expected`](Self::expected).
+#[derive(Clone)]
+pub struct Error {
+    fault: yaml_parser_t_prefix,
+    name: Option<String>,
+    expected: TokenTypes,
+}
 
 impl Error {
+    pub(super) fn named(fault: yaml_parser_t_prefix, name: Option<crate::kit::String>) -> Self {
+        let (name, expected) = (name.map(String::from), TokenTypes::none());
+        Error { fault, name, expected }
+    }
+
     /// Returns which part refused the input.
     pub fn kind(&self) -> ErrorKind {
-        self.0.error
+        self.fault.error
     }
 
     /// Returns what went wrong, in words. Out of memory has none.
     pub fn problem(&self) -> Option<&'static str> {
-        self.0.problem
+        self.fault.problem
+    }
+
+    /// Returns the anchor, the alias or the undefined tag handle that the error is about. Errors of
+    /// [`ComposedEvents`](super::ComposedEvents), of [`PlacedEvents`](super::PlacedEvents) and of pushes have none
+    /// before they are [`explained`](Self::explained).
+    pub fn name(&self) -> Option<&str> {
+        self.name.as_deref()
+    }
+
+    /// Returns which types of token could have stood in the place of the token of a parser's error. As text they
+    /// are words, such as `',' or ']'`. There are none before the error is [`explained`](Self::explained), of another
+    /// error, and if the token's type was right.
+    pub fn expected(&self) -> TokenTypes {
+        self.expected
+    }
+
+    /// Returns this error with [`expected`](Self::expected) and [`name`](Self::name), for which it takes the tokens
+    /// once more: those of a source that gives the same from its start. If it gives others, or if there is no memory,
+    /// nothing is told.
+    ///
+    /// ```
+    /// use pokhvizi::yaml::{Encoding, Mark, Parser, Token, TokenData, TokenList};
+    ///
+    /// let source = || -> TokenList {
+    ///     let mark = Mark { index: 0, line: 0, column: 0 };
+    ///     let data = [TokenData::stream_start(Encoding::UTF8), TokenData::FlowSequenceStart, TokenData::Value];
+    ///     TokenList::from(data.map(|data| Token::new(data, mark, mark)).into_iter().collect::<Vec<_>>())
+    /// };
+    /// let error = Parser::new(source()).find_map(Result::err).unwrap();
+    /// assert_eq!(error.explained(source()).expected().to_string(), "a flow node, a key or ']'");
+    /// ```
+    #[must_use]
+    pub fn explained(mut self, mut source: impl TokenSource) -> Self {
+        if self.kind() == ErrorKind::COMPOSER {
+            let error = Documents::new(source).find_map(Result::err);
+            self.name = error.filter(|error| *error == self).and_then(|error| error.name);
+            return self;
+        }
+        let (mut parser, mut events) = (PushParser::new(), Vec::new());
+        while let (ErrorKind::PARSER, Ok(token)) = (self.kind(), source.next_token()) {
+            let (kind, expected) = (token.type_(), parser.expected());
+            events.clear();
+            match parser.push(token, &mut events) {
+                Ok(()) if expected != TokenTypes::none() => {}
+                Err(error) if error == self && !expected.contains(kind) => {
+                    self.expected = expected;
+                    break;
+                }
+                _ => break,
+            }
+        }
+        self
     }
 
     /// Returns where it went wrong.
     pub fn mark(&self) -> Mark {
-        self.0.problem_mark
+        self.fault.problem_mark
     }
 
     /// Returns how far a reader had come when the input could not be read: with libyaml's scanner the byte, from 0.
     /// Its errors have no mark. Of other errors `None`.
     pub fn position(&self) -> Option<u64> {
-        (self.0.error == ErrorKind::READER).then_some(self.0.problem_offset)
+        (self.fault.error == ErrorKind::READER).then_some(self.fault.problem_offset)
     }
 
     /// Returns what was being read, in words.
     pub fn context(&self) -> Option<&'static str> {
-        self.0.context
+        self.fault.context
     }
 
     /// Returns where what was being read begins. It says something only if there is a context.
     pub fn context_mark(&self) -> Mark {
-        self.0.context_mark
+        self.fault.context_mark
     }
 }
 
+impl PartialEq for Error {
+    fn eq(&self, other: &Self) -> bool {
+        self.fault == other.fault
+    }
+}
+
+impl Eq for Error {}
+
 impl From<yaml_parser_t_prefix> for Error {
     fn from(fault: yaml_parser_t_prefix) -> Self {
-        Error(fault)
+        Error::named(fault, None)
     }
 }
 
 impl From<SourceError> for Error {
     fn from(fault: SourceError) -> Self {
-        Error(fault.prefix())
+        Error::named(fault.prefix(), None)
     }
 }
 
 impl From<AllocError> for Error {
     fn from(_: AllocError) -> Self {
-        Error(MEMORY_FAULT)
+        Error::named(MEMORY_FAULT, None)
     }
 }
 
@@ -90,12 +162,18 @@ impl From<AllocError> for SourceError {
 impl fmt::Debug for Error {
     fn fmt(&self, f: &mut fmt::Formatter<'_>) -> fmt::Result {
         let mut told = f.debug_struct("Error");
-        told.field("kind", &self.0.error);
-        told.field("problem", &self.0.problem)
-            .field("mark", &self.0.problem_mark);
-        if self.0.context.is_some() {
-            told.field("context", &self.0.context)
-                .field("context_mark", &self.0.context_mark);
+        told.field("kind", &self.fault.error);
+        told.field("problem", &self.fault.problem)
+            .field("mark", &self.fault.problem_mark);
+        if self.fault.context.is_some() {
+            told.field("context", &self.fault.context)
+                .field("context_mark", &self.fault.context_mark);
+        }
+        if self.name.is_some() {
+            told.field("name", &self.name);
+        }
+        if self.expected != TokenTypes::none() {
+            told.field("expected", &format_args!("{}", self.expected));
         }
         told.finish()
     }
@@ -103,11 +181,11 @@ impl fmt::Debug for Error {
 
 impl fmt::Display for Error {
     fn fmt(&self, f: &mut fmt::Formatter<'_>) -> fmt::Result {
-        match (self.0.problem, self.position()) {
-            (Some(problem), Some(position)) if position > 0 && self.0.problem_mark == ZERO_MARK => {
+        match (self.fault.problem, self.position()) {
+            (Some(problem), Some(position)) if position > 0 && self.fault.problem_mark == ZERO_MARK => {
                 write!(f, "{problem} at position {position}")
             }
-            _ => self.0.fmt(f),
+            _ => self.fault.fmt(f),
         }
     }
 }

@@ -42,6 +42,7 @@ mod push;
 mod source;
 mod token;
 
+pub use document::DuplicateKey;
 pub use error::{Error, ErrorKind};
 pub use parser::{ComposedEvents, Documents, Half, Parser, PlacedEvents};
 pub use push::{PushLoader, PushParser};
@@ -64,5 +65,3 @@ pub use crate::libyaml_types::{
 };
 #[doc(inline)]
 pub use crate::token_steps::TokenTypes;
-#[doc(inline)]
-pub use crate::yaml_keys::yaml_duplicate_key_t as DuplicateKey;

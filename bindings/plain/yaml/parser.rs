@@ -1,16 +1,16 @@
 //! Iterators over events and documents.
 
-use super::{Document, Error, ErrorKind, Event, EventData, TokenSource};
+use super::{Document, Error, ErrorKind, Event, EventData, TokenSource, TokenTypes};
 use crate::kit::Global;
+use crate::libyaml_automaton::Reading;
 use crate::libyaml_events::{
     is_event, no_event, yaml_parser_delete, yaml_parser_initialize, yaml_parser_parse_into,
     yaml_parser_set_max_entries, yaml_parser_t,
 };
 use crate::libyaml_loader::{
-    event_composer_t, yaml_parser_composed_events_t, yaml_parser_documents, yaml_parser_load_partial,
+    event_composer_t, yaml_parser_composed_events_t, yaml_parser_load_partial,
     yaml_parser_placed_events_t, yaml_place_t as Place,
 };
-use alloc::string::String;
 use core::fmt;
 use core::iter::FusedIterator;
 use core::mem;
@@ -43,8 +43,15 @@ impl<S: TokenSource> Parser<S> {
             Ok(()) if is_event(event) => Some(Ok(())),
             // No event is put if the run is over, and only then.
             Ok(()) => None,
-            Err(_) => Some(Err(Error::from(*self.parser.prefix()))),
+            Err(_) => Some(Err(failed(&mut self.parser))),
         }
+    }
+
+    /// Returns which types of token may come next, after those of the events so far: those with some token with
+    /// which these still begin a whole stream. After the stream's end or an error there are none. The source may
+    /// have been asked for that token already, which shows where a document ends.
+    pub fn expected(&self) -> TokenTypes {
+        expected(&self.parser)
     }
 
     /// Returns the source, in its state after the last token that was asked for.
@@ -61,12 +68,30 @@ impl<S: TokenSource> Iterator for Parser<S> {
         match yaml_parser_parse_into(&mut self.parser, &mut self.slot) {
             Ok(()) if is_event(&self.slot) => Some(Ok(take_event(&mut self.slot))),
             Ok(()) => None,
-            Err(_) => Some(Err(Error::from(*self.parser.prefix()))),
+            Err(_) => Some(Err(failed(&mut self.parser))),
         }
     }
 }
 
 impl<S: TokenSource> FusedIterator for Parser<S> {}
+
+/// Returns the error of a parser that has just failed, with the tag handle that it is about.
+#[cold]
+fn failed<S>(parser: &mut yaml_parser_t<S>) -> Error {
+    let tag = match parser.token_parser.has_undefined_handle() {
+        true => parser.pending.properties.tag.take(),
+        false => None,
+    };
+    Error::named(*parser.prefix(), tag.map(|tag| tag.handle))
+}
+
+/// Returns which types of token may follow those of the events so far.
+fn expected<S>(parser: &yaml_parser_t<S>) -> TokenTypes {
+    match parser.token_parser.is_over() {
+        true => TokenTypes::none(),
+        false => parser.token_parser.automaton.expected(&Reading::new()),
+    }
+}
 
 /// Moves an event out. Its marks stay, so that nothing but its kind is written.
 #[inline(always)]
@@ -97,8 +122,6 @@ impl Default for Event {
 pub struct Half {
     /// The error that ends the documents.
     pub error: Error,
-    /// The anchor, alias or undefined tag handle that the error is about.
-    pub name: Option<String>,
     /// The document that is open there, with its nodes so far. Its open collections end where the last
     /// event before the error does, and a key that waited for its value has an empty one, unless the list of
     /// nodes is full. There is none between two documents, or if an allocation failed.
@@ -139,11 +162,17 @@ impl<S: TokenSource> Documents<S> {
             Ok(document) if document.nodes().is_empty() => None,
             Ok(document) => Some(Ok(document)),
             Err(partial) => Some(Err(Half {
-                error: Error::from(*self.parser.prefix()),
-                name: partial.name.map(String::from),
+                error: Error::named(*self.parser.prefix(), partial.name),
                 document: partial.document,
             })),
         }
+    }
+
+    /// Returns which types of token may come next, after those of the events so far: those with some token with
+    /// which these still begin a whole stream. After the stream's end or an error there are none. The source may
+    /// have been asked for that token already, which shows where a document ends.
+    pub fn expected(&self) -> TokenTypes {
+        expected(&self.parser)
     }
 
     /// Returns the source, in its state after the last token that was asked for.
@@ -156,8 +185,8 @@ impl<S: TokenSource> Iterator for Documents<S> {
     type Item = Result<Document, Error>;
 
     fn next(&mut self) -> Option<Self::Item> {
-        let mut documents = yaml_parser_documents(&mut self.parser);
-        documents.next().map(|document| document.map_err(Error::from))
+        let document = self.next_or_half()?;
+        Some(document.map_err(|half| half.error))
     }
 }
 
@@ -188,6 +217,13 @@ impl<S: TokenSource> ComposedEvents<S> {
         let parser = yaml_parser_initialize(Global, source);
         let composer = event_composer_t::new(Global, i32::MAX as u32);
         ComposedEvents { parser, composer }
+    }
+
+    /// Returns which types of token may come next, after those of the events so far: those with some token with
+    /// which these still begin a whole stream. After the stream's end or an error there are none. The source may
+    /// have been asked for that token already, which shows where a document ends.
+    pub fn expected(&self) -> TokenTypes {
+        expected(&self.parser)
     }
 
     /// Returns the source, in its state after the last token that was asked for.
@@ -235,6 +271,13 @@ impl<S: TokenSource> PlacedEvents<S> {
         let parser = yaml_parser_initialize(Global, source);
         let composer = event_composer_t::new(Global, i32::MAX as u32);
         PlacedEvents { parser, composer }
+    }
+
+    /// Returns which types of token may come next, after those of the events so far: those with some token with
+    /// which these still begin a whole stream. After the stream's end or an error there are none. The source may
+    /// have been asked for that token already, which shows where a document ends.
+    pub fn expected(&self) -> TokenTypes {
+        expected(&self.parser)
     }
 
     /// Returns the source, in its state after the last token that was asked for.
