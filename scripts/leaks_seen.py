@@ -86,7 +86,7 @@ def seen_by_rustc(leak, room):
     path, text = planted(leak, room / "crates")
     was = path.read_text()
     path.write_text(text)
-    run = subprocess.run(["cargo", "test", "-q", "--release", "--offline", "--features", "alloc", "--test", "memory"], cwd=room,
+    run = subprocess.run(["cargo", "test", "-q", "--release", "--offline", "--test", "memory"], cwd=room,
                          env={**os.environ, "CARGO_TARGET_DIR": str(room / "target")}, stdin=subprocess.DEVNULL, capture_output=True, text=True)
     path.write_text(was)
     if "running" not in run.stdout:

@@ -4,13 +4,13 @@
 #
 #     sh scripts/gate/plain_rust.sh
 #
-# Runs its tests, without features and with `alloc`: the lists of vectors_steps and vectors_yaml, which give
-# the lines that stand there; what the build leaves out, and what ends it; the module `yaml` and its map; each
+# Runs its tests, without features, with `alloc` and with all: the lists of vectors_steps and vectors_yaml, which give
+# the lines that stand there; the program yamltokens over these and over the runs of vectors_lines; what the build leaves out, and what ends it; the module `yaml` and its map; each
 # allocation refused in turn; drawn tokens, which each call has to read alike; the programs of its README. Makes its pages, and asks clippy, which may not warn.
 # Makes its package, which has each source as it stands here, and tests that alone; a crate that names it
 # in two lines parses and loads. A line of a list that is
 # changed there must fail the test, and a construct that isn't known must end the build with its file and
-# line. What is left out is what left_out.py finds. Runs the tests of `scanner`, and the examples over it, if the crate unsafe-libyaml 0.2.11 is in the folder that CLIENT_CRATES
+# line. What is left out is what left_out.py finds. Runs the tests of pokhvizi-libyaml, and the examples over it, if the crate unsafe-libyaml 0.2.11 is in the folder that CLIENT_CRATES
 # names or /usr/share/cargo/registry. Last it builds C's library by build_plain.sh, and runs the samples of
 # yaml.c over it.
 #
@@ -30,13 +30,14 @@ complain() {
     wrong=$((wrong + 1))
 }
 
-tests=$(cargo test 2> "$work/said" && cargo test --features alloc 2>> "$work/said") || { cat "$work/said"; echo "$tests"; complain "a test"; }
+tests=$(cargo test --no-default-features 2> "$work/said" && cargo test --no-default-features --features alloc 2>> "$work/said" &&
+    cargo test 2>> "$work/said") || { cat "$work/said"; echo "$tests"; complain "a test"; }
 grep -A 5 '^warning' "$work/said" && complain "a warning"
 passed=$(echo "$tests" | sed -n 's/^test result: ok. \([0-9]*\) passed.*/\1/p' | awk '{ n += $1 } END { print n + 0 }')
-[ "$passed" -ge 30 ] || complain "only $passed tests"
-RUSTDOCFLAGS='-D warnings' cargo doc -q --no-deps --features alloc > "$work/said" 2>&1 || { cat "$work/said"; complain "the pages"; }
+[ "$passed" -ge 80 ] || complain "only $passed tests"
+RUSTDOCFLAGS='-D warnings' cargo doc -q --no-deps > "$work/said" 2>&1 || { cat "$work/said"; complain "the pages"; }
 if cargo clippy --version > /dev/null 2>&1; then
-    cargo clippy -q --all-targets --features alloc -- -D warnings > "$work/said" 2>&1 || { cat "$work/said"; complain "clippy"; }
+    cargo clippy -q --all-targets -- -D warnings > "$work/said" 2>&1 || { cat "$work/said"; complain "clippy"; }
 else
     echo "clippy isn't there"
 fi
@@ -52,11 +53,11 @@ for source in $sources; do
 done
 [ "$(echo "$sources" | grep -c '\.rt$')" -ge 100 ] || complain "the package lacks sources"
 
-(cd "$package" && cargo test -q --features alloc) > "$work/said" 2>&1 || { cat "$work/said"; complain "a test of the package"; }
+(cd "$package" && cargo test -q) > "$work/said" 2>&1 || { cat "$work/said"; complain "a test of the package"; }
 
 # A user's crate, which names the package in two lines.
 mkdir -p "$work/app/src"
-printf '[package]\nname = "app"\nversion = "0.1.0"\nedition = "2021"\n[dependencies]\npokhvizi = { path = "%s", features = ["alloc"] }\n' \
+printf '[package]\nname = "app"\nversion = "0.1.0"\nedition = "2021"\n[dependencies]\npokhvizi = { path = "%s" }\n' \
     "$package" > "$work/app/Cargo.toml"
 printf '[profile.release]\nlto = true\npanic = "abort"\noverflow-checks = true\n' >> "$work/app/Cargo.toml"
 cat > "$work/app/src/main.rs" << 'RUST'
@@ -177,12 +178,14 @@ crates=$(realpath "${CLIENT_CRATES:-/usr/share/cargo/registry}" 2> /dev/null || 
 if [ -d "$crates/unsafe-libyaml-0.2.11" ]; then
     mkdir "$work/home"
     printf '[source.crates-io]\nreplace-with = "debian"\n[source.debian]\ndirectory = "%s"\n' "$crates" > "$work/home/config.toml"
-    CARGO_HOME=$work/home cargo test -q --manifest-path bindings/plain/scanner/Cargo.toml > "$work/said" 2>&1 || { cat "$work/said"; complain "the scanner's tests"; }
-    scanner=$work/target/debug/scanner
-    [ "$("$scanner" services web image < examples/compose.yaml)" = nginx:1.25 ] || complain "the text at a path"
-    [ "$("$scanner" < examples/list.yaml | wc -l)" -eq "$(wc -l < examples/list.events)" ] || complain "the events of the scanner"
+    CARGO_HOME=$work/home cargo test -q --manifest-path bindings/plain/libyaml/Cargo.toml > "$work/said" 2>&1 || { cat "$work/said"; complain "the tests over libyaml's scanner"; }
+    at=$work/target/debug/examples/at
+    [ "$("$at" services web image < examples/compose.yaml)" = nginx:1.25 ] || complain "the text at a path"
+    [ "$("$at" < examples/list.yaml | wc -l)" -eq "$(wc -l < examples/list.events)" ] || complain "the events of the scanner"
     for name in lint outline; do
-        "$work/target/debug/examples/$name" < "$work/$name.yaml" | cmp - "$(crate_of $name)/stdout" || complain "the example $name"
+        # The crate has one word for what ends a block.
+        "$work/target/debug/examples/$name" < "$work/$name.yaml" | sed 's/^\(expected the end of the block\) .*/\1/' |
+            cmp - "$(crate_of $name)/stdout" || complain "the example $name"
         if echo '- *a' | "$work/target/debug/examples/$name" 2> "$work/said" | cmp -s - "$(crate_of $name)/stdout"; then
             complain "the example $name says the same of another text"
         fi

@@ -31,13 +31,13 @@ has() {
     command -v "$1" > /dev/null || lacks="$lacks $1"
 }
 
-# Runs the tests of a machine: all that `cargo test` runs, with `alloc` and without.
+# Runs the tests of a machine: all that `cargo test` runs, without features, with `alloc` and with all.
 run_tests() {
     name=$(echo "$target" | tr 'a-z-' 'A-Z_')
     # Linked with all that they need, they run wherever the emulator does.
     export "CARGO_TARGET_${name}_LINKER=$machine-linux-gnu-gcc" "CARGO_TARGET_${name}_RUNNER=$runner" \
         "CARGO_TARGET_${name}_RUSTFLAGS=-C target-feature=+crt-static"
-    for features in '' '--features alloc'; do
+    for features in --no-default-features '--no-default-features --features alloc' ''; do
         "$cargo" test --target "$target" --tests $features 2>&1 || return 1
     done
 }
@@ -46,7 +46,7 @@ run_tests() {
 run_wasi() {
     # Debian's linker has a name of its own.
     if command -v wasm-ld > /dev/null; then export CARGO_TARGET_WASM32_WASIP1_LINKER=wasm-ld; fi
-    "$cargo" build -q --target "$target" --features alloc --example lines || return 1
+    "$cargo" build -q --target "$target" --example lines || return 1
     cat > "$work/run.mjs" << 'JS'
 import { openSync, readFileSync } from "node:fs";
 import { WASI } from "node:wasi";
@@ -92,7 +92,7 @@ for target; do
     fi
     case $target in
     wasm32-wasip1) run_wasi ;;
-    wasm32-unknown-unknown) "$cargo" build -q --target "$target" --features alloc ;;
+    wasm32-unknown-unknown) "$cargo" build -q --target "$target" ;;
     *) run_tests ;;
     esac > "$work/said" 2>&1 || { cat "$work/said"; echo "wrong: $target"; wrong=$((wrong + 1)); continue; }
     ran=$((ran + 1))

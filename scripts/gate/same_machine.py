@@ -39,7 +39,7 @@ def made(directory):
     """The example `lines`, built by cargo."""
     profile = {"CARGO_PROFILE_DEV_OPT_LEVEL": "2", "CARGO_PROFILE_DEV_OVERFLOW_CHECKS": "true", "CARGO_PROFILE_DEV_PANIC": "abort"}
     environment = dict(os.environ, CARGO_TARGET_DIR=directory, CARGO_NET_OFFLINE="true", **profile)
-    words = ["cargo", "build", "-q", "--features", "alloc", "--example", "lines"]
+    words = ["cargo", "build", "-q", "--example", "lines"]
     subprocess.run(words, cwd=TOP, env=environment, check=True)
     return f"{directory}/debug/examples/lines"
 

@@ -1,10 +1,9 @@
-//! Prints unused anchors, deep nesting and duplicate keys of the YAML text on standard input. In `bindings/plain/scanner`:
+//! Prints unused anchors, deep nesting and duplicate keys of the YAML text on standard input. In `bindings/plain/libyaml`:
 //!
 //!     cargo run --example lint < FILE.yaml
 
-use pokhvizi::libyaml_documents::yaml_document_get_node;
-use pokhvizi::yaml::{Document, Documents, DuplicateKey, Event, EventData, Mark, PlacedEvents};
-use scanner::Scanner;
+use pokhvizi::yaml::{Event, EventData, Mark, PlacedEvents};
+use pokhvizi_libyaml::{documents, Scanner};
 use std::collections::BTreeMap;
 use std::error::Error;
 use std::io::{self, Read};
@@ -22,7 +21,7 @@ fn main() -> Result<(), Box<dyn Error>> {
 /// Prints the anchors that no alias names, and the collections that are nested too deep.
 fn look_at_events(text: &[u8]) -> Result<(), Box<dyn Error>> {
     let mut unused = BTreeMap::new();
-    for item in PlacedEvents::new(Scanner::new(text).ok_or("out of memory")?) {
+    for item in PlacedEvents::new(Scanner::new(text)?) {
         let (event, place) = item?;
         note_anchor(&mut unused, &event);
         match (&event.content, place) {
@@ -55,19 +54,10 @@ fn print_anchors(unused: BTreeMap<String, Mark>) {
 
 /// Prints the first duplicate key of each document.
 fn print_duplicate_keys(text: &[u8]) -> Result<(), Box<dyn Error>> {
-    for document in Documents::new(Scanner::new(text).ok_or("out of memory")?) {
-        let document = document?;
-        let found = document.duplicate_key()?;
-        if let Some(second) = found.and_then(|found| mark_of(&document, &found)) {
-            println!("{second}: key stands twice in its mapping");
+    for document in documents(text) {
+        if let Some(found) = document?.duplicate_key()? {
+            println!("{}: key stands twice in its mapping", found.mark());
         }
     }
     Ok(())
-}
-
-/// Returns where the second of two keys starts: of an alias, where the node does that it names.
-fn mark_of(document: &Document, found: &DuplicateKey) -> Option<Mark> {
-    let mapping = yaml_document_get_node(document, found.mapping)?;
-    let key = mapping.pairs().get(found.second)?.key;
-    Some(yaml_document_get_node(document, key)?.start_mark)
 }

@@ -49,7 +49,7 @@ impl Document {
 /// Two pairs of one mapping that have the same key.
 ///
 /// As text it is an error's: `found duplicate key "a" at line 3, column 1; first at line 1, column 1`.
-#[derive(Clone, Copy, Debug)]
+#[derive(Clone, Copy, PartialEq, Debug)]
 pub struct DuplicateKey<'a> {
     mapping: &'a Node,
     pairs: [usize; 2],

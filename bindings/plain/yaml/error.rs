@@ -32,25 +32,52 @@ impl yaml_error_type_t {
 /// [`name`](Self::name) and [`expected`](Self::expected).
 #[derive(Clone)]
 pub struct Error {
-    fault: yaml_parser_t_prefix,
-    name: Option<String>,
+    kind: ErrorKind,
     expected: TokenTypes,
+    problem: Option<&'static str>,
+    position: u64,
+    mark: Mark,
+    context: Option<&'static str>,
+    context_mark: Mark,
+    name: Option<String>,
 }
 
 impl Error {
+    /// The error of a fault with the name that it is about. The value of a reader's fault isn't kept: so an error is
+    /// smaller than what clippy calls large.
     pub(super) fn named(fault: yaml_parser_t_prefix, name: Option<crate::kit::String>) -> Self {
-        let (name, expected) = (name.map(String::from), TokenTypes::none());
-        Error { fault, name, expected }
+        Error {
+            kind: fault.error,
+            expected: TokenTypes::none(),
+            problem: fault.problem,
+            position: fault.problem_offset,
+            mark: fault.problem_mark,
+            context: fault.context,
+            context_mark: fault.context_mark,
+            name: name.map(String::from),
+        }
+    }
+
+    fn fault(&self) -> yaml_parser_t_prefix {
+        yaml_parser_t_prefix {
+            error: self.kind,
+            problem: self.problem,
+            problem_offset: self.position,
+            problem_value: -1,
+            problem_mark: self.mark,
+            context: self.context,
+            context_mark: self.context_mark,
+        }
     }
 
     /// Returns which part refused the input.
     pub fn kind(&self) -> ErrorKind {
-        self.fault.error
+        self.kind
     }
 
     /// Returns what went wrong, in words. Out of memory has none.
     pub fn problem(&self) -> Option<&'static str> {
-        self.fault.problem
+        self.problem
     }
 
     /// Returns the anchor, the alias or the undefined tag handle that the error is about. Errors of
@@ -107,29 +134,29 @@ impl Error {
 
     /// Returns where it went wrong.
     pub fn mark(&self) -> Mark {
-        self.fault.problem_mark
+        self.mark
     }
 
     /// Returns how far a reader had come when the input could not be read: with libyaml's scanner the byte, from 0.
     /// Its errors have no mark. Of other errors `None`.
     pub fn position(&self) -> Option<u64> {
-        (self.fault.error == ErrorKind::READER).then_some(self.fault.problem_offset)
+        (self.kind == ErrorKind::READER).then_some(self.position)
     }
 
     /// Returns what was being read, in words.
     pub fn context(&self) -> Option<&'static str> {
-        self.fault.context
+        self.context
     }
 
     /// Returns where what was being read begins. It says something only if there is a context.
     pub fn context_mark(&self) -> Mark {
-        self.fault.context_mark
+        self.context_mark
     }
 }
 
 impl PartialEq for Error {
     fn eq(&self, other: &Self) -> bool {
-        self.fault == other.fault
+        self.fault() == other.fault()
     }
 }
 
@@ -162,12 +189,12 @@ impl From<AllocError> for SourceError {
 impl fmt::Debug for Error {
     fn fmt(&self, f: &mut fmt::Formatter<'_>) -> fmt::Result {
         let mut told = f.debug_struct("Error");
-        told.field("kind", &self.fault.error);
-        told.field("problem", &self.fault.problem)
-            .field("mark", &self.fault.problem_mark);
-        if self.fault.context.is_some() {
-            told.field("context", &self.fault.context)
-                .field("context_mark", &self.fault.context_mark);
+        told.field("kind", &self.kind);
+        told.field("problem", &self.problem)
+            .field("mark", &self.mark);
+        if self.context.is_some() {
+            told.field("context", &self.context)
+                .field("context_mark", &self.context_mark);
         }
         if self.name.is_some() {
             told.field("name", &self.name);
@@ -181,11 +208,11 @@ impl fmt::Debug for Error {
 
 impl fmt::Display for Error {
     fn fmt(&self, f: &mut fmt::Formatter<'_>) -> fmt::Result {
-        match (self.fault.problem, self.position()) {
-            (Some(problem), Some(position)) if position > 0 && self.fault.problem_mark == ZERO_MARK => {
+        match (self.problem, self.position()) {
+            (Some(problem), Some(position)) if position > 0 && self.mark == ZERO_MARK => {
                 write!(f, "{problem} at position {position}")
             }
-            _ => self.fault.fmt(f),
+            _ => self.fault().fmt(f),
         }
     }
 }

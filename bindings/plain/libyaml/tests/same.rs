@@ -1,7 +1,7 @@
 //! The parser and loader over libyaml's scanner give what libyaml's own do, over the YAML texts of the repository.
 
 use pokhvizi::yaml::{Documents, Event, EventData, Mark, NodeData, Parser};
-use scanner::Scanner;
+use pokhvizi_libyaml::Scanner;
 use std::ffi::CStr;
 use std::fs;
 use std::mem::MaybeUninit;

@@ -1,11 +1,11 @@
-//! libyaml's scanner, as the crate `unsafe-libyaml` has it, as a source of tokens.
+//! libyaml's scanner as a source of tokens.
 
 use pokhvizi::yaml::{Encoding, Mark, ScalarStyle, SourceError, Token, TokenData, TokenSource};
 use std::ffi::{c_char, CStr};
 use std::marker::PhantomData;
 use std::mem::MaybeUninit;
 
-/// The tokens of a text.
+/// The tokens of a text, as libyaml's scanner splits it: UTF-8, or UTF-16 with a mark of its order.
 pub struct Scanner<'a> {
     /// libyaml's parser, of which only the scanner is called. It names its own place, so it stays there.
     parser: Box<MaybeUninit<libyaml::yaml_parser_t>>,
@@ -14,16 +14,20 @@ pub struct Scanner<'a> {
 }
 
 impl<'a> Scanner<'a> {
-    /// Returns the tokens of this text, or nothing if there is no memory.
-    pub fn new(text: &'a [u8]) -> Option<Self> {
+    /// Returns the tokens of this text.
+    ///
+    /// # Errors
+    ///
+    /// There is no memory.
+    pub fn new(text: &'a [u8]) -> Result<Self, SourceError> {
         let mut parser = Box::new(MaybeUninit::uninit());
         unsafe {
             if libyaml::yaml_parser_initialize(parser.as_mut_ptr()).fail {
-                return None;
+                return Err(SourceError::out_of_memory());
             }
             libyaml::yaml_parser_set_input_string(parser.as_mut_ptr(), text.as_ptr(), text.len() as u64);
         }
-        Some(Scanner {
+        Ok(Scanner {
             parser,
             fault: None,
             text: PhantomData,
@@ -51,6 +55,12 @@ impl TokenSource for Scanner<'_> {
         let token = self.scan();
         self.fault = token.as_ref().err().copied();
         token
+    }
+}
+
+impl std::fmt::Debug for Scanner<'_> {
+    fn fmt(&self, f: &mut std::fmt::Formatter<'_>) -> std::fmt::Result {
+        f.debug_struct("Scanner").finish_non_exhaustive()
     }
 }
 
