@@ -176,7 +176,7 @@ modules() {
     cmp "$tree/pokhvizi_module.o" "$built/pokhvizi_module.o"
     rm "$tree/pokhvizi_module.o"
     cp -R bindings/c/include/pokhvizi "$tree/include"
-    cp bindings/llvm/Makefile bindings/llvm/README.md bindings/llvm/lower.py LICENSE "$work/NOTICES" "$built/pokhvizi.map" "$tree"
+    cp scripts/parts/llvm/Makefile scripts/parts/llvm/README.md scripts/parts/llvm/lower.py LICENSE "$work/NOTICES" "$built/pokhvizi.map" "$tree"
     cp "$work/pokhvizi-$version-x86_64-linux/share/doc/pokhvizi/PROOF" "$tree"
     pack "$tree" "$out/pokhvizi-$version-llvm.tar.gz"
 }

@@ -142,13 +142,9 @@ pub mod io {
 
     impl<R: Read> BufRead for BufReader<R> {
         fn fill_buf(&mut self) -> Result<&[u8]> {
-            while self.start == self.end {
-                match self.reader.read(&mut self.buffer) {
-                    Ok(0) => break,
-                    Ok(read) => (self.start, self.end) = (0, read),
-                    Err(error) if error.kind() == std::io::ErrorKind::Interrupted => {}
-                    Err(error) => return Err(error),
-                }
+            if self.start == self.end {
+                (self.start, self.end) = (0, 0);
+                self.end = self.reader.read(&mut self.buffer)?;
             }
             Ok(&self.buffer[self.start..self.end])
         }
