@@ -63,11 +63,6 @@ type Outcome = (usize, Option<Error>);
 /// Runs a call with all of its memory, and then with each allocation refused. Returns how many there are.
 fn refuse_each(name: &str, call: impl Fn() -> Outcome) -> u64 {
     let begun = MADE.get();
-    // An error's name is memory too.
-    let call = || {
-        let (count, error) = call();
-        (count, error.map(|error| (error.kind(), error.problem(), error.mark())))
-    };
     let whole = call();
     let made = MADE.get() - begun;
     for left in 0..made {
@@ -82,7 +77,7 @@ fn refuse_each(name: &str, call: impl Fn() -> Outcome) -> u64 {
         );
         // Whoever does without some memory, such as more room than is needed, ends as before.
         if outcome != whole {
-            let kind = outcome.1.map(|(kind, ..)| kind);
+            let kind = outcome.1.map(|error| error.kind());
             assert_eq!(kind, Some(ErrorKind::MEMORY), "{name}, {left} allocations made");
             assert!(outcome.0 <= whole.0, "{name}, {left} allocations made");
         }

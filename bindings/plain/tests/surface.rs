@@ -192,31 +192,29 @@ fn errors_are_explained() {
     use TokenData::*;
     let explained = |data: Vec<TokenData>| {
         let source = || list(data.clone_tokens());
-        let found: Vec<Error> = [
+        let found = [
             Parser::new(source()).find_map(Result::err),
             Documents::new(source()).find_map(Result::err),
             ComposedEvents::new(source()).find_map(Result::err),
-        ]
-        .into_iter()
-        .flatten()
-        .map(|error| error.explained(source()))
-        .collect();
-        let last = found.last().unwrap().clone();
-        assert!(found.iter().all(|error| *error == last && error.expected() == last.expected()));
-        let other = last.clone().explained(list(vec![]));
-        assert_eq!(other.expected(), last.expected());
-        (last.expected().to_string(), found[found.len() - 2].name().map(String::from), last.name().map(String::from))
+        ];
+        let found: Vec<Explained> = found.into_iter().flatten().map(|error| error.explained(source())).collect();
+        let last = found.last().unwrap();
+        assert!(found.iter().all(|error| error == last && error.expected() == last.expected()));
+        let half = Documents::new(source()).next_or_half().unwrap().unwrap_err();
+        assert_eq!((half.error, half.name.as_deref()), (**last, last.name()));
+        // By other tokens nothing is told.
+        let other = half.error.explained(list(vec![]));
+        assert_eq!((&*other, other.expected(), other.name()), (&**last, TokenTypes::none(), None));
+        (last.expected().to_string(), last.name().map(String::from))
     };
     let (alias, anchor) = (|| TokenData::alias("a").unwrap(), || TokenData::anchor("a").unwrap());
     let none = String::new;
-    assert_eq!(explained(vec![FlowSequenceStart, plain("a"), plain("b")]), ("',' or ']'".into(), None, None));
-    let a = || Some("a".to_string());
-    assert_eq!(explained(vec![alias()]), (none(), a(), a()));
+    assert_eq!(explained(vec![FlowSequenceStart, plain("a"), plain("b")]), ("',' or ']'".into(), None));
+    assert_eq!(explained(vec![alias()]), (none(), Some("a".into())));
     let twice = vec![FlowSequenceStart, anchor(), plain("b"), FlowEntry, anchor(), plain("c"), FlowSequenceEnd];
-    assert_eq!(explained(twice), (none(), a(), a()));
+    assert_eq!(explained(twice), (none(), Some("a".into())));
     let tag = TokenData::tag("!x!", "y").unwrap();
-    let (expected, name, _) = explained(vec![tag, plain("b")]);
-    assert_eq!((expected, name), (none(), Some("!x!".into())));
+    assert_eq!(explained(vec![tag, plain("b")]), (none(), Some("!x!".into())));
     // Each list that the grammar refuses.
     let mut refused = 0;
     each_list(|name, lines, _| {

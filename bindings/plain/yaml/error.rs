@@ -1,7 +1,7 @@
 //! The error of everything in this module.
 
-use super::{Documents, Mark, PushParser, SourceError, TokenSource, TokenTypes};
-use crate::kit::AllocError;
+use super::{Documents, Mark, PushParser, SourceError, TokenData, TokenSource, TokenTypes};
+use crate::kit::{AllocError, Global, String as Text};
 use crate::libyaml_types::{yaml_error_type_t, yaml_parser_t_prefix, MEMORY_FAULT, ZERO_MARK};
 use alloc::string::String;
 use alloc::vec::Vec;
@@ -28,9 +28,9 @@ impl yaml_error_type_t {
 ///
 /// As text it is the problem and its place, or the kind if there is no problem, and then the context and its
 /// place, if there is one. Lines and columns count from 1 there, and from 0 in marks. A reader's error that has a
-/// position and no mark has that in the mark's place. Two errors are the same whatever else is told of them:
-/// [`name`](Self::name) and [`expected`](Self::expected).
-#[derive(Clone)]
+/// position and no mark has that in the mark's place. [`explained`](Self::explained) tells more of it, which doesn't
+/// count when errors are compared.
+#[derive(Clone, Copy)]
 pub struct Error {
     kind: ErrorKind,
     expected: TokenTypes,
@@ -39,25 +39,9 @@ pub struct Error {
     mark: Mark,
     context: Option<&'static str>,
     context_mark: Mark,
-    name: Option<String>,
 }
 
 impl Error {
-    /// The error of a fault with the name that it is about. The value of a reader's fault isn't kept: so an error is
-    /// smaller than what clippy calls large.
-    pub(super) fn named(fault: yaml_parser_t_prefix, name: Option<crate::kit::String>) -> Self {
-        Error {
-            kind: fault.error,
-            expected: TokenTypes::none(),
-            problem: fault.problem,
-            position: fault.problem_offset,
-            mark: fault.problem_mark,
-            context: fault.context,
-            context_mark: fault.context_mark,
-            name: name.map(String::from),
-        }
-    }
-
     fn fault(&self) -> yaml_parser_t_prefix {
         yaml_parser_t_prefix {
             error: self.kind,
@@ -80,13 +64,6 @@ impl Error {
         self.problem
     }
 
-    /// Returns the anchor, the alias or the undefined tag handle that the error is about. Errors of
-    /// [`ComposedEvents`](super::ComposedEvents), of [`PlacedEvents`](super::PlacedEvents) and of pushes have none
-    /// before they are [`explained`](Self::explained).
-    pub fn name(&self) -> Option<&str> {
-        self.name.as_deref()
-    }
-
     /// Returns which types of token could have stood in the place of the token of a parser's error. As text they
     /// are words, such as `',' or ']'`. There are none before the error is [`explained`](Self::explained), of another
     /// error, and if the token's type was right.
@@ -94,9 +71,9 @@ impl Error {
         self.expected
     }
 
-    /// Returns this error with [`expected`](Self::expected) and [`name`](Self::name), for which it takes the tokens
-    /// once more: those of a source that gives the same from its start. If it gives others, or if there is no memory,
-    /// nothing is told.
+    /// Returns this error with what was [`expected`](Self::expected) and its [`name`](Explained::name), for which it
+    /// takes the tokens once more: those of a source that gives the same from its start. If it gives others, or if
+    /// there is no memory, nothing is told.
     ///
     /// ```
     /// use pokhvizi::yaml::{Encoding, Mark, Parser, Token, TokenData, TokenList};
@@ -109,16 +86,26 @@ impl Error {
     /// let error = Parser::new(source()).find_map(Result::err).unwrap();
     /// assert_eq!(error.explained(source()).expected().to_string(), "a flow node, a key or ']'");
     /// ```
-    #[must_use]
-    pub fn explained(mut self, mut source: impl TokenSource) -> Self {
-        if self.kind() == ErrorKind::COMPOSER {
-            let error = Documents::new(source).find_map(Result::err);
-            self.name = error.filter(|error| *error == self).and_then(|error| error.name);
-            return self;
+    pub fn explained(self, source: impl TokenSource) -> Explained {
+        match self.kind {
+            ErrorKind::PARSER => self.explained_by_tokens(source),
+            ErrorKind::COMPOSER => {
+                let mut documents = Documents::new(source);
+                let half = core::iter::from_fn(|| documents.next_or_half()).find_map(Result::err);
+                let name = half.filter(|half| half.error == self).and_then(|half| half.name);
+                Explained { error: self, name }
+            }
+            _ => self.into(),
         }
-        let (mut parser, mut events) = (PushParser::new(), Vec::new());
-        while let (ErrorKind::PARSER, Ok(token)) = (self.kind(), source.next_token()) {
+    }
+
+    fn explained_by_tokens(mut self, mut source: impl TokenSource) -> Explained {
+        let (mut parser, mut events, mut handle) = (PushParser::new(), Vec::new(), None);
+        while let Ok(token) = source.next_token() {
             let (kind, expected) = (token.type_(), parser.expected());
+            if let TokenData::Tag(tag) = &token.content {
+                handle = Text::from_str(Global, &tag.handle).ok();
+            }
             events.clear();
             match parser.push(token, &mut events) {
                 Ok(()) if expected != TokenTypes::none() => {}
@@ -126,10 +113,14 @@ impl Error {
                     self.expected = expected;
                     break;
                 }
+                Err(error) if error == self && self.problem == Some("found undefined tag handle") => {
+                    let name = handle.map(String::from);
+                    return Explained { error: self, name };
+                }
                 _ => break,
             }
         }
-        self
+        self.into()
     }
 
     /// Returns where it went wrong.
@@ -154,6 +145,53 @@ impl Error {
     }
 }
 
+/// An [`Error`] with what it is about.
+#[derive(Clone, PartialEq, Eq)]
+pub struct Explained {
+    error: Error,
+    name: Option<String>,
+}
+
+impl Explained {
+    /// Returns the anchor, the alias or the undefined tag handle that the error is about.
+    pub fn name(&self) -> Option<&str> {
+        self.name.as_deref()
+    }
+}
+
+impl core::ops::Deref for Explained {
+    type Target = Error;
+
+    fn deref(&self) -> &Error {
+        &self.error
+    }
+}
+
+impl From<Error> for Explained {
+    fn from(error: Error) -> Self {
+        Explained { error, name: None }
+    }
+}
+
+impl fmt::Debug for Explained {
+    fn fmt(&self, f: &mut fmt::Formatter<'_>) -> fmt::Result {
+        let mut told = f.debug_struct("Explained");
+        told.field("error", &self.error);
+        if self.name.is_some() {
+            told.field("name", &self.name);
+        }
+        told.finish()
+    }
+}
+
+impl fmt::Display for Explained {
+    fn fmt(&self, f: &mut fmt::Formatter<'_>) -> fmt::Result {
+        self.error.fmt(f)
+    }
+}
+
+impl core::error::Error for Explained {}
+
 impl PartialEq for Error {
     fn eq(&self, other: &Self) -> bool {
         self.fault() == other.fault()
@@ -164,19 +202,27 @@ impl Eq for Error {}
 
 impl From<yaml_parser_t_prefix> for Error {
     fn from(fault: yaml_parser_t_prefix) -> Self {
-        Error::named(fault, None)
+        Error {
+            kind: fault.error,
+            expected: TokenTypes::none(),
+            problem: fault.problem,
+            position: fault.problem_offset,
+            mark: fault.problem_mark,
+            context: fault.context,
+            context_mark: fault.context_mark,
+        }
     }
 }
 
 impl From<SourceError> for Error {
     fn from(fault: SourceError) -> Self {
-        Error::named(fault.prefix(), None)
+        fault.prefix().into()
     }
 }
 
 impl From<AllocError> for Error {
     fn from(_: AllocError) -> Self {
-        Error::named(MEMORY_FAULT, None)
+        MEMORY_FAULT.into()
     }
 }
 
@@ -195,9 +241,6 @@ impl fmt::Debug for Error {
         if self.context.is_some() {
             told.field("context", &self.context)
                 .field("context_mark", &self.context_mark);
-        }
-        if self.name.is_some() {
-            told.field("name", &self.name);
         }
         if self.expected != TokenTypes::none() {
             told.field("expected", &format_args!("{}", self.expected));

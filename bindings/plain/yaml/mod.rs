@@ -43,7 +43,7 @@ mod source;
 mod token;
 
 pub use document::DuplicateKey;
-pub use error::{Error, ErrorKind};
+pub use error::{Error, ErrorKind, Explained};
 pub use parser::{ComposedEvents, Documents, Half, Parser, PlacedEvents};
 pub use push::{PushLoader, PushParser};
 pub use source::{limited, tokens, Limited, SourceError, TokenIter, TokenSource, Tokens};

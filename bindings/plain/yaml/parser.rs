@@ -8,9 +8,10 @@ use crate::libyaml_events::{
     yaml_parser_set_max_entries, yaml_parser_t,
 };
 use crate::libyaml_loader::{
-    event_composer_t, yaml_parser_composed_events_t, yaml_parser_load_partial,
+    event_composer_t, yaml_parser_composed_events_t, yaml_parser_documents, yaml_parser_load_partial,
     yaml_parser_placed_events_t, yaml_place_t as Place,
 };
+use alloc::string::String;
 use core::fmt;
 use core::iter::FusedIterator;
 use core::mem;
@@ -43,7 +44,7 @@ impl<S: TokenSource> Parser<S> {
             Ok(()) if is_event(event) => Some(Ok(())),
             // No event is put if the run is over, and only then.
             Ok(()) => None,
-            Err(_) => Some(Err(failed(&mut self.parser))),
+            Err(_) => Some(Err(Error::from(*self.parser.prefix()))),
         }
     }
 
@@ -68,22 +69,12 @@ impl<S: TokenSource> Iterator for Parser<S> {
         match yaml_parser_parse_into(&mut self.parser, &mut self.slot) {
             Ok(()) if is_event(&self.slot) => Some(Ok(take_event(&mut self.slot))),
             Ok(()) => None,
-            Err(_) => Some(Err(failed(&mut self.parser))),
+            Err(_) => Some(Err(Error::from(*self.parser.prefix()))),
         }
     }
 }
 
 impl<S: TokenSource> FusedIterator for Parser<S> {}
-
-/// Returns the error of a parser that has just failed, with the tag handle that it is about.
-#[cold]
-fn failed<S>(parser: &mut yaml_parser_t<S>) -> Error {
-    let tag = match parser.token_parser.has_undefined_handle() {
-        true => parser.pending.properties.tag.take(),
-        false => None,
-    };
-    Error::named(*parser.prefix(), tag.map(|tag| tag.handle))
-}
 
 /// Returns which types of token may follow those of the events so far.
 fn expected<S>(parser: &yaml_parser_t<S>) -> TokenTypes {
@@ -122,6 +113,8 @@ impl Default for Event {
 pub struct Half {
     /// The error that ends the documents.
     pub error: Error,
+    /// The anchor, alias or undefined tag handle that the error is about.
+    pub name: Option<String>,
     /// The document that is open there, with its nodes so far. Its open collections end where the last
     /// event before the error does, and a key that waited for its value has an empty one, unless the list of
     /// nodes is full. There is none between two documents, or if an allocation failed.
@@ -162,7 +155,8 @@ impl<S: TokenSource> Documents<S> {
             Ok(document) if document.nodes().is_empty() => None,
             Ok(document) => Some(Ok(document)),
             Err(partial) => Some(Err(Half {
-                error: Error::named(*self.parser.prefix(), partial.name),
+                error: Error::from(*self.parser.prefix()),
+                name: partial.name.map(String::from),
                 document: partial.document,
             })),
         }
@@ -185,8 +179,8 @@ impl<S: TokenSource> Iterator for Documents<S> {
     type Item = Result<Document, Error>;
 
     fn next(&mut self) -> Option<Self::Item> {
-        let document = self.next_or_half()?;
-        Some(document.map_err(|half| half.error))
+        let mut documents = yaml_parser_documents(&mut self.parser);
+        documents.next().map(|document| document.map_err(Error::from))
     }
 }
 

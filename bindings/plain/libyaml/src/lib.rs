@@ -38,9 +38,9 @@
 
 mod scanner;
 
-pub use pokhvizi::yaml::{Document, Error, Event};
+pub use pokhvizi::yaml::{Document, Event, Explained as Error};
 use pokhvizi::libyaml_types::yaml_parser_t_prefix;
-use pokhvizi::yaml::{limited, ErrorKind, Limited, Mark, Parser};
+use pokhvizi::yaml::{limited, Error as Plain, ErrorKind, Limited, Mark, Parser};
 pub use scanner::Scanner;
 use std::fmt;
 use std::iter::FusedIterator;
@@ -73,7 +73,7 @@ pub fn from_slice(text: &[u8]) -> Result<Document, Error> {
 }
 
 fn composer_error(problem: &'static str, mark: Mark) -> Error {
-    Error::from(yaml_parser_t_prefix {
+    Error::from(Plain::from(yaml_parser_t_prefix {
         error: ErrorKind::COMPOSER,
         problem: Some(problem),
         problem_offset: 0,
@@ -81,7 +81,7 @@ fn composer_error(problem: &'static str, mark: Mark) -> Error {
         problem_mark: mark,
         context: None,
         context_mark: mark,
-    })
+    }))
 }
 
 /// Returns the documents of a text: each [`Document`], or once the [`Error`] that ends them.
@@ -89,7 +89,7 @@ fn composer_error(problem: &'static str, mark: Mark) -> Error {
 /// # Errors
 ///
 /// Of each part, with its place: the scanner, the parser, the composer. They are
-/// [`explained`](pokhvizi::yaml::Error::explained), for which the text is scanned again.
+/// explained ([`pokhvizi::yaml::Error::explained`]), for which the text is scanned again.
 pub fn documents<T: AsRef<[u8]> + ?Sized>(text: &T) -> Documents<'_> {
     Documents(Explained::new(text.as_ref(), pokhvizi::yaml::Documents::new))
 }
@@ -108,30 +108,30 @@ type Source<'a> = Limited<Scanner<'a>>;
 /// An iterator over the tokens of a text, or the error that there is no memory for a scanner.
 struct Explained<'a, I> {
     text: &'a [u8],
-    items: Result<I, Option<Error>>,
+    items: Result<I, Option<Plain>>,
 }
 
 impl<'a, I> Explained<'a, I> {
     fn new(text: &'a [u8], items: impl FnOnce(Source<'a>) -> I) -> Self {
         let source = Scanner::new(text).map(|scanner| items(limited(scanner, MAX_DEPTH)));
-        let items = source.map_err(|error| Some(Error::from(error)));
+        let items = source.map_err(|error| Some(Plain::from(error)));
         Explained { text, items }
     }
 }
 
-impl<T, I: Iterator<Item = Result<T, Error>>> Explained<'_, I> {
+impl<T, I: Iterator<Item = Result<T, Plain>>> Explained<'_, I> {
     fn next(&mut self) -> Option<Result<T, Error>> {
         let items = match &mut self.items {
             Ok(items) => items,
-            Err(error) => return error.take().map(Err),
+            Err(error) => return error.take().map(|error| Err(error.into())),
         };
         let error = match items.next()? {
             Err(error) => error,
-            item => return Some(item),
+            Ok(item) => return Some(Ok(item)),
         };
         Some(Err(match Scanner::new(self.text) {
             Ok(scanner) => error.explained(limited(scanner, MAX_DEPTH)),
-            Err(_) => error,
+            Err(_) => error.into(),
         }))
     }
 }

@@ -1,7 +1,7 @@
 //! Texts to documents and events in one call, and the errors of each part.
 
-use pokhvizi::yaml::{Error, ErrorKind};
-use pokhvizi_libyaml::{documents, events, from_slice, from_str, MAX_DEPTH};
+use pokhvizi::yaml::ErrorKind;
+use pokhvizi_libyaml::{documents, events, from_slice, from_str, Error, MAX_DEPTH};
 
 fn error_of(text: &[u8]) -> Error {
     let error = from_slice(text).unwrap_err();

@@ -373,8 +373,11 @@ fn assert_half(
         assert!(!is_full && loaded.1.is_none());
         return (false, false);
     };
-    let Half { error, document } = failed.err().unwrap();
-    let name = error.name().map(String::from);
+    let Half {
+        error,
+        name,
+        document,
+    } = failed.err().unwrap();
     if is_full {
         assert_eq!((error.kind(), name), (ErrorKind::MEMORY, None));
     } else {
@@ -534,7 +537,7 @@ fn assert_limited(bytes: &[u8], all: &Run<Event>) {
         let source = limited(TokenList::from(tokens_of(bytes)), max_depth);
         let (events, error) = run_of(Parser::new(source));
         assert!(all.0.starts_with(&events));
-        assert!(max_depth != usize::MAX || (events.len(), error) == (all.0.len(), all.1.clone()));
+        assert!(max_depth != usize::MAX || (events.len(), error) == (all.0.len(), all.1));
     }
 }
 
@@ -542,7 +545,7 @@ fn assert_limited(bytes: &[u8], all: &Run<Event>) {
 pub fn drive(bytes: &[u8]) -> Seen {
     let all = run_of(Parser::new(TokenList::from(tokens_of(bytes))));
     assert_nested(&all.0, all.1.is_none());
-    assert_eq!(events_in_place(bytes), (all.0.len(), all.1.clone()));
+    assert_eq!(events_in_place(bytes), (all.0.len(), all.1));
     assert_eq!(pushed(bytes), all);
     assert_completed(bytes, &all.0);
     assert_limited(bytes, &all);
