@@ -215,6 +215,10 @@ fn errors_are_explained() {
     assert_eq!(explained(twice), (none(), Some("a".into())));
     let tag = TokenData::tag("!x!", "y").unwrap();
     assert_eq!(explained(vec![tag, plain("b")]), (none(), Some("!x!".into())));
+    let tags = ["!x!", "!y!"].map(|handle| TokenData::tag(handle, "y").unwrap());
+    assert_eq!(explained(tags.into()).1, Some("!x!".into()));
+    // What clippy calls a large error begins there.
+    assert!(std::mem::size_of::<Explained>() < 128 && std::mem::size_of::<Error>() < 128);
     // Each list that the grammar refuses.
     let mut refused = 0;
     each_list(|name, lines, _| {

@@ -28,50 +28,22 @@ impl yaml_error_type_t {
 ///
 /// As text it is the problem and its place, or the kind if there is no problem, and then the context and its
 /// place, if there is one. Lines and columns count from 1 there, and from 0 in marks. A reader's error that has a
-/// position and no mark has that in the mark's place. [`explained`](Self::explained) tells more of it, which doesn't
-/// count when errors are compared.
-#[derive(Clone, Copy)]
-pub struct Error {
-    kind: ErrorKind,
-    expected: TokenTypes,
-    problem: Option<&'static str>,
-    position: u64,
-    mark: Mark,
-    context: Option<&'static str>,
-    context_mark: Mark,
-}
+/// position and no mark has that in the mark's place. [`explained`](Self::explained) tells more of it.
+#[derive(Clone, Copy, PartialEq, Eq)]
+pub struct Error(yaml_parser_t_prefix);
 
 impl Error {
-    fn fault(&self) -> yaml_parser_t_prefix {
-        yaml_parser_t_prefix {
-            error: self.kind,
-            problem: self.problem,
-            problem_offset: self.position,
-            problem_value: -1,
-            problem_mark: self.mark,
-            context: self.context,
-            context_mark: self.context_mark,
-        }
-    }
-
     /// Returns which part refused the input.
     pub fn kind(&self) -> ErrorKind {
-        self.kind
+        self.0.error
     }
 
     /// Returns what went wrong, in words. Out of memory has none.
     pub fn problem(&self) -> Option<&'static str> {
-        self.problem
+        self.0.problem
     }
 
-    /// Returns which types of token could have stood in the place of the token of a parser's error. As text they
-    /// are words, such as `',' or ']'`. There are none before the error is [`explained`](Self::explained), of another
-    /// error, and if the token's type was right.
-    pub fn expected(&self) -> TokenTypes {
-        self.expected
-    }
-
-    /// Returns this error with what was [`expected`](Self::expected) and its [`name`](Explained::name), for which it
+    /// Returns this error with what was [`expected`](Explained::expected) and its [`name`](Explained::name), for which it
     /// takes the tokens once more: those of a source that gives the same from its start. If it gives others, or if
     /// there is no memory, nothing is told.
     ///
@@ -87,35 +59,34 @@ impl Error {
     /// assert_eq!(error.explained(source()).expected().to_string(), "a flow node, a key or ']'");
     /// ```
     pub fn explained(self, source: impl TokenSource) -> Explained {
-        match self.kind {
+        match self.kind() {
             ErrorKind::PARSER => self.explained_by_tokens(source),
             ErrorKind::COMPOSER => {
                 let mut documents = Documents::new(source);
                 let half = core::iter::from_fn(|| documents.next_or_half()).find_map(Result::err);
                 let name = half.filter(|half| half.error == self).and_then(|half| half.name);
-                Explained { error: self, name }
+                Explained::of(self, TokenTypes::none(), name)
             }
             _ => self.into(),
         }
     }
 
-    fn explained_by_tokens(mut self, mut source: impl TokenSource) -> Explained {
+    fn explained_by_tokens(self, mut source: impl TokenSource) -> Explained {
         let (mut parser, mut events, mut handle) = (PushParser::new(), Vec::new(), None);
         while let Ok(token) = source.next_token() {
             let (kind, expected) = (token.type_(), parser.expected());
-            if let TokenData::Tag(tag) = &token.content {
-                handle = Text::from_str(Global, &tag.handle).ok();
-            }
+            let next = match &token.content {
+                TokenData::Tag(tag) => Text::from_str(Global, &tag.handle).ok(),
+                _ => None,
+            };
             events.clear();
             match parser.push(token, &mut events) {
-                Ok(()) if expected != TokenTypes::none() => {}
-                Err(error) if error == self && !expected.contains(kind) => {
-                    self.expected = expected;
-                    break;
-                }
-                Err(error) if error == self && self.problem == Some("found undefined tag handle") => {
-                    let name = handle.map(String::from);
-                    return Explained { error: self, name };
+                Ok(()) if expected != TokenTypes::none() => handle = next.or(handle),
+                Err(error) if error == self => {
+                    let is_right = expected.contains(kind);
+                    let expected = if is_right { TokenTypes::none() } else { expected };
+                    let is_named = self.problem() == Some("found undefined tag handle");
+                    return Explained::of(self, expected, handle.filter(|_| is_named).map(String::from));
                 }
                 _ => break,
             }
@@ -125,37 +96,52 @@ impl Error {
 
     /// Returns where it went wrong.
     pub fn mark(&self) -> Mark {
-        self.mark
+        self.0.problem_mark
     }
 
     /// Returns how far a reader had come when the input could not be read: with libyaml's scanner the byte, from 0.
     /// Its errors have no mark. Of other errors `None`.
     pub fn position(&self) -> Option<u64> {
-        (self.kind == ErrorKind::READER).then_some(self.position)
+        (self.0.error == ErrorKind::READER).then_some(self.0.problem_offset)
     }
 
     /// Returns what was being read, in words.
     pub fn context(&self) -> Option<&'static str> {
-        self.context
+        self.0.context
     }
 
     /// Returns where what was being read begins. It says something only if there is a context.
     pub fn context_mark(&self) -> Mark {
-        self.context_mark
+        self.0.context_mark
     }
 }
 
-/// An [`Error`] with what it is about.
+/// An [`Error`] with what was expected and what it is about. [`Error::explained`] makes it.
 #[derive(Clone, PartialEq, Eq)]
 pub struct Explained {
     error: Error,
-    name: Option<String>,
+    /// One or none: a list asks for its memory, and says if there is none.
+    told: Vec<(TokenTypes, Option<String>)>,
 }
 
 impl Explained {
+    fn of(error: Error, expected: TokenTypes, name: Option<String>) -> Self {
+        let mut told = Vec::new();
+        if (expected != TokenTypes::none() || name.is_some()) && told.try_reserve_exact(1).is_ok() {
+            told.push((expected, name));
+        }
+        Explained { error, told }
+    }
+
+    /// Returns which types of token could have stood in the place of the token of a parser's error. As text they
+    /// are words, such as `',' or ']'`. There are none of another error, and if the token's type was right.
+    pub fn expected(&self) -> TokenTypes {
+        self.told.first().map_or(TokenTypes::none(), |told| told.0)
+    }
+
     /// Returns the anchor, the alias or the undefined tag handle that the error is about.
     pub fn name(&self) -> Option<&str> {
-        self.name.as_deref()
+        self.told.first()?.1.as_deref()
     }
 }
 
@@ -169,7 +155,7 @@ impl core::ops::Deref for Explained {
 
 impl From<Error> for Explained {
     fn from(error: Error) -> Self {
-        Explained { error, name: None }
+        Explained::of(error, TokenTypes::none(), None)
     }
 }
 
@@ -177,8 +163,11 @@ impl fmt::Debug for Explained {
     fn fmt(&self, f: &mut fmt::Formatter<'_>) -> fmt::Result {
         let mut told = f.debug_struct("Explained");
         told.field("error", &self.error);
-        if self.name.is_some() {
-            told.field("name", &self.name);
+        if self.expected() != TokenTypes::none() {
+            told.field("expected", &format_args!("{}", self.expected()));
+        }
+        if let Some(name) = self.name() {
+            told.field("name", &name);
         }
         told.finish()
     }
@@ -192,37 +181,21 @@ impl fmt::Display for Explained {
 
 impl core::error::Error for Explained {}
 
-impl PartialEq for Error {
-    fn eq(&self, other: &Self) -> bool {
-        self.fault() == other.fault()
-    }
-}
-
-impl Eq for Error {}
-
 impl From<yaml_parser_t_prefix> for Error {
     fn from(fault: yaml_parser_t_prefix) -> Self {
-        Error {
-            kind: fault.error,
-            expected: TokenTypes::none(),
-            problem: fault.problem,
-            position: fault.problem_offset,
-            mark: fault.problem_mark,
-            context: fault.context,
-            context_mark: fault.context_mark,
-        }
+        Error(fault)
     }
 }
 
 impl From<SourceError> for Error {
     fn from(fault: SourceError) -> Self {
-        fault.prefix().into()
+        Error(fault.prefix())
     }
 }
 
 impl From<AllocError> for Error {
     fn from(_: AllocError) -> Self {
-        MEMORY_FAULT.into()
+        Error(MEMORY_FAULT)
     }
 }
 
@@ -235,15 +208,12 @@ impl From<AllocError> for SourceError {
 impl fmt::Debug for Error {
     fn fmt(&self, f: &mut fmt::Formatter<'_>) -> fmt::Result {
         let mut told = f.debug_struct("Error");
-        told.field("kind", &self.kind);
-        told.field("problem", &self.problem)
-            .field("mark", &self.mark);
-        if self.context.is_some() {
-            told.field("context", &self.context)
-                .field("context_mark", &self.context_mark);
-        }
-        if self.expected != TokenTypes::none() {
-            told.field("expected", &format_args!("{}", self.expected));
+        told.field("kind", &self.0.error);
+        told.field("problem", &self.0.problem)
+            .field("mark", &self.0.problem_mark);
+        if self.0.context.is_some() {
+            told.field("context", &self.0.context)
+                .field("context_mark", &self.0.context_mark);
         }
         told.finish()
     }
@@ -251,11 +221,11 @@ impl fmt::Debug for Error {
 
 impl fmt::Display for Error {
     fn fmt(&self, f: &mut fmt::Formatter<'_>) -> fmt::Result {
-        match (self.problem, self.position()) {
-            (Some(problem), Some(position)) if position > 0 && self.mark == ZERO_MARK => {
+        match (self.0.problem, self.position()) {
+            (Some(problem), Some(position)) if position > 0 && self.0.problem_mark == ZERO_MARK => {
                 write!(f, "{problem} at position {position}")
             }
-            _ => self.fault().fmt(f),
+            _ => self.0.fmt(f),
         }
     }
 }
