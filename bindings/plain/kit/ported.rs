@@ -66,16 +66,44 @@ pub mod itoa {
         }
     }
 
+    /// The digits of each number below 100.
+    const PAIRS: [[u8; 2]; 100] = {
+        let (mut pairs, mut number) = ([[0; 2]; 100], 0);
+        while number < 100 {
+            pairs[number] = [b'0' + (number / 10) as u8, b'0' + (number % 10) as u8];
+            number += 1;
+        }
+        pairs
+    };
+
     /// Writes the digits of a number so that they end at `end`, and returns where they start.
     #[inline]
     pub fn write_digits(number: u64, text: &mut [u8], end: usize) -> usize {
         let (mut left, mut start) = (number, end);
-        loop {
+        while left >= 10 {
+            start -= 2;
+            text[start..start + 2].copy_from_slice(&PAIRS[(left % 100) as usize]);
+            left /= 100;
+        }
+        if left > 0 || start == end {
             start -= 1;
-            text[start] = b'0' + (left % 10) as u8;
-            left /= 10;
-            if left == 0 {
-                return start;
+            text[start] = b'0' + left as u8;
+        }
+        start
+    }
+
+    #[cfg(test)]
+    mod tests {
+        use super::Buffer;
+        use std::string::ToString;
+
+        #[test]
+        fn numbers_are_written_as_by_rust() {
+            for bits in 0..64 {
+                for number in [(1u64 << bits) - 1, 1 << bits, (1 << bits) + bits, 10u64.pow(bits as u32 % 20), u64::MAX] {
+                    assert_eq!(Buffer::new().format(number as usize), (number as usize).to_string());
+                    assert_eq!(Buffer::new().format(number as i32), (number as i32).to_string());
+                }
             }
         }
     }
@@ -273,6 +301,33 @@ pub mod simd {
                 bits |= (own.wrapping_mul(0x0101_0101_0101_0101) >> 56) << (8 * part);
             }
             bits
+        }
+    }
+
+    #[cfg(test)]
+    mod tests {
+        use super::prelude::*;
+
+        /// Each pair of bytes, in each lane, beside others.
+        #[test]
+        fn each_pair_of_bytes_is_compared() {
+            for a in 0..=255u8 {
+                for b in 0..=255u8 {
+                    let lane = usize::from(a ^ b) % 16;
+                    let (mut left, mut right) = ([a ^ 0x80; 16], [b; 16]);
+                    left[lane] = a;
+                    right[(lane + 3) % 16] = 0;
+                    let (x, y) = (u8x16::from_slice(&left), u8x16::from_slice(&right));
+                    let mask = |holds: fn(u8, u8) -> bool| {
+                        (0..16).fold(0, |bits, lane| bits | u64::from(holds(left[lane], right[lane])) << lane)
+                    };
+                    assert_eq!(x.simd_ge(y).to_bitmask(), mask(|a, b| a >= b));
+                    assert_eq!(x.simd_eq(y).to_bitmask(), mask(|a, b| a == b));
+                    assert_eq!((x.simd_ge(y) | x.simd_eq(u8x16::splat(a))).to_bitmask(), mask(|a, b| a >= b) | 1 << lane);
+                    let (x, y) = (u8x8::from_slice(&left), u8x8::from_slice(&right));
+                    assert_eq!((x - y).to_array()[..], (0..8).map(|lane| left[lane].wrapping_sub(right[lane])).collect::<std::vec::Vec<_>>());
+                }
+            }
         }
     }
 }
