@@ -346,13 +346,21 @@ def interrupts():
     def interrupt(*_):
         raise Interrupt
 
-    old = signal.signal(signal.SIGPROF, interrupt)
-    begun = time.process_time()
-    signal.setitimer(signal.ITIMER_PROF, .2)
-    expect("an interrupt", said(lambda: yaml.compose("[" * 20000, pokhvizi.CSafeLoader)), "Interrupt: ")
-    signal.setitimer(signal.ITIMER_PROF, 0)
-    signal.signal(signal.SIGPROF, old)
-    expect("the time until it", time.process_time() - begun < 1, True)
+    def late(loader):
+        old = signal.signal(signal.SIGPROF, interrupt)
+        begun = time.process_time()
+        signal.setitimer(signal.ITIMER_PROF, .2)
+        expect("an interrupt", said(loader.get_node), "Interrupt: ")
+        signal.setitimer(signal.ITIMER_PROF, 0)
+        signal.signal(signal.SIGPROF, old)
+        expect("the time until it", time.process_time() - begun < 1, True)
+
+    late(pokhvizi.CSafeLoader("[" * 20000))
+    # The rest of a document of which events were read is passed over: no node is made.
+    loader = pokhvizi.CSafeLoader("[" * 20000 + "&a x" + ", *a" * 20000)
+    for _ in range(20002):
+        loader.get_event()
+    late(loader)
 
 
 def other_threads():

@@ -302,10 +302,25 @@ static void end_document(struct document *document)
     forget_hooks(&document->hooks);
 }
 
+/* Has Python handle signals and other threads run, as a call of its code does. Only a node is such a call: of the ends of collections,
+ * aliases, and events that are passed over there may be seconds without one. */
+static int let_others_run(void)
+{
+    PyThreadState *state;
+
+    if (PyErr_CheckSignals() < 0)
+        return -1;
+    state = PyEval_SaveThread();
+    PyEval_RestoreThread(state);
+    return 0;
+}
+
 static PyObject *compose_events(struct document *document)
 {
+    enum { EVENTS_ALONE = 32 };
     parser_object *parser = document->parser;
     int deed = POKHVIZI_PASSES;
+    size_t count = 0, events = 0; /* nodes, and events since the last one */
 
     if (find_hooks(document) < 0)
         return NULL;
@@ -317,6 +332,13 @@ static PyObject *compose_events(struct document *document)
         if ((deed = compose_event(document)) < 0)
             return NULL;
         leave_event(parser);
+        events = count == document->count ? events + 1 : 0;
+        count = document->count;
+        if (events == EVENTS_ALONE) {
+            if (let_others_run() < 0)
+                return NULL;
+            events = 0;
+        }
     }
     return shared(document->count == 0 ? Py_None : document->entries[0].node);
 }

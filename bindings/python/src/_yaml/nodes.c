@@ -1,5 +1,5 @@
-/* PyYAML's nodes. Each is made by a call of its class, so that Python handles signals and lets other threads run,
- * however large a document is. */
+/* PyYAML's nodes. Each is made by a call of its class, so that Python handles signals and lets other threads run, however many a
+ * document has; what documents.c does without a node sees to that by itself. */
 #include "loader.h"
 
 static PyObject *make_scalar(struct document *document)
