@@ -37,21 +37,21 @@ static int has_fixes, has_unique_keys;  /* POKHVIZI_FIXES, or POKHVIZI_UNIQUE_KE
 static const char *check_file;
 static int is_read;  /* whether the environment was read */
 
-/* The number that a variable of the environment has, or `most` if it has none. Another text ends the process: it would run
- * without the bound that is asked for. */
+/* The number that a variable of the environment has, or `most` if it isn't set. Another text, an empty one too, ends the process: it would
+ * run without the bound that is asked for. */
 static size_t bound_of(const char *name, size_t most)
 {
     const char *text = getenv(name);
     size_t bound = 0;
 
-    if (text == NULL || *text == '\0')
+    if (text == NULL)
         return most;
-    for (; *text >= '0' && *text <= '9'; text++)
-        bound = bound > most / 10 ? most : 10 * bound + (size_t)(*text - '0');
-    if (*text != '\0') {
-        fprintf(stderr, "libyaml_preload.so: %s is no number: %s\n", name, getenv(name));
+    if (*text == '\0' || text[strspn(text, "0123456789")] != '\0') {
+        fprintf(stderr, "libyaml_preload.so: %s is no number: %s\n", name, text);
         _exit(2);
     }
+    for (; *text != '\0'; text++)
+        bound = bound > most / 10 ? most : 10 * bound + (size_t)(*text - '0');
     return bound < most ? bound : most;
 }
 

@@ -228,7 +228,7 @@ preload() {
     env POKHVIZI_MAX_NODE=1 "LD_PRELOAD=$preloaded" "$work/preload_calls" > "$work/calls" 2>&1
     [ "$? $(cat "$work/calls")" = "2 libyaml_preload.so: the environment's POKHVIZI_MAX_NODE is unknown" ] ||
         { echo "an unknown bound: $(cat "$work/calls")"; return 1; }
-    for words in 'MAX_DEPTH=2x' 'MAX_NODES=-1' 'MAX_EXPANDED=1e6'; do
+    for words in 'MAX_DEPTH=2x' 'MAX_DEPTH=' 'MAX_NODES=-1' 'MAX_EXPANDED=1e6'; do
         env "POKHVIZI_$words" "LD_PRELOAD=$preloaded" "$work/preload_calls" > "$work/calls" 2>&1
         [ "$? $(cat "$work/calls")" = "2 libyaml_preload.so: POKHVIZI_${words%=*} is no number: ${words#*=}" ] ||
             { echo "a bound that is no number: $(cat "$work/calls")"; return 1; }
@@ -348,8 +348,12 @@ exact_python() {
 bounded() {
     case $1 in
     c)
-        env "LD_PRELOAD=$preloaded" "POKHVIZI_MAX_DEPTH=${3#-}" "POKHVIZI_MAX_NODES=${4#-}" "POKHVIZI_MAX_EXPANDED=${5#-}" \
-            "$work/events" "$(echo "$2" | sed s/events/files/)"
+        (
+            [ "$3" = - ] || export "POKHVIZI_MAX_DEPTH=$3"
+            [ "$4" = - ] || export "POKHVIZI_MAX_NODES=$4"
+            [ "$5" = - ] || export "POKHVIZI_MAX_EXPANDED=$5"
+            LD_PRELOAD=$preloaded "$work/events" "$(echo "$2" | sed s/events/files/)"
+        )
         ;;
     rust) "$CARGO_TARGET_DIR/release/bounds" "$2" "$3" "$4" "$5" ;;
     *) PYTHONPATH=$work/python "$python" "$lists/bounds.py" read "$1" "$2" "$3" "$4" "$5" ;;
