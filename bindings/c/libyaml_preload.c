@@ -27,6 +27,7 @@
  * differs at three places (docs/DIFFERENCES.md). */
 #include "libyaml_events.h"
 #include <stdio.h>
+#include <sys/auxv.h>
 
 extern char **environ;
 
@@ -93,6 +94,12 @@ __attribute__((constructor)) SELDOM void read_environment(void)
 
     if (is_read)
         return;
+    bounds = (struct bounds){ANY_DEPTH, ANY_NODES, ANY_EXPANDED};
+    is_read = 1;
+    /* A set-user-ID program may have been started by anyone, with any environment. The dynamic linker preloads this library there
+     * if a file of the system says so. */
+    if (getauxval(AT_SECURE))
+        return;
     look_for_others();
     check_file = check == NULL ? NULL : strdup(check);
     has_fixes = is_set("POKHVIZI_FIXES");
@@ -100,7 +107,6 @@ __attribute__((constructor)) SELDOM void read_environment(void)
     bounds.depth = bound_of("POKHVIZI_MAX_DEPTH", ANY_DEPTH);
     bounds.nodes = bound_of("POKHVIZI_MAX_NODES", ANY_NODES);
     bounds.expanded = bound_of("POKHVIZI_MAX_EXPANDED", ANY_EXPANDED);
-    is_read = 1;
 }
 
 /* The version of this library, which a program finds by this name where it is preloaded. */
