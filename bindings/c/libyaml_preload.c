@@ -150,6 +150,16 @@ static int begin_here(yaml_parser_t *parser)
     return 1;
 }
 
+/* After an error: the state that libyaml's own parser would be in, which some programs read. */
+SELDOM void show_state(yaml_parser_t *parser)
+{
+    struct kept *kept = kept_of(parser);
+
+    if (kept != NULL && parser->error != YAML_MEMORY_ERROR && parser->state == YAML_PARSE_DOCUMENT_CONTENT_STATE &&
+        kept->steps.machine.state != YAML_PARSE_STREAM_START_STATE)
+        parser->state = (yaml_parser_state_t)kept->steps.machine.state;
+}
+
 /* In the place of libyaml's function of this name. */
 __attribute__((visibility("default"))) int yaml_parser_parse(yaml_parser_t *parser, yaml_event_t *event)
 {
@@ -164,6 +174,8 @@ __attribute__((visibility("default"))) int yaml_parser_parse(yaml_parser_t *pars
         return 1;
     memset(event, 0, sizeof *event);
     forget(&held);
+    if (!stopped)
+        show_state(parser);
     return stopped;
 }
 
@@ -563,6 +575,18 @@ static void pass(yaml_parser_t *parser, const pokhvizi_event_t *made, yaml_token
         end_stream(parser);
 }
 
+/* Takes the alias or scalar that a composer refuses, as libyaml's parser has done by then: some programs look at `token_available`. */
+static void take_refused(yaml_parser_t *parser, yaml_token_t *token)
+{
+    if (token == NULL || (token->type != YAML_ALIAS_TOKEN && token->type != YAML_SCALAR_TOKEN))
+        return;
+    if (kept_of(parser)->name == token->data.scalar.value && token->type == YAML_ALIAS_TOKEN)
+        keep_name(parser, &token->data.alias.value);
+    free(token->data.scalar.value);  /* where an alias has its text, too */
+    token->data.scalar.value = NULL;
+    skip(parser);
+}
+
 /* Does what is said of an event that neither puts nor closes a node; 0 where there is an error. */
 SELDOM int follow_event(yaml_parser_t *parser, uint32_t deed, int32_t fact, const pokhvizi_event_t *made, yaml_token_t *token,
                         struct held *held, yaml_document_t *document)
@@ -584,7 +608,9 @@ SELDOM int follow_event(yaml_parser_t *parser, uint32_t deed, int32_t fact, cons
     case POKHVIZI_TOO_LARGE:
     case POKHVIZI_ENDLESS:
         name_anchor(parser, deed, token, held);
-        return give_composer_fault(parser, deed, made, document, fact);
+        give_composer_fault(parser, deed, made, document, fact);
+        take_refused(parser, token);
+        return 0;
     default:
         return out_of_memory(parser);
     }
@@ -688,8 +714,10 @@ __attribute__((visibility("default"))) int yaml_parser_load(yaml_parser_t *parse
     else
         loaded = (bounds.expanded == ANY_EXPANDED && !has_unique_keys ? load_unchecked : load_checked)(parser, &loading, &held, document);
     forget(&held);
-    if (!loaded)
+    if (!loaded) {
         yaml_document_delete(document);
+        show_state(parser);
+    }
     end_loading(&loading);
     return loaded;
 }
