@@ -57,12 +57,10 @@ runner=$CARGO_TARGET_DIR/release/runner
 "$python" bench/paired.py "$turns" "\`unsafe-libyaml\`'s runner | 350 KB" "${runner}_proved {}" "${runner}_plain {}" \
     "$work/text.yaml" "$work/text.yaml" "$work/none"
 
-cc -O2 -shared -fPIC -fvisibility=hidden -Wl,--exclude-libs,ALL -Ibindings/c/include \
-    -o "$work/libyaml_preload.so" bindings/c/libyaml_preload.c \
-    "$dir/libpokhvizi.a" -lyaml
-preloaded="LD_PRELOAD=$work/libyaml_preload.so"
+sh bindings/c/build_libyaml.sh "$dir"
+proved="LD_LIBRARY_PATH=$dir/libyaml"
 cc -O2 -o "$work/events" scripts/doors/clients/events.c -lyaml -ldl
-"$python" bench/paired.py "$turns" "a program in C that parses by libyaml | 350 KB" "$preloaded $work/events memory < {}" \
+"$python" bench/paired.py "$turns" "a program in C that parses by libyaml | 350 KB" "$proved $work/events memory < {}" \
     "$work/events memory < {}" "$work/text.yaml" "$work/text.yaml" "$work/none"
 find / -xdev \( -path /proc -o -path /tmp -o -path /sys \) -prune -o -type f \( -name '*.yaml' -o -name '*.yml' \) \
     -size -1000k -print 2> /dev/null | sort | head -n "${SAMPLE:-2000}" > "$work/files"
@@ -79,9 +77,9 @@ for again in 1 2 3 4 5 6 7 8 9 10; do
     echo "$work/text.yaml"
 done > "$work/text_again"
 psych="$ruby $work/psych.rb {}"
-"$python" bench/paired.py "$turns" "Ruby's psych | $(wc -l < "$work/files") YAML files of a machine" "$preloaded $psych" "$psych" \
+"$python" bench/paired.py "$turns" "Ruby's psych | $(wc -l < "$work/files") YAML files of a machine" "$proved $psych" "$psych" \
     "$work/files" "$work/some_files" "$work/none"
-"$python" bench/paired.py "$turns" "the same | 350 KB, ten times" "$preloaded $psych" "$psych" \
+"$python" bench/paired.py "$turns" "the same | 350 KB, ten times" "$proved $psych" "$psych" \
     "$work/text_again" "$work/text_once" "$work/none"
 
 cat > "$work/load.py" << 'PYTHON'

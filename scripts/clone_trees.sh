@@ -4,7 +4,7 @@
 #     sh scripts/clone_trees.sh TREES [all|arm64]
 #
 #     Rust      plain_rust.sh: tests, pages, package, a user's crate, the scanner; a program over serde_yaml and bindings/rust
-#     C         make, make install; programs in C and C++, shared and static; programs in Python and Ruby that are preloaded
+#     C         make, make install; programs in C and C++, shared and static; programs in Python and Ruby over its libyaml
 #     Python    a wheel of the clone, a wheel of its archive of sources, and loads over both
 #     machines  with the word `all`, platforms.sh: i686, aarch64, riscv64, s390x and wasm32
 #
@@ -79,13 +79,13 @@ want 'a program in C++' '0' "printf '#include <pokhvizi/steps.h>\nint main() { p
 write_parses
 for program in 'python3 parse.py:8' 'ruby parse.rb:["a", "b"]'; do
     want "${program%%:*}" 'refused' "${program%%:*}"
-    want "${program%%:*} over the preload library" 'refused' "proved-libyaml --check ${program%%:*} 2> /dev/null || echo unused"
+    want "${program%%:*} over this libyaml" 'refused' "proved-libyaml --check ${program%%:*} 2> /dev/null || echo unused"
     want "${program%%:*} over it, with the fixes" "${program#*:}" "POKHVIZI_FIXES=1 proved-libyaml ${program%%:*}"
 done
 want 'make uninstall' '' "make -s -C clone/bindings/c BUILD=/srv/use/c PREFIX=/usr/local uninstall && find /usr/local | grep -i -e pokhvizi -e proved; true"
 
-want 'the libraries by their scripts' '' 'cd clone && sh scripts/build_plain.sh build && sh bindings/c/build_preload.sh build'
-want 'a program by LD_PRELOAD' '8' 'POKHVIZI_FIXES=1 LD_PRELOAD=$PWD/clone/build/libyaml_preload.so python3 parse.py'
+want 'the libraries by their scripts' '' 'cd clone && sh scripts/build_plain.sh build && sh bindings/c/build_libyaml.sh build'
+want 'a program by LD_LIBRARY_PATH' '8' 'POKHVIZI_FIXES=1 LD_LIBRARY_PATH=$PWD/clone/build/libyaml python3 parse.py'
 want 'the front program' 'DOCUMENT 0:0:0 2:1:0 1 1 - 0
 1 SCALAR 0:0:0 1:0:1 =tag:yaml.org,2002:str =a plain' 'cd clone && echo a > a.yaml && build/yaml nodes a.yaml && rm -r a.yaml build'
 

@@ -3,7 +3,7 @@
 #
 #     sh scripts/release.sh OUTDIR [BUILT]
 #
-#     pokhvizi-VERSION-MACHINE-linux.tar.gz      for C and C++: headers, static and shared library, pkg-config, the preload
+#     pokhvizi-VERSION-MACHINE-linux.tar.gz      for C and C++: headers, static and shared library, pkg-config, libyaml
 #                                                library with its starter, samples, pages, PROOF
 #     pokhvizi-VERSION-cp38-abi3-MACHINE.whl     for Python; py3-none if it has no extension
 #     pokhvizi-unsafe-libyaml-VERSION.tar.gz     for Rust, to be named by [patch.crates-io]; it has the library for both machines,
@@ -19,7 +19,7 @@
 #
 # Needs the kit, git, gcc, binutils, python3 with its headers, libyaml-dev (Debian: git gcc python3-dev libyaml-dev), and for aarch64
 # gcc-aarch64-linux-gnu with libyaml's library and Python's headers for that machine (libyaml-dev:arm64 and libpython3-dev:arm64),
-# without which that archive has no preload library, and the wheel no extension; the script says so.
+# without which that archive has no libyaml, and the wheel no extension; the script says so.
 #
 # Run by hand for a release, and by release_checks.sh.
 set -eu
@@ -95,10 +95,10 @@ c_archive() {
     folder=$(folder_of "$machine")
     tree=$work/pokhvizi-$version-$machine-linux
     tools=$(tools_of "$machine")
-    rm -f "$folder/libyaml_preload.so"
-    if ! CC="${tools}gcc" STRIP="${tools}strip" sh bindings/c/build_preload.sh "$folder" > "$work/said" 2>&1; then
+    rm -rf "$folder/libyaml"
+    if ! TOOLS=$tools CC="${tools}gcc" sh bindings/c/build_libyaml.sh "$folder" > "$work/said" 2>&1; then
         [ "$machine" != x86_64 ] || { cat "$work/said" >&2; exit 1; }
-        echo "no preload library for $machine: $(tail -n 1 "$work/said")"
+        echo "no libyaml for $machine: $(tail -n 1 "$work/said")"
     fi
     sh scripts/parts/c_tree.sh "$folder" "$tree"
     glibc=$(for file in "$tree"/lib/libpokhvizi.so "$tree"/lib/pokhvizi/*.so; do

@@ -87,7 +87,7 @@ want 'kinds.c as C++' "$kinds" "g++ -x c++ -Wall -Wextra -Werror kinds.c -o kind
 write_parses
 for program in 'python3 parse.py:8' 'ruby parse.rb:["a", "b"]'; do
     want "${program%%:*}" 'refused' "${program%%:*}"
-    want "${program%%:*} over the preload library" 'refused' "proved-libyaml --check ${program%%:*} 2> /dev/null || echo unused"
+    want "${program%%:*} over this libyaml" 'refused' "proved-libyaml --check ${program%%:*} 2> /dev/null || echo unused"
     want "${program%%:*} over it, with the fixes" "${program#*:}" "POKHVIZI_FIXES=1 proved-libyaml ${program%%:*}"
 done
 want 'pip install' '' "python3 -m venv --system-site-packages v && v/bin/pip install -q --no-index --no-deps pokhvizi-$version-*x86_64.whl"

@@ -1,4 +1,4 @@
-/* Events of libyaml's tokens by the proved steps, in a yaml_parser_t: what libyaml_preload.c and Python's extension share. Each
+/* Events of libyaml's tokens by the proved steps, in a yaml_parser_t: what libyaml_proved.c and Python's extension share. Each
  * includes it once.
  *
  * Where the includer defines WITH_EXPECTED, an error says what was expected (`expected_in`).

@@ -7,35 +7,35 @@
 # them too, and in loaders in Python some things differ: these are listed by name, with a reason, in a file of scripts/doors/clients/.
 # Anything else that differs fails, as does a name that is listed and doesn't. The checks, of which all are run if none is named:
 #
-#     preload            this parser by LD_PRELOAD (bindings/c/libyaml_preload.c): each of its allocations refused, parsers deleted,
+#     libyaml            libyaml with this parser (bindings/c/libyaml_proved.c): each of its allocations refused, parsers deleted,
 #                        moved, used after a fault and by threads, also with the fixes or unique keys; bounds; libyaml's memory over 7 MB, for
 #                        events and for documents; and if valgrind is there, the instructions of loads, which are at most
 #                        libyaml's, or 1.03 of them if build_plain.sh made the library
-#     all_lists          each list of up to five tokens, through the preload's source and libyaml's own parser: events, documents
+#     all_lists          each list of up to five tokens, through its source and libyaml's own parser: events, documents
 #                        and errors, each allocation failed in turn, bounds, parses and loads and scans in each order, under sanitizers
 #     python_lists       each list of up to four tokens, through the extension of bindings/python and PyYAML's C loaders: tokens, events,
 #                        nodes and errors, each allocation of libyaml_events.h failed in turn, bounds, calls in each order
 #     events             libyaml's events and nodes of YAML files of this machine, broken texts and the YAML test suite,
-#                        preloaded, with all fields, and with the fixes
-#     pipe_c             events before a slow pipe's end, preloaded
-#     pyyaml_c           PyYAML's own tests of its C form, preloaded, and with the fixes
-#     psych              Ruby's psych over YAML files of this machine and the YAML test suite, preloaded, and with the fixes
+#                        over it, with all fields, and with the fixes
+#     pipe_c             events before a slow pipe's end, over it
+#     pyyaml_c           PyYAML's own tests of its C form, over it, and with the fixes
+#     psych              Ruby's psych over YAML files of this machine and the YAML test suite, over it, and with the fixes
 #     pyyaml_pure        PyYAML's own tests of its form in Python, over bindings/python
 #     loaders            the SafeLoader of bindings/python and PyYAML's over the test suite, PyYAML's test data and broken texts
 #     pipe_python        events before a slow pipe's end, by that SafeLoader
 #     pyyaml_ext         PyYAML's own tests of its C form, over the extension of bindings/python, and with the fixes
 #     cloaders           the C loaders of bindings/python and PyYAML's over YAML files of this machine, PyYAML's test data, the
 #                        test suite and broken texts, with all fields, and with the fixes
-#     exact_c            preloaded, over 20,000 drawn texts: libyaml's events, nodes and errors, and with the fixes others; and over
+#     exact_c            this libyaml over 20,000 drawn texts: libyaml's events, nodes and errors, and with the fixes others; and over
 #                        YAML files of this machine; SEED is another draw
 #     exact_python       the same of the C loaders of bindings/python, and of PyYAML's
-#     bounds             bounds on depth, on nodes and on nodes with aliases written out, over 2,000 drawn texts: preloaded, by the crate,
+#     bounds             bounds on depth, on nodes and on nodes with aliases written out, over 2,000 drawn texts: in C, by the crate,
 #                        by the C loaders of bindings/python and by those in Python each refuses the same token or event, in the same
 #                        words; SEED is another draw
-#     unique_keys        loads of 20,000 drawn texts where keys have to differ, preloaded and by the crate, beside a walk over
+#     unique_keys        loads of 20,000 drawn texts where keys have to differ, in C and by the crate, beside a walk over
 #                        PyYAML's events; SEED is another draw
 #     errors             what is told of an error beside its words, over 40,000 drawn texts, by the crate, by the C loaders of
-#                        bindings/python, and preloaded, also with the fixes; SEED is another draw
+#                        bindings/python, and in C, also with the fixes; SEED is another draw
 #     hostile_texts      texts that cost more than their length, and broken ones, at each door with its bounds and without, as
 #                        hostile_texts.py says; bench/results/hostile.md has its figures
 #     crate              the tests of bindings/rust, over those texts, and with its feature `fixes`; and over the crate `pokhvizi` in
@@ -73,7 +73,7 @@ ruby=${RUBY:-ruby}
 crates=${CLIENT_CRATES:-/usr/share/cargo/registry}
 suite=$work/libyaml-pp-perl/test-suite/yaml-test-suite-data
 tests=$work/pyyaml/tests/legacy_tests
-preloaded=$work/libyaml_preload.so
+proved=$work/libyaml
 export PYTHONDONTWRITEBYTECODE=1 POKHVIZI_LIBRARY="$dir/libpokhvizi.so" POKHVIZI_DIR="$dir"
 export CARGO_HOME="$work/cargo" CARGO_TARGET_DIR="$work/target"
 export RUSTFLAGS="--cap-lints allow"  # the originals are older than some lints
@@ -101,7 +101,7 @@ is_there() {
     libyaml-pp-perl) [ -e "$suite" ] || { source_of libyaml-pp-perl && [ -e "$suite" ]; } ;;
     yaml.h) echo '#include <yaml.h>' | cc -E - ;;
     PyYAML) (cd / && "$python" -c 'import yaml; yaml.CLoader') ;;
-    libyaml_preload.so) [ -e "$preloaded" ] || build_preload ;;
+    proved_libyaml) [ -e "$proved" ] || build_libyaml ;;
     _yaml.abi3.so) [ -e "$work/python/pokhvizi/_yaml.abi3.so" ] || build_extension ;;
     events) [ -e "$work/events" ] || cc -O2 -Wall -Wextra -Werror -o "$work/events" scripts/doors/clients/events.c -lyaml -ldl ;;
     psych) $ruby -e 'require "psych"; Psych::LIBYAML_VERSION' ;;
@@ -142,10 +142,10 @@ as_listed() {
     echo "$3, of which $(wc -l < "$work/listed") differ${4:+ $4} as scripts/doors/clients/$2.txt says"
 }
 
-# ---- libyaml, preloaded ----
+# ---- libyaml with this parser ----
 
-build_preload() {
-    sh bindings/c/build_preload.sh "$dir" && cp "$dir/libyaml_preload.so" "$preloaded"
+build_libyaml() {
+    sh bindings/c/build_libyaml.sh "$dir" && cp -R "$dir/libyaml" "$proved"
 }
 
 # Writes 350 KB of documents, so often.
@@ -160,7 +160,7 @@ documents() {
 
 # compare_memory MODE LEAST: the same count, which is more, in libyaml's memory and 400 KB; says so.
 compare_memory() {
-    set -- "$1" "$2" $("$work/events" "$1" < "$work/text.yaml") $(LD_PRELOAD=$preloaded "$work/events" "$1" < "$work/text.yaml")
+    set -- "$1" "$2" $("$work/events" "$1" < "$work/text.yaml") $(LD_LIBRARY_PATH=$proved "$work/events" "$1" < "$work/text.yaml")
     if [ "$3" -gt "$2" ] && [ "$3" = "$5" ] && [ "$6" -le $(($4 + 400)) ]; then
         memory="$memory; $1: $5 in $6 KB, libyaml in $4"
     else
@@ -191,62 +191,62 @@ compare_instructions() {
     awk "BEGIN { exit !($3 > 1000000 && $4 <= $2 * $3) }" || { echo "loads of $1: $4 instructions, and $3 plainly"; return 1; }
 }
 
-compare_preloaded() {
+compare_loads() {
     write_texts
     most=1
     [ -e "$dir/pokhvizi_module.o" ] || most=1.03  # of rustc, which leaves tests of indices in
     for text in plain small anchors; do
         compare_instructions $text $most "$(instructions "$work/events" loads < "$work/$text.yaml")" \
-            "$(LD_PRELOAD=$preloaded instructions "$work/events" loads < "$work/$text.yaml")" || return 1
+            "$(LD_LIBRARY_PATH=$proved instructions "$work/events" loads < "$work/$text.yaml")" || return 1
     done
     memory="$memory; loads have$ratios of libyaml's instructions"
 }
 
 # within DEPTH NODES EXPANDED: the calls for bounds, within these.
 within() {
-    env "LD_PRELOAD=$preloaded" POKHVIZI_MAX_DEPTH="$1" POKHVIZI_MAX_NODES="$2" POKHVIZI_MAX_EXPANDED="$3" "$work/preload_calls" bounds
+    env "LD_LIBRARY_PATH=$proved" POKHVIZI_MAX_DEPTH="$1" POKHVIZI_MAX_NODES="$2" POKHVIZI_MAX_EXPANDED="$3" "$work/libyaml_calls" bounds
 }
 
-preload() {
+libyaml() {
     memory='' ratios=''
     cc -O1 -g -Wall -Wextra -Werror -fPIC -shared -o "$work/libconstructor.so" scripts/doors/clients/constructor.c -lyaml &&
-        cc -O1 -g -Wall -Wextra -Werror -Ibindings/c/include -o "$work/preload_calls" scripts/doors/clients/preload_calls.c \
+        cc -O1 -g -Wall -Wextra -Werror -Ibindings/c/include -o "$work/libyaml_calls" scripts/doors/clients/libyaml_calls.c \
             "$dir/libpokhvizi.a" -L"$work" -Wl,-rpath,"$work" -lconstructor -lyaml -lpthread -ldl || return 1
-    if POKHVIZI_FIXES=1 "$work/preload_calls" > "$work/calls" 2>&1; then
-        echo "without the preload, the calls should differ"
+    if POKHVIZI_FIXES=1 "$work/libyaml_calls" > "$work/calls" 2>&1; then
+        echo "without this parser, the calls should differ"
         return 1
     fi
     documents 20 > "$work/text.yaml"
     compare_memory memory 900000 && compare_memory loads 400000 || return 1
-    ! command -v valgrind > /dev/null || compare_preloaded || return 1
+    ! command -v valgrind > /dev/null || compare_loads || return 1
     for bounds in '21 30 40' '20 31 40' '20 30 41' '20 30 39'; do
         if within $bounds > "$work/calls" 2>&1; then
             echo "with other bounds the calls should differ: $bounds"
             return 1
         fi
     done
-    env POKHVIZI_MAX_NODE=1 "LD_PRELOAD=$preloaded" "$work/preload_calls" > "$work/calls" 2>&1
-    [ "$? $(cat "$work/calls")" = "2 libyaml_preload.so: the environment's POKHVIZI_MAX_NODE is unknown" ] ||
+    env POKHVIZI_MAX_NODE=1 "LD_LIBRARY_PATH=$proved" "$work/libyaml_calls" > "$work/calls" 2>&1
+    [ "$? $(cat "$work/calls")" = "2 libyaml-0.so.2, proved: the environment's POKHVIZI_MAX_NODE is unknown" ] ||
         { echo "an unknown bound: $(cat "$work/calls")"; return 1; }
     for words in 'MAX_DEPTH=2x' 'MAX_DEPTH=' 'MAX_NODES=-1' 'MAX_EXPANDED=1e6'; do
-        env "POKHVIZI_$words" "LD_PRELOAD=$preloaded" "$work/preload_calls" > "$work/calls" 2>&1
-        [ "$? $(cat "$work/calls")" = "2 libyaml_preload.so: POKHVIZI_${words%=*} is no number: ${words#*=}" ] ||
+        env "POKHVIZI_$words" "LD_LIBRARY_PATH=$proved" "$work/libyaml_calls" > "$work/calls" 2>&1
+        [ "$? $(cat "$work/calls")" = "2 libyaml-0.so.2, proved: POKHVIZI_${words%=*} is no number: ${words#*=}" ] ||
             { echo "a bound that is no number: $(cat "$work/calls")"; return 1; }
     done
     within 20 30 40 || return 1
-    said=$(LD_PRELOAD=$preloaded "$work/preload_calls") || { echo "$said"; return 1; }
-    with=$(POKHVIZI_FIXES=1 LD_PRELOAD=$preloaded "$work/preload_calls") || { echo "with the fixes: $with"; return 1; }
-    keys=$(POKHVIZI_UNIQUE_KEYS=1 LD_PRELOAD=$preloaded "$work/preload_calls") || { echo "with unique keys: $keys"; return 1; }
+    said=$(LD_LIBRARY_PATH=$proved "$work/libyaml_calls") || { echo "$said"; return 1; }
+    with=$(POKHVIZI_FIXES=1 LD_LIBRARY_PATH=$proved "$work/libyaml_calls") || { echo "with the fixes: $with"; return 1; }
+    keys=$(POKHVIZI_UNIQUE_KEYS=1 LD_LIBRARY_PATH=$proved "$work/libyaml_calls") || { echo "with unique keys: $keys"; return 1; }
     [ "${keys%% *}" -gt "${said%% *}" ] || { echo "no key takes memory: $keys"; return 1; }
     echo "$said; with the fixes $with; with unique keys ${keys%% *} refused$memory"
 }
 
-# Each short list of tokens, through the preload's source and libyaml's own parser. A library that frees no anchor is seen.
+# Each short list of tokens, through libyaml_proved.c and libyaml's own parser. A library that frees no anchor is seen.
 all_lists() {
     words='-O1 -g -D_GNU_SOURCE -Wall -Wextra -Werror -Ibindings/c/include -fsanitize=address,undefined -fno-sanitize-recover=all'
     mkdir -p "$work/turned_c/scripts/doors/clients" "$work/turned_c/bindings/c"
     cp scripts/doors/clients/all_lists.c scripts/doors/clients/token_lists.h "$work/turned_c/scripts/doors/clients"
-    cp bindings/c/libyaml_preload.c "$work/turned_c/bindings/c"
+    cp bindings/c/libyaml_proved.c "$work/turned_c/bindings/c"
     sed 's/^        free(held->anchor);$//' bindings/c/libyaml_events.h > "$work/turned_c/bindings/c/libyaml_events.h"
     ! cmp -s bindings/c/libyaml_events.h "$work/turned_c/bindings/c/libyaml_events.h" || { echo "nothing is turned"; return 1; }
     cc $words -o "$work/all_lists" scripts/doors/clients/all_lists.c "$dir/libpokhvizi.a" -lyaml -ldl &&
@@ -323,13 +323,13 @@ exact_c() {
     exact_texts || return 1
     for what in files nodes; do
         "$work/events" $what < "$work/exact_names" > "$work/plain" &&
-            POKHVIZI_FIXES=1 LD_PRELOAD=$preloaded "$work/events" $what < "$work/exact_names" > "$work/fixes" &&
-            LD_PRELOAD=$preloaded "$work/events" $what < "$work/exact_names" > "$work/exact_read" || return 1
+            POKHVIZI_FIXES=1 LD_LIBRARY_PATH=$proved "$work/events" $what < "$work/exact_names" > "$work/fixes" &&
+            LD_LIBRARY_PATH=$proved "$work/events" $what < "$work/exact_names" > "$work/exact_read" || return 1
         drawn=$(compare_exact) || { echo "$drawn"; return 1; }
     done
     name_files > "$work/files"
     "$work/events" files < "$work/files" > "$work/plain" 2> "$work/count" &&
-        LD_PRELOAD=$preloaded "$work/events" files < "$work/files" > "$work/exact_read" || return 1
+        LD_LIBRARY_PATH=$proved "$work/events" files < "$work/files" > "$work/exact_read" || return 1
     found=$(python3 "$lists/exact.py" alike "$work/plain" "$work/exact_read") || { echo "$found"; return 1; }
     echo "$drawn; $found"
 }
@@ -352,7 +352,7 @@ bounded() {
             [ "$3" = - ] || export "POKHVIZI_MAX_DEPTH=$3"
             [ "$4" = - ] || export "POKHVIZI_MAX_NODES=$4"
             [ "$5" = - ] || export "POKHVIZI_MAX_EXPANDED=$5"
-            LD_PRELOAD=$preloaded "$work/events" "$(echo "$2" | sed s/events/files/)"
+            LD_LIBRARY_PATH=$proved "$work/events" "$(echo "$2" | sed s/events/files/)"
         )
         ;;
     rust) "$CARGO_TARGET_DIR/release/bounds" "$2" "$3" "$4" "$5" ;;
@@ -414,8 +414,8 @@ unique_keys() {
     build_bounds bounds '' || return 1
     mkdir -p "$work/keys"
     "$python" "$lists/unique_keys.py" write "$work/keys" 20000 "${SEED:-1}" > "$work/keys_names" || return 1
-    LD_PRELOAD=$preloaded "$work/events" nodes < "$work/keys_names" > "$work/keys_free" 2> "$work/count" &&
-        LD_PRELOAD=$preloaded POKHVIZI_UNIQUE_KEYS=1 "$work/events" nodes < "$work/keys_names" > "$work/keys_c" 2> "$work/count" &&
+    LD_LIBRARY_PATH=$proved "$work/events" nodes < "$work/keys_names" > "$work/keys_free" 2> "$work/count" &&
+        LD_LIBRARY_PATH=$proved POKHVIZI_UNIQUE_KEYS=1 "$work/events" nodes < "$work/keys_names" > "$work/keys_c" 2> "$work/count" &&
         "$CARGO_TARGET_DIR/release/bounds" nodes - - - < "$work/keys_names" > "$work/keys_free_rust" &&
         "$CARGO_TARGET_DIR/release/bounds" unique_nodes - - - < "$work/keys_names" > "$work/keys_rust" || return 1
     for turned in "$work/keys_c --turned" "$work/keys_free"; do
@@ -427,11 +427,11 @@ unique_keys() {
     done
     said=$("$python" "$lists/unique_keys.py" compare "$work/keys_free" "$work/keys_c" < "$work/keys_names") || return 1
     "$python" "$lists/unique_keys.py" compare "$work/keys_free_rust" "$work/keys_rust" < "$work/keys_names" > "$work/count" || return 1
-    [ "$(cat "$work/count")" = "$said" ] && [ "${said% *}" -gt 1000 ] || { echo "preloaded $said, by the crate $(cat "$work/count")"; return 1; }
+    [ "$(cat "$work/count")" = "$said" ] && [ "${said% *}" -gt 1000 ] || { echo "in C $said, by the crate $(cat "$work/count")"; return 1; }
     echo "of $(wc -l < "$work/keys_names") texts ${said% *} have a key twice"
 }
 
-# What is told of the errors of drawn texts, by the crate, by the C loaders for Python, and preloaded, which tells names alone. With the
+# What is told of the errors of drawn texts, by the crate, by the C loaders for Python, and in C, which tells names alone. With the
 # fixes another thing is.
 errors() {
     build_bounds errors_exact '' errors && build_bounds errors_fixes '"fixes"' errors && exact_texts || return 1
@@ -442,7 +442,7 @@ errors() {
     for how in exact fixes; do
         "$CARGO_TARGET_DIR/release/errors_$how" < "$work/errors_names" > "$work/errors_$how" &&
             PYTHONPATH=$work/python "$python" "$lists/errors.py" $how < "$work/errors_names" > "$work/errors_python_$how" &&
-            POKHVIZI_FIXES=$(echo $how | sed 's/exact/0/') LD_PRELOAD=$preloaded "$work/events" names < "$work/errors_names" > "$work/errors_c" ||
+            POKHVIZI_FIXES=$(echo $how | sed 's/exact/0/') LD_LIBRARY_PATH=$proved "$work/events" names < "$work/errors_names" > "$work/errors_c" ||
             return 1
         said=$("$python" "$lists/errors.py" compare "$work/errors_$how" "$work/errors_python_$how") || { echo "$said"; return 1; }
         sed 's/: .* | / | /' "$work/errors_$how" | cmp - "$work/errors_c" || return 1
@@ -461,7 +461,7 @@ hostile_texts() {
         echo "what is turned passes"
         return 1
     fi
-    "$python" scripts/doors/hostile_texts.py "yaml=$dir/yaml" "preload=$preloaded" "events=$work/events" "c_loader=$work/python" \
+    "$python" scripts/doors/hostile_texts.py "yaml=$dir/yaml" "libyaml=$proved" "events=$work/events" "c_loader=$work/python" \
         "loader=$work/python" "rust=$CARGO_TARGET_DIR/release/bounds" "rust_exact=$CARGO_TARGET_DIR/release/bounds_exact" \
         "yamltokens=$top/crates/yamltokens/out/yamltokens"
 }
@@ -488,8 +488,8 @@ events() {
     for what in files nodes; do
         for list in files cases texts; do
             (cd "$suite" && "$work/events" $what < "$work/$list") > "$work/plain_$list" || return 1
-            (cd "$suite" && LD_PRELOAD=$preloaded "$work/events" $what < "$work/$list") > "$work/proved_$list" || return 1
-            (cd "$suite" && POKHVIZI_FIXES=1 LD_PRELOAD=$preloaded "$work/events" $what < "$work/$list") > "$work/fixes_$list" || return 1
+            (cd "$suite" && LD_LIBRARY_PATH=$proved "$work/events" $what < "$work/$list") > "$work/proved_$list" || return 1
+            (cd "$suite" && POKHVIZI_FIXES=1 LD_LIBRARY_PATH=$proved "$work/events" $what < "$work/$list") > "$work/fixes_$list" || return 1
             cmp "$work/plain_$list" "$work/proved_$list" || { differing_files "$work/plain_$list" "$work/proved_$list"; return 1; }
             differing_files "$work/plain_$list" "$work/fixes_$list" | sed -E 's#^\./(.*)/in.yaml$#\1#' >> "$work/differ"
         done
@@ -520,7 +520,7 @@ pipe() {
 }
 
 pipe_c() {
-    pipe env "LD_PRELOAD=$preloaded" "$work/events" pipe -- env "LD_PRELOAD=$preloaded" "$work/events" late
+    pipe env "LD_LIBRARY_PATH=$proved" "$work/events" pipe -- env "LD_LIBRARY_PATH=$proved" "$work/events" late
 }
 
 # The names of the tests that failed, in PyYAML's own report: the function and the files, without folders.
@@ -546,22 +546,22 @@ pyyaml_tests() {
 }
 
 pyyaml_c() {
-    said=$(cd / && POKHVIZI_FIXES=1 LD_PRELOAD=$preloaded "$python" -c 'import yaml; print(len(list(yaml.parse("a\n...\nb\n", yaml.CLoader))))')
+    said=$(cd / && POKHVIZI_FIXES=1 LD_LIBRARY_PATH=$proved "$python" -c 'import yaml; print(len(list(yaml.parse("a\n...\nb\n", yaml.CLoader))))')
     [ "$said" = 8 ] || { echo "$python doesn't take libyaml from its shared library: $said"; return 1; }
     for fixes in 0 1; do
-        pyyaml_tests "$python test_yaml_ext.py" "env POKHVIZI_FIXES=$fixes LD_PRELOAD=$preloaded $python test_yaml_ext.py" pyyaml_c || return 1
+        pyyaml_tests "$python test_yaml_ext.py" "env POKHVIZI_FIXES=$fixes LD_LIBRARY_PATH=$proved $python test_yaml_ext.py" pyyaml_c || return 1
     done
 }
 
 psych() {
-    [ "$($ruby "$lists/psych.rb" --bare) $(POKHVIZI_FIXES=1 LD_PRELOAD=$preloaded $ruby "$lists/psych.rb" --bare)" = "refused read" ] ||
+    [ "$($ruby "$lists/psych.rb" --bare) $(POKHVIZI_FIXES=1 LD_LIBRARY_PATH=$proved $ruby "$lists/psych.rb" --bare)" = "refused read" ] ||
         { echo "$ruby doesn't take libyaml from its shared library"; return 1; }
     name_files > "$work/files"
     (cd "$suite" && find . -name in.yaml | sort) > "$work/cases"
     for list in files cases; do
         (cd "$suite" && $ruby "$lists/psych.rb" < "$work/$list") > "$work/plain_$list" || return 1
-        (cd "$suite" && LD_PRELOAD=$preloaded $ruby "$lists/psych.rb" < "$work/$list") > "$work/proved_$list" || return 1
-        (cd "$suite" && POKHVIZI_FIXES=1 LD_PRELOAD=$preloaded $ruby "$lists/psych.rb" < "$work/$list") > "$work/fixes_$list" || return 1
+        (cd "$suite" && LD_LIBRARY_PATH=$proved $ruby "$lists/psych.rb" < "$work/$list") > "$work/proved_$list" || return 1
+        (cd "$suite" && POKHVIZI_FIXES=1 LD_LIBRARY_PATH=$proved $ruby "$lists/psych.rb" < "$work/$list") > "$work/fixes_$list" || return 1
         diff "$work/plain_$list" "$work/proved_$list" || return 1
         diff "$work/plain_$list" "$work/fixes_$list" | sed -n 's/^< //p' > "$work/differ_$list"
     done
@@ -757,31 +757,31 @@ serde_yaml() {
 
 wanted=$*
 for word in $wanted; do
-    case " preload all_lists python_lists events pipe_c pyyaml_c psych pyyaml_pure loaders pipe_python pyyaml_ext cloaders exact_c exact_python bounds unique_keys errors hostile_texts crate loads_rust pipe_rust yaml_test_suite serde_yaml " in
+    case " libyaml all_lists python_lists events pipe_c pyyaml_c psych pyyaml_pure loaders pipe_python pyyaml_ext cloaders exact_c exact_python bounds unique_keys errors hostile_texts crate loads_rust pipe_rust yaml_test_suite serde_yaml " in
     *" $word "*) ;;
     *) echo "no check has the name $word" >&2; exit 2 ;;
     esac
 done
 mkdir -p "$work/python"
 cp -R bindings/python/src/pokhvizi "$work/python"
-check preload cc yaml.h libyaml_preload.so events -- preload
+check libyaml cc yaml.h proved_libyaml events -- libyaml
 check all_lists cc yaml.h -- all_lists
 check python_lists PyYAML cc yaml.h -- python_lists
-check events cc yaml.h libyaml_preload.so events libyaml-pp-perl -- events
-check pipe_c cc yaml.h libyaml_preload.so events -- pipe_c
-check pyyaml_c PyYAML cc yaml.h libyaml_preload.so pyyaml -- pyyaml_c
-check psych cc yaml.h libyaml_preload.so psych libyaml-pp-perl -- psych
+check events cc yaml.h proved_libyaml events libyaml-pp-perl -- events
+check pipe_c cc yaml.h proved_libyaml events -- pipe_c
+check pyyaml_c PyYAML cc yaml.h proved_libyaml pyyaml -- pyyaml_c
+check psych cc yaml.h proved_libyaml psych libyaml-pp-perl -- psych
 check pyyaml_pure PyYAML pyyaml -- pyyaml_pure
 check loaders PyYAML pyyaml libyaml-pp-perl -- loaders
 check pipe_python PyYAML -- pipe_python
 check pyyaml_ext PyYAML cc yaml.h pyyaml _yaml.abi3.so -- pyyaml_ext
 check cloaders PyYAML cc yaml.h pyyaml libyaml-pp-perl _yaml.abi3.so -- cloaders
-check exact_c cc yaml.h libyaml_preload.so events -- exact_c
+check exact_c cc yaml.h proved_libyaml events -- exact_c
 check exact_python PyYAML _yaml.abi3.so -- exact_python
-check bounds PyYAML cc cargo yaml.h libyaml_preload.so events _yaml.abi3.so unsafe-libyaml -- bounds
-check unique_keys PyYAML cc cargo yaml.h libyaml_preload.so events unsafe-libyaml -- unique_keys
-check errors PyYAML cc cargo yaml.h libyaml_preload.so events _yaml.abi3.so unsafe-libyaml -- errors
-check hostile_texts PyYAML cc cargo /usr/bin/time yaml.h libyaml_preload.so events _yaml.abi3.so unsafe-libyaml crates/yamltokens/out/yamltokens -- hostile_texts
+check bounds PyYAML cc cargo yaml.h proved_libyaml events _yaml.abi3.so unsafe-libyaml -- bounds
+check unique_keys PyYAML cc cargo yaml.h proved_libyaml events unsafe-libyaml -- unique_keys
+check errors PyYAML cc cargo yaml.h proved_libyaml events _yaml.abi3.so unsafe-libyaml -- errors
+check hostile_texts PyYAML cc cargo /usr/bin/time yaml.h proved_libyaml events _yaml.abi3.so unsafe-libyaml crates/yamltokens/out/yamltokens -- hostile_texts
 check crate cargo unsafe-libyaml -- crate
 check loads_rust cargo valgrind unsafe-libyaml -- loads_rust
 check pipe_rust cargo unsafe-libyaml -- pipe_rust

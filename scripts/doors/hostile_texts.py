@@ -7,7 +7,7 @@ ends in a result or in a named error, and in none other than hostile_texts.txt s
 The doors, of which those are tried that have a path:
 
     yaml=PROGRAM              examples/yaml.c, over the steps; without bounds
-    preload=LIBRARY           libyaml_preload.so, under a program over libyaml, which `events=PROGRAM` names (clients/events.c)
+    libyaml=FOLDER            libyaml-0.so.2 in that folder, under a program over libyaml, which `events=PROGRAM` names (clients/events.c)
     c_loader=FOLDER           CSafeLoader of the package in that folder
     loader=FOLDER             SafeLoader of that package
     rust=PROGRAM              clients/bounds.rs over bindings/rust; with its feature `fixes`; `rust_exact=PROGRAM` is the same without it
@@ -54,7 +54,7 @@ TEXTS = {
     "no_utf8": b"- a\n- \xff\xfe\n",
 }
 # libyaml's scanner takes a minute for the first, and PyYAML's in Python for the others. For the last it takes as long for a fifth.
-SLOW = {("brackets", "free", door) for door in ("yaml", "preload", "c_loader", "yamltokens")} | {
+SLOW = {("brackets", "free", door) for door in ("yaml", "libyaml", "c_loader", "yamltokens")} | {
     ("nodes", "free", "loader"), ("nodes", "within", "loader"), ("entries", "free", "loader"), ("anchors", "free", "loader")}
 NEVER = {("brackets", "free", "loader")}
 
@@ -119,10 +119,10 @@ class Counts(Door):
         return "%s %s %s" % (self.FINDERS[number], place, words)
 
 
-class Preload(Counts):
+class Libyaml(Counts):
     def run(self, what, file, bounds, exact):
         names = "POKHVIZI_MAX_DEPTH", "POKHVIZI_MAX_NODES", "POKHVIZI_MAX_EXPANDED"
-        words = dict(zip(names, map(str, bounds)), POKHVIZI_FIXES="0" if exact else "1", LD_PRELOAD=self.path)
+        words = dict(zip(names, map(str, bounds)), POKHVIZI_FIXES="0" if exact else "1", LD_LIBRARY_PATH=self.path)
         words = ["%s=%s" % pair for pair in words.items()]
         return ["env", *words, self.paths["events"], {"events": "memory", "nodes": "loads"}[what]], {}, file
 
@@ -155,7 +155,7 @@ class InPython(Loader):
     depth, KIND = 300, "SafeLoader"  # PyYAML's composer calls itself
 
 
-DOORS = {"yaml": Steps, "preload": Preload, "c_loader": InC, "loader": InPython, "rust": Rust, "yamltokens": Yamltokens}
+DOORS = {"yaml": Steps, "libyaml": Libyaml, "c_loader": InC, "loader": InPython, "rust": Rust, "yamltokens": Yamltokens}
 FINDERS = {"ReaderError": "reader", "ScannerError": "scanner", "ParserError": "parser", "ComposerError": "composer"}
 
 

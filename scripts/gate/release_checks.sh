@@ -5,7 +5,7 @@
 #
 # BUILT is what build_c.sh made. The archives are those of release.sh for x86-64, with the modules if the word `all` is given,
 # and for aarch64 too if BUILT/aarch64 is there. What is installed is used with a path of the system's alone and no variables:
-# programs in C of 1989 to C++, by gcc and by clang, static and shared; a program that is preloaded; the wheel in an environment of
+# programs in C of 1989 to C++, by gcc and by clang, static and shared; a program over libyaml, with the archive's; the wheel in an environment of
 # its own; the crate below serde_yaml. What lacks a tool is skipped, and named: clang, python3 with venv and PyYAML,
 # cargo, and the crates of Debian's librust-unsafe-libyaml-dev, librust-serde-yaml-dev and those below it, in the folder that
 # CLIENT_CRATES names or /usr/share/cargo/registry. The status is 1 if something is wrong.
@@ -140,10 +140,10 @@ try:
 except yaml.parser.ParserError as failure:
     print(failure.problem)
 PYTHON
-    want 'a program that is preloaded' 'did not find expected <document start>' "$installed/bin/proved-libyaml" python3 parse.py
-    want 'a program that is preloaded, with the fixes' 8 env POKHVIZI_FIXES=1 "$installed/bin/proved-libyaml" python3 parse.py
+    want 'a program over libyaml' 'did not find expected <document start>' "$installed/bin/proved-libyaml" python3 parse.py
+    want 'a program over libyaml, with the fixes' 8 env POKHVIZI_FIXES=1 "$installed/bin/proved-libyaml" python3 parse.py
 else
-    skip "a program that is preloaded: python3 lacks PyYAML's C part"
+    skip "a program over libyaml: python3 lacks PyYAML's C part"
 fi
 cat > use.c << 'C'
 #include <stdio.h>
@@ -168,7 +168,7 @@ int main(int count, char **words)
 }
 C
 starter=$installed/bin/proved-libyaml
-preload=$installed/lib/pokhvizi/libyaml_preload.so
+library=$installed/lib/pokhvizi/libyaml-0.so.2
 gcc -O2 use.c -o use -lyaml || complain "use.c"
 want 'a program that is checked' "proved-libyaml: ./use used the proved parser, Pokhvizi $version" "$starter" --check ./use
 mkdir named temporary
@@ -183,19 +183,27 @@ want 'its status' 'status 7' sh -c "'$starter' ./use other; echo status \$?"
 want 'a program that parses nothing' "proved-libyaml: ./use didn't use the proved parser, status 1" \
     sh -c "said=\$('$starter' --check ./use other 2>&1); echo \"\$said, status \$?\""
 gcc -O2 -static use.c -o static -lyaml || complain "use.c, statically"
-want 'a program that no preload reaches' "proved-libyaml: ./static didn't use the proved parser, status 1" \
+want 'a program that contains libyaml' "proved-libyaml: ./static didn't use the proved parser, status 1" \
     sh -c "said=\$('$starter' --check ./static 2>&1); echo \"\$said, status \$?\""
-want 'a bound that is no number' "proved-libyaml: the library can't be used: libyaml_preload.so: POKHVIZI_MAX_NODES is no number: many; ./use is not run" \
+want 'a bound that is no number' "proved-libyaml: the library can't be used: libyaml-0.so.2, proved: POKHVIZI_MAX_NODES is no number: many; ./use is not run" \
     env POKHVIZI_MAX_NODES=many "$starter" ./use
-mv "$preload" kept.so
-want 'no library, no run' "proved-libyaml: $installed/lib/pokhvizi/libyaml_preload.so isn't there; ./use is not run 1" \
+mv "$library" kept.so
+want 'no library, no run' "proved-libyaml: $installed/lib/pokhvizi/libyaml-0.so.2 isn't there; ./use is not run 1" \
     sh -c "said=\$('$starter' ./use 2>&1); echo \"\$said \$?\""
-printf 'none' > "$preload"
+printf 'none' > "$library"
 want 'a library that is none' 1 sh -c "'$starter' ./use 2> /dev/null; echo \$?"
-mv kept.so "$preload"
+mv kept.so "$library"
 mkdir 'with space' && cp -R "$installed/." 'with space'
 sed -i "s#^lib=.*#lib=\$here/../lib#" 'with space/bin/proved-libyaml'
 want 'a path with a space' 1 sh -c "'with space/bin/proved-libyaml' ./use 2> /dev/null; echo \$?"
+if [ -e "$installed/lib/pokhvizi/libyaml.a" ]; then
+    gcc -O2 -static use.c -o static -L"$installed/lib/pokhvizi" -lyaml || complain "use.c, statically over the proved libyaml"
+    want 'a program that contains the proved libyaml' "proved-libyaml: ./static used the proved parser, Pokhvizi $version" "$starter" --check ./static
+fi
+make -s -C "unpacked/pokhvizi-$version-x86_64-linux" PREFIX="$PWD/system" install-libyaml
+want 'libyaml where programs look for it' "$PWD/system/lib/libyaml-0.so.2" sh -c "LD_LIBRARY_PATH='$PWD/system/lib' ldd ./use | sed -n 's/.*libyaml-0.so.2 => \\([^ ]*\\).*/\\1/p'"
+make -s -C "unpacked/pokhvizi-$version-x86_64-linux" PREFIX="$PWD/system" uninstall-libyaml
+want 'what uninstalling libyaml leaves' '' find "$PWD/system" ! -type d
 make -s -C "unpacked/pokhvizi-$version-x86_64-linux" PREFIX="$installed" uninstall
 want 'what uninstalling leaves' '' find "$installed" ! -type d
 

@@ -33,7 +33,7 @@ refuses() {
     fi
 }
 
-for script in bench/clients.sh bindings/c/build_preload.sh bindings/c/proved-libyaml bindings/python/build_extension.sh \
+for script in bench/clients.sh bindings/c/build_libyaml.sh bindings/c/proved-libyaml bindings/python/build_extension.sh \
     scripts/build_c.sh scripts/doors/any_processor.sh scripts/doors/clients.sh \
     scripts/doors/door_checks.sh scripts/doors/extension_checks.sh scripts/gate/inlined.sh scripts/parts/llvm_source.sh scripts/release.sh \
     scripts/gate/release_checks.sh scripts/release_trees.sh scripts/vectors.sh scripts/gate/statuses.sh scripts/vendor.sh; do

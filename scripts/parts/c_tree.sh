@@ -3,7 +3,7 @@
 #
 #     sh scripts/parts/c_tree.sh BUILT TREE
 #
-# BUILT has what build_c.sh or build_plain.sh made there, and libyaml_preload.so or not: then the tree lacks what preloads it.
+# BUILT has what build_c.sh or build_plain.sh made there, and what build_libyaml.sh did, or not: then the tree lacks libyaml.
 #
 # Run by release.sh and by bindings/c/Makefile.
 set -eu
@@ -24,12 +24,16 @@ ln -sf "libpokhvizi.so.$version" "$tree/lib/libpokhvizi.so.$abi"
 ln -sf "libpokhvizi.so.$abi" "$tree/lib/libpokhvizi.so"
 sed "s/@VERSION@/$version/" bindings/c/pokhvizi.pc.in > "$tree/lib/pkgconfig/pokhvizi.pc"
 cp bindings/c/install.mk "$tree/Makefile"
-if [ -e "$built/libyaml_preload.so" ]; then
+if [ -e "$built/libyaml" ]; then
     install -m 755 bindings/c/proved-libyaml "$tree/bin"
-    cp "$built/libyaml_preload.so" "$tree/lib/pokhvizi"
+    mkdir "$tree/lib/pokhvizi/include" "$tree/lib/pokhvizi/pkgconfig"
+    cp -P "$built"/libyaml/libyaml* "$tree/lib/pokhvizi"
+    cp "$built/libyaml/yaml.h" "$tree/lib/pokhvizi/include"
+    cp "$built/libyaml/yaml-0.1.pc" "$tree/lib/pokhvizi/pkgconfig"
+    cp bindings/python/LICENSE.libyaml "$doc"
 else
     rm -r "$tree/bin" "$tree/lib/pokhvizi"
-    sed -i '/preload\|proved-libyaml/d' "$tree/Makefile"
+    sed -i -e '/^install-libyaml/,$d' -e '/pokhvizi\/\. \|proved-libyaml/d' "$tree/Makefile"
 fi
 cp bindings/c/README.md "$tree"
 cp LICENSE CHANGELOG.md docs/PROVED.md docs/laws.txt docs/DEFINITIONS.md docs/DIFFERENCES.md docs/BOUNDS.md docs/HEADLINE.md bindings/c/README.md "$doc"

@@ -1,4 +1,4 @@
-/* Gives each list of up to N tokens to bindings/c/libyaml_preload.c and to libyaml's own parser, in the place of a scanner:
+/* Gives each list of up to N tokens to bindings/c/libyaml_proved.c and to libyaml's own parser, in the place of a scanner:
  *
  *     all_lists N REFUSED ODD
  *
@@ -8,7 +8,7 @@
  * scans follow one another in each order, and the parser is deleted twice. After each run no byte may be left. Lists that begin with an error aren't made longer. The list's tokens have fifteen texts, among which
  * are two anchors, a declared and an undeclared handle, and a tag of one byte.
  *
- * It contains the preload's source, built so that each stack and table has room for one entry at first, and is linked with the address
+ * It contains that source, built so that each stack and table has room for one entry at first, and is linked with the address
  * sanitizer, which counts bytes. clients.sh runs it. */
 #include <stdarg.h>
 #include <stdio.h>
@@ -20,7 +20,7 @@
 /* The address sanitizer's, whose header a compiler may lack. */
 size_t __sanitizer_get_current_allocated_bytes(void);
 
-/* ---- Allocations of the preload's source and of the scanner, of which one may fail ---- */
+/* ---- Allocations of that source and of the scanner, of which one may fail ---- */
 
 static long refused_at;
 
@@ -45,7 +45,7 @@ static void *make_zeros(size_t count, size_t size)
 #define FIRST_ROOM(usual) 1
 #define yaml_parser_parse proved_parse
 #define yaml_parser_load proved_load
-#include "../../../bindings/c/libyaml_preload.c"
+#include "../../../bindings/c/libyaml_proved.c"
 #undef yaml_parser_parse
 #undef yaml_parser_load
 

@@ -1,4 +1,4 @@
-/* A shared library that loads a document before the constructor of libyaml_preload.so has run, for preload_calls.c. */
+/* A shared library that loads a document before the constructor of libyaml-0.so.2 has run, for libyaml_calls.c. */
 #include <string.h>
 #include <yaml.h>
 

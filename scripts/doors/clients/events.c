@@ -1,8 +1,8 @@
-/* What libyaml's parser gives, for clients.sh, plainly and with bindings/c/libyaml_preload.c preloaded:
+/* What libyaml's parser gives, for clients.sh, plainly and over bindings/c/libyaml_proved.c:
  *
  *     events files < NAMES     each event of each file that a line of the input names, all fields
  *     events nodes < NAMES     each node of their documents, by yaml_parser_load
- *     events names < NAMES     the place of each file's error, by events and by nodes, its words, and what it is about, preloaded
+ *     events names < NAMES     the place of each file's error, by events and by nodes, its words, and what it is about, over that
  *     events pipe < YAML       the kind of each event of the input, as soon as it is there
  *     events late < YAML       the same, where the input is read to its end first
  *     events memory < YAML     how many events there are, and the peak of resident memory in KB
@@ -201,7 +201,7 @@ static int each_file(int by_nodes)
 /* The name of each file's error, by events and by nodes. */
 static int each_name(void)
 {
-    void *found = dlsym(RTLD_DEFAULT, "pokhvizi_preload_name");
+    void *found = dlsym(RTLD_DEFAULT, "pokhvizi_libyaml_name");
     char name[4096];
     yaml_parser_t parser;
 

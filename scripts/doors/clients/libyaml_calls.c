@@ -1,4 +1,4 @@
-/* Calls of libyaml with bindings/c/libyaml_preload.c preloaded: each allocation refused in turn, parsers that are
+/* Calls of libyaml over bindings/c/libyaml_proved.c: each allocation refused in turn, parsers that are
  * deleted at each event, moved, used after an error or after the end, and by several threads; documents; more states, marks,
  * tag directives, texts and anchors than there was room for at first; drawn tag directives, beside pokhvizi_directive_fact and
  * pokhvizi_tag; what an error is about; the time that anchors and directives take; a load by a constructor (constructor.c), and an environment that changes.
@@ -58,7 +58,7 @@ static const struct {
     {"a: \xFF\n", {NULL, NULL}},
 };
 
-/* pokhvizi_preload_name */
+/* pokhvizi_libyaml_name */
 static const char *(*name_of)(const yaml_parser_t *);
 
 /* Five tag directives, and a flow sequence in a flow sequence, 150 levels deep: the states, the marks and the directives grow. */
@@ -694,11 +694,11 @@ static void check_bounds(void)
 
 int main(int count, char **words)
 {
-    void *found = dlsym(RTLD_DEFAULT, "pokhvizi_preload_name");
+    void *found = dlsym(RTLD_DEFAULT, "pokhvizi_libyaml_name");
 
     memcpy(&name_of, &found, sizeof found);
     if (found == NULL) {
-        puts("wrong: there is no pokhvizi_preload_name");
+        puts("wrong: there is no pokhvizi_libyaml_name");
         return 1;
     }
     if (count > 1 && strcmp(words[1], "bounds") == 0) {

@@ -1,10 +1,9 @@
-/* Replaces libyaml's parser by this one in programs that link libyaml's shared library and stay as they are:
+/* libyaml's parser and loader, in the place of its parser.c and loader.c:
  *
- *     sh bindings/c/build_preload.sh DIR
- *     LD_PRELOAD=DIR/libyaml_preload.so PROGRAM
+ *     sh bindings/c/build_libyaml.sh DIR
  *
- * DIR is that of scripts/build_c.sh, and begins with a slash. `yaml_parser_parse` and `yaml_parser_load` are replaced. libyaml's scanner gives the
- * tokens, and its `yaml_event_delete`, `yaml_document_delete` and `yaml_parser_delete` free all there is.
+ * makes a whole libyaml of it and of libyaml's other objects, shared and static. DIR is that of scripts/build_c.sh. libyaml's scanner gives
+ * the tokens, and its `yaml_event_delete`, `yaml_document_delete` and `yaml_parser_delete` free all there is.
  *
  * A call reads no token past those that its event needs, and moves their texts into the event. What is kept between two
  * calls stands in the yaml_parser_t, in the place of what libyaml's own parser keeps there: its states, the marks of open
@@ -48,7 +47,7 @@ static size_t bound_of(const char *name, size_t most)
     if (text == NULL)
         return most;
     if (*text == '\0' || text[strspn(text, "0123456789")] != '\0') {
-        fprintf(stderr, "libyaml_preload.so: %s is no number: %s\n", name, text);
+        fprintf(stderr, "libyaml-0.so.2, proved: %s is no number: %s\n", name, text);
         _exit(2);
     }
     for (; *text != '\0'; text++)
@@ -72,7 +71,7 @@ static void look_for_others(void)
         for (i = 0; i < COUNT && (strlen(names[i]) != length || strncmp(*at + PREFIX, names[i], length) != 0); i++)
             ;
         if (i == COUNT) {
-            fprintf(stderr, "libyaml_preload.so: the environment's %.*s is unknown\n", (int)(PREFIX + length), *at);
+            fprintf(stderr, "libyaml-0.so.2, proved: the environment's %.*s is unknown\n", (int)(PREFIX + length), *at);
             _exit(2);
         }
     }
@@ -96,8 +95,7 @@ __attribute__((constructor)) SELDOM void read_environment(void)
         return;
     bounds = (struct bounds){ANY_DEPTH, ANY_NODES, ANY_EXPANDED};
     is_read = 1;
-    /* A set-user-ID program may have been started by anyone, with any environment. The dynamic linker preloads this library there
-     * if a file of the system says so. */
+    /* A set-user-ID program may have been started by anyone, with any environment. */
     if (getauxval(AT_SECURE))
         return;
     look_for_others();
@@ -109,15 +107,15 @@ __attribute__((constructor)) SELDOM void read_environment(void)
     bounds.expanded = bound_of("POKHVIZI_MAX_EXPANDED", ANY_EXPANDED);
 }
 
-/* The version of this library, which a program finds by this name where it is preloaded. */
-__attribute__((visibility("default"))) const char *pokhvizi_preload_version(void)
+/* The version of Pokhvizi, which a program finds by this name where libyaml is this one. */
+__attribute__((visibility("default"))) const char *pokhvizi_libyaml_version(void)
 {
     return POKHVIZI_VERSION;
 }
 
 /* The anchor, alias or tag handle that a parser's error is about; of another error, or without one, NULL. It is the parser's, and lasts
  * until yaml_parser_delete. A program finds this call by its name, like the version. */
-__attribute__((visibility("default"))) const char *pokhvizi_preload_name(const yaml_parser_t *parser)
+__attribute__((visibility("default"))) const char *pokhvizi_libyaml_name(const yaml_parser_t *parser)
 {
     return (const char *)name_in(parser);
 }
