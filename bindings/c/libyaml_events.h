@@ -65,6 +65,7 @@ struct kept {
     pokhvizi_size_t size;
     size_t document, names_count, texts_length;  /* its number, from 1 */
     uint32_t is_counted;
+    uint32_t is_left;  /* the token in hand is that of the last event, a collection's start: the next call takes it */
     uint32_t key;  /* for the hashes of anchors and handles, or 0 */
     one_step *step;  /* exactly libyaml's, or this project's own grammar's */
     const yaml_char_t *name;  /* what the error is about, or NULL: see name_in */
@@ -653,7 +654,6 @@ static int begin(yaml_parser_t *parser, const struct bounds *bounds, int has_fix
     kept->step = has_fixes ? pokhvizi_step : pokhvizi_step_exact;
     free(parser->tag_directives.start);
     memset(&parser->tag_directives, 0, sizeof parser->tag_directives);
-    parser->state = YAML_PARSE_DOCUMENT_CONTENT_STATE;
     return 1;
 }
 

@@ -148,14 +148,59 @@ static int begin_here(yaml_parser_t *parser)
     return 1;
 }
 
-/* After an error: the state that libyaml's own parser would be in, which some programs read. */
-SELDOM void show_state(yaml_parser_t *parser)
+/* ---- What libyaml's parser leaves ---- */
+
+/* The tokens of collections' starts, a bit for each. libyaml takes one with the call after its event. */
+enum {
+    STARTS = 1 << YAML_BLOCK_SEQUENCE_START_TOKEN | 1 << YAML_BLOCK_MAPPING_START_TOKEN | 1 << YAML_FLOW_SEQUENCE_START_TOKEN |
+             1 << YAML_FLOW_MAPPING_START_TOKEN
+};
+
+/* The states of entries of block collections, a bit for each. libyaml has another state for the first entry, the one before it. The steps
+ * have only those of flow collections, whose first is also that behind a comma. */
+enum {
+    ENTRIES = 1 << YAML_PARSE_BLOCK_SEQUENCE_ENTRY_STATE | 1 << YAML_PARSE_BLOCK_MAPPING_KEY_STATE,
+    FIRST_ENTRIES = 1 << YAML_PARSE_FLOW_SEQUENCE_FIRST_ENTRY_STATE | 1 << YAML_PARSE_FLOW_MAPPING_FIRST_KEY_STATE
+};
+
+/* libyaml's state after an event. After an explicit end of a document it no longer takes one without a start. */
+static yaml_parser_state_t state_of(const struct kept *kept, int is_first)
+{
+    uint8_t state = kept->steps.machine.state;
+
+    if (state == YAML_PARSE_IMPLICIT_DOCUMENT_START_STATE && kept->steps.machine.behind_document_end)
+        return YAML_PARSE_DOCUMENT_START_STATE;
+    return (yaml_parser_state_t)(state - (is_first && ENTRIES >> state & 1));
+}
+
+/* Some programs read the parser's fields: after each event its state, and the token in hand, are those of libyaml. After an error the
+ * state is that after the last event. */
+static void leave(yaml_parser_t *parser)
 {
     struct kept *kept = kept_of(parser);
 
-    if (kept != NULL && parser->error != YAML_MEMORY_ERROR && parser->state == YAML_PARSE_DOCUMENT_CONTENT_STATE &&
-        kept->steps.machine.state != YAML_PARSE_STREAM_START_STATE)
-        parser->state = (yaml_parser_state_t)kept->steps.machine.state;
+    kept->is_left = !parser->token_available && parser->tokens.head != parser->tokens.start && STARTS >> parser->tokens.head[-1].type & 1;
+    if (kept->is_left) {
+        parser->token_available = 1;
+        parser->tokens_parsed--;
+        parser->tokens.head--;
+    }
+    if (!parser->stream_end_produced)
+        parser->state = state_of(kept, (int)kept->is_left);
+}
+
+/* Takes the token that the last event has left; 0 where a scan has taken it, and the scanner has an error. */
+static int take_left(yaml_parser_t *parser)
+{
+    if (!kept_of(parser)->is_left)
+        return 1;
+    kept_of(parser)->is_left = 0;
+    if (!parser->token_available && !yaml_parser_fetch_more_tokens(parser))
+        return stop(parser);
+    if (!(STARTS >> parser->tokens.head->type & 1))
+        yaml_token_delete(parser->tokens.head);
+    skip(parser);
+    return 1;
 }
 
 /* In the place of libyaml's function of this name. */
@@ -167,13 +212,13 @@ __attribute__((visibility("default"))) int yaml_parser_parse(yaml_parser_t *pars
     assert(parser);
     assert(event);
     stopped = has_stopped(parser);
-    if (!stopped && (is_new(parser) && !begin_here(parser) ? out_of_memory(parser)
-                                                           : parse(parser, &held, event, (int)kept_of(parser)->is_counted)))
+    if (!stopped && (is_new(parser) ? begin_here(parser) || out_of_memory(parser) : take_left(parser)) &&
+        parse(parser, &held, event, (int)kept_of(parser)->is_counted)) {
+        leave(parser);
         return 1;
+    }
     memset(event, 0, sizeof *event);
     forget(&held);
-    if (!stopped)
-        show_state(parser);
     return stopped;
 }
 
@@ -692,6 +737,30 @@ static int load_checked(yaml_parser_t *parser, struct loading *loading, struct h
     return load(parser, loading, held, document, 1);
 }
 
+/* Whether the last event of a load with an error was a collection's start with a token of its own: the composer has refused it, or
+ * nothing has come after it. */
+static int was_start(const yaml_parser_t *parser, const struct loading *loading)
+{
+    const pokhvizi_open_t *last = &loading->stack[loading->composer.depth - 1];
+
+    if (parser->error == YAML_COMPOSER_ERROR)
+        return parser->token_available && STARTS >> parser->tokens.head->type & 1;
+    return loading->composer.depth != 0 && last->children == 0 && last->key == 0;
+}
+
+/* After an error in a load: the state after the last event. */
+SELDOM void leave_fault(yaml_parser_t *parser, const struct loading *loading)
+{
+    int is_first;
+
+    if (parser->error == YAML_MEMORY_ERROR)
+        return;
+    is_first = was_start(parser, loading);
+    parser->state = state_of(kept_of(parser), is_first);
+    if (!is_first && FIRST_ENTRIES >> parser->state & 1)
+        parser->state++;
+}
+
 /* In the place of libyaml's function of this name. */
 __attribute__((visibility("default"))) int yaml_parser_load(yaml_parser_t *parser, yaml_document_t *document)
 {
@@ -705,16 +774,22 @@ __attribute__((visibility("default"))) int yaml_parser_load(yaml_parser_t *parse
     if (!is_read)
         read_environment();
     begin_loading(&loading);
-    if (!ROOM(document->nodes) || (is_new(parser) && !begin_here(parser)))
+    if (!ROOM(document->nodes))
         loaded = out_of_memory(parser);
     else if (has_stopped(parser))
         loaded = parser->error == YAML_NO_ERROR;
+    else if (is_new(parser) && !begin_here(parser))
+        loaded = out_of_memory(parser);
+    else if (!take_left(parser))
+        loaded = 0;
     else
         loaded = (bounds.expanded == ANY_EXPANDED && !has_unique_keys ? load_unchecked : load_checked)(parser, &loading, &held, document);
     forget(&held);
     if (!loaded) {
         yaml_document_delete(document);
-        show_state(parser);
+        leave_fault(parser, &loading);
+    } else if (!has_stopped(parser)) {
+        parser->state = state_of(kept_of(parser), 0);
     }
     end_loading(&loading);
     return loaded;

@@ -29,6 +29,7 @@
 #     exact_c            this libyaml over 20,000 drawn texts: libyaml's events, nodes and errors, and with the fixes others; and over
 #                        YAML files of this machine; SEED is another draw
 #     exact_python       the same of the C loaders of bindings/python, and of PyYAML's
+#     fields             all public fields of the parser after each call over those texts and the YAML test suite, after errors, too
 #     bounds             bounds on depth, on nodes and on nodes with aliases written out, over 2,000 drawn texts: in C, by the crate,
 #                        by the C loaders of bindings/python and by those in Python each refuses the same token or event, in the same
 #                        words; SEED is another draw
@@ -332,6 +333,19 @@ exact_c() {
         LD_LIBRARY_PATH=$proved "$work/events" files < "$work/files" > "$work/exact_read" || return 1
     found=$(python3 "$lists/exact.py" alike "$work/plain" "$work/exact_read") || { echo "$found"; return 1; }
     echo "$drawn; $found"
+}
+
+# The system's libyaml, by the path that the dynamic linker finds, and this one.
+fields() {
+    exact_texts && cc -O2 -Wall -Wextra -Werror -o "$work/fields" scripts/doors/clients/fields.c -ldl || return 1
+    theirs=$(ldd "$work/events" | sed -n 's/.*libyaml-0\.so\.2 => \([^ ]*\).*/\1/p')
+    is_there libyaml-pp-perl && find "$suite" -name in.yaml | sort > "$work/field_names"
+    cat "$work/exact_names" >> "$work/field_names"
+    if POKHVIZI_FIXES=1 "$work/fields" "$theirs" "$proved/libyaml-0.so.2" < "$work/field_names" > "$work/turned"; then
+        echo "a parser with the fixes passes"
+        return 1
+    fi
+    "$work/fields" "$theirs" "$proved/libyaml-0.so.2" < "$work/field_names"
 }
 
 exact_python() {
@@ -757,7 +771,7 @@ serde_yaml() {
 
 wanted=$*
 for word in $wanted; do
-    case " libyaml all_lists python_lists events pipe_c pyyaml_c psych pyyaml_pure loaders pipe_python pyyaml_ext cloaders exact_c exact_python bounds unique_keys errors hostile_texts crate loads_rust pipe_rust yaml_test_suite serde_yaml " in
+    case " libyaml all_lists python_lists events pipe_c pyyaml_c psych pyyaml_pure loaders pipe_python pyyaml_ext cloaders exact_c fields exact_python bounds unique_keys errors hostile_texts crate loads_rust pipe_rust yaml_test_suite serde_yaml " in
     *" $word "*) ;;
     *) echo "no check has the name $word" >&2; exit 2 ;;
     esac
@@ -777,6 +791,7 @@ check pipe_python PyYAML -- pipe_python
 check pyyaml_ext PyYAML cc yaml.h pyyaml _yaml.abi3.so -- pyyaml_ext
 check cloaders PyYAML cc yaml.h pyyaml libyaml-pp-perl _yaml.abi3.so -- cloaders
 check exact_c cc yaml.h proved_libyaml events -- exact_c
+check fields cc yaml.h proved_libyaml events -- fields
 check exact_python PyYAML _yaml.abi3.so -- exact_python
 check bounds PyYAML cc cargo yaml.h proved_libyaml events _yaml.abi3.so unsafe-libyaml -- bounds
 check unique_keys PyYAML cc cargo yaml.h proved_libyaml events unsafe-libyaml -- unique_keys
