@@ -25,26 +25,37 @@ static_assert(offsetof(yaml_token_t, end_mark) == offsetof(yaml_token_t, start_m
               "the marks of a token and of an event are neighbours");
 
 /* How many collections may be open, how many entries each list of a document may have, and how many nodes a document may have with
- * its aliases written out; and what stands for any number. */
+ * its aliases written out; and what stands for any number. Whether the keys of a mapping have to differ. */
 struct bounds {
     size_t depth, nodes, expanded;
+    int unique_keys;
 };
 #define ANY_DEPTH ((size_t)PTRDIFF_MAX / sizeof(yaml_mark_t))
 #define ANY_NODES ((size_t)INT32_MAX)
 #define ANY_EXPANDED ((size_t)PTRDIFF_MAX)
 
 /* An anchor of the document whose events are counted, in a table where it has a place by its hash: where its text stands, and the
- * node that it names. A place of another document is free. */
+ * node that it names; where keys have to differ, also what stands for that node as a key, if it is a scalar. A place of another document
+ * is free. */
 struct name {
-    size_t text, document;
+    size_t text, document, key, key_length;
     uint32_t hash;
     int32_t node;
 };
 
+/* A key of an open mapping: where what stands for it is, its mapping, and where it begins. */
+struct key {
+    size_t text, length;
+    yaml_mark_t mark;
+    uint32_t hash;
+    int32_t mapping;
+};
+
 /* How much room there is for what `kept` ends with: states; and if nodes are bounded, the sizes of nodes, a table of names, which has
- * a power of two, open collections, and the texts of names. */
+ * a power of two, open collections, and the texts of names; if keys have to differ, also a power of two of keys, with a table of
+ * twice as many, and what stands for them. */
 struct rooms {
-    size_t states, sizes, names, open, texts;
+    size_t states, sizes, names, keys, open, texts, key_texts;
 };
 
 /* pokhvizi_step_exact or pokhvizi_step. */
@@ -64,6 +75,7 @@ struct kept {
     pokhvizi_composer_t composer;
     pokhvizi_size_t size;
     size_t document, names_count, texts_length;  /* its number, from 1 */
+    size_t keys_count, key_texts_length;
     uint32_t is_counted;
     uint32_t is_left;  /* the token in hand is that of the last event, a collection's start: the next call takes it */
     uint32_t key;  /* for the hashes of anchors and handles, or 0 */
@@ -134,14 +146,44 @@ static struct name *names_of(struct kept *kept)
     return (struct name *)(void *)(sizes_of(kept) + kept->rooms.sizes);
 }
 
+static struct key *keys_of(struct kept *kept)
+{
+    return (struct key *)(void *)(names_of(kept) + kept->rooms.names);
+}
+
+/* The table of keys: the number of each, from 1, where its hash says, and else 0. */
+static size_t *table_of_keys(struct kept *kept)
+{
+    return (size_t *)(void *)(keys_of(kept) + kept->rooms.keys);
+}
+
 static pokhvizi_open_t *open_of(struct kept *kept)
 {
-    return (pokhvizi_open_t *)(void *)(names_of(kept) + kept->rooms.names);
+    return (pokhvizi_open_t *)(void *)(table_of_keys(kept) + 2 * kept->rooms.keys);
 }
 
 static yaml_char_t *texts_of_names(struct kept *kept)
 {
     return (yaml_char_t *)(open_of(kept) + kept->rooms.open);
+}
+
+static yaml_char_t *texts_of_keys(struct kept *kept)
+{
+    return texts_of_names(kept) + kept->rooms.texts;
+}
+
+/* The place of a key in the table, or the one that is free for it. */
+static size_t *place_of_key(struct kept *kept, const struct key *key)
+{
+    size_t *table = table_of_keys(kept), last = 2 * kept->rooms.keys - 1, at = key->hash & last;
+
+    for (; table[at] != 0; at = (at + 1) & last) {
+        const struct key *other = &keys_of(kept)[table[at] - 1];
+        if (other->hash == key->hash && other->mapping == key->mapping && other->length == key->length &&
+            memcmp(texts_of_keys(kept) + other->text, texts_of_keys(kept) + key->text, key->length) == 0)
+            break;
+    }
+    return &table[at];
 }
 
 /* The place of a name in the table, or the one that is free for it. */
@@ -160,7 +202,8 @@ static struct name *place_of_name(struct kept *kept, const yaml_char_t *text, ui
 static struct kept *make_kept(const struct rooms *rooms)
 {
     uint64_t size = sizeof(struct kept) + 8 + (uint64_t)rooms->states + (uint64_t)rooms->sizes * sizeof(uint64_t) +
-                    (uint64_t)rooms->names * sizeof(struct name) + (uint64_t)rooms->open * sizeof(pokhvizi_open_t) + rooms->texts;
+                    (uint64_t)rooms->names * sizeof(struct name) + (uint64_t)rooms->keys * (sizeof(struct key) + 2 * sizeof(size_t)) +
+                    (uint64_t)rooms->open * sizeof(pokhvizi_open_t) + rooms->texts + rooms->key_texts;
     struct kept *made = size > PTRDIFF_MAX ? NULL : calloc(1, (size_t)size);
 
     if (made != NULL)
@@ -188,6 +231,10 @@ APART int make_room(yaml_parser_t *parser, const struct rooms *rooms)
     memcpy(sizes_of(made), sizes_of(old), old->rooms.sizes * sizeof(uint64_t));
     memcpy(open_of(made), open_of(old), old->rooms.open * sizeof(pokhvizi_open_t));
     memcpy(texts_of_names(made), texts_of_names(old), old->texts_length);
+    memcpy(texts_of_keys(made), texts_of_keys(old), old->key_texts_length);
+    memcpy(keys_of(made), keys_of(old), old->keys_count * sizeof(struct key));
+    for (size_t i = 0; i < old->keys_count; i++)
+        *place_of_key(made, &keys_of(made)[i]) = i + 1;
     for (size_t i = 0; i < old->rooms.names; i++) {
         const struct name *name = &names_of(old)[i];
         if (name->document == old->document)
@@ -650,7 +697,7 @@ static int begin(yaml_parser_t *parser, const struct bounds *bounds, int has_fix
     pokhvizi_steps_new(&kept->steps);
     kept->marks_room = least(FIRST_ROOM((size_t)(parser->marks.end - parser->marks.start)), bounds->depth);
     kept->bounds = *bounds;
-    kept->is_counted = bounds->nodes < ANY_NODES || bounds->expanded < ANY_EXPANDED;
+    kept->is_counted = bounds->nodes < ANY_NODES || bounds->expanded < ANY_EXPANDED || bounds->unique_keys;
     kept->step = has_fixes ? pokhvizi_step : pokhvizi_step_exact;
     free(parser->tag_directives.start);
     memset(&parser->tag_directives, 0, sizeof parser->tag_directives);
@@ -677,8 +724,8 @@ static int32_t named_node(yaml_parser_t *parser, const yaml_char_t *anchor)
     return name->document == kept->document ? name->node : 0;
 }
 
-/* Has an anchor name a node; 0 where memory is refused. */
-static int name_node(yaml_parser_t *parser, const yaml_char_t *anchor, int32_t node)
+/* The place of an anchor in the table of names, where it is put if it isn't there; NULL where memory is refused. */
+static struct name *put_name(yaml_parser_t *parser, const yaml_char_t *anchor)
 {
     struct kept *kept = kept_of(parser);
     struct rooms rooms = kept->rooms;
@@ -693,16 +740,37 @@ static int name_node(yaml_parser_t *parser, const yaml_char_t *anchor, int32_t n
     if (length > rooms.texts - kept->texts_length)
         rooms.texts = FIRST_ROOM(2) * (kept->texts_length + length);
     if (memcmp(&rooms, &kept->rooms, sizeof rooms) != 0 && !make_room(parser, &rooms))
-        return 0;
+        return NULL;
     kept = kept_of(parser);
     name = place_of_name(kept, anchor, hash);
     if (name->document != kept->document) {
         memcpy(texts_of_names(kept) + kept->texts_length, anchor, length);
-        *name = (struct name){kept->texts_length, kept->document, hash, 0};
+        *name = (struct name){.text = kept->texts_length, .document = kept->document, .hash = hash};
         kept->texts_length += length;
         kept->names_count++;
     }
+    return name;
+}
+
+/* Has an anchor name a node, for which the last bytes of the keys' texts stand as a key, so many; 0 where memory is refused. */
+static int name_node(yaml_parser_t *parser, const yaml_char_t *anchor, int32_t node, size_t key_length)
+{
+    struct name *name = put_name(parser, anchor);
+    struct kept *kept = kept_of(parser);
+    struct rooms rooms = kept->rooms;
+
+    if (name != NULL && key_length > rooms.texts - kept->texts_length) {
+        rooms.texts = FIRST_ROOM(2) * (kept->texts_length + key_length);
+        name = make_room(parser, &rooms) ? put_name(parser, anchor) : NULL;
+        kept = kept_of(parser);
+    }
+    if (name == NULL)
+        return 0;
+    memcpy(texts_of_names(kept) + kept->texts_length, texts_of_keys(kept) + kept->key_texts_length - key_length, key_length);
     name->node = node;
+    name->key = kept->texts_length;
+    name->key_length = key_length;
+    kept->texts_length += key_length;
     return 1;
 }
 
@@ -740,22 +808,209 @@ static uint32_t count_deed(yaml_parser_t *parser, uint32_t deed, uint8_t kind, c
     return counted == POKHVIZI_COUNTED ? deed : counted;
 }
 
-/* Counts an event whose nodes are bounded, in the words of a load where it is one too many; 0 where there is an error. Other errors of
- * composers are the caller's: an anchor names the last node that has it, and an alias without one no node. */
+/* ---- Keys that have to differ ---- */
+
+/* Whether a plain scalar without a tag is a string to each loader: none takes it for null, a boolean, a number, a date, a merge key or
+ * one of Ruby's symbols. Of some texts loaders make different things, such as `yes` and `0o7`; these are none that are strings to each. */
+static int is_string(const yaml_char_t *text, size_t length)
+{
+    static const char *const words[] = {"~", "null", "true", "false", "yes", "no", "on", "off", "y", "n", "<<", "=", ".inf", ".nan"};
+    size_t after_sign = length > 0 && (*text == '-' || *text == '+'), i, k;
+    int has_digit = 0;
+
+    if (length == 0 || *text == ':')
+        return 0;
+    for (i = 0; i < sizeof words / sizeof *words; i++) {
+        size_t skipped = *words[i] == '.' ? after_sign : 0;
+        for (k = 0; skipped + k < length && words[i][k] != '\0' && (text[skipped + k] | (words[i][k] >= 'a' && words[i][k] <= 'z' ? 32 : 0)) == words[i][k]; k++)
+            ;
+        if (skipped + k == length && words[i][k] == '\0')
+            return 0;
+    }
+    if (!after_sign && *text != '.' && !(*text >= '0' && *text <= '9'))
+        return 1;
+    for (i = 0; i < length; i++) {
+        if (text[i] == '\0' || strchr("0123456789abcdefABCDEFxobBOXTtZz_:,.+- \t", text[i]) == NULL)
+            return 1;
+        has_digit |= text[i] >= '0' && text[i] <= '9';
+    }
+    return !has_digit;
+}
+
+/* What stands for a node as a key begins with one of these, and goes on with its text, with its tag, a zero byte and its text, or with
+ * its number. A scalar without a tag that isn't plain is a string. */
+enum { STRING, OPEN, TAGGED, COLLECTION };
+
+/* The name of a scalar that an alias is, or NULL. */
+static const struct name *scalar_of_alias(yaml_parser_t *parser, const yaml_token_t *token)
+{
+    struct kept *kept = kept_of(parser);
+    const struct name *name;
+
+    if (kept->names_count == 0)
+        return NULL;
+    name = place_of_name(kept, token->data.alias.value, hash_of(token->data.alias.value, key_of(parser)));
+    return name->document == kept->document && name->key_length > 0 ? name : NULL;
+}
+
+/* Makes room for so many bytes at the end of the keys' texts, and counts them; NULL where memory is refused. */
+static yaml_char_t *more_key_text(yaml_parser_t *parser, size_t length)
+{
+    struct kept *kept = kept_of(parser);
+    struct rooms rooms = kept->rooms;
+
+    if (length > rooms.key_texts - kept->key_texts_length) {
+        rooms.key_texts = FIRST_ROOM(2) * (kept->key_texts_length + length);
+        if (!make_room(parser, &rooms))
+            return NULL;
+        kept = kept_of(parser);
+    }
+    kept->key_texts_length += length;
+    return texts_of_keys(kept) + kept->key_texts_length - length;
+}
+
+/* Puts what stands for a scalar as a key to the end of the keys' texts, and its length; 0 where memory is refused. */
+static int put_scalar(yaml_parser_t *parser, const pokhvizi_event_t *made, const yaml_token_t *token, const struct held *held, size_t *length)
+{
+    static const char string[] = YAML_DEFAULT_SCALAR_TAG;
+    int is_empty = token == NULL || token->type != YAML_SCALAR_TOKEN;
+    const yaml_char_t *text = is_empty ? (const yaml_char_t *)"" : token->data.scalar.value;
+    size_t text_length = is_empty ? 0 : token->data.scalar.length, tag_length = 0;
+    yaml_char_t kind = made->implicit && !is_string(text, text_length) ? OPEN : STRING, *to;
+
+    if (made->has_tag && !made->implicit && strcmp((const char *)held->tag, string) != 0) {
+        kind = TAGGED;
+        tag_length = strlen((const char *)held->tag) + 1;
+    }
+    *length = 1 + tag_length + text_length;
+    if ((to = more_key_text(parser, *length)) == NULL)
+        return 0;
+    *to = kind;
+    if (tag_length > 0)
+        memcpy(to + 1, held->tag, tag_length);
+    memcpy(to + 1 + tag_length, text, text_length);
+    return 1;
+}
+
+/* The same of an alias, or of a collection by its number. */
+static int put_other(yaml_parser_t *parser, const yaml_token_t *alias, int32_t node, size_t *length)
+{
+    const struct name *name = alias == NULL ? NULL : scalar_of_alias(parser, alias);
+    size_t from = name == NULL ? 0 : name->key;
+    yaml_char_t *to;
+
+    *length = name == NULL ? 1 + sizeof node : name->key_length;
+    if ((to = more_key_text(parser, *length)) == NULL)
+        return 0;
+    if (name != NULL) {
+        memcpy(to, texts_of_names(kept_of(parser)) + from, *length);
+    } else {
+        *to = COLLECTION;
+        memcpy(to + 1, &node, sizeof node);
+    }
+    return 1;
+}
+
+/* The hash of what stands for a key, and of its mapping. */
+static uint32_t hash_of_key(yaml_parser_t *parser, const yaml_char_t *text, size_t length, int32_t mapping)
+{
+    uint32_t key = key_of(parser);
+    uint64_t hash = (uint32_t)mapping;
+
+    for (size_t i = 0; i < length; i++)
+        hash = with_number(hash, text[i], key);
+    return mixed(hash);
+}
+
+/* Adds the key that the last bytes stand for, so many, to those of its mapping; 0 where memory is refused, or it is there already: then the
+ * mark of that one is the context's. */
+static int add_key(yaml_parser_t *parser, int32_t mapping, size_t length, const pokhvizi_event_t *made)
+{
+    struct kept *kept = kept_of(parser);
+    struct rooms rooms = kept->rooms;
+    struct key key = {.text = kept->key_texts_length - length, .length = length, .mapping = mapping};
+    size_t *place;
+
+    if (kept->keys_count == rooms.keys) {
+        rooms.keys = rooms.keys == 0 ? FIRST_ROOM(8) : 2 * rooms.keys;
+        if (!make_room(parser, &rooms))
+            return out_of_memory(parser);
+        kept = kept_of(parser);
+    }
+    key.hash = hash_of_key(parser, texts_of_keys(kept) + key.text, length, mapping);
+    memcpy(&key.mark, &made->start_mark, sizeof key.mark);
+    place = place_of_key(kept, &key);
+    if (*place != 0) {
+        parser->problem = "found duplicate key";
+        parser->problem_mark = key.mark;
+        parser->context = "first occurrence";
+        parser->context_mark = keys_of(kept)[*place - 1].mark;
+        return 0;
+    }
+    keys_of(kept)[kept->keys_count++] = key;
+    *place = kept->keys_count;
+    return 1;
+}
+
+/* Forgets the keys of a mapping that ends. They are the last, and each has the place in the table that it was given, so none that is
+ * left is found by going over it. */
+static void forget_keys(struct kept *kept, int32_t mapping)
+{
+    while (kept->keys_count > 0 && keys_of(kept)[kept->keys_count - 1].mapping == mapping) {
+        const struct key *key = &keys_of(kept)[kept->keys_count - 1];
+        *place_of_key(kept, key) = 0;
+        kept->key_texts_length = key->text;
+        kept->keys_count--;
+    }
+}
+
+/* Begins a document whose events are counted or whose keys have to differ. */
+static void forget_names(struct kept *kept)
+{
+    kept->document++;
+    kept->names_count = kept->texts_length = kept->keys_count = kept->key_texts_length = 0;
+    memset(table_of_keys(kept), 0, 2 * kept->rooms.keys * sizeof(size_t));
+}
+
+/* Looks at the keys that an event that is composed adds or ends, and keeps what stands for a scalar with an anchor; 0 where memory is
+ * refused, or a key comes twice, of which all is told but the kind of error. An alias is the node that it names. */
+APART int look_at_keys(yaml_parser_t *parser, uint32_t deed, const pokhvizi_place_t *place, const pokhvizi_event_t *made,
+                       const yaml_token_t *token, const struct held *held)
+{
+    int is_scalar = made->kind == YAML_SCALAR_EVENT, is_alias = made->kind == YAML_ALIAS_EVENT;
+    size_t length = 0;
+
+    if (deed == POKHVIZI_CLOSES)
+        forget_keys(kept_of(parser), place->parent);
+    if (is_alias ? deed != POKHVIZI_KEY : deed < POKHVIZI_ROOT || deed > POKHVIZI_VALUE)
+        return 1;
+    if (is_scalar && (deed == POKHVIZI_KEY || made->has_anchor) && !put_scalar(parser, made, token, held, &length))
+        return out_of_memory(parser);
+    if (made->has_anchor && !name_node(parser, held->anchor, place->node, length))
+        return out_of_memory(parser);
+    if (deed == POKHVIZI_KEY)
+        return (is_scalar || put_other(parser, is_alias ? token : NULL, place->child, &length) || out_of_memory(parser)) &&
+               add_key(parser, place->parent, length, made);
+    kept_of(parser)->key_texts_length -= length;
+    return 1;
+}
+
+/* Counts an event whose nodes are bounded, or of which keys have to differ, in the words of a load where it is one too many; 0 where
+ * there is an error. Other errors of composers are the caller's: an anchor names the last node that has it, and an alias without one no
+ * node. */
 APART int count_event(yaml_parser_t *parser, const pokhvizi_event_t *made, const yaml_token_t *token, const struct held *held)
 {
     struct kept *kept = kept_of(parser);
     const yaml_char_t *anchor = anchor_of_made(made, token, held);
     int32_t node = made->kind == YAML_ALIAS_EVENT ? named_node(parser, anchor) : 0;
-    int is_lost = made->kind == YAML_ALIAS_EVENT && node == 0;
+    int is_lost = made->kind == YAML_ALIAS_EVENT && node == 0, has_unique_keys = kept->bounds.unique_keys;
     pokhvizi_place_t place = {0, 0, 0, 0};
     uint32_t deed;
 
     if (made->kind == YAML_DOCUMENT_START_EVENT) {
         pokhvizi_composer_new(&kept->composer, (uint32_t)kept->bounds.nodes);
         pokhvizi_size_new(&kept->size, kept->bounds.expanded);
-        kept->document++;
-        kept->names_count = kept->texts_length = 0;
+        forget_names(kept);
     }
     deed = compose_event(parser, made->kind, is_lost ? INT32_MAX : node, &place);
     if (kept_of(parser)->bounds.expanded < ANY_EXPANDED && !is_lost && deed <= POKHVIZI_CLOSES)
@@ -770,7 +1025,14 @@ APART int count_event(yaml_parser_t *parser, const pokhvizi_event_t *made, const
             kept_of(parser)->name = anchor;
         return 0;
     }
-    return !made->has_anchor || place.node == 0 || name_node(parser, anchor, place.node) || out_of_memory(parser);
+    if (has_unique_keys && !is_lost) {
+        if (look_at_keys(parser, deed, &place, made, token, held))
+            return 1;
+        if (parser->error == YAML_NO_ERROR)
+            parser->error = YAML_PARSER_ERROR;
+        return 0;
+    }
+    return !made->has_anchor || place.node == 0 || name_node(parser, anchor, place.node, 0) || out_of_memory(parser);
 }
 
 /* ---- The next event ---- */

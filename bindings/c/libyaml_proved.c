@@ -19,8 +19,10 @@
  * counts for that, and keeps the anchors of its document. With the third, an alias within the node that it names is such an error,
  * "found an alias within the node that it names". A name that begins so and is unknown ends the program, like a bound that is no number.
  *
- * With POKHVIZI_UNIQUE_KEYS=1 a load refuses a key that its mapping has: the same node, or a scalar of the same tag and text, both
- * plain or neither. That is the composer error "found duplicate key", with the mark of the first, "first occurrence".
+ * With POKHVIZI_UNIQUE_KEYS=1 a key that its mapping has is refused: the same node, or a scalar of the same tag and text, where an alias
+ * is the node that it names. A scalar without a tag is a string if it is quoted, or if it is plain and no loader takes it for anything
+ * else (is_string); other plain scalars are the same among themselves alone. That is the error "found duplicate key", a composer error of
+ * a load, a parser error of a parse, with the mark of the first, "first occurrence".
  *
  * Events and errors are libyaml's. With POKHVIZI_FIXES=1 in the environment they are those of this project's own grammar, which
  * differs at three places (docs/DIFFERENCES.md). */
@@ -93,7 +95,7 @@ __attribute__((constructor)) SELDOM void read_environment(void)
 
     if (is_read)
         return;
-    bounds = (struct bounds){ANY_DEPTH, ANY_NODES, ANY_EXPANDED};
+    bounds = (struct bounds){ANY_DEPTH, ANY_NODES, ANY_EXPANDED, 0};
     is_read = 1;
     /* A set-user-ID program may have been started by anyone, with any environment. */
     if (getauxval(AT_SECURE))
@@ -105,6 +107,7 @@ __attribute__((constructor)) SELDOM void read_environment(void)
     bounds.depth = bound_of("POKHVIZI_MAX_DEPTH", ANY_DEPTH);
     bounds.nodes = bound_of("POKHVIZI_MAX_NODES", ANY_NODES);
     bounds.expanded = bound_of("POKHVIZI_MAX_EXPANDED", ANY_EXPANDED);
+    bounds.unique_keys = has_unique_keys;
 }
 
 /* The version of Pokhvizi, which a program finds by this name where libyaml is this one. */
@@ -231,14 +234,8 @@ struct carrier {
     int32_t node;
 };
 
-/* A key's node, in a table where it has a place by a hash of its mapping and itself; the place of node 0 is free. */
-struct key {
-    int32_t mapping, node;
-    uint32_t hash;
-};
-
-/* What is kept while a document is composed. Its first stack and its first sizes are its own. The tables have places for twice as
- * many anchors or keys as there are, and a power of two, or none. */
+/* What is kept while a document is composed. Its first stack and its first sizes are its own. The table has places for twice as
+ * many anchors as there are, and a power of two, or none. */
 struct loading {
     pokhvizi_composer_t composer;
     pokhvizi_open_t first[FIRST_ROOM(24)];
@@ -246,8 +243,6 @@ struct loading {
     size_t stack_room;
     struct carrier *carriers;
     size_t carriers_count, carriers_room;
-    struct key *keys;
-    size_t keys_count, keys_room;
     pokhvizi_size_t size;
     uint64_t first_sizes[FIRST_ROOM(24)];
     uint64_t *sizes;
@@ -343,8 +338,6 @@ static void begin_loading(struct loading *loading)
     loading->stack_room = sizeof loading->first / sizeof *loading->first;
     loading->carriers = NULL;
     loading->carriers_count = loading->carriers_room = 0;
-    loading->keys = NULL;
-    loading->keys_count = loading->keys_room = 0;
     pokhvizi_size_new(&loading->size, bounds.expanded);
     loading->sizes = loading->first_sizes;
     loading->sizes_room = sizeof loading->first_sizes / sizeof *loading->first_sizes;
@@ -359,7 +352,6 @@ static void end_loading(struct loading *loading)
     for (size_t i = 0; i < loading->carriers_room; i++)
         free(loading->carriers[i].anchor);
     free(loading->carriers);
-    free(loading->keys);
 }
 
 /* ---- Documents ---- */
@@ -481,91 +473,16 @@ OFTEN int put(yaml_parser_t *parser, struct loading *loading, uint32_t deed, con
     return 1;
 }
 
-/* ---- Keys ---- */
-
-static int is_same_key(const yaml_node_t *one, const yaml_node_t *other)
-{
-    return one == other ||
-           (one->type == YAML_SCALAR_NODE && other->type == YAML_SCALAR_NODE &&
-            (one->data.scalar.style == YAML_PLAIN_SCALAR_STYLE) == (other->data.scalar.style == YAML_PLAIN_SCALAR_STYLE) &&
-            one->data.scalar.length == other->data.scalar.length &&
-            memcmp(one->data.scalar.value, other->data.scalar.value, one->data.scalar.length) == 0 &&
-            strcmp((const char *)one->tag, (const char *)other->tag) == 0);
-}
-
-/* A scalar's hash is that of its text, any other node's that of its id. */
-static uint32_t hash_of_key(yaml_parser_t *parser, const yaml_document_t *document, const pokhvizi_place_t *place)
-{
-    const yaml_node_t *node = node_of(document, place->child);
-    uint32_t key = key_of(parser);
-    uint64_t hash = (uint32_t)place->parent;
-
-    if (node->type != YAML_SCALAR_NODE)
-        return mixed(with_number(hash, (uint32_t)place->child, key));
-    for (const yaml_char_t *tag = node->tag; *tag != '\0'; tag++)
-        hash = with_number(hash, *tag, key);
-    for (size_t i = 0; i < node->data.scalar.length; i++)
-        hash = with_number(hash, node->data.scalar.value[i], key);
-    return mixed(hash);
-}
-
-/* The place of a mapping's key, or the one that is free for it. */
-static struct key *place_of_key(const struct loading *loading, const yaml_document_t *document, const struct key *key)
-{
-    size_t last = loading->keys_room - 1, at = key->hash & last;
-    struct key *keys = loading->keys;
-
-    while (keys[at].node != 0 &&
-           (keys[at].hash != key->hash || keys[at].mapping != key->mapping ||
-            !is_same_key(node_of(document, keys[at].node), node_of(document, key->node))))
-        at = (at + 1) & last;
-    return &keys[at];
-}
-
-static int grow_keys(struct loading *loading, const yaml_document_t *document)
-{
-    size_t old_room = loading->keys_room, room = old_room == 0 ? 2 * FIRST_ROOM(8) : 2 * old_room;
-    struct key *old = loading->keys, *made = calloc(room, sizeof *made);
-
-    if (made == NULL)
-        return 0;
-    loading->keys = made;
-    loading->keys_room = room;
-    for (size_t i = 0; i < old_room; i++)
-        if (old[i].node != 0)
-            *place_of_key(loading, document, &old[i]) = old[i];
-    free(old);
-    return 1;
-}
-
-/* Adds a key to those of its mapping; 0 where it is there already, which is an error, or memory is refused. */
-static int add_key(yaml_parser_t *parser, struct loading *loading, const pokhvizi_place_t *place, const pokhvizi_event_t *made,
-                   const yaml_document_t *document)
-{
-    struct key key = {place->parent, place->child, hash_of_key(parser, document, place)}, *at;
-
-    if (2 * loading->keys_count == loading->keys_room && !grow_keys(loading, document))
-        return 0;
-    at = place_of_key(loading, document, &key);
-    if (at->node != 0) {
-        parser->error = YAML_COMPOSER_ERROR;
-        parser->problem = "found duplicate key";
-        memcpy(&parser->problem_mark, &made->start_mark, sizeof parser->problem_mark);
-        parser->context = "first occurrence";
-        parser->context_mark = node_of(document, at->node)->start_mark;
-        return 0;
-    }
-    *at = key;
-    loading->keys_count++;
-    return 1;
-}
-
 /* Puts the node or alias of an event at its place, where keys may have to differ; 0 where there is an error, or memory is refused. */
 APART int put_checked(yaml_parser_t *parser, struct loading *loading, uint32_t deed, const pokhvizi_place_t *place,
                       const pokhvizi_event_t *made, yaml_token_t *token, struct held *held, yaml_document_t *document)
 {
-    return put(parser, loading, deed, place, made, token, held, document) &&
-           (deed != POKHVIZI_KEY || !has_unique_keys || add_key(parser, loading, place, made, document));
+    if (has_unique_keys && !look_at_keys(parser, deed, place, made, token, held)) {
+        if (parser->error == YAML_NO_ERROR)
+            parser->error = YAML_COMPOSER_ERROR;
+        return 0;
+    }
+    return put(parser, loading, deed, place, made, token, held, document);
 }
 
 /* ---- Events of documents ---- */
@@ -636,6 +553,7 @@ SELDOM int follow_event(yaml_parser_t *parser, uint32_t deed, int32_t fact, cons
 {
     switch (deed) {
     case POKHVIZI_BEGINS:
+        forget_names(kept_of(parser));
         return begin_document(parser, made, held, document) || out_of_memory(parser);
     case POKHVIZI_ENDS:
         document->end_implicit = made->implicit;
@@ -713,6 +631,8 @@ OFTEN int load(yaml_parser_t *parser, struct loading *loading, struct held *held
                 return stop(parser);
         } else if (deed == POKHVIZI_CLOSES) {
             memcpy(&node_of(document, place.parent)->end_mark, &made.end_mark, sizeof(yaml_mark_t));
+            if (is_checked)
+                forget_keys(kept_of(parser), place.parent);
         } else {
             if (!follow_event(parser, deed, fact, &made, given, held, document))
                 return 0;
@@ -782,15 +702,14 @@ __attribute__((visibility("default"))) int yaml_parser_load(yaml_parser_t *parse
         loaded = out_of_memory(parser);
     else if (!take_left(parser))
         loaded = 0;
-    else
-        loaded = (bounds.expanded == ANY_EXPANDED && !has_unique_keys ? load_unchecked : load_checked)(parser, &loading, &held, document);
-    forget(&held);
-    if (!loaded) {
-        yaml_document_delete(document);
+    else if (!(loaded = (bounds.expanded == ANY_EXPANDED && !has_unique_keys ? load_unchecked : load_checked)(parser, &loading, &held,
+                                                                                                                 document)))
         leave_fault(parser, &loading);
-    } else if (!has_stopped(parser)) {
+    forget(&held);
+    if (!loaded)
+        yaml_document_delete(document);
+    else if (!has_stopped(parser))
         parser->state = state_of(kept_of(parser), 0);
-    }
     end_loading(&loading);
     return loaded;
 }

@@ -33,7 +33,7 @@
 #     bounds             bounds on depth, on nodes and on nodes with aliases written out, over 2,000 drawn texts: in C, by the crate,
 #                        by the C loaders of bindings/python and by those in Python each refuses the same token or event, in the same
 #                        words; SEED is another draw
-#     unique_keys        loads of 20,000 drawn texts where keys have to differ, in C and by the crate, beside a walk over
+#     unique_keys        events and nodes of 20,000 drawn texts where keys have to differ, in C and by the crate, beside a walk over
 #                        PyYAML's events; SEED is another draw
 #     errors             what is told of an error beside its words, over 40,000 drawn texts, by the crate, by the C loaders of
 #                        bindings/python, and in C, also with the fixes; SEED is another draw
@@ -423,26 +423,31 @@ bounds() {
     echo "2000 texts within 23 choices of bounds, by events and nodes, at each door: $1 times too many levels, $2 too many nodes, $3 too many with aliases written out, $4 an alias within its own node, $5 none of these"
 }
 
-# Loads of drawn texts where keys have to differ. Texts with other marks, and loads without, are seen.
+# Drawn texts where keys have to differ, parsed and loaded. Texts with other marks, and what is read without, are seen.
 unique_keys() {
     build_bounds bounds '' || return 1
     mkdir -p "$work/keys"
     "$python" "$lists/unique_keys.py" write "$work/keys" 20000 "${SEED:-1}" > "$work/keys_names" || return 1
-    LD_LIBRARY_PATH=$proved "$work/events" nodes < "$work/keys_names" > "$work/keys_free" 2> "$work/count" &&
-        LD_LIBRARY_PATH=$proved POKHVIZI_UNIQUE_KEYS=1 "$work/events" nodes < "$work/keys_names" > "$work/keys_c" 2> "$work/count" &&
-        "$CARGO_TARGET_DIR/release/bounds" nodes - - - < "$work/keys_names" > "$work/keys_free_rust" &&
-        "$CARGO_TARGET_DIR/release/bounds" unique_nodes - - - < "$work/keys_names" > "$work/keys_rust" || return 1
-    for turned in "$work/keys_c --turned" "$work/keys_free"; do
-        # shellcheck disable=SC2086
-        if "$python" "$lists/unique_keys.py" compare "$work/keys_free" $turned < "$work/keys_names" > "$work/count" 2>&1; then
-            echo "what is turned passes: $turned"
-            return 1
-        fi
+    told=
+    for what in events nodes; do
+        LD_LIBRARY_PATH=$proved "$work/events" "$(echo $what | sed s/events/files/)" < "$work/keys_names" > "$work/keys_free" 2> "$work/count" &&
+            LD_LIBRARY_PATH=$proved POKHVIZI_UNIQUE_KEYS=1 "$work/events" "$(echo $what | sed s/events/files/)" < "$work/keys_names" \
+                > "$work/keys_c" 2> "$work/count" &&
+            "$CARGO_TARGET_DIR/release/bounds" $what - - - < "$work/keys_names" > "$work/keys_free_rust" &&
+            "$CARGO_TARGET_DIR/release/bounds" unique_$what - - - < "$work/keys_names" > "$work/keys_rust" || return 1
+        for turned in "$work/keys_c --turned" "$work/keys_free"; do
+            # shellcheck disable=SC2086
+            if "$python" "$lists/unique_keys.py" compare $what "$work/keys_free" $turned < "$work/keys_names" > "$work/count" 2>&1; then
+                echo "what is turned passes: $turned"
+                return 1
+            fi
+        done
+        said=$("$python" "$lists/unique_keys.py" compare $what "$work/keys_free" "$work/keys_c" < "$work/keys_names") || return 1
+        "$python" "$lists/unique_keys.py" compare $what "$work/keys_free_rust" "$work/keys_rust" < "$work/keys_names" > "$work/count" || return 1
+        [ "$(cat "$work/count")" = "$said" ] && [ "${said% *}" -gt 1000 ] || { echo "in C $said, by the crate $(cat "$work/count")"; return 1; }
+        told="$told, by $what ${said% *}"
     done
-    said=$("$python" "$lists/unique_keys.py" compare "$work/keys_free" "$work/keys_c" < "$work/keys_names") || return 1
-    "$python" "$lists/unique_keys.py" compare "$work/keys_free_rust" "$work/keys_rust" < "$work/keys_names" > "$work/count" || return 1
-    [ "$(cat "$work/count")" = "$said" ] && [ "${said% *}" -gt 1000 ] || { echo "in C $said, by the crate $(cat "$work/count")"; return 1; }
-    echo "of $(wc -l < "$work/keys_names") texts ${said% *} have a key twice"
+    echo "of $(wc -l < "$work/keys_names") texts have a key twice$told"
 }
 
 # What is told of the errors of drawn texts, by the crate, by the C loaders for Python, and in C, which tells names alone. With the

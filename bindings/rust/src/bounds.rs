@@ -35,8 +35,13 @@ pub fn set_max_expanded(nodes: u64) {
     EXPANDED.store(nodes, Relaxed);
 }
 
-/// Sets whether a load refuses a key that its mapping has: the same node, or a scalar of the same tag and text, both plain or neither.
-/// It is the composer's fault `found duplicate key`, with the mark of the `first occurrence`.
+/// Sets whether a key that its mapping has is refused: the same node, or a scalar of the same tag and text, where an alias is the node
+/// that it names. It is the fault `found duplicate key`, with the mark of the `first occurrence`: the composer's of a load, the parser's
+/// of a parse.
+///
+/// A scalar without a tag is a string if it is quoted, or if it is plain and no loader takes it for anything else: `a` and `"a"` are the
+/// same key. Other plain scalars (numbers, dates, words such as `yes` and `null`, `<<`) are the same among themselves alone: `1` and `"1"`
+/// differ.
 pub fn set_unique_keys(are_unique: bool) {
     UNIQUE_KEYS.store(are_unique, Relaxed);
 }

@@ -7,8 +7,9 @@ use crate::expansion::Expansion;
 use crate::fault::Fault;
 use crate::keys::Keys;
 use crate::memory::Text;
+use crate::steps::Shape;
 use crate::tokens::Token;
-use original::yaml_node_t;
+use original::yaml_mark_t;
 use std::collections::HashMap;
 
 pub type Place = place_t;
@@ -84,6 +85,8 @@ pub enum Child {
 pub enum Refusal {
     /// The call's number, and the node that carries the anchor, where one does.
     Deed(u32, Option<i32>),
+    /// The mark of the key that is there already.
+    Key(yaml_mark_t),
     /// No memory.
     Fault(Fault),
 }
@@ -195,17 +198,23 @@ impl Composer {
         }
     }
 
-    /// Whether there is a bound on nodes.
+    /// Whether there is a bound on nodes, or keys have to differ.
     #[inline]
     pub fn is_bounded(&self) -> bool {
-        self.max_nodes < i32::MAX as u32 || self.max_expanded.is_some()
+        self.max_nodes < i32::MAX as u32 || self.max_expanded.is_some() || self.has_unique_keys
     }
 
-    /// Counts an event by its kind and the anchor of its node or alias, that is no part of a load. Other refusals of a load are the
-    /// caller's: an anchor names the last node that has it, and an alias without one no node.
+    /// Counts an event by its shape and the anchor of its node or alias, that is no part of a load, and looks at its keys. Other refusals of
+    /// a load are the caller's: an anchor names the last node that has it, and an alias without one no node.
     #[cold]
-    pub fn count(&mut self, kind: u8, anchor: Option<&[u8]>) -> Result<(), Refusal> {
-        let mut place = NO_PLACE;
+    pub unsafe fn count(
+        &mut self,
+        shape: &Shape,
+        anchor: Option<&[u8]>,
+        token: Option<&Token>,
+        held: &Held,
+    ) -> Result<(), Refusal> {
+        let (mut place, kind) = (NO_PLACE, shape.kind);
         if kind == 3 {
             self.forget_anchors();
             self.begin();
@@ -218,10 +227,12 @@ impl Composer {
                 deed?;
             }
             (5, node) => {
-                self.compose(kind, node, &mut place)?;
+                let deed = self.compose(kind, node, &mut place)?;
+                self.look_at_keys(deed, &place, shape, token, held)?;
             }
             _ => {
-                self.compose(kind, 0, &mut place)?;
+                let deed = self.compose(kind, 0, &mut place)?;
+                self.look_at_keys(deed, &place, shape, token, held)?;
                 if let Some(anchor) = anchor.filter(|_| place.node != 0) {
                     self.carry(Text::copy(anchor), place.node);
                 }
@@ -230,11 +241,27 @@ impl Composer {
         Ok(())
     }
 
-    /// Adds a key to those of its mapping, and returns the node of the one that is there.
-    #[cold]
-    pub unsafe fn add_key(&mut self, place: &Place, node: &yaml_node_t) -> Option<i32> {
-        let keys = self.checks.as_mut()?.keys.as_mut()?;
-        keys.add(place.parent, place.child, node)
+    /// Looks at the keys of what was composed, if they have to differ.
+    ///
+    /// # Errors
+    ///
+    /// Its mapping has the key.
+    #[inline]
+    pub unsafe fn look_at_keys(
+        &mut self,
+        deed: Deed,
+        place: &Place,
+        shape: &Shape,
+        token: Option<&Token>,
+        held: &Held,
+    ) -> Result<(), Refusal> {
+        let Some(keys) = self.checks.as_mut().and_then(|checks| checks.keys.as_mut()) else {
+            return Ok(());
+        };
+        match keys.look(deed, place, shape, token, held) {
+            Some(first) => Err(Refusal::Key(first)),
+            None => Ok(()),
+        }
     }
 
     /// Makes a node the carrier of its anchor.

@@ -186,19 +186,21 @@ unsafe fn endless_name(loads: bool) -> String {
     name
 }
 
-/// A load refuses a key that its mapping has. Each row is a text, how many documents there are, and the fault.
+/// A key that its mapping has is refused. Each row is a text, how many documents a load gives, how many events a parse, and the fault.
 fn keys_differ() {
     let twice = "found duplicate key";
     bounds::set_max_expanded(u64::MAX);
-    for (text, count, fault) in [
-        ("{a: 1, b: 1, a: 2}", 0, format!("{twice} 13")),
-        ("{a: 1, 'a': 2}", 1, String::new()),
-        ("1: a\n!!str 1: b", 0, format!("{twice} 5")),
-        ("[{&x [k]: 1}, {*x : 1, *x : 2}]", 0, format!("{twice} 23")),
-        ("a: {a: {a: 1}}\nb: {a: 1}\n---\na: 1\n", 2, String::new()),
+    for (text, documents, events, fault) in [
+        ("{a: 1, b: 1, a: 2}", 0, 7, format!("{twice} 13")),
+        ("{a: 1, 'a': 2}", 0, 5, format!("{twice} 7")),
+        ("1: a\n!!str 1: b", 1, 10, String::new()),
+        ("[{&x [k]: 1}, {*x : 1, *x : 2}]", 0, 13, format!("{twice} 23")),
+        ("{&x 'k': 1, a: {k: 1, *x : 2}}", 0, 9, format!("{twice} 22")),
+        ("a: {a: {a: 1}}\nb: {a: 1}\n---\na: 1\n", 2, 22, String::new()),
     ] {
         bounds::set_unique_keys(true);
-        assert_eq!(unsafe { told(text, true) }, (count, fault), "{text}");
+        assert_eq!(unsafe { told(text, true) }, (documents, fault.clone()), "{text}");
+        assert_eq!(unsafe { told(text, false) }, (events, fault), "{text}");
         bounds::set_unique_keys(false);
         assert_eq!(unsafe { told(text, true) }.1, "", "{text}");
     }

@@ -1,10 +1,10 @@
 //! Reads files within bounds, those that lines of standard input name where no words do, and prints the kinds and marks of `events` or
 //! `nodes`, or how many there are, and the fault, in lines that begin as those of events.c:
 //!
-//!     bounds events|nodes|unique_nodes DEPTH NODES EXPANDED < NAMES
+//!     bounds events|nodes|unique_events|unique_nodes DEPTH NODES EXPANDED < NAMES
 //!     bounds count_events|count_nodes DEPTH NODES EXPANDED NAME..
 //!
-//! DEPTH, NODES and EXPANDED are numbers, or `-` if there is no such bound. Keys of `unique_nodes` have to differ. Run by clients.sh and hostile_texts.py.
+//! DEPTH, NODES and EXPANDED are numbers, or `-` if there is no such bound. Keys of the last two have to differ. Run by clients.sh and hostile_texts.py.
 
 use std::ffi::{c_char, CStr};
 use std::mem::MaybeUninit;
@@ -94,7 +94,7 @@ fn main() -> io::Result<()> {
     if let Ok(nodes) = words[3].parse() {
         bounds::set_max_expanded(nodes);
     }
-    bounds::set_unique_keys(words[0] == "unique_nodes");
+    bounds::set_unique_keys(words[0].starts_with("unique_"));
     let (loads, tells) = (words[0].ends_with("nodes"), !words[0].starts_with("count"));
     let names = match tells {
         true => io::stdin().lines().collect::<Result<_, _>>()?,

@@ -1,6 +1,10 @@
 """Draws nodes whose keys often come twice, for unique.py and clients/unique_keys.py."""
 
 KEYS = ["a", "b", "'a'", "1", "!!str 1", "[a]", "true", '"b"', "!t a", "{a: 1, a: 2}", "{a: b}", "c", "d", "e", "f", "<<"]
+# scalars that loaders may take for something else than a string, or that look so
+OPEN = ["1", "'1'", "! '1'", "yes", '"yes"', "Null", "'Null'", "~", "'~'", "''", "!!str", "3rd", "'3rd'", "-f", "'-f'", "0x1F", "'0x1F'",
+        "1e3", '"1e3"', "+.INF", "'+.INF'", "2001-01-01", "'2001-01-01'", "!!int 1", "!!str a", "12:30", "'12:30'", "-", "=", "'='", ".", "'.'",
+        "never", "'never'", "nULl x", "'nULl x'", "1,2", "-.", "'-.'", "0o7", "'0o7'", "<", "'<'", "^", "'^'", "\"a\\0\"", "\"1\\0\""]
 
 
 def small(random_, anchors):

@@ -5,7 +5,7 @@
 
 int begin_events(parser_object *parser)
 {
-    const struct bounds bounds = {parser->max_depth, parser->max_nodes, parser->max_expanded};
+    const struct bounds bounds = {parser->max_depth, parser->max_nodes, parser->max_expanded, 0};
 
     if (begin(&parser->scanner, &bounds, parser->has_fixes))
         return 0;
