@@ -51,6 +51,8 @@ const DERIVES: [&str; 9] = [
 /// Derived by the prover's compiler alone.
 const OWN_DERIVES: [&str; 2] = ["Drop", "Error"];
 const MACROS: [&str; 5] = ["ascii_set", "matches", "unreachable", "write", "writeln"];
+/// Words after which a `!` stands that is `not`.
+const BEFORE_NOT: [&str; 7] = ["break", "if", "in", "match", "move", "return", "while"];
 /// The modules of `std` whose items are those of `kit`, and those that are modules of it.
 const KIT: [&str; 4] = ["alloc", "collections", "marker", "vec"];
 const WITHIN_KIT: [&str; 5] = ["env", "io", "process", "rt", "simd"];
@@ -120,6 +122,15 @@ fn quoted(text: &str, quote: char) -> Option<usize> {
     None
 }
 
+/// How many bytes a character or a lifetime has that `text` begins with; of a character without an end its quote alone.
+fn character(text: &str) -> usize {
+    let named = text[1..].find(|c| !is_of_word(c)).unwrap_or(text.len() - 1);
+    match named > 0 && !text[1 + named..].starts_with('\'') {
+        true => 1 + named,
+        false => quoted(text, '\'').unwrap_or(1),
+    }
+}
+
 fn is_of_word(c: char) -> bool {
     c.is_alphanumeric() || c == '_'
 }
@@ -137,10 +148,10 @@ fn pieces(text: &str) -> Result<Vec<Piece<'_>>, Unknown> {
                 Kind::Space,
                 Some(rest.find(|c: char| !c.is_whitespace()).unwrap_or(rest.len())),
             )
-        } else if rest.starts_with("r\"")
-            || rest.starts_with("r#")
-            || rest.starts_with("br\"")
-            || rest.starts_with("br#")
+        } else if ["r", "br", "cr"]
+            .iter()
+            .filter_map(|before| rest.strip_prefix(before))
+            .any(|rest| rest.starts_with(['"', '#']))
         {
             return unknown(line, "a raw string or name");
         } else if c == '"' || rest.starts_with("b\"") || rest.starts_with("c\"") {
@@ -150,11 +161,7 @@ fn pieces(text: &str) -> Result<Vec<Piece<'_>>, Unknown> {
                 quoted(&rest[before..], '"').map(|length| length + before),
             )
         } else if c == '\'' {
-            let named = rest[1..].find(|c| !is_of_word(c)).unwrap_or(rest.len() - 1);
-            match named > 0 && !rest[1 + named..].starts_with('\'') {
-                true => (Kind::Value, Some(1 + named)),
-                false => (Kind::Value, quoted(rest, '\'')),
-            }
+            (Kind::Value, Some(character(rest)).filter(|&length| length > 1))
         } else if rest.starts_with("b'") {
             (Kind::Value, quoted(&rest[1..], '\'').map(|length| length + 1))
         } else if c.is_ascii_digit() {
@@ -205,6 +212,7 @@ fn without_ghosts(text: &str) -> Result<String, Unknown> {
         let (length, is_kept) = match &rest[..word] {
             _ if rest.starts_with("//") || rest.starts_with("/*") => (comment(rest), true),
             _ if c == '"' => (quoted(rest, '"'), true),
+            _ if c == '\'' => (Some(character(rest)), true),
             "ghost" => {
                 if !is_start || is_head {
                     return unknown(line, "a ghost item that isn't on a line of its own");
@@ -276,7 +284,7 @@ fn is_balanced(text: &str) -> bool {
         && text.matches('[').count() == text.matches(']').count()
 }
 
-/// How many bytes a block has that `text` begins with. It has no comments and no characters in quotes.
+/// How many bytes a block has that `text` begins with. It has no comments, Rust's or the prover's (`--`), and no characters in quotes.
 fn block_end(text: &str) -> Option<usize> {
     let (mut depth, mut behind) = (0usize, 0);
     for (place, c) in text.char_indices() {
@@ -287,6 +295,7 @@ fn block_end(text: &str) -> Option<usize> {
             '"' => behind = place + quoted(&text[place..], '"')?,
             '\'' => return None,
             '/' if text[place..].starts_with("//") || text[place..].starts_with("/*") => return None,
+            '-' if text[place..].starts_with("--") => return None,
             _ => {}
         }
         if depth == 0 {
@@ -359,7 +368,9 @@ struct Writer<'a, 'b> {
     /// An enum of errors, and its variants.
     error: Option<(&'b str, Vec<Variant<'b>>)>,
     is_error: bool,
+    /// Within an `impl Drop`, and within its `drop`.
     is_drop: bool,
+    is_dropping: bool,
 }
 
 impl<'b> Writer<'_, 'b> {
@@ -383,6 +394,36 @@ impl<'b> Writer<'_, 'b> {
             .clone()
             .find(|piece| piece.kind != Kind::Space)
             .map_or("", |piece| piece.text)
+    }
+
+    /// Whether the `+` here is one of a type's bounds: of parameters after `<`, of a `where`, a `trait`, a `type` or an `impl`, with
+    /// nothing but names, paths and `<..>` between.
+    fn is_bound(&self) -> bool {
+        let earlier: Vec<&str> = self.pieces[..self.place]
+            .iter()
+            .rev()
+            .filter(|piece| piece.kind != Kind::Space)
+            .map(|piece| piece.text)
+            .collect();
+        let mut depth = 0usize;
+        for (n, text) in earlier.iter().enumerate() {
+            let after = |n: usize| earlier.get(n).copied().unwrap_or("");
+            match *text {
+                ">" if after(n + 1) == "-" => return false,
+                ">" => depth += 1,
+                "<" if depth == 0 => {
+                    let items = ["fn", "struct", "enum", "trait", "type"];
+                    return after(n + 1) == "impl" || items.contains(&after(n + 2));
+                }
+                "<" => depth -= 1,
+                _ if depth > 0 => {}
+                "where" | "trait" | "type" | "impl" => return true,
+                ":" | "," | "+" | "?" => {}
+                name if name.starts_with(|c| is_of_word(c) || c == '\'') => {}
+                _ => return false,
+            }
+        }
+        false
     }
 
     fn line(&self) -> usize {
@@ -415,12 +456,16 @@ impl<'b> Writer<'_, 'b> {
         Ok(n + 1)
     }
 
-    /// Whether the word here is a macro's: its `!` stands right after it.
+    /// Whether the word here is a macro's: a `!` stands after it that is none of `!=`.
     fn is_macro(&self) -> bool {
-        self.pieces
-            .get(self.place + 1)
-            .map_or(false, |piece| piece.text == "!")
-            && self.ahead(2) != "="
+        let rest = &self.pieces[self.place + 1..];
+        let is_apart = rest.first().map_or(false, |piece| piece.kind == Kind::Space);
+        let mut rest = rest.iter().skip_while(|piece| piece.kind == Kind::Space);
+        let is_keyword = BEFORE_NOT.contains(&self.pieces[self.place].text);
+        match (rest.next(), rest.next()) {
+            (Some(mark), Some(next)) => mark.text == "!" && next.text != "=" && !(is_apart && is_keyword),
+            _ => false,
+        }
     }
 
     /// An attribute that is known.
@@ -440,10 +485,17 @@ impl<'b> Writer<'_, 'b> {
                 .take(9)
                 .map(|piece| piece.text)
                 .collect();
+            if rest.len() < 9 {
+                return unknown(line, "an error's words without a variant");
+            }
+            let has_field = rest[8] == "(";
+            if !has_field && rest[4].contains(['{', '}']) {
+                return unknown(line, "braces in the words of an error without a field");
+            }
             variants.push(Variant {
                 name: rest[7],
                 words: rest[4],
-                has_field: rest[8] == "(",
+                has_field,
             });
             self.take(7, false);
             return Ok(());
@@ -509,16 +561,27 @@ impl<'b> Writer<'_, 'b> {
         Ok(false)
     }
 
+    /// Whether the `impl` here is one of `Drop`.
+    fn of_drop(&self) -> bool {
+        let head: Vec<&str> = (1..40).map(|n| self.ahead(n)).take_while(|text| *text != "{").collect();
+        head.windows(2).any(|pair| pair == ["Drop", "for"])
+    }
+
     /// An enum's head: whether it is one of errors is kept, and the type of its tag is written before it.
-    fn enumeration(&mut self) {
+    fn enumeration(&mut self) -> Result<(), Unknown> {
         let name = self.ahead(1);
+        if self.is_error && self.error.is_some() {
+            return unknown(self.line(), "a second enum of errors");
+        }
         if self.is_error {
             self.error = Some((name, Vec::new()));
         }
+        self.is_error = false;
         if let Some((_, tag)) = self.of.tags.iter().find(|(of, _)| *of == name) {
             let start = self.out.rfind('\n').map_or(0, |before| before + 1);
             self.out.insert_str(start, &format!("#[repr({tag})] "));
         }
+        Ok(())
     }
 
     fn piece(&mut self) -> Result<(), Unknown> {
@@ -527,6 +590,9 @@ impl<'b> Writer<'_, 'b> {
         match piece.kind {
             Kind::Mark if piece.text == "#" => return self.attribute(),
             Kind::Mark if piece.text == "+" && self.ahead(1) == "Drop" => {
+                if !self.is_bound() {
+                    return unknown(piece.line, "`+ Drop` in another place than a bound of a type");
+                }
                 self.take(2, false);
                 return Ok(());
             }
@@ -545,21 +611,25 @@ impl<'b> Writer<'_, 'b> {
                 self.out.push_str("::");
                 return Ok(());
             }
-            "enum" => self.enumeration(),
+            "enum" => self.enumeration()?,
             "laws" if self.ahead(1) == "as" && ["{", ","].contains(&before) && self.ahead(3) == "," => {
                 self.take(4, false);
                 return Ok(());
             }
+            "mod" if before == ")" => return unknown(piece.line, "a module of a part of the crate"),
+            "impl" => self.is_drop = self.of_drop(),
+            "trait" => self.is_drop = false,
             "drop" if before == "fn" => {
-                if !self.is_next(&["drop", "(", "self", ")"]) {
+                if !self.is_drop || !self.is_next(&["drop", "(", "self", ")"]) {
                     return unknown(piece.line, "`drop` of another form");
                 }
                 self.take(2, true);
                 self.out.push_str("&mut ");
-                self.is_drop = true;
+                self.is_dropping = true;
                 return Ok(());
             }
-            "mut" if self.is_drop && ["{", ","].contains(&before) => {
+            "fn" => self.is_dropping = false,
+            "mut" if self.is_dropping && ["{", ","].contains(&before) => {
                 self.take(1, false);
                 return Ok(());
             }
@@ -664,6 +734,7 @@ pub fn erase(of: &Crate<'_>, text: &str) -> Result<Plain, Unknown> {
         error: None,
         is_error: false,
         is_drop: false,
+        is_dropping: false,
     };
     while writer.place < pieces.len() {
         writer.piece()?;

@@ -83,6 +83,47 @@ fn functions_for_c_and_displays_are_written_otherwise() {
 }
 
 #[test]
+fn quotes_of_characters_begin_no_string() {
+    let text = "fn f() -> &'static str { let q = '\"'; let s = \"\n    ghost x = { a };\n\"; let r = b'\"'; s }\n";
+    assert_eq!(plain(text), text);
+    let text = "fn f() -> u8 { let q = '\"'; let s = \"\nfn\n#[\"; let r = '\"'; 1 }\n";
+    assert_eq!(plain(text), text);
+    let text = "fn f<'a>(a: &'a u8) -> char\n{\n    match '\\'' { '{' => '\"', _ => '}' }\n}\n";
+    assert_eq!(plain(text), text);
+}
+
+#[test]
+fn drop_is_a_bound_alone() {
+    assert_eq!(plain("struct S<A: B + Drop>(A) where A: C<u8> + Drop, A: D;\n"), "struct S<A: B >(A) where A: C<u8> , A: D;\n");
+    assert_eq!(plain("pub trait T: a::B + Drop {\n    type C: Copy + Drop;\n}\n"), "pub trait T: a::B  {\n    type C: Copy ;\n}\n");
+    assert_eq!(plain("impl<A: B + Drop> C for D<A> {}\nfn f(a: impl B + Drop) {}\n"), "impl<A: B > C for D<A> {}\nfn f(a: impl B ) {}\n");
+    for text in ["a + Drop", "S { x: a + Drop, y: 1 }", "if a < b + Drop { 1 } else { 2 }", "g(1, a + Drop)", "g::<A>(a) + Drop"] {
+        refused(2, &format!("fn f(a: u8) -> u8 {{\n    {text} }}\n"));
+    }
+}
+
+#[test]
+fn drop_takes_a_reference_in_its_trait_alone() {
+    let text = "impl Drop for S {\n    fn drop(self) {\n        let S { mut a } = self;\n    }\n}\nfn f(S { mut a }: S) {}\n";
+    let wanted = text.replace("(self)", "(&mut self)").replacen("mut a", " a", 1);
+    assert_eq!(plain(text), wanted);
+    let text = "impl<'a, A: B> Drop for S<'a, A> {\n    fn drop(self) {}\n}\n";
+    assert_eq!(plain(text), text.replace("(self)", "(&mut self)"));
+    refused(2, "impl S {\n    pub fn drop(self) {}\n}\n");
+    refused(2, "impl Drop for S {}\nimpl T for S { fn drop(self) {} }\n");
+    refused(2, "impl Drop for S {}\ntrait T { fn drop(self); }\n");
+}
+
+#[test]
+fn words_of_errors_have_braces_with_a_field_alone() {
+    refused(3, "#[derive(Debug, Error)]\npub enum E {\n    #[error(\"{{}}\")]\n    A,\n}\n");
+    refused(5, "#[derive(Error)]\npub enum E {\n}\n#[derive(Error)]\npub enum F {\n}\n");
+    refused(2, "#[derive(Error)] enum E {\n#[error(\"x\")]");
+    let text = "#[derive(Error)]\nenum E {}\nenum F {}\n";
+    assert!(plain(text).contains("for E {") && !plain(text).contains("for F {"));
+}
+
+#[test]
 fn lifetimes_and_comments_are_none_of_a_quote() {
     let text = "fn f<'a>(a: &'a [u8]) -> &'static str /* { /* \" */ */\n{\n    'x: loop { break 'x; }\n    let _ = '\\u{7B}';\n}\n";
     assert_eq!(plain(text), text);
@@ -133,6 +174,13 @@ fn what_is_unknown_ends_the_build() {
             .replace("a -- b", "'")
             .as_str(),
     );
+    refused(2, "impl T for S {\n    ghost A = { x -- {\n    };\n    fn f(&self) -> u8 { 1 }\n    ghost B = { y -- }\n    };\n}\n");
+    refused(2, "fn f()\n    ensures { x -- {\n    }\n{}\n");
+    refused(1, "fn f() { debug_assert !(a) }\n");
+    refused(1, "macro_rules ! a {}\n");
+    refused(1, "const A: &CStr = cr\"a\";\n");
+    refused(1, "pub(crate) mod b { }\n");
+    assert_eq!(plain("fn f() { if !a { return !b } while !c {} a != b }\n"), "fn f() { if !a { return !b } while !c {} a != b }\n");
     refused(2, "fn f()\n    ensures two names { a }\n{}\n");
     refused(2, "fn f()\n    ensures { a } {\n}\n");
     refused(2, "fn f()\n    ensures { a\n{}\n");
