@@ -403,6 +403,12 @@ def errors():
         expect("no stream", said(lambda: pokhvizi.CParser(stream)), "TypeError: a string or stream input is required")
     expect("a method that isn't", said(pokhvizi.CParser("a").get_node),
            "AttributeError: 'pokhvizi._yaml.CParser' object has no attribute 'resolve'")
+    for base in (pokhvizi.CSafeLoader, pokhvizi.CParser, pokhvizi.SafeLoader):
+        for name in ("max_depht", "unique_key"):
+            expect("a bound that is misspelt", said(lambda: type("Loader", (base,), {name: 1})),
+                   "TypeError: Loader.%s is no bound of a loader; the bounds are max_depth, max_nodes, max_expanded, and unique_keys" % name)
+        expect("bounds", said(lambda: type("Loader", (base,), {"max_depth": 1, "unique_keys": True, "maximum": 1}).max_depth), 1)
+    expect("the names of the package", [name for name in dir(pokhvizi) if not name.startswith("__") and name not in pokhvizi.__all__], [])
     expect("no __init__", said(pokhvizi.CParser.__new__(pokhvizi.CParser).get_event), "ValueError: the loader has no stream")
 
 

@@ -61,6 +61,7 @@ struct pyyaml {
             *unique_keys, *tag, *value, *match, *yaml_implicit_resolvers;
     } names;
     int is_new; /* Python is 3.9 or later */
+    int is_known; /* PyYAML's classes are there */
 };
 
 extern struct pyyaml its;

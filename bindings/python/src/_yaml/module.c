@@ -1,4 +1,7 @@
-/* The module, and what it takes from PyYAML. Where an import fails, another one begins anew. */
+/* The module, and what it takes from PyYAML. Where an import fails, another one begins anew.
+ *
+ * The import of the module makes types alone: CPython 3.13 runs that in the main interpreter first, also for another one, and frees
+ * tuples of one in the other if a module of Python is imported there. */
 #include "loader.h"
 
 struct pyyaml its;
@@ -197,25 +200,27 @@ static int add_parser_type(PyObject *module)
 
 static int fill(PyObject *module)
 {
-    if (put(&its.resolve, shared(Py_None)) < 0 || import_others() < 0 || import_tokens() < 0 || import_events() < 0)
-        return -1;
-    if (find_version() < 0 || make_styles() < 0 || make_implicits() < 0 || make_names() < 0 || make_mark_type() < 0)
+    if (put(&its.resolve, shared(Py_None)) < 0 || find_version() < 0 || make_styles() < 0 || make_implicits() < 0 || make_names() < 0 || make_mark_type() < 0)
         return -1;
     if (add(module, "Mark", shared((PyObject *)its.mark)) < 0 || add_parser_type(module) < 0)
         return -1;
     return add(module, "libyaml_version", PyUnicode_FromString(yaml_get_version_string()));
 }
 
-/* Takes PyYAML's `resolve`, if it does what tags.c does in its place, or None. */
+/* Takes PyYAML's classes, and its `resolve`, if it does what tags.c does in its place, or None. */
 static PyObject *know(PyObject *module, PyObject *resolve)
 {
     (void)module;
+    its.is_known = 0;
+    if (import_others() < 0 || import_tokens() < 0 || import_events() < 0)
+        return NULL;
     put(&its.resolve, shared(resolve));
+    its.is_known = 1;
     return shared(Py_None);
 }
 
 static PyMethodDef functions[] = {
-    {"know", know, METH_O, "Takes PyYAML's `resolve`, which is then done in C, or None."},
+    {"know", know, METH_O, "Takes PyYAML's classes, and its `resolve`, which is then done in C, or None."},
     {NULL, NULL, 0, NULL},
 };
 
@@ -226,7 +231,7 @@ static PyObject *the_module, *its_modules; /* borrowed: the module, and its inte
 static void let_go(void *module)
 {
     (void)module;
-    is_filled = 0;
+    is_filled = its.is_known = 0;
 }
 
 static PyModuleDef definition = {

@@ -279,6 +279,10 @@ static int parser_init(PyObject *object, PyObject *arguments, PyObject *keywords
 
     if (!PyArg_ParseTupleAndKeywords(arguments, keywords, "O:CParser", names, &stream))
         return -1;
+    if (!its.is_known) {
+        PyErr_SetString(PyExc_RuntimeError, "pokhvizi.cyaml isn't imported");
+        return -1;
+    }
     if (parser->standing != BUSY)
         parser_clear(object);
     if (parser->standing != UNBORN) {

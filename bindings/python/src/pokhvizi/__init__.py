@@ -23,7 +23,8 @@ A loader is for one thread; several loaders may be used at once. An error is rai
 
 `max_depth` of a loader's class bounds the collections that are open at once, `max_nodes` the nodes of a document and the items or
 pairs of a node, and `max_expanded` the nodes of a document with its aliases written out; None, the default, is no bound. With
-`unique_keys = True` a key that its mapping has is a `ComposerError`: a scalar with the same tag and text, or the same node.
+`unique_keys = True` a key that its mapping has is a `ComposerError`: a scalar with the same tag and text, or the same node. Another
+attribute of the class that begins with `max_` or `unique_` is a `TypeError`, since it may be a bound that is misspelt.
 
 A `ParserError` has `expected`, a tuple that says what could have stood in the place of the token, such as `("','", "']'")`. It is empty
 if the token's kind was right. It and a `ComposerError` have `name`, the anchor, alias or tag handle that the error is about, or None.
@@ -40,6 +41,8 @@ import struct
 import sys
 
 import yaml
+
+from ._known import refuse_others
 
 __all__ = ["LibraryError", "Loader", "Parser", "SafeLoader", "use_library"]
 
@@ -556,6 +559,10 @@ class Parser:
     events = None
     is_composing = False
 
+    def __init_subclass__(cls, **words):
+        super().__init_subclass__(**words)
+        refuse_others(cls)
+
     def check_event(self, *choices):
         """Returns whether there is a next event, of one of these kinds where some are named."""
         event = self.current_event or self.peek_event()
@@ -678,3 +685,7 @@ except ImportError as error:
         raise AttributeError("module %r has no attribute %r" % (__name__, name))
 else:
     __all__ += _IN_C
+
+
+def __dir__():
+    return sorted(__all__ + [name for name in globals() if name.startswith("__")])

@@ -1,4 +1,4 @@
-"""PyYAML's `resolve`, if it does what the extension does in its place, or None."""
+"""PyYAML's `resolve`, if it does what the extension does in its place, or None; and what a loader's class may set."""
 from yaml import nodes, resolver
 from yaml.nodes import MappingNode, ScalarNode, SequenceNode
 
@@ -42,3 +42,14 @@ def _has_nodes(names):
 resolve = resolver.BaseResolver.resolve
 if _told(resolve) != _told(_Like.resolve) or not _has_nodes(resolve.__globals__):
     resolve = None
+
+
+_BOUNDS = {"max_depth", "max_nodes", "max_expanded", "unique_keys"}
+
+
+def refuse_others(loader):
+    """Refuses what a loader's class sets if it may be a misspelt bound: the loader would read without it."""
+    for name in vars(loader):
+        if name.startswith(("max_", "unique_")) and name not in _BOUNDS:
+            raise TypeError("%s.%s is no bound of a loader; the bounds are max_depth, max_nodes, max_expanded, and unique_keys"
+                            % (loader.__name__, name))

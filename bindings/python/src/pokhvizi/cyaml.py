@@ -11,12 +11,20 @@ A loader reads exactly what libyaml reads, unless its class has `fixes = True`.
 from yaml.constructor import BaseConstructor, Constructor, FullConstructor, SafeConstructor, UnsafeConstructor
 from yaml.resolver import BaseResolver, Resolver
 
-from ._known import resolve
+from ._known import refuse_others, resolve
 from ._yaml import CParser, know
 
 __all__ = ["CBaseLoader", "CFullLoader", "CLoader", "CParser", "CSafeLoader", "CUnsafeLoader"]
 
 know(resolve)
+
+
+def _begin_class(loader, **words):
+    super(CParser, loader).__init_subclass__(**words)
+    refuse_others(loader)
+
+
+CParser.__init_subclass__ = classmethod(_begin_class)
 
 
 class CBaseLoader(CParser, BaseConstructor, BaseResolver):
