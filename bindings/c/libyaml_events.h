@@ -35,15 +35,16 @@ struct bounds {
 #define ANY_EXPANDED ((size_t)PTRDIFF_MAX)
 
 /* An anchor of the document whose events are counted, in a table where it has a place by its hash: where its text stands, and the
- * node that it names; where keys have to differ, also what stands for that node as a key, if it is a scalar. A place of another document
+ * node that it names; where keys have to differ, also where that begins, and what stands for it as a key, if it is a scalar. A place of another document
  * is free. */
 struct name {
     size_t text, document, key, key_length;
+    yaml_mark_t mark;
     uint32_t hash;
     int32_t node;
 };
 
-/* A key of an open mapping: where what stands for it is, its mapping, and where it begins. */
+/* A key of an open mapping: where what stands for it is, its mapping, and where its node begins. */
 struct key {
     size_t text, length;
     yaml_mark_t mark;
@@ -752,8 +753,8 @@ static struct name *put_name(yaml_parser_t *parser, const yaml_char_t *anchor)
     return name;
 }
 
-/* Has an anchor name a node, for which the last bytes of the keys' texts stand as a key, so many; 0 where memory is refused. */
-static int name_node(yaml_parser_t *parser, const yaml_char_t *anchor, int32_t node, size_t key_length)
+/* Has an anchor name the node of an event, for which the last bytes of the keys' texts stand as a key, so many; 0 where memory is refused. */
+static int name_node(yaml_parser_t *parser, const yaml_char_t *anchor, const pokhvizi_event_t *made, int32_t node, size_t key_length)
 {
     struct name *name = put_name(parser, anchor);
     struct kept *kept = kept_of(parser);
@@ -768,6 +769,7 @@ static int name_node(yaml_parser_t *parser, const yaml_char_t *anchor, int32_t n
         return 0;
     memcpy(texts_of_names(kept) + kept->texts_length, texts_of_keys(kept) + kept->key_texts_length - key_length, key_length);
     name->node = node;
+    memcpy(&name->mark, &made->start_mark, sizeof name->mark);
     name->key = kept->texts_length;
     name->key_length = key_length;
     kept->texts_length += key_length;
@@ -841,18 +843,6 @@ static int is_string(const yaml_char_t *text, size_t length)
  * its number. A scalar without a tag that isn't plain is a string. */
 enum { STRING, OPEN, TAGGED, COLLECTION };
 
-/* The name of a scalar that an alias is, or NULL. */
-static const struct name *scalar_of_alias(yaml_parser_t *parser, const yaml_token_t *token)
-{
-    struct kept *kept = kept_of(parser);
-    const struct name *name;
-
-    if (kept->names_count == 0)
-        return NULL;
-    name = place_of_name(kept, token->data.alias.value, hash_of(token->data.alias.value, key_of(parser)));
-    return name->document == kept->document && name->key_length > 0 ? name : NULL;
-}
-
 /* Makes room for so many bytes at the end of the keys' texts, and counts them; NULL where memory is refused. */
 static yaml_char_t *more_key_text(yaml_parser_t *parser, size_t length)
 {
@@ -892,18 +882,17 @@ static int put_scalar(yaml_parser_t *parser, const pokhvizi_event_t *made, const
     return 1;
 }
 
-/* The same of an alias, or of a collection by its number. */
-static int put_other(yaml_parser_t *parser, const yaml_token_t *alias, int32_t node, size_t *length)
+/* The same of an alias, whose name is given, or of a collection by its number. */
+static int put_other(yaml_parser_t *parser, const struct name *name, int32_t node, size_t *length)
 {
-    const struct name *name = alias == NULL ? NULL : scalar_of_alias(parser, alias);
-    size_t from = name == NULL ? 0 : name->key;
+    size_t from = name == NULL ? 0 : name->key, of_scalar = name == NULL ? 0 : name->key_length;
     yaml_char_t *to;
 
-    *length = name == NULL ? 1 + sizeof node : name->key_length;
+    *length = of_scalar > 0 ? of_scalar : 1 + sizeof node;
     if ((to = more_key_text(parser, *length)) == NULL)
         return 0;
-    if (name != NULL) {
-        memcpy(to, texts_of_names(kept_of(parser)) + from, *length);
+    if (of_scalar > 0) {
+        memcpy(to, texts_of_names(kept_of(parser)) + from, of_scalar);
     } else {
         *to = COLLECTION;
         memcpy(to + 1, &node, sizeof node);
@@ -922,13 +911,13 @@ static uint32_t hash_of_key(yaml_parser_t *parser, const yaml_char_t *text, size
     return mixed(hash);
 }
 
-/* Adds the key that the last bytes stand for, so many, to those of its mapping; 0 where memory is refused, or it is there already: then the
- * mark of that one is the context's. */
-static int add_key(yaml_parser_t *parser, int32_t mapping, size_t length, const pokhvizi_event_t *made)
+/* Adds the key of an event, for which the last bytes stand, so many, and whose node is at a mark, to those of its mapping; 0 where memory
+ * is refused, or it is there already: then the mark of that one is the context's. */
+static int add_key(yaml_parser_t *parser, int32_t mapping, size_t length, const pokhvizi_event_t *made, const yaml_mark_t *mark)
 {
     struct kept *kept = kept_of(parser);
     struct rooms rooms = kept->rooms;
-    struct key key = {.text = kept->key_texts_length - length, .length = length, .mapping = mapping};
+    struct key key = {.text = kept->key_texts_length - length, .length = length, .mark = *mark, .mapping = mapping};
     size_t *place;
 
     if (kept->keys_count == rooms.keys) {
@@ -938,11 +927,10 @@ static int add_key(yaml_parser_t *parser, int32_t mapping, size_t length, const 
         kept = kept_of(parser);
     }
     key.hash = hash_of_key(parser, texts_of_keys(kept) + key.text, length, mapping);
-    memcpy(&key.mark, &made->start_mark, sizeof key.mark);
     place = place_of_key(kept, &key);
     if (*place != 0) {
         parser->problem = "found duplicate key";
-        parser->problem_mark = key.mark;
+        memcpy(&parser->problem_mark, &made->start_mark, sizeof parser->problem_mark);
         parser->context = "first occurrence";
         parser->context_mark = keys_of(kept)[*place - 1].mark;
         return 0;
@@ -973,11 +961,13 @@ static void forget_names(struct kept *kept)
 }
 
 /* Looks at the keys that an event that is composed adds or ends, and keeps what stands for a scalar with an anchor; 0 where memory is
- * refused, or a key comes twice, of which all is told but the kind of error. An alias is the node that it names. */
+ * refused, or a key comes twice, of which all is told but the kind of error. An alias is the node that it names, which there is. */
 APART int look_at_keys(yaml_parser_t *parser, uint32_t deed, const pokhvizi_place_t *place, const pokhvizi_event_t *made,
                        const yaml_token_t *token, const struct held *held)
 {
     int is_scalar = made->kind == YAML_SCALAR_EVENT, is_alias = made->kind == YAML_ALIAS_EVENT;
+    const struct name *name = NULL;
+    yaml_mark_t mark;
     size_t length = 0;
 
     if (deed == POKHVIZI_CLOSES)
@@ -986,13 +976,20 @@ APART int look_at_keys(yaml_parser_t *parser, uint32_t deed, const pokhvizi_plac
         return 1;
     if (is_scalar && (deed == POKHVIZI_KEY || made->has_anchor) && !put_scalar(parser, made, token, held, &length))
         return out_of_memory(parser);
-    if (made->has_anchor && !name_node(parser, held->anchor, place->node, length))
+    if (made->has_anchor && !name_node(parser, held->anchor, made, place->node, length))
         return out_of_memory(parser);
-    if (deed == POKHVIZI_KEY)
-        return (is_scalar || put_other(parser, is_alias ? token : NULL, place->child, &length) || out_of_memory(parser)) &&
-               add_key(parser, place->parent, length, made);
-    kept_of(parser)->key_texts_length -= length;
-    return 1;
+    if (deed != POKHVIZI_KEY) {
+        kept_of(parser)->key_texts_length -= length;
+        return 1;
+    }
+    memcpy(&mark, &made->start_mark, sizeof mark);
+    if (is_alias) {
+        name = place_of_name(kept_of(parser), token->data.alias.value, hash_of(token->data.alias.value, key_of(parser)));
+        mark = name->mark;
+    }
+    if (!is_scalar && !put_other(parser, name, place->child, &length))
+        return out_of_memory(parser);
+    return add_key(parser, place->parent, length, made, &mark);
 }
 
 /* Counts an event whose nodes are bounded, or of which keys have to differ, in the words of a load where it is one too many; 0 where
@@ -1032,7 +1029,7 @@ APART int count_event(yaml_parser_t *parser, const pokhvizi_event_t *made, const
             parser->error = YAML_PARSER_ERROR;
         return 0;
     }
-    return !made->has_anchor || place.node == 0 || name_node(parser, anchor, place.node, 0) || out_of_memory(parser);
+    return !made->has_anchor || place.node == 0 || name_node(parser, anchor, made, place.node, 0) || out_of_memory(parser);
 }
 
 /* ---- The next event ---- */

@@ -35,7 +35,7 @@ extern char **environ;
 /* ---- The environment ---- */
 
 static struct bounds bounds;
-static int has_fixes, has_unique_keys;  /* POKHVIZI_FIXES, or POKHVIZI_UNIQUE_KEYS, is set, to something else than 0 */
+static int has_fixes;
 static const char *check_file;
 static int is_read;  /* whether the environment was read */
 
@@ -103,11 +103,10 @@ __attribute__((constructor)) SELDOM void read_environment(void)
     look_for_others();
     check_file = check == NULL ? NULL : strdup(check);
     has_fixes = is_set("POKHVIZI_FIXES");
-    has_unique_keys = is_set("POKHVIZI_UNIQUE_KEYS");
     bounds.depth = bound_of("POKHVIZI_MAX_DEPTH", ANY_DEPTH);
     bounds.nodes = bound_of("POKHVIZI_MAX_NODES", ANY_NODES);
     bounds.expanded = bound_of("POKHVIZI_MAX_EXPANDED", ANY_EXPANDED);
-    bounds.unique_keys = has_unique_keys;
+    bounds.unique_keys = is_set("POKHVIZI_UNIQUE_KEYS");
 }
 
 /* The version of Pokhvizi, which a program finds by this name where libyaml is this one. */
@@ -477,7 +476,7 @@ OFTEN int put(yaml_parser_t *parser, struct loading *loading, uint32_t deed, con
 APART int put_checked(yaml_parser_t *parser, struct loading *loading, uint32_t deed, const pokhvizi_place_t *place,
                       const pokhvizi_event_t *made, yaml_token_t *token, struct held *held, yaml_document_t *document)
 {
-    if (has_unique_keys && !look_at_keys(parser, deed, place, made, token, held)) {
+    if (bounds.unique_keys && !look_at_keys(parser, deed, place, made, token, held)) {
         if (parser->error == YAML_NO_ERROR)
             parser->error = YAML_COMPOSER_ERROR;
         return 0;
@@ -702,7 +701,7 @@ __attribute__((visibility("default"))) int yaml_parser_load(yaml_parser_t *parse
         loaded = out_of_memory(parser);
     else if (!take_left(parser))
         loaded = 0;
-    else if (!(loaded = (bounds.expanded == ANY_EXPANDED && !has_unique_keys ? load_unchecked : load_checked)(parser, &loading, &held,
+    else if (!(loaded = (bounds.expanded == ANY_EXPANDED && !bounds.unique_keys ? load_unchecked : load_checked)(parser, &loading, &held,
                                                                                                                  document)))
         leave_fault(parser, &loading);
     forget(&held);

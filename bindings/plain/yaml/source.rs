@@ -52,10 +52,13 @@ impl<S: TokenSource + ?Sized> TokenSource for Box<S> {
     }
 }
 
-/// The source of a whole list, without a copy.
+/// The source of a whole list, without a copy. After a list without STREAM-END it has the error "no more tokens", at the end of the last
+/// token.
 impl From<Vec<Token>> for TokenList {
     fn from(tokens: Vec<Token>) -> Self {
-        TokenList::from(crate::kit::Vec::from(tokens))
+        let end = tokens.last().map_or(ZERO_MARK, |token| token.end_mark);
+        let fault = no_more_tokens(tokens.len() as u64, end);
+        TokenList::new(crate::kit::Vec::from(tokens), fault)
     }
 }
 

@@ -58,11 +58,11 @@ fn is_string(text: &[u8]) -> bool {
     !(begins && text.iter().all(|c| OF_NUMBERS.contains(c)) && text.iter().any(u8::is_ascii_digit))
 }
 
-/// The keys of a document's open mappings, with their marks, and what its scalars with anchors are as keys.
+/// The keys of a document's open mappings, and what its nodes with anchors are as keys, with the marks of the nodes.
 #[derive(Default)]
 pub struct Keys {
     open: HashMap<i32, HashMap<Key, yaml_mark_t>>,
-    scalars: HashMap<i32, Key>,
+    named: HashMap<i32, (Key, yaml_mark_t)>,
 }
 
 impl Keys {
@@ -84,21 +84,23 @@ impl Keys {
             }
             _ => return None,
         };
-        let is_new_scalar = shape.kind == 6;
-        if is_new_scalar && shape.has_anchor == 1 {
-            self.scalars.insert(place.node, Key::of_scalar(shape, token, held));
+        let is_key = child == Child::UniqueKey;
+        let (key, at) = match shape.kind {
+            _ if !is_key && shape.has_anchor != 1 => return None,
+            5 => self.named.get(&place.child)?.clone(),
+            6 => (Key::of_scalar(shape, token, held), mark(shape.start_mark)),
+            _ => (Key::Collection(place.child), mark(shape.start_mark)),
+        };
+        if shape.has_anchor == 1 {
+            self.named.insert(place.node, (key.clone(), at));
         }
-        if child != Child::UniqueKey {
+        if !is_key {
             return None;
         }
-        let key = match is_new_scalar {
-            true => Key::of_scalar(shape, token, held),
-            false => self.scalars.get(&place.child).cloned().unwrap_or(Key::Collection(place.child)),
-        };
         match self.open.entry(place.parent).or_default().entry(key) {
             Entry::Occupied(first) => Some(*first.get()),
             Entry::Vacant(free) => {
-                free.insert(mark(shape.start_mark));
+                free.insert(at);
                 None
             }
         }

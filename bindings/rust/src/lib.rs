@@ -13,7 +13,7 @@
 //!
 //! [`yaml_parser_parse`], [`yaml_parser_load`] and [`yaml_parser_delete`] are replaced. A parse takes as many tokens of the
 //! scanner as its event needs, a load as many as its document needs, and their texts are moved. The `yaml_parser_t` itself keeps
-//! what the parser needs, in `problem_offset` while there is no error, and what an error tells, in its last field: so you may move
+//! in its last field what the parser needs, and after an error what that tells: so you may move
 //! and delete it as before, at any time, and two parsers share nothing.
 //!
 //! These differ from the original, besides what DIFFERENCES.md of the repository lists:
@@ -103,7 +103,6 @@ pub unsafe fn yaml_parser_load(parser: *mut yaml_parser_t, document: *mut yaml_d
 
 /// Destroys a parser, as libyaml's `yaml_parser_delete`.
 pub unsafe fn yaml_parser_delete(parser: *mut yaml_parser_t) {
-    run::discard(parser);
     errors::discard(parser);
     original::yaml_parser_delete(parser);
 }

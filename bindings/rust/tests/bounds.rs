@@ -193,10 +193,10 @@ fn keys_differ() {
     for (text, documents, events, fault) in [
         ("{a: 1, b: 1, a: 2}", 0, 7, format!("{twice} 13")),
         ("{a: 1, 'a': 2}", 0, 5, format!("{twice} 7")),
-        ("1: a\n!!str 1: b", 1, 10, String::new()),
-        ("[{&x [k]: 1}, {*x : 1, *x : 2}]", 0, 13, format!("{twice} 23")),
+        ("1: a\n!!str 1: b", 1, 9, String::new()),
+        ("[{&x [k]: 1}, {*x : 1, *x : 2}]", 0, 12, format!("{twice} 23")),
         ("{&x 'k': 1, a: {k: 1, *x : 2}}", 0, 9, format!("{twice} 22")),
-        ("a: {a: {a: 1}}\nb: {a: 1}\n---\na: 1\n", 2, 22, String::new()),
+        ("a: {a: {a: 1}}\nb: {a: 1}\n---\na: 1\n", 2, 24, String::new()),
     ] {
         bounds::set_unique_keys(true);
         assert_eq!(unsafe { told(text, true) }, (documents, fault.clone()), "{text}");

@@ -336,7 +336,9 @@ static void expect_same_bound(const struct told *parse, const struct told *load)
 /* Within bounds a run is one without them, up to an error; in each an allocation fails in turn, if that is wanted. */
 static void bound_all(int refuses)
 {
-    static const struct bounds BOUNDS[] = {{0, 0, 0}, {1, 1, 1}, {2, 2, 2}, {ANY_DEPTH, ANY_NODES, 6}, {ANY_DEPTH, 3, ANY_EXPANDED}};
+    static const struct bounds BOUNDS[] = {
+        {0, 0, 0, 0}, {1, 1, 1, 0}, {2, 2, 2, 1}, {ANY_DEPTH, ANY_NODES, 6, 0}, {ANY_DEPTH, 3, ANY_EXPANDED, 0},
+        {ANY_DEPTH, ANY_NODES, ANY_EXPANDED, 1}};
     enum { COUNT = sizeof BOUNDS / sizeof *BOUNDS };
     static struct told whole, told, parses[COUNT];
 
@@ -346,7 +348,7 @@ static void bound_all(int refuses)
             bounds = BOUNDS[bound];
             run(&told, wants_documents);
             expect(strcmp(told.text, whole.text) == 0 || strstr(told.text, "found too many") != NULL ||
-                       strstr(told.text, "found an alias within") != NULL,
+                       strstr(told.text, "found an alias within") != NULL || strstr(told.text, "found duplicate key") != NULL,
                    "within bounds", &told, &whole);
             expect(memcmp(told.text, whole.text, before_error(&told)) == 0, "before a bound", &told, &whole);
             if (wants_documents)
@@ -355,7 +357,7 @@ static void bound_all(int refuses)
                 parses[bound] = told;
             if (refuses)
                 refuse_in_turn(wants_documents);
-            bounds = (struct bounds){ANY_DEPTH, ANY_NODES, ANY_EXPANDED};
+            bounds = (struct bounds){ANY_DEPTH, ANY_NODES, ANY_EXPANDED, 0};
         }
     }
 }

@@ -34,7 +34,7 @@ VECTORS = [
     ("~: 1\n? : 2", None),
     ("! '1': a\n1: b", (0, 9)),
     ("&x 'k': 1\na: {k: 1, *x : 2}", (14, 20)),
-    ("&x k: 1\na: {? *x : 1, [k]: 2, \"k\": 2}", (14, 30)),
+    ("&x k: 1\na: {? *x : 1, [k]: 2, \"k\": 2}", (0, 30)),
     ("? {a: 1, b: 2}\n: c\na: 1\na: 2", (19, 24)),
     ("'a': 1\n\"a\": 2\n", (0, 7)),
     ("{a, b, a}", (1, 7)),
@@ -103,11 +103,11 @@ def take(event, stack, anchors, loads):
         keys, is_key = stack[-1]
         stack[-1] = keys, not is_key
         if is_key:
-            for first, mark in keys:
+            for first in keys:
                 one, other = what(first), what(key)
                 if one is other or (isinstance(one, tuple) and one == other):
-                    return mark, event.start_mark
-            keys.append((key, event.start_mark))
+                    return first.start_mark, event.start_mark
+            keys.append(key)
     if isinstance(event, yaml.CollectionStartEvent):
         stack.append(([], True) if isinstance(event, yaml.MappingStartEvent) else None)
     return None

@@ -7,8 +7,9 @@ use std::mem::MaybeUninit;
 
 /// The tokens of a text, as libyaml's scanner splits it: UTF-8, or UTF-16 with a mark of its order.
 pub struct Scanner<'a> {
-    /// libyaml's parser, of which only the scanner is called. It names its own place, so it stays there.
-    parser: Box<MaybeUninit<libyaml::yaml_parser_t>>,
+    /// libyaml's parser, of which only the scanner is called. It keeps its own address, so it stays at a place of its own, and no
+    /// `Box` owns it, which would be moved.
+    parser: *mut libyaml::yaml_parser_t,
     fault: Option<SourceError>,
     text: PhantomData<&'a [u8]>,
 }
@@ -20,12 +21,14 @@ impl<'a> Scanner<'a> {
     ///
     /// There is no memory.
     pub fn new(text: &'a [u8]) -> Result<Self, SourceError> {
-        let mut parser = Box::new(MaybeUninit::uninit());
+        let place = Box::into_raw(Box::new(MaybeUninit::<libyaml::yaml_parser_t>::uninit()));
+        let parser = place.cast::<libyaml::yaml_parser_t>();
         unsafe {
-            if libyaml::yaml_parser_initialize(parser.as_mut_ptr()).fail {
+            if libyaml::yaml_parser_initialize(parser).fail {
+                drop(Box::from_raw(place));
                 return Err(SourceError::out_of_memory());
             }
-            libyaml::yaml_parser_set_input_string(parser.as_mut_ptr(), text.as_ptr(), text.len() as u64);
+            libyaml::yaml_parser_set_input_string(parser, text.as_ptr(), text.len() as u64);
         }
         Ok(Scanner {
             parser,
@@ -37,8 +40,8 @@ impl<'a> Scanner<'a> {
     fn scan(&mut self) -> Result<Token, SourceError> {
         let mut token = MaybeUninit::uninit();
         unsafe {
-            if libyaml::yaml_parser_scan(self.parser.as_mut_ptr(), token.as_mut_ptr()).fail {
-                return Err(fault_of(self.parser.assume_init_ref()));
+            if libyaml::yaml_parser_scan(self.parser, token.as_mut_ptr()).fail {
+                return Err(fault_of(&*self.parser));
             }
             let made = token_of(token.assume_init_ref());
             libyaml::yaml_token_delete(token.as_mut_ptr());
@@ -66,7 +69,10 @@ impl std::fmt::Debug for Scanner<'_> {
 
 impl Drop for Scanner<'_> {
     fn drop(&mut self) {
-        unsafe { libyaml::yaml_parser_delete(self.parser.as_mut_ptr()) }
+        unsafe {
+            libyaml::yaml_parser_delete(self.parser);
+            drop(Box::from_raw(self.parser.cast::<MaybeUninit<libyaml::yaml_parser_t>>()));
+        }
     }
 }
 
