@@ -812,31 +812,55 @@ static uint32_t count_deed(yaml_parser_t *parser, uint32_t deed, uint8_t kind, c
 
 /* ---- Keys that have to differ ---- */
 
+/* Whether a text begins as one of these words, in letters of either case, and ends with it. */
+static int is_word(const yaml_char_t *text, size_t length, const char *const *words, size_t count)
+{
+    for (size_t i = 0; i < count; i++) {
+        size_t k = 0;
+        while (k < length && words[i][k] != '\0' &&
+               (text[k] | (words[i][k] >= 'a' && words[i][k] <= 'z' ? 32 : 0)) == words[i][k])
+            k++;
+        if (k == length && words[i][k] == '\0')
+            return 1;
+    }
+    return 0;
+}
+
+/* Whether a text has a digit, and nothing that numbers and dates don't have. */
+static int is_of_number(const yaml_char_t *text, size_t length)
+{
+    int has_digit = 0;
+
+    for (size_t i = 0; i < length; i++) {
+        if (text[i] == '\0' || strchr("0123456789abcdefABCDEFxobBOXTtZz_:,.+- \t", text[i]) == NULL)
+            return 0;
+        has_digit |= text[i] >= '0' && text[i] <= '9';
+    }
+    return has_digit;
+}
+
 /* Whether a plain scalar without a tag is a string to each loader: none takes it for null, a boolean, a number, a date, a merge key or
  * one of Ruby's symbols. Of some texts loaders make different things, such as `yes` and `0o7`; these are none that are strings to each. */
 static int is_string(const yaml_char_t *text, size_t length)
 {
-    static const char *const words[] = {"~", "null", "true", "false", "yes", "no", "on", "off", "y", "n", "<<", "=", ".inf", ".nan"};
-    size_t after_sign = length > 0 && (*text == '-' || *text == '+'), i, k;
-    int has_digit = 0;
+    static const char *const words[] = {"null", "true", "false", "yes", "no", "on", "off", "y", "n"}, *const numbers[] = {".inf", ".nan"};
 
-    if (length == 0 || *text == ':')
+    switch (length == 0 ? ':' : *text) {
+    case ':':
         return 0;
-    for (i = 0; i < sizeof words / sizeof *words; i++) {
-        size_t skipped = *words[i] == '.' ? after_sign : 0;
-        for (k = 0; skipped + k < length && words[i][k] != '\0' && (text[skipped + k] | (words[i][k] >= 'a' && words[i][k] <= 'z' ? 32 : 0)) == words[i][k]; k++)
-            ;
-        if (skipped + k == length && words[i][k] == '\0')
-            return 0;
-    }
-    if (!after_sign && *text != '.' && !(*text >= '0' && *text <= '9'))
+    case '~': case '=':
+        return length > 1;
+    case '<':
+        return length != 2 || text[1] != '<';
+    case 'n': case 't': case 'f': case 'y': case 'o': case 'N': case 'T': case 'F': case 'Y': case 'O':
+        return length > 5 || !is_word(text, length, words, sizeof words / sizeof *words);
+    case '-': case '+':
+        return !is_of_number(text, length) && !is_word(text + 1, length - 1, numbers, 2);
+    case '.': case '0': case '1': case '2': case '3': case '4': case '5': case '6': case '7': case '8': case '9':
+        return !is_of_number(text, length) && !is_word(text, length, numbers, 2);
+    default:
         return 1;
-    for (i = 0; i < length; i++) {
-        if (text[i] == '\0' || strchr("0123456789abcdefABCDEFxobBOXTtZz_:,.+- \t", text[i]) == NULL)
-            return 1;
-        has_digit |= text[i] >= '0' && text[i] <= '9';
     }
-    return !has_digit;
 }
 
 /* What stands for a node as a key begins with one of these, and goes on with its text, with its tag, a zero byte and its text, or with

@@ -175,27 +175,35 @@ static yaml_parser_state_t state_of(const struct kept *kept, int is_first)
     return (yaml_parser_state_t)(state - (is_first && ENTRIES >> state & 1));
 }
 
-/* Some programs read the parser's fields: after each event its state, and the token in hand, are those of libyaml. After an error the
- * state is that after the last event. */
-static void leave(yaml_parser_t *parser)
+/* Leaves the token of a collection's start, if it has one of its own. */
+APART void leave_start(yaml_parser_t *parser, struct kept *kept)
 {
-    struct kept *kept = kept_of(parser);
-
     kept->is_left = !parser->token_available && parser->tokens.head != parser->tokens.start && STARTS >> parser->tokens.head[-1].type & 1;
     if (kept->is_left) {
         parser->token_available = 1;
         parser->tokens_parsed--;
         parser->tokens.head--;
     }
-    if (!parser->stream_end_produced)
-        parser->state = state_of(kept, (int)kept->is_left);
+    parser->state = state_of(kept, (int)kept->is_left);
+}
+
+/* Some programs read the parser's fields: after each event its state, and the token in hand, are those of libyaml. After an error the
+ * state is that after the last event. */
+OFTEN void leave(yaml_parser_t *parser, yaml_event_type_t type)
+{
+    struct kept *kept = kept_of(parser);
+
+    if (type == YAML_SCALAR_EVENT)
+        parser->state = (yaml_parser_state_t)kept->steps.machine.state;
+    else if (type == YAML_SEQUENCE_START_EVENT || type == YAML_MAPPING_START_EVENT)
+        leave_start(parser, kept);
+    else if (type != YAML_STREAM_END_EVENT)
+        parser->state = state_of(kept, 0);
 }
 
 /* Takes the token that the last event has left; 0 where a scan has taken it, and the scanner has an error. */
-static int take_left(yaml_parser_t *parser)
+APART int take_left_now(yaml_parser_t *parser)
 {
-    if (!kept_of(parser)->is_left)
-        return 1;
     kept_of(parser)->is_left = 0;
     if (!parser->token_available && !yaml_parser_fetch_more_tokens(parser))
         return stop(parser);
@@ -203,6 +211,11 @@ static int take_left(yaml_parser_t *parser)
         yaml_token_delete(parser->tokens.head);
     skip(parser);
     return 1;
+}
+
+OFTEN int take_left(yaml_parser_t *parser)
+{
+    return !kept_of(parser)->is_left || take_left_now(parser);
 }
 
 /* In the place of libyaml's function of this name. */
@@ -216,7 +229,7 @@ __attribute__((visibility("default"))) int yaml_parser_parse(yaml_parser_t *pars
     stopped = has_stopped(parser);
     if (!stopped && (is_new(parser) ? begin_here(parser) || out_of_memory(parser) : take_left(parser)) &&
         parse(parser, &held, event, (int)kept_of(parser)->is_counted)) {
-        leave(parser);
+        leave(parser, event->type);
         return 1;
     }
     memset(event, 0, sizeof *event);

@@ -563,7 +563,10 @@ impl<'b> Writer<'_, 'b> {
 
     /// Whether the `impl` here is one of `Drop`.
     fn of_drop(&self) -> bool {
-        let head: Vec<&str> = (1..40).map(|n| self.ahead(n)).take_while(|text| *text != "{").collect();
+        let head: Vec<&str> = (1..40)
+            .map(|n| self.ahead(n))
+            .take_while(|text| *text != "{")
+            .collect();
         head.windows(2).any(|pair| pair == ["Drop", "for"])
     }
 

@@ -208,6 +208,30 @@ within() {
     env "LD_LIBRARY_PATH=$proved" POKHVIZI_MAX_DEPTH="$1" POKHVIZI_MAX_NODES="$2" POKHVIZI_MAX_EXPANDED="$3" "$work/libyaml_calls" bounds
 }
 
+# A set-user-ID program that another user starts takes nothing from the environment: neither a name that is unknown nor a file to be
+# written. Only root can try it.
+set_user_id() {
+    [ "$(id -u)" = 0 ] && command -v setpriv > /dev/null || return 0
+    secure=$(mktemp -d) && chmod 755 "$secure" && cp -R "$proved/." "$secure" || return 1
+    printf '%s\n' '#include <yaml.h>' 'int main(void) { yaml_parser_t p; yaml_event_t e; if (!yaml_parser_initialize(&p)) return 7;' \
+        'yaml_parser_set_input_string(&p, (const unsigned char *)"[[a]]", 5); int n = 0, done;' \
+        'do { if (!yaml_parser_parse(&p, &e)) return 1; done = e.type == YAML_STREAM_END_EVENT; yaml_event_delete(&e); n++; } while (!done);' \
+        'return n == 9 ? 0 : 6; }' > "$secure/use.c"
+    echo kept > "$secure/file"
+    cc -O1 -o "$secure/use" "$secure/use.c" -L"$secure" -Wl,-rpath,"$secure" -lyaml || return 1
+    as_other="setpriv --reuid=65534 --regid=65534 --clear-groups env POKHVIZI_MAX_DEPTH=1 POKHVIZI_CHECK=$secure/file"
+    chmod 4755 "$secure/use"
+    $as_other POKHVIZI_TYPO=1 "$secure/use"
+    with=$?
+    chmod 755 "$secure/use"
+    $as_other POKHVIZI_TYPO=1 "$secure/use" 2> /dev/null
+    typo=$?
+    $as_other "$secure/use"
+    set -- "$with $typo $?" "$(cat "$secure/file")"
+    rm -r "$secure"
+    [ "$1 $2" = "0 2 1 kept" ] || { echo "a set-user-ID program: $1, $2"; return 1; }
+}
+
 libyaml() {
     memory='' ratios=''
     cc -O1 -g -Wall -Wextra -Werror -fPIC -shared -o "$work/libconstructor.so" scripts/doors/clients/constructor.c -lyaml &&
@@ -234,7 +258,7 @@ libyaml() {
         [ "$? $(cat "$work/calls")" = "2 libyaml-0.so.2, proved: POKHVIZI_${words%=*} is no number: ${words#*=}" ] ||
             { echo "a bound that is no number: $(cat "$work/calls")"; return 1; }
     done
-    within 20 30 40 || return 1
+    within 20 30 40 && set_user_id || return 1
     said=$(LD_LIBRARY_PATH=$proved "$work/libyaml_calls") || { echo "$said"; return 1; }
     with=$(POKHVIZI_FIXES=1 LD_LIBRARY_PATH=$proved "$work/libyaml_calls") || { echo "with the fixes: $with"; return 1; }
     keys=$(POKHVIZI_UNIQUE_KEYS=1 LD_LIBRARY_PATH=$proved "$work/libyaml_calls") || { echo "with unique keys: $keys"; return 1; }

@@ -55,7 +55,7 @@ source_of() {
 plain_words() {
     tr '\r' '\n' < "$1" | sed -E -e 's/[0-9]+([.:][0-9]+)+ ?(s|seconds|sec|wallclock secs?)?//g' -e "s#$work##g" -e 's/0x[0-9a-f]+//g' \
         -e '/^(RUNIT TEST PROTOCOL|Finished|Files=|TIME (START|END)|Time taken|# Running|Run options|TEST [0-9]+)/d' \
-        -e '/tests\/s|assertions\/s|unused connection|Timing stopped/d' -e 's/ in s?$//' -e 's/^[.FsEx]+ *\[ *[0-9]+%\]$//' |
+        -e '/tests\/s|assertions\/s|unused connection|Timing stopped/d' -e 's/ passed in .*/ passed/' -e 's/^[.FsEx]+ *\[ *[0-9]+%\]$//' |
         if [ "$2" = sorted ]; then sort; else cat; fi
 }
 

@@ -84,7 +84,8 @@ fn functions_for_c_and_displays_are_written_otherwise() {
 
 #[test]
 fn quotes_of_characters_begin_no_string() {
-    let text = "fn f() -> &'static str { let q = '\"'; let s = \"\n    ghost x = { a };\n\"; let r = b'\"'; s }\n";
+    let text =
+        "fn f() -> &'static str { let q = '\"'; let s = \"\n    ghost x = { a };\n\"; let r = b'\"'; s }\n";
     assert_eq!(plain(text), text);
     let text = "fn f() -> u8 { let q = '\"'; let s = \"\nfn\n#[\"; let r = '\"'; 1 }\n";
     assert_eq!(plain(text), text);
@@ -94,10 +95,25 @@ fn quotes_of_characters_begin_no_string() {
 
 #[test]
 fn drop_is_a_bound_alone() {
-    assert_eq!(plain("struct S<A: B + Drop>(A) where A: C<u8> + Drop, A: D;\n"), "struct S<A: B >(A) where A: C<u8> , A: D;\n");
-    assert_eq!(plain("pub trait T: a::B + Drop {\n    type C: Copy + Drop;\n}\n"), "pub trait T: a::B  {\n    type C: Copy ;\n}\n");
-    assert_eq!(plain("impl<A: B + Drop> C for D<A> {}\nfn f(a: impl B + Drop) {}\n"), "impl<A: B > C for D<A> {}\nfn f(a: impl B ) {}\n");
-    for text in ["a + Drop", "S { x: a + Drop, y: 1 }", "if a < b + Drop { 1 } else { 2 }", "g(1, a + Drop)", "g::<A>(a) + Drop"] {
+    assert_eq!(
+        plain("struct S<A: B + Drop>(A) where A: C<u8> + Drop, A: D;\n"),
+        "struct S<A: B >(A) where A: C<u8> , A: D;\n"
+    );
+    assert_eq!(
+        plain("pub trait T: a::B + Drop {\n    type C: Copy + Drop;\n}\n"),
+        "pub trait T: a::B  {\n    type C: Copy ;\n}\n"
+    );
+    assert_eq!(
+        plain("impl<A: B + Drop> C for D<A> {}\nfn f(a: impl B + Drop) {}\n"),
+        "impl<A: B > C for D<A> {}\nfn f(a: impl B ) {}\n"
+    );
+    for text in [
+        "a + Drop",
+        "S { x: a + Drop, y: 1 }",
+        "if a < b + Drop { 1 } else { 2 }",
+        "g(1, a + Drop)",
+        "g::<A>(a) + Drop",
+    ] {
         refused(2, &format!("fn f(a: u8) -> u8 {{\n    {text} }}\n"));
     }
 }
@@ -116,8 +132,14 @@ fn drop_takes_a_reference_in_its_trait_alone() {
 
 #[test]
 fn words_of_errors_have_braces_with_a_field_alone() {
-    refused(3, "#[derive(Debug, Error)]\npub enum E {\n    #[error(\"{{}}\")]\n    A,\n}\n");
-    refused(5, "#[derive(Error)]\npub enum E {\n}\n#[derive(Error)]\npub enum F {\n}\n");
+    refused(
+        3,
+        "#[derive(Debug, Error)]\npub enum E {\n    #[error(\"{{}}\")]\n    A,\n}\n",
+    );
+    refused(
+        5,
+        "#[derive(Error)]\npub enum E {\n}\n#[derive(Error)]\npub enum F {\n}\n",
+    );
     refused(2, "#[derive(Error)] enum E {\n#[error(\"x\")]");
     let text = "#[derive(Error)]\nenum E {}\nenum F {}\n";
     assert!(plain(text).contains("for E {") && !plain(text).contains("for F {"));
@@ -180,7 +202,10 @@ fn what_is_unknown_ends_the_build() {
     refused(1, "macro_rules ! a {}\n");
     refused(1, "const A: &CStr = cr\"a\";\n");
     refused(1, "pub(crate) mod b { }\n");
-    assert_eq!(plain("fn f() { if !a { return !b } while !c {} a != b }\n"), "fn f() { if !a { return !b } while !c {} a != b }\n");
+    assert_eq!(
+        plain("fn f() { if !a { return !b } while !c {} a != b }\n"),
+        "fn f() { if !a { return !b } while !c {} a != b }\n"
+    );
     refused(2, "fn f()\n    ensures two names { a }\n{}\n");
     refused(2, "fn f()\n    ensures { a } {\n}\n");
     refused(2, "fn f()\n    ensures { a\n{}\n");

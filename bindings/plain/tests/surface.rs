@@ -334,11 +334,28 @@ fn a_source_ends_by_its_error() {
         ("invalid octet at position 3", Some(3))
     );
     assert_eq!(given[3].as_ref().unwrap_err().position(), None);
-    let (start, list) = (Mark { index: 0, line: 0, column: 0 }, |end| vec![Token::new(TokenData::stream_start(Encoding::UTF8), ZERO, end)]);
-    let end = Mark { index: 5, line: 1, column: 3 };
+    let (start, list) = (
+        Mark {
+            index: 0,
+            line: 0,
+            column: 0,
+        },
+        |end| vec![Token::new(TokenData::stream_start(Encoding::UTF8), ZERO, end)],
+    );
+    let end = Mark {
+        index: 5,
+        line: 1,
+        column: 3,
+    };
     for end in [start, end] {
-        let by_list = Parser::new(TokenList::from(list(end))).last().unwrap().unwrap_err();
-        let by_iterator = Parser::new(tokens(list(end).into_iter().map(Ok))).last().unwrap().unwrap_err();
+        let by_list = Parser::new(TokenList::from(list(end)))
+            .last()
+            .unwrap()
+            .unwrap_err();
+        let by_iterator = Parser::new(tokens(list(end).into_iter().map(Ok)))
+            .last()
+            .unwrap()
+            .unwrap_err();
         assert_eq!(by_list, by_iterator);
     }
 }

@@ -43,7 +43,9 @@ impl Key {
 /// Whether a plain scalar without a tag is a string to each loader: none takes it for null, a boolean, a number, a date, a merge key or
 /// one of Ruby's symbols. Of some texts loaders make different things, such as `yes` and `0o7`; these are none that are strings to each.
 fn is_string(text: &[u8]) -> bool {
-    const WORDS: [&[u8]; 10] = [b"~", b"null", b"true", b"false", b"yes", b"no", b"on", b"off", b"y", b"n"];
+    const WORDS: [&[u8]; 10] = [
+        b"~", b"null", b"true", b"false", b"yes", b"no", b"on", b"off", b"y", b"n",
+    ];
     const OF_NUMBERS: &[u8] = b"0123456789abcdefABCDEFxobBOXTtZz_:,.+- \t";
     let is_word = |words: &[&[u8]], text: &[u8]| words.iter().any(|word| word.eq_ignore_ascii_case(text));
     let unsigned = match text {

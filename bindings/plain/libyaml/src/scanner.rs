@@ -71,7 +71,9 @@ impl Drop for Scanner<'_> {
     fn drop(&mut self) {
         unsafe {
             libyaml::yaml_parser_delete(self.parser);
-            drop(Box::from_raw(self.parser.cast::<MaybeUninit<libyaml::yaml_parser_t>>()));
+            drop(Box::from_raw(
+                self.parser.cast::<MaybeUninit<libyaml::yaml_parser_t>>(),
+            ));
         }
     }
 }
