@@ -159,7 +159,7 @@ enum {
 };
 
 /* The states of entries of block collections, a bit for each. libyaml has another state for the first entry, the one before it. The steps
- * have only those of flow collections, whose first is also that behind a comma. */
+ * have only those of flow collections, whose first is also that after a comma. */
 enum {
     ENTRIES = 1 << YAML_PARSE_BLOCK_SEQUENCE_ENTRY_STATE | 1 << YAML_PARSE_BLOCK_MAPPING_KEY_STATE,
     FIRST_ENTRIES = 1 << YAML_PARSE_FLOW_SEQUENCE_FIRST_ENTRY_STATE | 1 << YAML_PARSE_FLOW_MAPPING_FIRST_KEY_STATE

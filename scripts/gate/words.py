@@ -107,7 +107,8 @@ def pages():
 
 
 def headers():
-    return [*TOP.glob("examples/*.[hc]"), *TOP.glob("bindings/c/**/*.[hc]")]
+    found = [*TOP.glob("examples/*.[hc]"), *TOP.glob("bindings/c/**/*.[hc]")]
+    return [path for path in found if "build" not in path.relative_to(TOP).parts]
 
 
 def scripts():

@@ -1,4 +1,4 @@
-/* Compares all fields of a yaml_parser_t after each call of two libyamls, but for those that each keeps for itself (the stacks of states,
+/* Compares the fields of a yaml_parser_t after each call of two libyamls, without those that each keeps for itself (the stacks of states,
  * marks and tag directives), for clients.sh:
  *
  *     fields ONE OTHER < NAMES     two libraries, and a file's name on each line
