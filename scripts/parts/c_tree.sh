@@ -33,7 +33,8 @@ if [ -e "$built/libyaml" ]; then
     cp bindings/python/LICENSE.libyaml "$doc"
 else
     rm -r "$tree/bin" "$tree/lib/pokhvizi"
-    sed -i -e '/^install-libyaml/,$d' -e '/pokhvizi\/\. \|proved-libyaml/d' "$tree/Makefile"
+    sed -i -e '/^# libyaml/,/^#.*ldconfig/d' -e '/^install-libyaml/,/^\.PHONY/d' -e '/^\tcp -R lib/d' -e '/^\t\(sed\|chmod\).*proved-libyaml/d' \
+        -e "s# '[^']*/proved-libyaml'##" "$tree/Makefile"
 fi
 cp bindings/c/README.md "$tree"
 cp LICENSE CHANGELOG.md docs/PROVED.md docs/laws.txt docs/DEFINITIONS.md docs/DIFFERENCES.md docs/BOUNDS.md docs/HEADLINE.md bindings/c/README.md "$doc"
