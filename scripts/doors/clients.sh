@@ -263,6 +263,8 @@ libyaml() {
     with=$(POKHVIZI_FIXES=1 LD_LIBRARY_PATH=$proved "$work/libyaml_calls") || { echo "with the fixes: $with"; return 1; }
     keys=$(POKHVIZI_UNIQUE_KEYS=1 LD_LIBRARY_PATH=$proved "$work/libyaml_calls") || { echo "with unique keys: $keys"; return 1; }
     [ "${keys%% *}" -gt "${said%% *}" ] || { echo "no key takes memory: $keys"; return 1; }
+    mkdir "$work/over" && cp "$dir/libpokhvizi.a" "$work/over" && LIBYAML_A='' sh bindings/c/build_libyaml.sh "$work/over" || return 1
+    over=$(LD_LIBRARY_PATH=$work/over/libyaml "$work/libyaml_calls") || { echo "over libyaml's shared library: $over"; return 1; }
     echo "$said; with the fixes $with; with unique keys ${keys%% *} refused$memory"
 }
 

@@ -122,7 +122,8 @@ class Counts(Door):
 class Libyaml(Counts):
     def run(self, what, file, bounds, exact):
         names = "POKHVIZI_MAX_DEPTH", "POKHVIZI_MAX_NODES", "POKHVIZI_MAX_EXPANDED"
-        words = dict(zip(names, map(str, bounds)), POKHVIZI_FIXES="0" if exact else "1", LD_LIBRARY_PATH=self.path)
+        words = {name: str(bound) for name, bound in zip(names, bounds) if bound}
+        words.update(POKHVIZI_FIXES="0" if exact else "1", LD_LIBRARY_PATH=self.path)
         words = ["%s=%s" % pair for pair in words.items()]
         return ["env", *words, self.paths["events"], {"events": "memory", "nodes": "loads"}[what]], {}, file
 
