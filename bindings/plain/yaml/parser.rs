@@ -8,8 +8,7 @@ use crate::libyaml_events::{
     yaml_parser_set_max_entries, yaml_parser_t,
 };
 use crate::libyaml_loader::{
-    event_composer_t, yaml_parser_composed_events_t, yaml_parser_documents, yaml_parser_load_partial,
-    yaml_parser_placed_events_t, yaml_place_t as Place,
+    event_composer_t, yaml_parser_documents, yaml_parser_load_partial, yaml_place_t as Place,
 };
 use alloc::string::String;
 use core::fmt;
@@ -203,6 +202,8 @@ fn bound<S>(parser: &mut yaml_parser_t<S>, most: NonZeroU32) {
 pub struct ComposedEvents<S> {
     parser: yaml_parser_t<S>,
     composer: event_composer_t,
+    /// Where the iterator puts the next event, before it moves it out.
+    slot: Event,
 }
 
 impl<S: TokenSource> ComposedEvents<S> {
@@ -210,7 +211,11 @@ impl<S: TokenSource> ComposedEvents<S> {
     pub fn new(source: S) -> Self {
         let parser = yaml_parser_initialize(Global, source);
         let composer = event_composer_t::new(Global, i32::MAX as u32);
-        ComposedEvents { parser, composer }
+        ComposedEvents {
+            parser,
+            composer,
+            slot: no_event(),
+        }
     }
 
     /// Returns which types of token may come next, after those of the events so far: those with some token with
@@ -229,16 +234,21 @@ impl<S: TokenSource> ComposedEvents<S> {
 impl<S: TokenSource> Iterator for ComposedEvents<S> {
     type Item = Result<Event, Error>;
 
+    #[inline]
     fn next(&mut self) -> Option<Self::Item> {
-        let kept = event_composer_t::new(Global, 0);
-        let composer = core::mem::replace(&mut self.composer, kept);
-        let mut events = yaml_parser_composed_events_t {
-            parser: &mut self.parser,
-            composer,
-        };
-        let event = events.next();
-        self.composer = events.composer;
-        event.map(|event| event.map_err(Error::from))
+        match yaml_parser_parse_into(&mut self.parser, &mut self.slot) {
+            Ok(()) if is_event(&self.slot) => {}
+            Ok(()) => return None,
+            Err(_) => return Some(Err(Error::from(*self.parser.prefix()))),
+        }
+        match self.composer.take(&self.slot) {
+            Ok(()) => Some(Ok(take_event(&mut self.slot))),
+            Err(refusal) => {
+                let fault = self.composer.fault(refusal, &self.slot);
+                self.parser.keep_fault(fault);
+                Some(Err(Error::from(fault)))
+            }
+        }
     }
 }
 
@@ -257,6 +267,8 @@ impl<S> fmt::Debug for ComposedEvents<S> {
 pub struct PlacedEvents<S> {
     parser: yaml_parser_t<S>,
     composer: event_composer_t,
+    /// Where the iterator puts the next event, before it moves it out.
+    slot: Event,
 }
 
 impl<S: TokenSource> PlacedEvents<S> {
@@ -264,7 +276,11 @@ impl<S: TokenSource> PlacedEvents<S> {
     pub fn new(source: S) -> Self {
         let parser = yaml_parser_initialize(Global, source);
         let composer = event_composer_t::new(Global, i32::MAX as u32);
-        PlacedEvents { parser, composer }
+        PlacedEvents {
+            parser,
+            composer,
+            slot: no_event(),
+        }
     }
 
     /// Returns which types of token may come next, after those of the events so far: those with some token with
@@ -283,16 +299,21 @@ impl<S: TokenSource> PlacedEvents<S> {
 impl<S: TokenSource> Iterator for PlacedEvents<S> {
     type Item = Result<(Event, Option<Place>), Error>;
 
+    #[inline]
     fn next(&mut self) -> Option<Self::Item> {
-        let kept = event_composer_t::new(Global, 0);
-        let composer = core::mem::replace(&mut self.composer, kept);
-        let mut events = yaml_parser_placed_events_t {
-            parser: &mut self.parser,
-            composer,
-        };
-        let event = events.next();
-        self.composer = events.composer;
-        event.map(|event| event.map_err(Error::from))
+        match yaml_parser_parse_into(&mut self.parser, &mut self.slot) {
+            Ok(()) if is_event(&self.slot) => {}
+            Ok(()) => return None,
+            Err(_) => return Some(Err(Error::from(*self.parser.prefix()))),
+        }
+        match self.composer.take_placed(&self.slot) {
+            Ok(place) => Some(Ok((take_event(&mut self.slot), place))),
+            Err(refusal) => {
+                let fault = self.composer.fault(refusal, &self.slot);
+                self.parser.keep_fault(fault);
+                Some(Err(Error::from(fault)))
+            }
+        }
     }
 }
 
