@@ -155,6 +155,7 @@ impl event_composer_t {
     }
 
     /// Returns the node that has the anchor of this event.
+    #[inline(always)]
     fn anchored_node(&self, event: &yaml_event_t) -> Option<AnchoredNode>
         ensures { option_map anchored_node_of result ≡ event_node self.now.anchors event.now }
     {
