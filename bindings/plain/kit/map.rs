@@ -11,6 +11,9 @@ pub struct BTreeMap<K, V> {
     root: Option<usize>,
 }
 
+/// The longest way in a tree whose nodes a `usize` counts.
+const DEEPEST: usize = 2 * usize::BITS as usize;
+
 /// An entry. A left child has a smaller level, a right one that or the same, and a right child's right child a
 /// smaller one: so a tree of `n` entries is at most `2 log2(n + 1)` deep.
 #[derive(Debug)]
@@ -35,8 +38,19 @@ impl<K: Ord, V> BTreeMap<K, V> {
     ///
     /// There is no memory; the map is then as it was.
     pub fn insert(&mut self, key: K, value: V) -> Result<Option<V>, AllocError> {
-        if let Some(place) = self.place_of(&key) {
-            return Ok(Some(core::mem::replace(&mut self.nodes[place].value, value)));
+        let (mut way, mut depth, mut next) = ([0; DEEPEST], 0, self.root);
+        let mut is_left = false;
+        while let Some(place) = next {
+            let node = &self.nodes[place];
+            way[depth] = place;
+            depth += 1;
+            (is_left, next) = match key.cmp(&node.key) {
+                Ordering::Less => (true, node.left),
+                Ordering::Greater => (false, node.right),
+                Ordering::Equal => {
+                    return Ok(Some(core::mem::replace(&mut self.nodes[place].value, value)));
+                }
+            };
         }
         let new = self.nodes.len();
         self.nodes.push(Node {
@@ -46,8 +60,37 @@ impl<K: Ord, V> BTreeMap<K, V> {
             left: None,
             right: None,
         })?;
-        self.root = Some(self.grown(self.root, new));
+        match way[..depth].last() {
+            None => self.root = Some(new),
+            Some(&parent) if is_left => self.nodes[parent].left = Some(new),
+            Some(&parent) => self.nodes[parent].right = Some(new),
+        }
+        self.balance(&way[..depth]);
         Ok(None)
+    }
+
+    /// Balances the tree along the way to a new node. A turn looks at a child's child, so after two places that
+    /// stay as they are no place above them changes.
+    fn balance(&mut self, way: &[usize]) {
+        let mut same = 0;
+        for above in (0..way.len()).rev() {
+            let (old, level) = (way[above], self.nodes[way[above]].level);
+            let top = self.skewed(old);
+            let top = self.split(top);
+            if top == old && self.nodes[top].level == level {
+                same += 1;
+                if same == 2 {
+                    return;
+                }
+                continue;
+            }
+            same = 0;
+            match above.checked_sub(1).map(|parent| way[parent]) {
+                None => self.root = Some(top),
+                Some(parent) if self.nodes[parent].left == Some(old) => self.nodes[parent].left = Some(top),
+                Some(parent) => self.nodes[parent].right = Some(top),
+            }
+        }
     }
 
     /// Returns the value at a key.
@@ -77,21 +120,6 @@ impl<K: Ord, V> BTreeMap<K, V> {
             };
         }
         None
-    }
-
-    /// Returns the root of this tree with a new node, which has another key than each. Calls itself as often as
-    /// the tree is deep.
-    fn grown(&mut self, tree: Option<usize>, new: usize) -> usize {
-        let Some(top) = tree else {
-            return new;
-        };
-        if self.nodes[new].key < self.nodes[top].key {
-            self.nodes[top].left = Some(self.grown(self.nodes[top].left, new));
-        } else {
-            self.nodes[top].right = Some(self.grown(self.nodes[top].right, new));
-        }
-        let top = self.skewed(top);
-        self.split(top)
     }
 
     /// Turns a left child of the same level into a right one.
