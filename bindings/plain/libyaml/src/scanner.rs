@@ -50,7 +50,43 @@ impl<'a> Scanner<'a> {
     }
 }
 
+impl Scanner<'_> {
+    /// Puts the next token into a variable. A scalar's text is written over the one that is there, in its memory.
+    fn scan_into(&mut self, slot: &mut Token) -> Result<(), SourceError> {
+        let mut token = MaybeUninit::uninit();
+        unsafe {
+            if libyaml::yaml_parser_scan(self.parser.as_mut_ptr(), token.as_mut_ptr()).fail {
+                return Err(fault_of(self.parser.assume_init_ref()));
+            }
+            let token = token.assume_init_mut();
+            slot.start_mark = mark_of(token.start_mark);
+            slot.end_mark = mark_of(token.end_mark);
+            let made = match (&mut slot.content, token.type_) {
+                (TokenData::Scalar(scalar), libyaml::YAML_SCALAR_TOKEN) => {
+                    let from = &token.data.scalar;
+                    scalar.style = style_of(from.style);
+                    scalar.value.clear();
+                    text_of(from.value, from.length as usize)
+                        .and_then(|text| scalar.value.push_str(text).map_err(SourceError::from))
+                }
+                (content, _) => data_of(token).map(|data| *content = data),
+            };
+            libyaml::yaml_token_delete(token);
+            made
+        }
+    }
+}
+
 impl TokenSource for Scanner<'_> {
+    fn next_token_into(&mut self, slot: &mut Token) -> Result<(), SourceError> {
+        if let Some(fault) = self.fault {
+            return Err(fault);
+        }
+        let scanned = self.scan_into(slot);
+        self.fault = scanned.err();
+        scanned
+    }
+
     fn next_token(&mut self) -> Result<Token, SourceError> {
         if let Some(fault) = self.fault {
             return Err(fault);
@@ -152,9 +188,19 @@ fn style_of(style: libyaml::yaml_scalar_style_t) -> ScalarStyle {
 }
 
 unsafe fn token_of(token: &libyaml::yaml_token_t) -> Result<Token, SourceError> {
+    let data = data_of(token)?;
+    Ok(Token::new(
+        data,
+        mark_of(token.start_mark),
+        mark_of(token.end_mark),
+    ))
+}
+
+#[inline]
+unsafe fn data_of(token: &libyaml::yaml_token_t) -> Result<TokenData, SourceError> {
     use TokenData::*;
     let data = &token.data;
-    let made = match token.type_ {
+    Ok(match token.type_ {
         libyaml::YAML_STREAM_START_TOKEN => TokenData::stream_start(encoding_of(data.stream_start.encoding)),
         libyaml::YAML_STREAM_END_TOKEN => StreamEnd,
         libyaml::YAML_VERSION_DIRECTIVE_TOKEN => {
@@ -185,10 +231,5 @@ unsafe fn token_of(token: &libyaml::yaml_token_t) -> Result<Token, SourceError> 
             TokenData::scalar(text, style_of(data.scalar.style))?
         }
         _ => NoToken,
-    };
-    Ok(Token::new(
-        made,
-        mark_of(token.start_mark),
-        mark_of(token.end_mark),
-    ))
+    })
 }
