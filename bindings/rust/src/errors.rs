@@ -19,12 +19,10 @@
 //! ```
 
 use crate::memory::Text;
-use crate::run::Run;
+use crate::parser::Parser;
 use original::*;
 use std::ffi::CStr;
 use std::fmt;
-use std::mem::{self, size_of};
-use std::ptr;
 
 /// The types of token that could have stood in the place of another.
 #[derive(Clone, Copy, Debug, Default, PartialEq, Eq)]
@@ -150,58 +148,7 @@ pub(crate) struct Beside {
     pub name: Option<Text>,
 }
 
-/// Returns the place of what a parser keeps: its last field, the document that is loaded, which the original's own loads alone use. There
-/// is the address of a `Run`, and one more, or after an error that of a `Beside`, or nothing.
-unsafe fn place_of(parser: *const yaml_parser_t) -> *mut *mut u8 {
-    let size = size_of::<*mut u8>();
-    parser.cast::<u8>().add(size_of::<yaml_parser_t>() - size) as *mut *mut u8
-}
-
-fn is_run(kept: *mut u8) -> bool {
-    kept as usize & 1 == 1
-}
-
 unsafe fn kept<'a>(parser: *const yaml_parser_t) -> Option<&'a Beside> {
-    let kept = *place_of(parser);
-    match is_run(kept) {
-        true => None,
-        false => kept.cast::<Beside>().as_ref(),
-    }
-}
-
-/// Has a parser keep this, if it tells something.
-pub(crate) unsafe fn keep(parser: *mut yaml_parser_t, beside: Beside) {
-    discard(parser);
-    if !beside.expected.is_empty() || beside.name.is_some() {
-        place_of(parser).write(Box::into_raw(Box::new(beside)).cast());
-    }
-}
-
-/// Has a parser keep its run.
-#[inline]
-pub(crate) unsafe fn keep_run(parser: *mut yaml_parser_t, run: Box<Run>) {
-    discard(parser); // of a call of a read handler's
-    place_of(parser).write(Box::into_raw(run).cast::<u8>().add(1));
-}
-
-/// Takes the run that a parser keeps.
-#[inline]
-pub(crate) unsafe fn take_run(parser: *mut yaml_parser_t) -> Option<Box<Run>> {
-    let place = place_of(parser);
-    match is_run(*place) {
-        true => Some(Box::from_raw(mem::replace(&mut *place, ptr::null_mut()).sub(1).cast())),
-        false => None,
-    }
-}
-
-/// Gives back what a parser keeps.
-#[inline]
-pub(crate) unsafe fn discard(parser: *mut yaml_parser_t) {
-    if let Some(run) = take_run(parser) {
-        drop(run);
-    }
-    let kept = mem::replace(&mut *place_of(parser), ptr::null_mut());
-    if !kept.is_null() {
-        drop(Box::from_raw(kept.cast::<Beside>()));
-    }
+    let run = (*parser.cast::<Parser>()).run.as_ref()?;
+    Some(&run.beside)
 }

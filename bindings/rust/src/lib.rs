@@ -38,10 +38,12 @@ mod expansion;
 mod fault;
 mod keys;
 mod memory;
+mod parser;
 mod run;
 mod steps;
 mod tokens;
 
+use parser::Parser;
 use std::ops::Deref;
 use std::ptr;
 
@@ -76,11 +78,9 @@ impl Deref for Success {
 /// Parses the input and produces the next event, as libyaml's `yaml_parser_parse`; after the last, and after a fault, none.
 pub unsafe fn yaml_parser_parse(parser: *mut yaml_parser_t, event: *mut yaml_event_t) -> Success {
     ptr::write_bytes(event, 0, 1);
-    if run::prefix(parser).error != YAML_NO_ERROR {
-        return Success { ok: true };
-    }
+    let parser = parser.cast::<Parser>();
     Success {
-        ok: run::with(parser, |run| run.event(parser, event)).is_ok(),
+        ok: (*parser).has_stopped() || run::parse(parser, event),
     }
 }
 
@@ -88,21 +88,20 @@ pub unsafe fn yaml_parser_parse(parser: *mut yaml_parser_t, event: *mut yaml_eve
 pub unsafe fn yaml_parser_load(parser: *mut yaml_parser_t, document: *mut yaml_document_t) -> Success {
     let (none, no_tags) = (ptr::null_mut(), ptr::null_mut());
     ptr::write_bytes(document, 0, 1);
-    if run::prefix(parser).error != YAML_NO_ERROR {
+    let parser = parser.cast::<Parser>();
+    if (*parser).told.error != YAML_NO_ERROR {
         return Success { ok: false };
     }
-    let given = run::with(parser, |run| {
-        let is_over = run.document(parser, document)?;
-        match is_over && !yaml_document_initialize(document, none, no_tags, no_tags, false, false).ok {
-            true => Err(fault::Fault::memory()),
-            false => Ok(is_over),
-        }
-    });
-    Success { ok: given.is_ok() }
+    let ok = match run::load(parser, document) {
+        Ok(true) => true,
+        Ok(false) => yaml_document_initialize(document, none, no_tags, no_tags, false, false).ok,
+        Err(()) => false,
+    };
+    Success { ok }
 }
 
 /// Destroys a parser, as libyaml's `yaml_parser_delete`.
 pub unsafe fn yaml_parser_delete(parser: *mut yaml_parser_t) {
-    errors::discard(parser);
+    run::discard(parser.cast());
     original::yaml_parser_delete(parser);
 }

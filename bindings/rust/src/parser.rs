@@ -1,0 +1,126 @@
+//! The original's parser by its fields, which it doesn't export: its queue of tokens is read in place, and it keeps the run.
+//!
+//! Cargo.toml names one version of the original, and tests/layout.rs looks at what stands in each field that is used here.
+
+use crate::fault::Fault;
+use crate::run::Run;
+use crate::tokens::Token;
+use original::*;
+use std::mem::{size_of, MaybeUninit};
+use std::ops::Deref;
+use std::{ffi::c_void, ptr};
+
+/// The fields of a parser that its clients read.
+pub type Prefix = <yaml_parser_t as Deref>::Target;
+
+#[repr(C)]
+struct Buffer {
+    start: *mut u8,
+    end: *mut u8,
+    pointer: *mut u8,
+    last: *mut u8,
+}
+
+#[repr(C)]
+struct Queue<T> {
+    start: *mut T,
+    end: *mut T,
+    head: *mut T,
+    tail: *mut T,
+}
+
+/// A parser.
+#[repr(C)]
+pub struct Parser {
+    pub told: Prefix,
+    read_handler: *const c_void,
+    read_handler_data: *mut c_void,
+    input: [*const u8; 3],
+    eof: bool,
+    buffer: Buffer,
+    unread: u64,
+    raw_buffer: Buffer,
+    encoding: yaml_encoding_t,
+    offset: u64,
+    mark: yaml_mark_t,
+    stream_start_produced: bool,
+    stream_end_produced: bool,
+    flow_level: i32,
+    tokens: Queue<Token>,
+    tokens_parsed: u64,
+    token_available: bool,
+    indents: yaml_stack_t<i32>,
+    indent: i32,
+    simple_key_allowed: bool,
+    simple_keys: yaml_stack_t<yaml_simple_key_t>,
+    not_simple_keys: i32,
+    // What the original's own parser and loader keep.
+    states: yaml_stack_t<yaml_parser_state_t>,
+    state: yaml_parser_state_t,
+    marks: yaml_stack_t<yaml_mark_t>,
+    tag_directives: yaml_stack_t<yaml_tag_directive_t>,
+    aliases: yaml_stack_t<yaml_alias_data_t>,
+    /// In the place of the document that is loaded: the run, between two calls.
+    pub run: *mut Run,
+}
+
+const _: () = assert!(size_of::<Parser>() == size_of::<yaml_parser_t>());
+
+impl Parser {
+    /// Whether the parser has an error, or gave its last token.
+    #[inline]
+    pub fn has_stopped(&self) -> bool {
+        self.stream_end_produced || self.told.error != YAML_NO_ERROR
+    }
+
+    /// Whether the scanner would give the head of the queue as it is: no token before it may still be a key's.
+    #[inline]
+    unsafe fn is_ready(&self) -> bool {
+        if self.token_available {
+            return true;
+        }
+        if self.tokens.head == self.tokens.tail {
+            return false;
+        }
+        let mut key = self.simple_keys.start.add(self.not_simple_keys as usize);
+        while key != self.simple_keys.top {
+            if (*key).possible {
+                return false;
+            }
+            key = key.add(1);
+        }
+        true
+    }
+
+    /// Takes the next token, which stays where it is until another is taken; a null pointer after the last.
+    ///
+    /// # Errors
+    ///
+    /// The scanner's, which the parser then has no longer.
+    #[inline(always)]
+    pub unsafe fn take(parser: *mut Parser) -> Result<*mut Token, Fault> {
+        if (*parser).is_ready() {
+            let token = (*parser).tokens.head;
+            (*parser).tokens.head = token.add(1);
+            (*parser).tokens_parsed += 1;
+            (*parser).token_available = false;
+            (*parser).stream_end_produced = (*token).is_last();
+            return Ok(token);
+        }
+        let mut copy = MaybeUninit::<yaml_token_t>::uninit();
+        match yaml_parser_scan(parser.cast(), copy.as_mut_ptr()).ok {
+            true if (*copy.as_ptr()).type_ == YAML_NO_TOKEN => Ok(ptr::null_mut()),
+            true => Ok((*parser).tokens.head.sub(1)),
+            false => Err(Fault::take(parser)),
+        }
+    }
+
+    /// Puts the token that was taken last back into the queue.
+    #[inline]
+    pub unsafe fn put_back(parser: *mut Parser) {
+        (*parser).tokens.head = (*parser).tokens.head.sub(1);
+        (*parser).tokens_parsed -= 1;
+        (*parser).token_available = true;
+        (*parser).stream_end_produced = false;
+    }
+}
