@@ -2,7 +2,7 @@
 //! crate `pokhvizi`, which is their source text without contracts, or those of the archive that the prover's
 //! compiler made of that text.
 
-use original::yaml_mark_t;
+use original::{yaml_mark_t, yaml_token_type_t};
 
 pub use pokhvizi::document_sizes::sizes_t;
 pub use pokhvizi::libyaml_composer::{composer_t, open_t, place_t};
@@ -10,17 +10,97 @@ pub use pokhvizi::libyaml_types::{yaml_mark_t as Mark, ZERO_MARK};
 pub use pokhvizi::token_steps::{handle_t, step_event_t, step_fault_t, step_span_t, steps_t, text_t};
 
 #[cfg(not(proved_archive))]
+#[allow(clippy::too_many_arguments)]
 mod plain {
-    use super::{composer_t, sizes_t, steps_t};
+    use super::{composer_t, sizes_t, step_event_t, step_fault_t, step_span_t, steps_t, Mark};
+    use original::yaml_token_type_t;
+    use pokhvizi::libyaml_types::yaml_token_type_t as Kind;
+    use std::mem::transmute;
 
     pub use pokhvizi::pokhvizi_c::compose::{pokhvizi_compose as compose, pokhvizi_count as count};
     pub use pokhvizi::pokhvizi_c::steps::{pokhvizi_differs as differs, pokhvizi_expected as expected};
-    pub use pokhvizi::pokhvizi_c::steps::{pokhvizi_step as step, pokhvizi_step_exact as step_exact};
     pub use pokhvizi::pokhvizi_c::tags::{pokhvizi_directive_fact as directive_fact, pokhvizi_tag as tag};
     pub use pokhvizi::pokhvizi_c::tags::pokhvizi_version_fact as version_fact;
 
     pub fn steps_new() -> steps_t {
         steps_t::new()
+    }
+
+    /// The types of token by the original's numbers.
+    const KINDS: [(yaml_token_type_t, Kind); 22] = {
+        use yaml_token_type_t::*;
+        [
+            (YAML_NO_TOKEN, Kind::YAML_NO_TOKEN),
+            (YAML_STREAM_START_TOKEN, Kind::YAML_STREAM_START_TOKEN),
+            (YAML_STREAM_END_TOKEN, Kind::YAML_STREAM_END_TOKEN),
+            (YAML_VERSION_DIRECTIVE_TOKEN, Kind::YAML_VERSION_DIRECTIVE_TOKEN),
+            (YAML_TAG_DIRECTIVE_TOKEN, Kind::YAML_TAG_DIRECTIVE_TOKEN),
+            (YAML_DOCUMENT_START_TOKEN, Kind::YAML_DOCUMENT_START_TOKEN),
+            (YAML_DOCUMENT_END_TOKEN, Kind::YAML_DOCUMENT_END_TOKEN),
+            (YAML_BLOCK_SEQUENCE_START_TOKEN, Kind::YAML_BLOCK_SEQUENCE_START_TOKEN),
+            (YAML_BLOCK_MAPPING_START_TOKEN, Kind::YAML_BLOCK_MAPPING_START_TOKEN),
+            (YAML_BLOCK_END_TOKEN, Kind::YAML_BLOCK_END_TOKEN),
+            (YAML_FLOW_SEQUENCE_START_TOKEN, Kind::YAML_FLOW_SEQUENCE_START_TOKEN),
+            (YAML_FLOW_SEQUENCE_END_TOKEN, Kind::YAML_FLOW_SEQUENCE_END_TOKEN),
+            (YAML_FLOW_MAPPING_START_TOKEN, Kind::YAML_FLOW_MAPPING_START_TOKEN),
+            (YAML_FLOW_MAPPING_END_TOKEN, Kind::YAML_FLOW_MAPPING_END_TOKEN),
+            (YAML_BLOCK_ENTRY_TOKEN, Kind::YAML_BLOCK_ENTRY_TOKEN),
+            (YAML_FLOW_ENTRY_TOKEN, Kind::YAML_FLOW_ENTRY_TOKEN),
+            (YAML_KEY_TOKEN, Kind::YAML_KEY_TOKEN),
+            (YAML_VALUE_TOKEN, Kind::YAML_VALUE_TOKEN),
+            (YAML_ALIAS_TOKEN, Kind::YAML_ALIAS_TOKEN),
+            (YAML_ANCHOR_TOKEN, Kind::YAML_ANCHOR_TOKEN),
+            (YAML_TAG_TOKEN, Kind::YAML_TAG_TOKEN),
+            (YAML_SCALAR_TOKEN, Kind::YAML_SCALAR_TOKEN),
+        ]
+    };
+
+    /// Each type has the same number there and here, as a byte.
+    const _: () = {
+        let mut place = 0;
+        while place < KINDS.len() {
+            // SAFETY: a type without fields, of one byte.
+            let number = unsafe { transmute::<Kind, u8>(KINDS[place].1) };
+            assert!(KINDS[place].0 as usize == place && number as usize == place);
+            place += 1;
+        }
+    };
+
+    /// Returns a token's type as the steps have it.
+    #[inline(always)]
+    fn kind_of(kind: yaml_token_type_t) -> Kind {
+        // SAFETY: these are all types that the original has, and each has its number here.
+        unsafe { transmute(kind as u8) }
+    }
+
+    // These two are inlined, as the calls of the same names aren't.
+
+    #[inline(always)]
+    pub fn step(
+        steps: &mut steps_t,
+        states: &mut [u8],
+        marks: &mut [Mark],
+        kind: yaml_token_type_t,
+        fact: u8,
+        at: &step_span_t,
+        event: &mut step_event_t,
+        fault: &mut step_fault_t,
+    ) -> u32 {
+        steps.step(states, marks, kind_of(kind), fact, at, event, fault).number()
+    }
+
+    #[inline(always)]
+    pub fn step_exact(
+        steps: &mut steps_t,
+        states: &mut [u8],
+        marks: &mut [Mark],
+        kind: yaml_token_type_t,
+        fact: u8,
+        at: &step_span_t,
+        event: &mut step_event_t,
+        fault: &mut step_fault_t,
+    ) -> u32 {
+        steps.step_exact(states, marks, kind_of(kind), fact, at, event, fault).number()
     }
 
     pub fn composer_new(max_entries: u32) -> composer_t {
@@ -139,7 +219,7 @@ mod archive {
         steps: &mut steps_t,
         states: &mut [u8],
         marks: &mut [Mark],
-        kind: u8,
+        kind: yaml_token_type_t,
         fact: u8,
         at: &step_span_t,
         event: &mut step_event_t,
@@ -154,7 +234,7 @@ mod archive {
                 states_room,
                 marks,
                 marks_room,
-                kind,
+                kind as u8,
                 fact,
                 at,
                 event,
@@ -168,7 +248,7 @@ mod archive {
         steps: &mut steps_t,
         states: &mut [u8],
         marks: &mut [Mark],
-        kind: u8,
+        kind: yaml_token_type_t,
         fact: u8,
         at: &step_span_t,
         event: &mut step_event_t,
@@ -176,7 +256,7 @@ mod archive {
     ) -> u32 {
         let (states, states_room) = (states.as_mut_ptr(), states.len());
         let (marks, marks_room) = (marks.as_mut_ptr(), marks.len());
-        unsafe { pokhvizi_step_exact(steps, states, states_room, marks, marks_room, kind, fact, at, event, fault) }
+        unsafe { pokhvizi_step_exact(steps, states, states_room, marks, marks_room, kind as u8, fact, at, event, fault) }
     }
 
     pub fn differs(steps: &steps_t, kind: u8) -> u8 {

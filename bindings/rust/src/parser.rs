@@ -73,26 +73,43 @@ impl Parser {
         self.stream_end_produced || self.told.error != YAML_NO_ERROR
     }
 
-    /// Whether the scanner would give the head of the queue as it is: no token before it may still be a key's.
-    #[inline]
+    /// Whether the scanner would give the head of the queue as it is: no KEY may still have to go before it.
+    #[inline(always)]
     unsafe fn is_ready(&self) -> bool {
-        if self.token_available {
-            return true;
-        }
         if self.tokens.head == self.tokens.tail {
             return false;
         }
-        let mut key = self.simple_keys.start.add(self.not_simple_keys as usize);
-        while key != self.simple_keys.top {
+        let first = self.simple_keys.start.add(self.not_simple_keys as usize);
+        let mut key = self.simple_keys.top;
+        loop {
+            if key == first {
+                return true;
+            }
+            key = key.sub(1);
             if (*key).possible {
                 return false;
             }
-            key = key.add(1);
         }
-        true
     }
 
-    /// Takes the next token, which stays where it is until another is taken; a null pointer after the last.
+    /// Whether the token that was taken last was put back.
+    #[inline]
+    pub fn has_put_back(&self) -> bool {
+        self.token_available
+    }
+
+    /// Takes the token that was put back.
+    #[inline]
+    pub unsafe fn take_again(parser: *mut Parser) -> *mut Token {
+        let token = (*parser).tokens.head;
+        (*parser).tokens.head = token.add(1);
+        (*parser).tokens_parsed += 1;
+        (*parser).token_available = false;
+        (*parser).stream_end_produced = (*token).is_last();
+        token
+    }
+
+    /// Takes the next token, where none was put back. It stays where it is until another is taken; a null pointer after the last.
     ///
     /// # Errors
     ///
@@ -103,7 +120,6 @@ impl Parser {
             let token = (*parser).tokens.head;
             (*parser).tokens.head = token.add(1);
             (*parser).tokens_parsed += 1;
-            (*parser).token_available = false;
             (*parser).stream_end_produced = (*token).is_last();
             return Ok(token);
         }

@@ -16,9 +16,9 @@ pub type Shape = step_event_t;
 pub type Problem = step_fault_t;
 
 // What a step returns, and the number of a problem that none has.
-const WANTS: u32 = 0;
-const GAVE: u32 = 1;
-const STAYS: u32 = 2;
+pub const WANTS: u32 = 0;
+pub const GAVE: u32 = 1;
+pub const STAYS: u32 = 2;
 const FULL_STATES: u32 = 3;
 const FULL_MARKS: u32 = 4;
 const FAULT: u32 = 5;
@@ -31,8 +31,7 @@ const UNDECLARED_HANDLE: u8 = 8;
 
 /// Where exact steps refuse a document, as `pokhvizi_differs` says it.
 const BARE_DOCUMENT: u8 = 3;
-const VALUE: u8 = YAML_VALUE_TOKEN as u8;
-const VALUE_BIT: u32 = 1 << VALUE;
+const VALUE_BIT: u32 = 1 << YAML_VALUE_TOKEN as u32;
 
 const NO_PROBLEM: Problem = step_fault_t {
     problem: 0,
@@ -127,17 +126,6 @@ impl TagDirectives {
     }
 }
 
-/// What a step did with a token.
-#[derive(Clone, Copy, PartialEq)]
-pub enum Did {
-    /// Took it; a further one is wanted.
-    Wants,
-    /// Gave an event, and took the token.
-    Gave,
-    /// Gave an event; the same token comes next.
-    Stays,
-}
-
 /// What a record's next tokens go by: its bytes before the marks.
 struct Before([MaybeUninit<u8>; Before::MOST]);
 
@@ -175,12 +163,13 @@ impl Before {
 }
 
 /// The parser's states, its stacks, and the tag directives of its document.
+#[repr(C)]
 pub struct Steps {
-    record: steps_t,
-    /// What the record was before the token in hand.
-    before: Before,
     states: Vec<u8>,
     marks: Vec<Mark>,
+    /// What the record was before the token in hand.
+    before: Before,
+    record: steps_t,
     /// Where a step puts why it fails.
     problem: Problem,
     /// How long the stack of marks may get.
@@ -210,8 +199,8 @@ impl Steps {
         let (record, mut before) = (door::steps_new(), Before::new());
         before.keep(&record);
         Steps {
-            record,
             before,
+            record,
             states: vec![0; Steps::ROOM],
             marks: vec![ZERO_MARK; Steps::ROOM.min(max_depth)],
             problem: NO_PROBLEM,
@@ -222,29 +211,18 @@ impl Steps {
         }
     }
 
-    /// Steps with a token and its fact, and writes the shape of the event that it gives.
-    ///
-    /// # Errors
-    ///
-    /// The parser's error, or no memory for a stack.
-    #[inline]
-    pub fn step(&mut self, token: &Token, fact: u8, shape: &mut Shape) -> Result<Did, Fault> {
-        let kind = token.type_ as u8;
-        // SAFETY: the two marks of a token are neighbours, and laid out like a span's.
-        let at = unsafe { &*ptr::addr_of!(token.start_mark).cast::<step_span_t>() };
+    /// Begins with a token that wasn't in hand before.
+    #[inline(always)]
+    pub fn begin(&mut self) {
+        self.before.keep(&self.record);
+    }
+
+    /// Steps with a token and its fact, and writes the shape of the event that it gives. Returns what the step returned.
+    #[inline(always)]
+    pub fn step(&mut self, token: &Token, fact: u8, shape: &mut Shape) -> u32 {
         let step = if cfg!(feature = "fixes") { door::step } else { door::step_exact };
-        loop {
-            let (states, marks) = (&mut self.states, &mut self.marks);
-            let did = step(&mut self.record, states, marks, kind, fact, at, shape, &mut self.problem);
-            match did {
-                WANTS | GAVE => {
-                    self.before.keep(&self.record);
-                    return Ok(if did == WANTS { Did::Wants } else { Did::Gave });
-                }
-                STAYS => return Ok(Did::Stays),
-                other => self.follow(other, at.start_mark)?,
-            }
-        }
+        let (states, marks) = (&mut self.states, &mut self.marks);
+        step(&mut self.record, states, marks, token.type_, fact, token.span(), shape, &mut self.problem)
     }
 
     /// Makes room if a step asked for it.
@@ -253,7 +231,7 @@ impl Steps {
     ///
     /// The step's problem; no memory.
     #[cold]
-    fn follow(&mut self, did: u32, at: Mark) -> Result<(), Fault> {
+    pub fn follow(&mut self, did: u32, at: Mark) -> Result<(), Fault> {
         match did {
             FAULT => {
                 let expected = self.expected();
@@ -312,7 +290,7 @@ impl Steps {
         let (mut shape, mut problem, mut did) = (BLANK, NO_PROBLEM, STAYS);
         while did == STAYS {
             let (states, marks) = (&mut self.states, &mut self.marks);
-            did = door::step_exact(&mut record, states, marks, VALUE, 0, &at, &mut shape, &mut problem);
+            did = door::step_exact(&mut record, states, marks, YAML_VALUE_TOKEN, 0, &at, &mut shape, &mut problem);
         }
         did != FAULT
     }

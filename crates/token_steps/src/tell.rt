@@ -108,7 +108,7 @@ fn collection(kind: u8, is_implicit: bool, is_flow: bool) -> Node
 }
 
 /// Puts the event of a node with these properties.
-#[inline(never)]
+#[inline(always)]
 fn put_node(
     event: &mut step_event_t,
     node: Node,
