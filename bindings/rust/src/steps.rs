@@ -9,6 +9,7 @@ use crate::memory::{self, bytes, Text};
 use crate::tokens::Token;
 use original::*;
 use std::collections::HashMap;
+use std::hint::unreachable_unchecked;
 use std::mem::{size_of, MaybeUninit};
 use std::{iter, ptr, slice};
 
@@ -222,6 +223,11 @@ impl Steps {
     pub fn step(&mut self, token: &Token, fact: u8, shape: &mut Shape) -> u32 {
         let step = if cfg!(feature = "fixes") { door::step } else { door::step_exact };
         let (states, marks) = (&mut self.states, &mut self.marks);
+        let counted = &self.record.machine;
+        if counted.states_count > states.len() || counted.marks_count > marks.len() {
+            // SAFETY: no step counts more than its stacks have room for (`within` of pokhvizi_step), and they only grow.
+            unsafe { unreachable_unchecked() }
+        }
         step(&mut self.record, states, marks, token.type_, fact, token.span(), shape, &mut self.problem)
     }
 
