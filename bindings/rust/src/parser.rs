@@ -1,6 +1,6 @@
 //! The original's parser by its fields, which it doesn't export: its queue of tokens is read in place, and it keeps the run.
 //!
-//! Cargo.toml names one version of the original, and tests/layout.rs looks at what stands in each field that is used here.
+//! Cargo.toml names one version of the original, and the test below looks at what stands in each field that is used here.
 
 use crate::fault::Fault;
 use crate::run::Run;
@@ -138,5 +138,62 @@ impl Parser {
         (*parser).tokens_parsed -= 1;
         (*parser).token_available = true;
         (*parser).stream_end_produced = false;
+    }
+}
+
+#[cfg(test)]
+mod tests {
+    use super::*;
+    use crate::events::shape_within;
+
+    /// The scanner's own calls change the fields as these are read, until all tokens are taken by either way.
+    #[test]
+    fn fields_are_the_originals() {
+        let text = "%TAG !e! x\n--- {a: [b, 'c'], ? d}\n--- !e!e &f\n- g: h\n  i: *f\n- [j]: k\n...\n";
+        unsafe {
+            let (mut one, mut other) = (MaybeUninit::<yaml_parser_t>::uninit(), MaybeUninit::<yaml_parser_t>::uninit());
+            for parser in [one.as_mut_ptr(), other.as_mut_ptr()] {
+                assert!(yaml_parser_initialize(parser).ok);
+                yaml_parser_set_input_string(parser, text.as_ptr(), text.len() as u64);
+            }
+            let (one, other) = (one.as_mut_ptr(), other.as_mut_ptr().cast::<Parser>());
+            let first = &*other;
+            assert!(!first.stream_start_produced && !first.stream_end_produced && !first.token_available);
+            assert!(first.tokens.head == first.tokens.start && first.tokens.tail == first.tokens.start);
+            assert_eq!(first.tokens.end.offset_from(first.tokens.start), 16);
+            assert_eq!(first.simple_keys.end.offset_from(first.simple_keys.start), 16);
+            assert!(first.simple_keys.top == first.simple_keys.start && first.run.is_null());
+            let (mut count, mut ready) = (0, 0);
+            while !(*other).has_stopped() {
+                let mut token = MaybeUninit::<yaml_token_t>::uninit();
+                assert!(yaml_parser_scan(one, token.as_mut_ptr()).ok);
+                ready += u32::from((*other).is_ready());
+                let taken = Parser::take(other).ok().filter(|token| !token.is_null()).expect("a token");
+                count += 1;
+                assert_eq!((*other).tokens_parsed, count);
+                Parser::put_back(other);
+                assert!((*other).has_put_back() && Parser::take_again(other) == taken);
+                let (there, here) = (token.assume_init_mut(), &mut *taken);
+                assert_eq!((there.type_, there.end_mark.index), (here.type_, here.end_mark.index));
+                assert_eq!(there.start_mark.column, here.begin().column);
+                assert_eq!((*one.cast::<Parser>()).tokens_parsed, count);
+                assert_eq!((*one.cast::<Parser>()).stream_end_produced, (*other).stream_end_produced);
+                yaml_token_delete(there);
+                here.leave();
+            }
+            assert!(count > 40 && ready > 15, "{count} {ready}");
+            yaml_parser_delete(one);
+            yaml_parser_delete(other.cast());
+        }
+    }
+
+    #[test]
+    fn a_shape_has_the_marks_of_its_event() {
+        let mut event = MaybeUninit::<yaml_event_t>::zeroed();
+        unsafe {
+            let shape = shape_within(event.as_mut_ptr());
+            assert!(ptr::addr_of!((*shape).start_mark).cast() == ptr::addr_of!((*event.as_ptr()).start_mark));
+            assert!(ptr::addr_of!((*shape).end_mark).cast() == ptr::addr_of!((*event.as_ptr()).end_mark));
+        }
     }
 }
