@@ -422,6 +422,19 @@ static yaml_token_t *at_hand(const yaml_parser_t *parser)
     return parser->token_available ? parser->tokens.head : NULL;
 }
 
+/* Whether the scanner would leave the head of its queue as it is: no KEY may still have to go before it. */
+OFTEN int is_ready(const yaml_parser_t *parser)
+{
+    const yaml_simple_key_t *key = parser->simple_keys.top;
+
+    if (parser->tokens.head == parser->tokens.tail)
+        return 0;
+    while (key != parser->simple_keys.start)
+        if ((--key)->possible)
+            return 0;
+    return 1;
+}
+
 /* Takes the next token, whose texts have another owner now. */
 OFTEN void skip(yaml_parser_t *parser)
 {
@@ -1141,7 +1154,9 @@ OFTEN uint32_t advance(yaml_parser_t *parser, yaml_token_t **token, struct held 
 
     for (;;) {
         if (*token == NULL) {
-            if (!yaml_parser_fetch_more_tokens(parser))
+            if (is_ready(parser))
+                parser->token_available = 1;
+            else if (!yaml_parser_fetch_more_tokens(parser))
                 return stop(parser);
             *token = parser->tokens.head;
 #ifdef WITH_EXPECTED
