@@ -20,7 +20,7 @@ ghost use Rattle.libyaml_events.specs.automaton.AutomatonResults.{ReadsTag, Refu
 
 use crate::parser::TokenParser;
 use crate::pending::Pending;
-use crate::states::contents::{make_light, put_anchored_scalar, put_over, put_scalar};
+use crate::states::contents::{keep_tag, put_anchored_scalar, put_scalar};
 use crate::states::node_events::{collection_start, is_missing, plain_scalar, sequence_start};
 use crate::states::properties::{forget_earlier, take_anchor};
 use crate::step::Step;
@@ -46,6 +46,7 @@ impl TokenParser {
             → GrowsAfter pending.old self.old token.old }
         ensures handle { result ≡ Step.Failed → held_handle pending.new ≡ held_handle pending.old }
     {
+        keep_tag(&mut self.spare, &mut out.content);
         let tag = match self.take_tag(pending) {
             Ok(tag) => tag,
             Err(_) => return Step::Failed,
@@ -306,8 +307,7 @@ impl TokenParser {
         ensures same { self.new ≡ self.old }
         ensures put { out.new ≡ event content out.old.start_mark end_mark.now }
     {
-        make_light(&mut self.spare, &mut out.content);
-        put_over(&mut out.content, content);
+        out.content = content;
         out.end_mark = *end_mark;
     }
 
