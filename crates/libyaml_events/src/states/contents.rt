@@ -1,9 +1,4 @@
 //! The content of an event, put in place of another event's content.
-//!
-//! If that is of the same kind, it is written over field by field. If it is of another kind and has nothing
-//! to be dropped, such as the empty event of a call by value, an arm of its own lets the compiler see it.
-//! Else it is dropped, which functions of their own do (`replace_by_..`): to drop a content takes six registers,
-//! which the function then needn't save.
 ghost use Rattle.std.specs.Prelude.{◌≡◌, [], None, false, true, option_map, string_bytes};
 ghost use Rattle.libyaml_types.specs.declared.event.unnamed_yaml_event_t_data.TheVariants.{Alias, MappingEnd};
 ghost use Rattle.libyaml_types.specs.declared.event.unnamed_yaml_event_t_data.TheVariants.{SequenceEnd};
@@ -12,7 +7,7 @@ ghost use Rattle.libyaml_events.specs.machine.Machine.{empty_scalar, mapping_sta
 ghost use Rattle.libyaml_events.specs.machine.Machine.{sequence_start_with};
 
 use crate::states::node_events::{
-    is_plain, is_plain_implicit, is_quoted_implicit, mapping_start, plain_scalar, sequence_start,
+    is_plain_implicit, is_quoted_implicit, mapping_start, plain_scalar, sequence_start,
 };
 use libyaml_types::{
     unnamed_yaml_event_t_data, unnamed_yaml_event_t_data_alias, unnamed_yaml_event_t_data_scalar,
