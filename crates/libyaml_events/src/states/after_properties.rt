@@ -20,7 +20,7 @@ ghost use Rattle.libyaml_events.specs.automaton.AutomatonResults.{ReadsTag, Refu
 
 use crate::parser::TokenParser;
 use crate::pending::Pending;
-use crate::states::contents::{keep_tag, put_anchored_scalar, put_scalar};
+use crate::states::contents::{put_anchored_scalar, put_scalar};
 use crate::states::node_events::{collection_start, is_missing, plain_scalar, sequence_start};
 use crate::states::properties::{forget_earlier, take_anchor};
 use crate::step::Step;
@@ -46,7 +46,6 @@ impl TokenParser {
             → GrowsAfter pending.old self.old token.old }
         ensures handle { result ≡ Step.Failed → held_handle pending.new ≡ held_handle pending.old }
     {
-        keep_tag(&mut self.spare, &mut out.content);
         let tag = match self.take_tag(pending) {
             Ok(tag) => tag,
             Err(_) => return Step::Failed,

@@ -57,7 +57,7 @@ fn release(spare: &mut String, text: &mut String) {
 
 /// Keeps the memory of an earlier event's tag: the next one is joined there.
 #[inline(always)]
-pub(super) fn keep_tag(spare: &mut String, content: &mut unnamed_yaml_event_t_data) {
+fn keep_tag(spare: &mut String, content: &mut unnamed_yaml_event_t_data) {
     if let unnamed_yaml_event_t_data::Scalar(event) = content {
         if let Some(tag) = &mut event.tag {
             release(spare, tag);
@@ -93,6 +93,9 @@ pub(super) fn put_scalar(
 {
     let plain_implicit = is_plain_implicit(&tag, token.style);
     let quoted_implicit = is_quoted_implicit(&tag, token.style);
+    if tag.is_some() {
+        keep_tag(spare, content);
+    }
     let text = String::new(*spare.allocator());
     *content = unnamed_yaml_event_t_data::Scalar(unnamed_yaml_event_t_data_scalar {
         anchor: anchor.take(),
