@@ -28,10 +28,8 @@ mod properties;
 
 use crate::parser::TokenParser;
 use crate::pending::Pending;
-use crate::states::contents::{
-    put_alias, put_bare_scalar, put_empty_scalar, put_mapping_end, put_mapping_start,
-    put_sequence_end, put_sequence_start,
-};
+use crate::states::contents::{put_alias, put_scalar};
+use crate::states::node_events::{mapping_start, plain_scalar, sequence_start};
 use crate::step::Step;
 use libyaml_automaton::{
     Action, DUPLICATE_TAG, DUPLICATE_VERSION, INCOMPATIBLE_VERSION, NO_BLOCK_CONTENT,
@@ -168,111 +166,111 @@ impl TokenParser {
                 out.start_mark = token.start_mark;
                 out.end_mark = token.end_mark;
                 if let unnamed_yaml_token_t_data::Scalar(scalar) = &mut token.content {
-                    put_bare_scalar(&mut self.spare, scalar, &mut out.content);
+                    put_scalar(&mut self.spare, None, None, scalar, &mut out.content);
                 }
                 Step::Given
             }
             Action::Empty => {
                 out.start_mark = token.start_mark;
                 out.end_mark = token.start_mark;
-                put_empty_scalar(&mut self.spare, &mut out.content);
+                out.content = plain_scalar(None, None, String::new(self.allocator()), true);
                 Step::GivenBefore
             }
             Action::EmptyAfter => {
                 out.start_mark = pending.reading.mark;
                 out.end_mark = pending.reading.mark;
-                put_empty_scalar(&mut self.spare, &mut out.content);
+                out.content = plain_scalar(None, None, String::new(self.allocator()), true);
                 Step::GivenBefore
             }
             Action::SequenceEnd => {
                 out.start_mark = token.start_mark;
                 out.end_mark = token.end_mark;
-                put_sequence_end(&mut self.spare, &mut out.content);
+                out.content = unnamed_yaml_event_t_data::SequenceEnd;
                 Step::Given
             }
             Action::MappingEnd => {
                 out.start_mark = token.start_mark;
                 out.end_mark = token.end_mark;
-                put_mapping_end(&mut self.spare, &mut out.content);
+                out.content = unnamed_yaml_event_t_data::MappingEnd;
                 Step::Given
             }
             Action::IndentlessEnd => {
                 out.start_mark = token.start_mark;
                 out.end_mark = token.start_mark;
-                put_sequence_end(&mut self.spare, &mut out.content);
+                out.content = unnamed_yaml_event_t_data::SequenceEnd;
                 Step::GivenBefore
             }
             Action::PairEnd => {
                 out.start_mark = token.start_mark;
                 out.end_mark = token.start_mark;
-                put_mapping_end(&mut self.spare, &mut out.content);
+                out.content = unnamed_yaml_event_t_data::MappingEnd;
                 Step::GivenBefore
             }
             Action::Alias => {
                 out.start_mark = token.start_mark;
                 out.end_mark = token.end_mark;
                 if let unnamed_yaml_token_t_data::Alias(alias) = &mut token.content {
-                    put_alias(&mut self.spare, alias, &mut out.content);
+                    put_alias(self.allocator(), alias, &mut out.content);
                 }
                 Step::Given
             }
             Action::Pair => {
                 out.start_mark = token.start_mark;
                 out.end_mark = token.end_mark;
-                put_mapping_start(
+                out.content = mapping_start(
+                    None,
+                    None,
                     yaml_mapping_style_t::YAML_FLOW_MAPPING_STYLE,
-                    &mut self.spare,
-                    &mut out.content,
                 );
                 Step::Given
             }
             Action::IndentlessSequence => {
                 out.start_mark = token.start_mark;
                 out.end_mark = token.end_mark;
-                put_sequence_start(
+                out.content = sequence_start(
+                    None,
+                    None,
                     yaml_sequence_style_t::YAML_BLOCK_SEQUENCE_STYLE,
-                    &mut self.spare,
-                    &mut out.content,
                 );
                 Step::GivenBefore
             }
             Action::BlockSequence => {
                 out.start_mark = token.start_mark;
                 out.end_mark = token.end_mark;
-                put_sequence_start(
+                out.content = sequence_start(
+                    None,
+                    None,
                     yaml_sequence_style_t::YAML_BLOCK_SEQUENCE_STYLE,
-                    &mut self.spare,
-                    &mut out.content,
                 );
                 Step::Given
             }
             Action::BlockMapping => {
                 out.start_mark = token.start_mark;
                 out.end_mark = token.end_mark;
-                put_mapping_start(
+                out.content = mapping_start(
+                    None,
+                    None,
                     yaml_mapping_style_t::YAML_BLOCK_MAPPING_STYLE,
-                    &mut self.spare,
-                    &mut out.content,
                 );
                 Step::Given
             }
             Action::FlowSequence => {
                 out.start_mark = token.start_mark;
                 out.end_mark = token.end_mark;
-                put_sequence_start(
+                out.content = sequence_start(
+                    None,
+                    None,
                     yaml_sequence_style_t::YAML_FLOW_SEQUENCE_STYLE,
-                    &mut self.spare,
-                    &mut out.content,
                 );
                 Step::Given
             }
             Action::FlowMapping => {
                 out.start_mark = token.start_mark;
                 out.end_mark = token.end_mark;
-                put_mapping_start(
+                out.content = mapping_start(
+                    None,
+                    None,
                     yaml_mapping_style_t::YAML_FLOW_MAPPING_STYLE,
-                    &mut self.spare,
-                    &mut out.content,
                 );
                 Step::Given
             }

@@ -20,7 +20,7 @@ ghost use Rattle.libyaml_events.specs.automaton.AutomatonResults.{ReadsTag, Refu
 
 use crate::parser::TokenParser;
 use crate::pending::Pending;
-use crate::states::contents::{put_anchored_scalar, put_scalar};
+use crate::states::contents::put_scalar;
 use crate::states::node_events::{collection_start, is_missing, plain_scalar, sequence_start};
 use crate::states::properties::{forget_earlier, take_anchor};
 use crate::step::Step;
@@ -286,12 +286,8 @@ impl TokenParser {
     {
         out.end_mark = token.end_mark;
         if let unnamed_yaml_token_t_data::Scalar(scalar) = &mut token.content {
-            let anchor = &mut pending.properties.anchor;
-            if tag.is_none() {
-                put_anchored_scalar(&mut self.spare, anchor, scalar, &mut out.content);
-            } else {
-                put_scalar(&mut self.spare, anchor, tag, scalar, &mut out.content);
-            }
+            let anchor = take_anchor(pending);
+            put_scalar(&mut self.spare, anchor, tag, scalar, &mut out.content);
         }
     }
 

@@ -65,29 +65,16 @@ fn keep_tag(spare: &mut String, content: &mut unnamed_yaml_event_t_data) {
     }
 }
 
-/// Puts a scalar without properties into `content`.
-#[inline(always)]
-pub(super) fn put_bare_scalar(
-    spare: &mut String,
-    token: &mut unnamed_yaml_token_t_data_scalar,
-    content: &mut unnamed_yaml_event_t_data,
-)
-    ensures { content.new ≡ scalar_with None None token.old.value (plain_flag None token.old.style)
-        (quoted_flag None token.old.style) token.old.style }
-{
-    put_scalar(spare, &mut None, None, token, content);
-}
-
 /// Puts a scalar into `content`.
 #[inline(always)]
 pub(super) fn put_scalar(
     spare: &mut String,
-    anchor: &mut Option<String>,
+    anchor: Option<String>,
     tag: Option<String>,
     token: &mut unnamed_yaml_token_t_data_scalar,
     content: &mut unnamed_yaml_event_t_data,
 )
-    ensures { content.new ≡ scalar_with (option_map string_bytes anchor.old) (option_map string_bytes tag)
+    ensures { content.new ≡ scalar_with (option_map string_bytes anchor) (option_map string_bytes tag)
         token.old.value (plain_flag (option_map string_bytes tag) token.old.style)
         (quoted_flag (option_map string_bytes tag) token.old.style) token.old.style }
 {
@@ -98,7 +85,7 @@ pub(super) fn put_scalar(
     }
     let text = String::new(*spare.allocator());
     *content = unnamed_yaml_event_t_data::Scalar(unnamed_yaml_event_t_data_scalar {
-        anchor: anchor.take(),
+        anchor,
         tag,
         value: mem::replace(&mut token.value, text),
         plain_implicit,
@@ -107,79 +94,15 @@ pub(super) fn put_scalar(
     });
 }
 
-/// Puts a scalar after an anchor alone into `content`.
-#[inline(always)]
-pub(super) fn put_anchored_scalar(
-    spare: &mut String,
-    anchor: &mut Option<String>,
-    token: &mut unnamed_yaml_token_t_data_scalar,
-    content: &mut unnamed_yaml_event_t_data,
-)
-    ensures { content.new ≡ scalar_with (option_map string_bytes anchor.old) None token.old.value
-        (plain_flag None token.old.style) (quoted_flag None token.old.style) token.old.style }
-{
-    put_scalar(spare, anchor, None, token, content);
-}
-
-/// Puts a scalar that is left out into `content`.
-#[inline(always)]
-pub(super) fn put_empty_scalar(spare: &mut String, content: &mut unnamed_yaml_event_t_data)
-    ensures { content.new ≡ empty_scalar }
-{
-    let text = String::new(*spare.allocator());
-    *content = plain_scalar(None, None, text, true);
-}
-
-/// Puts the start of a sequence without properties into `content`.
-#[inline(always)]
-pub(super) fn put_sequence_start(
-    style: yaml_sequence_style_t,
-    spare: &mut String,
-    content: &mut unnamed_yaml_event_t_data,
-)
-    ensures { content.new ≡ sequence_start_with None None style }
-{
-    *content = sequence_start(None, None, style);
-}
-
-/// Puts the start of a mapping without properties into `content`.
-#[inline(always)]
-pub(super) fn put_mapping_start(
-    style: yaml_mapping_style_t,
-    spare: &mut String,
-    content: &mut unnamed_yaml_event_t_data,
-)
-    ensures { content.new ≡ mapping_start_with None None style }
-{
-    *content = mapping_start(None, None, style);
-}
-
-/// Puts the end of a sequence into `content`.
-#[inline(always)]
-pub(super) fn put_sequence_end(spare: &mut String, content: &mut unnamed_yaml_event_t_data)
-    ensures { content.new ≡ SequenceEnd }
-{
-    *content = unnamed_yaml_event_t_data::SequenceEnd;
-}
-
-/// Puts the end of a mapping into `content`.
-#[inline(always)]
-pub(super) fn put_mapping_end(spare: &mut String, content: &mut unnamed_yaml_event_t_data)
-    ensures { content.new ≡ MappingEnd }
-{
-    *content = unnamed_yaml_event_t_data::MappingEnd;
-}
-
 /// Puts an alias into `content`.
 #[inline(always)]
 pub(super) fn put_alias(
-    spare: &mut String,
+    alloc: Global,
     token: &mut unnamed_yaml_token_t_data_alias,
     content: &mut unnamed_yaml_event_t_data,
 )
     ensures { content.new ≡ Alias (record { anchor = token.old.value }) }
 {
-    let text = String::new(*spare.allocator());
-    let anchor = mem::replace(&mut token.value, text);
+    let anchor = mem::replace(&mut token.value, String::new(alloc));
     *content = unnamed_yaml_event_t_data::Alias(unnamed_yaml_event_t_data_alias { anchor });
 }
