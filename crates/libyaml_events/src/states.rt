@@ -28,7 +28,7 @@ mod properties;
 
 use crate::parser::TokenParser;
 use crate::pending::Pending;
-use crate::states::contents::{put_alias, put_scalar};
+use crate::states::contents::{put_alias, put_over, put_scalar};
 use crate::states::node_events::{mapping_start, plain_scalar, sequence_start};
 use crate::step::Step;
 use libyaml_automaton::{
@@ -185,25 +185,25 @@ impl TokenParser {
             Action::SequenceEnd => {
                 out.start_mark = token.start_mark;
                 out.end_mark = token.end_mark;
-                out.content = unnamed_yaml_event_t_data::SequenceEnd;
+                put_over(&mut out.content, unnamed_yaml_event_t_data::SequenceEnd);
                 Step::Given
             }
             Action::MappingEnd => {
                 out.start_mark = token.start_mark;
                 out.end_mark = token.end_mark;
-                out.content = unnamed_yaml_event_t_data::MappingEnd;
+                put_over(&mut out.content, unnamed_yaml_event_t_data::MappingEnd);
                 Step::Given
             }
             Action::IndentlessEnd => {
                 out.start_mark = token.start_mark;
                 out.end_mark = token.start_mark;
-                out.content = unnamed_yaml_event_t_data::SequenceEnd;
+                put_over(&mut out.content, unnamed_yaml_event_t_data::SequenceEnd);
                 Step::GivenBefore
             }
             Action::PairEnd => {
                 out.start_mark = token.start_mark;
                 out.end_mark = token.start_mark;
-                out.content = unnamed_yaml_event_t_data::MappingEnd;
+                put_over(&mut out.content, unnamed_yaml_event_t_data::MappingEnd);
                 Step::GivenBefore
             }
             Action::Alias => {
@@ -217,60 +217,54 @@ impl TokenParser {
             Action::Pair => {
                 out.start_mark = token.start_mark;
                 out.end_mark = token.end_mark;
-                out.content = mapping_start(
-                    None,
-                    None,
-                    yaml_mapping_style_t::YAML_FLOW_MAPPING_STYLE,
+                put_over(
+                    &mut out.content,
+                    mapping_start(None, None, yaml_mapping_style_t::YAML_FLOW_MAPPING_STYLE),
                 );
                 Step::Given
             }
             Action::IndentlessSequence => {
                 out.start_mark = token.start_mark;
                 out.end_mark = token.end_mark;
-                out.content = sequence_start(
-                    None,
-                    None,
-                    yaml_sequence_style_t::YAML_BLOCK_SEQUENCE_STYLE,
+                put_over(
+                    &mut out.content,
+                    sequence_start(None, None, yaml_sequence_style_t::YAML_BLOCK_SEQUENCE_STYLE),
                 );
                 Step::GivenBefore
             }
             Action::BlockSequence => {
                 out.start_mark = token.start_mark;
                 out.end_mark = token.end_mark;
-                out.content = sequence_start(
-                    None,
-                    None,
-                    yaml_sequence_style_t::YAML_BLOCK_SEQUENCE_STYLE,
+                put_over(
+                    &mut out.content,
+                    sequence_start(None, None, yaml_sequence_style_t::YAML_BLOCK_SEQUENCE_STYLE),
                 );
                 Step::Given
             }
             Action::BlockMapping => {
                 out.start_mark = token.start_mark;
                 out.end_mark = token.end_mark;
-                out.content = mapping_start(
-                    None,
-                    None,
-                    yaml_mapping_style_t::YAML_BLOCK_MAPPING_STYLE,
+                put_over(
+                    &mut out.content,
+                    mapping_start(None, None, yaml_mapping_style_t::YAML_BLOCK_MAPPING_STYLE),
                 );
                 Step::Given
             }
             Action::FlowSequence => {
                 out.start_mark = token.start_mark;
                 out.end_mark = token.end_mark;
-                out.content = sequence_start(
-                    None,
-                    None,
-                    yaml_sequence_style_t::YAML_FLOW_SEQUENCE_STYLE,
+                put_over(
+                    &mut out.content,
+                    sequence_start(None, None, yaml_sequence_style_t::YAML_FLOW_SEQUENCE_STYLE),
                 );
                 Step::Given
             }
             Action::FlowMapping => {
                 out.start_mark = token.start_mark;
                 out.end_mark = token.end_mark;
-                out.content = mapping_start(
-                    None,
-                    None,
-                    yaml_mapping_style_t::YAML_FLOW_MAPPING_STYLE,
+                put_over(
+                    &mut out.content,
+                    mapping_start(None, None, yaml_mapping_style_t::YAML_FLOW_MAPPING_STYLE),
                 );
                 Step::Given
             }

@@ -1,18 +1,13 @@
 //! The content of an event, put in place of another event's content.
-ghost use Rattle.std.specs.Prelude.{◌≡◌, [], None, false, true, option_map, string_bytes};
-ghost use Rattle.libyaml_types.specs.declared.event.unnamed_yaml_event_t_data.TheVariants.{Alias, MappingEnd};
-ghost use Rattle.libyaml_types.specs.declared.event.unnamed_yaml_event_t_data.TheVariants.{SequenceEnd};
+ghost use Rattle.std.specs.Prelude.{◌≡◌, option_map, string_bytes};
+ghost use Rattle.libyaml_types.specs.declared.event.unnamed_yaml_event_t_data.TheVariants.{Alias};
 ghost use Rattle.libyaml_grammar.specs.grammar.Events.{plain_flag, quoted_flag};
-ghost use Rattle.libyaml_events.specs.machine.Machine.{empty_scalar, mapping_start_with, scalar_with};
-ghost use Rattle.libyaml_events.specs.machine.Machine.{sequence_start_with};
+ghost use Rattle.libyaml_events.specs.machine.Machine.{scalar_with};
 
-use crate::states::node_events::{
-    is_plain_implicit, is_quoted_implicit, mapping_start, plain_scalar, sequence_start,
-};
+use crate::states::node_events::{is_plain_implicit, is_quoted_implicit};
 use libyaml_types::{
     unnamed_yaml_event_t_data, unnamed_yaml_event_t_data_alias, unnamed_yaml_event_t_data_scalar,
-    unnamed_yaml_token_t_data_alias, unnamed_yaml_token_t_data_scalar, yaml_mapping_style_t,
-    yaml_scalar_style_t, yaml_sequence_style_t,
+    unnamed_yaml_token_t_data_alias, unnamed_yaml_token_t_data_scalar,
 };
 use std::alloc::Global;
 use std::mem;
@@ -20,48 +15,40 @@ use std::mem;
 /// The largest text that is kept, in bytes.
 const MAX_SPARE: usize = 1 << 16;
 
-/// Takes the memory of a text that is to be replaced.
+/// Keeps the memory of an earlier event's tag, if it has more room than what was kept: a later tag is joined
+/// there. A text beyond `MAX_SPARE` is not kept.
 #[inline(always)]
-pub(super) fn take_memory(alloc: Global, text: &mut String) -> String
-    ensures taken { string_bytes result ≡ [] }
-    ensures left { string_bytes text.new ≡ [] }
-{
-    let mut taken = mem::replace(text, String::new(alloc));
-    taken.clear();
-    taken
-}
-
-/// The same text. Reading its length lets the compiler move it word by word, in the way it was written,
-/// instead of by a copy of three words, which waits for those writes.
-#[inline(always)]
-pub(super) fn in_words(text: String) -> String
-    ensures { string_bytes result ≡ string_bytes text }
-{
-    let mut same = text;
-    if same.is_empty() {
-        same.clear();
-    }
-    same
-}
-
-/// Keeps the memory of a text, if it has more room than what was kept: a later text may take it. A text
-/// beyond `MAX_SPARE` is not kept.
-#[inline(always)]
-fn release(spare: &mut String, text: &mut String) {
-    let taken = take_memory(*spare.allocator(), text);
-    let room = taken.capacity();
-    if room > spare.capacity() && room <= MAX_SPARE {
-        *spare = taken;
-    }
-}
-
-/// Keeps the memory of an earlier event's tag: the next one is joined there.
-#[inline(always)]
-fn keep_tag(spare: &mut String, content: &mut unnamed_yaml_event_t_data) {
-    if let unnamed_yaml_event_t_data::Scalar(event) = content {
-        if let Some(tag) = &mut event.tag {
-            release(spare, tag);
+fn keep_memory(spare: &mut String, tag: &mut Option<String>) {
+    if let Some(tag) = tag {
+        let room = tag.capacity();
+        if room > spare.capacity() && room <= MAX_SPARE {
+            mem::swap(spare, tag);
         }
+    }
+}
+
+/// Puts a content in the place of another. One without texts is written over, since each drop is a call of a
+/// function.
+#[inline(always)]
+pub(super) fn put_over(content: &mut unnamed_yaml_event_t_data, new: unnamed_yaml_event_t_data)
+    ensures { content.new ≡ new }
+{
+    let is_bare = match content {
+        unnamed_yaml_event_t_data::SequenceStart(event) => {
+            event.anchor.is_none() && event.tag.is_none()
+        }
+        unnamed_yaml_event_t_data::MappingStart(event) => {
+            event.anchor.is_none() && event.tag.is_none()
+        }
+        unnamed_yaml_event_t_data::NoEvent
+        | unnamed_yaml_event_t_data::SequenceEnd
+        | unnamed_yaml_event_t_data::MappingEnd => true,
+        _ => false,
+    };
+    if is_bare {
+        mem::forget(mem::replace(content, new));
+    } else {
+        *content = new;
     }
 }
 
@@ -80,8 +67,17 @@ pub(super) fn put_scalar(
 {
     let plain_implicit = is_plain_implicit(&tag, token.style);
     let quoted_implicit = is_quoted_implicit(&tag, token.style);
-    if tag.is_some() {
-        keep_tag(spare, content);
+    if let unnamed_yaml_event_t_data::Scalar(event) = content {
+        if tag.is_some() {
+            keep_memory(spare, &mut event.tag);
+        }
+        mem::swap(&mut event.value, &mut token.value);
+        event.anchor = anchor;
+        event.tag = tag;
+        event.plain_implicit = plain_implicit;
+        event.quoted_implicit = quoted_implicit;
+        event.style = token.style;
+        return;
     }
     let text = String::new(*spare.allocator());
     *content = unnamed_yaml_event_t_data::Scalar(unnamed_yaml_event_t_data_scalar {
@@ -103,6 +99,10 @@ pub(super) fn put_alias(
 )
     ensures { content.new ≡ Alias (record { anchor = token.old.value }) }
 {
+    if let unnamed_yaml_event_t_data::Alias(event) = content {
+        mem::swap(&mut event.anchor, &mut token.value);
+        return;
+    }
     let anchor = mem::replace(&mut token.value, String::new(alloc));
     *content = unnamed_yaml_event_t_data::Alias(unnamed_yaml_event_t_data_alias { anchor });
 }
