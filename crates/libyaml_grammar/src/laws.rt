@@ -39,14 +39,14 @@ pub fn one_tree()
 
 /// At most one partial tree fits a list with the token after it.
 #[tactic(auto, using(crate::proofs::exported::OnePartialTree::one_partial_proof))]
-pub fn one_partial()
+pub fn one_cut()
     ensures { (l : List Token) (b : Token) (c d : PartialTree) → Fits l b c → Fits l b d → c ≡ d }
 {}
 
 /// A list whose only STREAM-END is its last token is valid, or a partial tree fits a prefix of it, and not
 /// both. A list without STREAM-END is a viable prefix, or has such a partial tree, and not both.
 #[tactic(auto, using(crate::proofs::trees::TreeOrPartialTree::trees_and_cuts))]
-pub fn tree_or_partial_tree()
+pub fn tree_or_cut()
     ensures with_end { (l : List Token) (m : Marks) → has_end l ≡ false
         → EitherNotBoth (IsValidList (l ++ tok StreamEnd m ∷ [])) (HasPartialTree (l ++ tok StreamEnd m ∷ [])) }
     ensures without_end { (l : List Token) → has_end l ≡ false → EitherNotBoth (IsViablePrefix l) (HasPartialTree l) }
@@ -55,7 +55,7 @@ pub fn tree_or_partial_tree()
 /// The tokens of a partial tree in order, with its rest after them, are a valid list; so the token of a
 /// partial tree that fits is the first that no valid list has at its place.
 #[tactic(auto, using(crate::proofs::trees::TreeOrPartialTree::cuts_begin))]
-pub fn partial_begins()
+pub fn cut_begins()
     ensures completed { (c : PartialTree) → partial_in_order c true ≡ true
         → IsValidList (partial_tokens c [] ++ rest zero_marks c) }
     ensures bad_token { (l : List Token) (b : Token) (c : PartialTree) → Fits l b c → IsBadToken l b }

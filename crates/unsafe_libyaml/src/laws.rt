@@ -3,7 +3,7 @@
 pub mod determined;
 
 pub use libyaml_events::laws::{
-    calls, determined_events, events_nest, headline, items, next_is_open, one_partial, one_prefix,
-    one_run, one_tree, own_directives, partial_begins, productions, pushes, run_ends, run_nests,
-    run_of_tree, tag_places, tree_or_partial_tree, vectors,
+    calls, cut_begins, determined_events, events_nest, headline, items, next_is_open, one_cut,
+    one_prefix, one_run, one_tree, own_directives, productions, pushes, run_ends, run_nests,
+    run_of_tree, tag_places, tree_or_cut, vectors,
 };

@@ -4,6 +4,7 @@
 
 use std::process::ExitCode;
 use token_lines::command::program;
+pub use token_lines::command::run_words;
 
 fn main(rt: HostRuntime) -> ExitCode {
     program(rt)
