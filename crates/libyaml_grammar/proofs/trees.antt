@@ -6,3 +6,4 @@ pub mod TreeOrPartialTree
 pub mod Append
 pub mod Productions
 pub mod WholeParts
+pub mod OnePlace

@@ -162,8 +162,13 @@ pub fn tag_places()
 {}
 
 /// The headline: a list whose only STREAM-END is its last token runs to the events of its one tree, or to
-/// the events and the error of the one partial tree that fits.
+/// the events and the error of the one partial tree that fits. Never both: no partial tree fits a prefix of a
+/// valid list. No other tree has the same tokens, and no other partial tree fits, at this place or another.
 pub fn headline()
-    ensures { (l : List Token) (m : Marks) (f : Fault) → has_end l ≡ false
+    ensures runs { (l : List Token) (m : Marks) (f : Fault) → has_end l ≡ false
         → RunsWhole (l ++ tok StreamEnd m ∷ []) f }
+    ensures one_case { (l : List Token) → IsValidList l → HasPartialTree l → ⊥ }
+    ensures one_tree { (s t : Stream) → tokens s ≡ tokens t → s ≡ t }
+    ensures one_partial_tree { (l : List Token) (x y : HasPartialTree l) → (x.before ≡ y.before)
+        × (x.token ≡ y.token) × (x.cut ≡ y.cut) }
 {}
