@@ -64,12 +64,12 @@ pub fn compared()
     ensures texts { (l : List Token) → NoneHoldsZero l → map as_held l ≡ l }
 {}
 
-/// A caller of exact steps (`steps_t::step_exact`) has the Rust crate's run over the same tokens, whatever they are:
-/// after each token the same events, at the stream's end the whole run, and its errors at the same tokens, with
-/// the same words and marks.
+/// A caller of exact steps (`steps_t::step_exact`) that hands in a list's tokens as the Rust crate holds them
+/// (`as_held`: texts end at a zero byte, but those of scalars) has the Rust crate's run over that list,
+/// whatever it is: after each token the same events, at the stream's end the whole run, and its errors at the
+/// same tokens, with the same words and marks.
 pub fn exact_calls()
-    ensures so_far { BetweenExact (λ l g. has_end l ≡ false
-        → (f : Fault) → Runs as_there (new_original_parser l f) g (Fails f)) }
+    ensures so_far { BetweenExact (λ l g. has_end l ≡ false → (f : Fault) → RunsThere l f g (Fails f)) }
     ensures ended { BetweenExact (λ l g. has_end l ≡ true → RunThere l g Ends) }
     ensures failed { ForExactFailed (λ l g f. RunThere l g (Fails f)) }
 {}

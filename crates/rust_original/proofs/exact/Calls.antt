@@ -1,12 +1,13 @@
 -- A caller of exact steps has the original's run.
-use Rattle.std.proofs.Common.{◌≡◌, ◌∷◌, ◌++◌, ◌∙◌, List, [], ℕ, Option, None, Some, Bool, true, false, Ok, Err, append-nil, append_assoc, refl, sym, ap, subst, arith}
+use Rattle.std.proofs.Common.{◌≡◌, ◌∷◌, ◌++◌, ◌∙◌, List, [], ℕ, Option, None, Some, Bool, true, false, Ok, Err, append-nil, append_assoc, map, refl, sym, ap, subst, arith}
+use Rattle.std.proofs.lemmas.List.{map-append}
 use Rattle.libyaml_types.specs.Fault.{Fault, no_fault}
 use Rattle.libyaml_types.specs.Types.{token_type}
 use Rattle.libyaml_types.specs.declared.mark.yaml_mark_t.{yaml_mark_t}
 use Rattle.libyaml_grammar.specs.runs.Runs.{Ending, Ends, Fails}
 use Rattle.libyaml_grammar.specs.grammar.Events.{Event}
-use Rattle.libyaml_grammar.specs.grammar.ValidLists.{has_end}
-use Rattle.libyaml_grammar.specs.grammar.Tokens.{Token}
+use Rattle.libyaml_grammar.specs.grammar.ValidLists.{has_end, is_end}
+use Rattle.libyaml_grammar.specs.grammar.Tokens.{Content, Token}
 use Rattle.libyaml_automaton.specs.Automaton as automaton
 use Rattle.libyaml_automaton.specs.Config.{Stacks, stacks_of}
 use Rattle.libyaml_automaton.specs.Differing.{differs}
@@ -31,7 +32,8 @@ use Rattle.token_steps.proofs.exported.Runs.{StoodAt, call_seen, fed, seen_run, 
 use Rattle.rust_original.specs.parser.Differences.{call_there}
 use Rattle.rust_original.specs.parser.ExactCalls.{BetweenExact, ForExactFailed, RunThere}
 use Rattle.rust_original.specs.parser.Parser.{FAIL, OK, OriginalParser, ParserResult}
-use Rattle.rust_original.specs.parser.Runs.{Runs, as_there, ends, fails, goes_on, new_original_parser}
+use Rattle.rust_original.specs.parser.Runs.{Runs, RunsThere, as_there, ends, fails, goes_on, new_original_parser}
+use Rattle.rust_original.specs.parser.Texts.{as_held, held_content}
 use Rattle.rust_original.proofs.exact.Feed.{exact, exact_feed, exact_same, there}
 use Rattle.rust_original.proofs.parser.Calls.{flagged}
 use Rattle.rust_original.proofs.parser.Relation.{HereCall, Matches, SamePlace, before, given, led, standing, stopped, tokens_of}
@@ -220,15 +222,34 @@ ended (stays d d' ss ss' ms ms' hs h l g t e i r c) n f more =
 
 -- short of the stream's end, to it, and to an error
 
-pub so_far : BetweenExact (λ l g. has_end l ≡ false → (f : Fault) → Runs as_there (new_original_parser l f) g (Fails f))
-so_far d ss ms hs h l g r k f = rw (append-nil l, append-nil g) at
+so_far_of : (d : steps_t) (ss : List ℕ) (ms : List yaml_mark_t) (hs : Handles) (h : Texts) (l : List Token) (g : List Event)
+    → ExactRun d ss ms hs h None l g → has_end l ≡ false → (f : Fault) → Leads f l g [] (Fails f)
+so_far_of d ss ms hs h l g r k f = rw (append-nil l) at
     (leads r (over_so d ss ms hs h l g r ∙ k) f [] [] (Fails f) (source_fails f (want_with d h) (config_at d ss ms hs)))
 
+-- of tokens as the original holds them
+end_held : (k : Content) → is_end (held_content k) ≡ is_end k
+end_held k = grind arith
+
+ends_held : (l : List Token) → has_end (map as_held l) ≡ has_end l
+ends_held [] = refl
+ends_held (t ∷ l) = grind (arith, end_held t.content, ends_held l)
+
+held_more : (l more : List Token) (f : Fault) (g : List Event) (x : Ending)
+    → Runs as_there (new_original_parser (map as_held l ++ map as_held more) f) g x → RunsThere (l ++ more) f g x
+held_more l more f g x r
+    = subst (λ (z : List Token). Runs as_there (new_original_parser z f) g x) (sym (map-append as_held l more)) r
+
+pub so_far : BetweenExact (λ l g. has_end l ≡ false → (f : Fault) → RunsThere l f g (Fails f))
+so_far d ss ms hs h l g r k f = rw (append-nil g) at (so_far_of d ss ms hs h (map as_held l) g r (ends_held l ∙ k) f)
+
 pub whole : BetweenExact (λ l g. has_end l ≡ true → RunThere l g Ends)
-whole d ss ms hs h l g r k more f = ended r (over_so d ss ms hs h l g r ∙ k) f more
+whole d ss ms hs h l g r k more f = held_more l more f g Ends
+    (ended r (over_so d ss ms hs h (map as_held l) g r ∙ (ends_held l ∙ k)) f (map as_held more))
 
 pub failed : ForExactFailed (λ l g f. RunThere l g (Fails f))
-failed d d' ss ss' ms ms' hs h l g t e i r c more f = rw (append-nil g) at
-    (leads r (in_hand d ss ms hs h t l g r) f more [] (Fails (fault_with (step_fault i)))
-    (on_fails f (want_with d h) (config_at d ss ms hs) t more (fault_with (step_fault i))
-    (step_of d ss ms hs h l g t r _ (tells_fails c.0 _ d' e i _ c.1 c.2))))
+failed d d' ss ss' ms ms' hs h l g t e i r c more f
+    = held_more l more f g (Fails (fault_with (step_fault i))) (rw (append-nil g) at
+    (leads r (in_hand d ss ms hs h t (map as_held l) g r) f (map as_held more) [] (Fails (fault_with (step_fault i)))
+    (on_fails f (want_with d h) (config_at d ss ms hs) t (map as_held more) (fault_with (step_fault i))
+    (step_of d ss ms hs h (map as_held l) g t r _ (tells_fails c.0 _ d' e i _ c.1 c.2)))))
