@@ -10,3 +10,4 @@ pub mod Pairing
 pub mod Loops
 pub mod PlacedLoops
 pub mod Writings
+pub mod Memory

@@ -1,5 +1,5 @@
 //! What composes events and makes no documents.
-ghost use Rattle.std.specs.Prelude.{◌≡◌, ◌⊎◌, true, IfErr, IfOk, IfSome, None, OnErr, OnOk};
+ghost use Rattle.std.specs.Prelude.{◌≡◌, ◌⊎◌, true, false, IfErr, IfOk, IfSome, None, OnErr, OnOk};
 ghost use Rattle.std.specs.Option.{option_map};
 ghost use Rattle.libyaml_types.specs.Fault.{fault_of};
 ghost use Rattle.libyaml_graphs.specs.graphs.GraphParts.{part_of};
@@ -7,7 +7,8 @@ ghost use Rattle.libyaml_composer.specs.Composing.{most_of};
 ghost use Rattle.libyaml_composer.specs.DocumentSoFar.{IsRefused};
 ghost use Rattle.libyaml_loader.specs.composed.Anchoring.{event_first_mark, event_node, registered_at};
 ghost use Rattle.libyaml_loader.specs.composed.EventComposer.{ComposesTo, RefusesBy};
-ghost use Rattle.libyaml_loader.specs.composed.EventComposer.{needs_memory, new_event_composer};
+ghost use Rattle.libyaml_loader.specs.composed.EventComposer.{needs_memory, needs_memory_by};
+ghost use Rattle.libyaml_loader.specs.composed.EventComposer.{new_event_composer};
 ghost use Rattle.libyaml_loader.specs.composed.Places.{PlacesEvent};
 ghost use Rattle.libyaml_loader.specs.composed.Telling.{TellsDeed, load_fault};
 ghost use Rattle.libyaml_loader.specs.document.Ids.{anchored_node_of};
@@ -64,17 +65,22 @@ impl event_composer_t {
     ///
     /// # Errors
     ///
-    /// An allocation failed, at the start of a collection or at a node with an anchor. The value is then
-    /// unspecified.
+    /// An allocation failed, at the start of a collection or at a node with an anchor, and none before has the
+    /// same anchor. The value is then unspecified.
+    #[tactic(auto, using(crate::proofs::composed::Memory::none_registered, crate::proofs::composed::Memory::opened_needs))]
     pub fn compose(&mut self, event: &yaml_event_t, place: &mut place_t) -> Result<Deed, AllocError>
         ensures tells { IfOk result (λ d. TellsDeed self.old event.now d place.new self.new) }
-        ensures err { OnErr result (needs_memory (part_of event.now) ≡ true) }
+        ensures err { OnErr result (needs_memory self.old.anchors event.now ≡ true) }
     {
         *place = NO_PLACE;
         let fact = id_or_none(self.anchored_node(event));
         let deed = self.collections.take_any(event.type_(), fact, place)?;
         if let Deed::Begins = deed {
             self.anchors = Anchors::new(self.alloc);
+            return Ok(deed);
+        }
+        if fact != 0 {
+            // an alias, or refused
             return Ok(deed);
         }
         self.register(event, place.node)?;
@@ -174,7 +180,7 @@ impl event_composer_t {
         ensures registered { OnOk result (self.new ≡ record self.old {
           anchors = registered_at node (part_of event.now) self.old.anchors;
         }) }
-        ensures err { OnErr result (needs_memory (part_of event.now) ≡ true) }
+        ensures err { OnErr result (needs_memory_by false (part_of event.now) ≡ true) }
     {
         if node < 1 || event.type_() == yaml_event_type_t::YAML_ALIAS_EVENT {
             return Ok(());
