@@ -10,3 +10,4 @@ pub mod OneLoads
 pub mod Items
 pub mod Loops
 pub mod Halves
+pub mod PartialLoads

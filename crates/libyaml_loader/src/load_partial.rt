@@ -1,14 +1,21 @@
 //! A load that gives what it has of a document when it fails.
-ghost use Rattle.std.specs.Prelude.{◌≡◌, ◌<◌, ◌⊎◌, [], None, Ok, Err, IfOk, IfErr, true, false};
-ghost use Rattle.std.specs.Prelude.{option_map, string_bytes};
+ghost use Rattle.std.specs.Prelude.{◌≡◌, ◌<◌, ◌≤◌, ◌*◌, ◌⊎◌, List, [], length, None, Ok, Err, IfOk, IfErr};
+ghost use Rattle.std.specs.Prelude.{option_map, string_bytes, true, false};
 ghost use Rattle.libyaml_types.specs.Types.{event_anchor};
+ghost use Rattle.libyaml_types.specs.declared.event.yaml_event_t.{yaml_event_t};
 ghost use Rattle.libyaml_documents.specs.Documents.{empty_document};
 ghost use Rattle.libyaml_events.specs.parsers.EventsLeft.{events_left};
-ghost use Rattle.libyaml_events.specs.sources.History.{between_documents, has_failed, is_over, kept_fault};
+ghost use Rattle.libyaml_events.specs.sources.CallsInTurn.{Took};
+ghost use Rattle.libyaml_events.specs.sources.History.{ForHistory, between_documents, has_failed, is_over};
+ghost use Rattle.libyaml_events.specs.sources.History.{kept_fault};
+ghost use Rattle.libyaml_events.specs.sources.RunToCome.{RunToCome, UnlessBroken};
+ghost use Rattle.libyaml_grammar.specs.runs.Runs.{Ending};
 ghost use Rattle.libyaml_graphs.specs.loads.Bounds.{next_bounded};
+ghost use Rattle.libyaml_graphs.specs.loads.Linear.{size};
 ghost use Rattle.libyaml_graphs.specs.loads.Loads.{left_over};
 ghost use Rattle.libyaml_loader.specs.document.Ids.{magnitude};
-ghost use Rattle.libyaml_loader.specs.loads.Loading.{LoadsFrom};
+ghost use Rattle.libyaml_loader.specs.loads.Loading.{HasEnded, LoadsFrom};
+ghost use Rattle.libyaml_loader.specs.loads.NextLoad.{Answers};
 ghost use Rattle.libyaml_loader.specs.loads.PartialLoad.{HalfOf, as_load, named_by};
 ghost use Rattle.libyaml_loader.specs.pushes.Composing.{IsSound};
 
@@ -59,14 +66,25 @@ pub fn yaml_parser_load_partial<S: yaml_token_source_t>(
     ensures fails { IfErr result (λ p. (p.error ≡ (kept_fault parser.new).error)
         × (is_over parser.new ≡ true)) }
     ensures failed { IfErr result (λ _. has_failed parser.new ≡ true) }
+    ensures faultless { has_failed parser.old ≡ false → IfOk result (λ _. has_failed parser.new ≡ false) }
     ensures bound { parser.new.max_entries ≡ parser.old.max_entries }
     ensures between { between_documents parser.new ≡ true }
     ensures falls { IfOk result (λ d. (d ≡ empty_document None [] false false)
         ⊎ (events_left S.bound parser.new < events_left S.bound parser.old)) }
+    ensures no_fault { ForHistory parser.old (λ _ _. has_failed parser.old ≡ false) }
     // what `yaml_parser_load` promises
     ensures loads { has_failed parser.old ≡ false
         → LoadsFrom S.yaml_token_source_t (next_bounded (magnitude parser.old.max_entries)) left_over
         parser.old (as_load result) parser.new }
+    ensures linear { has_failed parser.old ≡ false → IfOk result (λ d. (taken : List yaml_event_t)
+        × Took S.yaml_token_source_t parser.old parser.new taken × (size d.nodes ≤ 2 * length taken)) }
+    ensures without_root { IfOk result (λ d. d.nodes ≡ []
+        → ForHistory parser.old (λ _ _. HasEnded parser.new)) }
+    ensures next_load { (events : List yaml_event_t) (ending : Ending)
+        → RunToCome S.known parser.old events ending
+        → UnlessBroken S.may_break (as_load result) parser.new
+        (Answers S.known (next_bounded (magnitude parser.old.max_entries) events ending) (as_load result)
+        parser.new (left_over events) ending) }
     // and the document that was open
     ensures half { has_failed parser.old ≡ false → IfErr result (λ p. HalfOf S.yaml_token_source_t
         (magnitude parser.old.max_entries) parser.old parser.new p) }

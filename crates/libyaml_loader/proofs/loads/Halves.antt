@@ -22,7 +22,7 @@ use Rattle.libyaml_loader.specs.document.Context.{loader_of}
 use Rattle.libyaml_loader.specs.loads.HalfDocument.{IsHalf, last_end}
 use Rattle.libyaml_loader.specs.loads.Loading.{ParserFails}
 use Rattle.libyaml_events.specs.sources.Naming.{NamesHandle}
-use Rattle.libyaml_loader.specs.loads.PartialLoad.{HalfOf, by_loader, by_memory, by_parser, named_by}
+use Rattle.libyaml_loader.specs.loads.PartialLoad.{HalfOf, IsTaken, by_loader, by_memory, by_parser, named_by}
 use Rattle.libyaml_loader.specs.pushes.Composing as composing
 use Rattle.libyaml_loader.specs.declared.composer.DocumentBuilder.{DocumentBuilder}
 use Rattle.libyaml_loader.specs.pushes.Composing.{RefusesEvent, composer_state, state_by}
@@ -39,9 +39,6 @@ not_refused n s t e d f leads h = not_first d f
     (sym (leads.loads [] Ends ∙ ap (λ (l : List Load). as_loads d ++ l) (from_none n t Ends)) ∙ h)
 
 -- an event that the document takes isn't refused
-abbrev pub IsTaken : ℕ → State → Event → Type 0
-IsTaken n s e = (o : Opening) (l : Loader) → s ≡ within o l → (x : Fault) → bounded_option n l (part_of e) ≡ failed x → ⊥
-
 never : (n : ℕ) (s : State) (e : Event) (f : Fault) → IsTaken n s e
     → ((rest : List Event) (x : Ending) → loads_from n s (e ∷ rest) x ≡ Err f ∷ []) → ⊥
 never n between e f taken h = by (opening_of e) refl
@@ -83,7 +80,7 @@ module _ {S : Type 0} (g : Ghosts S) (n : ℕ) (first now : Parser S) (here : St
   half_by_memory mid new e f took (composing.by_memory is needs) taken keeps document name = by_memory w.taken e mid here
       (took_both g first now mid w.taken (e ∷ []) w.took took)
       (λ (asked : List Token) (given : List Event) (h : History mid asked given). keeps ∙ ap (λ (v : Fault). keeping v mid) is)
-      w.leads needs document name
+      w.leads needs taken document name
 
 last_end_more : (m : Mark) (l : List Event) (e : Event) → last_end m (l ++ e ∷ []) ≡ e.end_mark
 last_end_more m [] e = refl

@@ -12,8 +12,9 @@ use Rattle.libyaml_documents.specs.Documents.{Document}
 use Rattle.libyaml_events.specs.machine.Config.{Parser}
 use Rattle.libyaml_events.specs.sources.CallsInTurn.{Took}
 use Rattle.libyaml_events.specs.sources.Naming.{NamesHandle}
+use Rattle.libyaml_graphs.specs.graphs.GraphParts.{Opening, part_of}
 use Rattle.libyaml_graphs.specs.loads.Leads.{Leads, loads_from}
-use Rattle.libyaml_graphs.specs.machine.Loader.{State, between}
+use Rattle.libyaml_graphs.specs.machine.Loader.{Loader, State, between, bounded_option, failed, within}
 use Rattle.libyaml_loader.specs.declared.load_partial.yaml_partial_t.{yaml_partial_t}
 use Rattle.libyaml_loader.specs.loads.HalfDocument.{IsHalf, last_end}
 use Rattle.libyaml_loader.specs.loads.Loading.{DocumentOrError, KeptBy, ParserFails}
@@ -29,9 +30,13 @@ abbrev pub named_by : yaml_error_type_t → Option (List ℕ) → Option (List �
 named_by YAML_MEMORY_ERROR a = None
 named_by _ a = a
 
+-- the document that is open, if one is, takes the event: no list is full, no anchor repeated, no alias undefined
+abbrev pub IsTaken : ℕ → State → Event → Type 0
+IsTaken n here e = (o : Opening) (l : Loader) → here ≡ within o l → (x : Fault) → bounded_option n l (part_of e) ≡ failed x → ⊥
+
 -- After the events that it took the parser failed, with the name of an undefined handle, or the next event has an error of a
 -- load: then the document that they leave open is closed where the last of them ends. None is given if an allocation failed
--- where the load takes memory for the next event.
+-- where the load takes memory for the next event, and the document takes that.
 pub data HalfOf {S : Type 0} (g : Ghosts S) (n : ℕ) (old new : Parser S) (p : yaml_partial_t) : Type 0 where
   by_parser : (taken : List Event) (parser : Parser S) (here : State) → Took g old parser taken
       → ParserFails g parser new → Leads n between taken [] here → IsHalf n (last_end zero_mark taken) here p.document
@@ -42,5 +47,5 @@ pub data HalfOf {S : Type 0} (g : Ghosts S) (n : ℕ) (old new : Parser S) (p : 
       → IsHalf n (last_end zero_mark taken) here p.document
       → option_map string_bytes p.name ≡ named_by f.error (event_anchor e.content) → HalfOf g n old new p
   by_memory : (taken : List Event) (e : Event) (parser : Parser S) (here : State) → Took g old parser (taken ++ e ∷ [])
-      → KeptBy memory_fault parser new → Leads n between taken [] here → NeedsMemoryAt ⊥ here e
+      → KeptBy memory_fault parser new → Leads n between taken [] here → NeedsMemoryAt ⊥ here e → IsTaken n here e
       → p.document ≡ None → p.name ≡ None → HalfOf g n old new p
