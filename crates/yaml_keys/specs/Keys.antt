@@ -29,7 +29,8 @@ scalar_key node = scalar_key_in node.tag node.content
 abbrev pub scalar_key_at : List yaml_node_t → ℤ → Option ScalarKey
 scalar_key_at nodes id = option_and_then (λ node. scalar_key node) (node_at nodes id)
 
--- Two ids are the same key: they name the same node, or scalars that no schema can tell apart.
+-- Two ids are the same key: they name the same node, or scalars that the document does not tell apart. Whether a tag was
+-- written it doesn't have: a schema can tell two such scalars apart only if one of them was written with a tag.
 pub data IsSameKey (nodes : List yaml_node_t) (a b : ℤ) : Type 0 where
   same_node : a ≡ b → IsSameKey nodes a b
   same_scalar : (key : ScalarKey) → scalar_key_at nodes a ≡ Some key → scalar_key_at nodes b ≡ Some key → IsSameKey nodes a b

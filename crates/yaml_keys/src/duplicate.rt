@@ -24,8 +24,9 @@ pub struct yaml_duplicate_key_t {
 /// the smallest index.
 ///
 /// Two keys are the same if they are the same node, or scalars with the same text, the same tag and both
-/// plain or both not. No schema can tell them apart. A schema may take further keys for the same, such as
-/// `1` and `0x1`.
+/// plain or both not. A document has the tag of strings for each scalar without one, so `1` and `!!str 1` are
+/// the same, though a schema may tell them apart; of two written with a tag, or both without, none can. A
+/// schema may take further keys for the same, such as `1` and `0x1`.
 ///
 /// Each text is compared with as many others as the number of scalars has binary digits, however many
 /// aliases name it.

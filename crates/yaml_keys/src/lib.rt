@@ -1,4 +1,4 @@
-//! Duplicate keys: two keys of one mapping that no YAML schema can tell apart.
+//! Duplicate keys: two keys of one mapping that a document does not tell apart.
 #![tactic(auto)]
 
 mod classes;
