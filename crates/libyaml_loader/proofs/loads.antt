@@ -11,3 +11,4 @@ pub mod Items
 pub mod Loops
 pub mod Halves
 pub mod PartialLoads
+pub mod SharedNodes

@@ -5,3 +5,4 @@ pub mod OneLoad
 pub mod LoadsInTurn
 pub mod HalfDocument
 pub mod PartialLoad
+pub mod SharedNodes

@@ -3,15 +3,15 @@
 
 pub mod determined;
 
-ghost use Rattle.std.specs.Prelude.{◌≡◌, ◌≤◌, ◌*◌, ◌+◌, ◌++◌, ℕ, pos, List, [], Err, Option, Some, length};
-ghost use Rattle.std.specs.Prelude.{false, true};
+ghost use Rattle.std.specs.Prelude.{◌≡◌, ◌≤◌, ◌*◌, ◌+◌, ◌++◌, ℕ, pos, List, [], Ok, Err, Option, Some, length};
+ghost use Rattle.std.specs.Prelude.{◌∷◌, false, true};
 ghost use Rattle.libyaml_types.specs.Fault.{Fault};
 ghost use Rattle.libyaml_types.specs.Source.{coming};
 ghost use Rattle.libyaml_grammar.specs.runs.Runs.{Ending, Ends, IsRun};
 ghost use Rattle.libyaml_grammar.specs.grammar.Events.{Event};
 ghost use Rattle.libyaml_grammar.specs.grammar.Nesting.{NestsSoFar};
 ghost use Rattle.libyaml_grammar.specs.grammar.ValidLists.{has_end};
-ghost use Rattle.libyaml_grammar.specs.grammar.Tokens.{Token};
+ghost use Rattle.libyaml_grammar.specs.grammar.Tokens.{Mark, Token};
 ghost use Rattle.libyaml_documents.specs.Documents.{Document};
 ghost use Rattle.libyaml_documents.specs.Nodes.{node_at};
 ghost use Rattle.libyaml_documents.specs.declared.node.yaml_node_t.{yaml_node_t};
@@ -20,7 +20,8 @@ ghost use Rattle.libyaml_events.specs.sources.History.{History};
 ghost use Rattle.libyaml_events.specs.sources.RunToCome.{RunToCome};
 ghost use Rattle.libyaml_composer.specs.Represents.{IsNode};
 ghost use Rattle.libyaml_graphs.specs.graphs.GraphParts.{opening_of, part_of};
-ghost use Rattle.libyaml_graphs.specs.machine.Loader.{State};
+ghost use Rattle.libyaml_graphs.specs.machine.Loader.{State, between};
+ghost use Rattle.libyaml_graphs.specs.loads.Leads.{Leads};
 ghost use Rattle.libyaml_graphs.specs.loads.Bounds.{IsBoundedLoads, bounded_loads, next_bounded};
 ghost use Rattle.libyaml_graphs.specs.loads.Linear.{documents_size};
 ghost use Rattle.libyaml_graphs.specs.loads.Loads.{Load, last_load, left_over};
@@ -38,7 +39,9 @@ ghost use Rattle.libyaml_loader.specs.composed.Written.{IsWrittenOf, Written, wr
 ghost use Rattle.libyaml_loader.specs.document.Ids.{magnitude};
 ghost use Rattle.libyaml_loader.specs.loads.Loading.{DocumentOrError, LoadsFrom};
 ghost use Rattle.libyaml_loader.specs.loads.LoadsInTurn.{AreLoadsOf, LoopYields};
+ghost use Rattle.libyaml_loader.specs.loads.HalfDocument.{IsHalf};
 ghost use Rattle.libyaml_loader.specs.loads.NextLoad.{LoadOfRun};
+ghost use Rattle.libyaml_loader.specs.loads.SharedNodes.{NodesBegin, nodes_so_far};
 ghost use Rattle.libyaml_loader.specs.pushes.Loaded.{ForLoaded, PushLoader, loader_has_stopped};
 ghost use Rattle.libyaml_loader.specs.pushes.Loaded.{loader_keeps_fault};
 ghost use Rattle.libyaml_loader.specs.pushes.PushesLoads.{AreThen, BeginsEachLoads};
@@ -58,6 +61,18 @@ pub fn loop_yields_loads<S: yaml_token_source_t>()
         (x : Ending) → RunToCome S.known old e x → NestsSoFar e
         → LoopYields S.yaml_token_source_t old documents ending new
         → AreLoadsOf S.may_break new documents ending (bounded_loads (magnitude old.max_entries) e x) }
+{}
+
+/// The nodes so far, where a load failed, have the same ids in the half of the document and in the document that
+/// each load gives which goes on from there: with the same tags, starts, texts and styles, and with the same
+/// entries, and maybe more after these.
+pub fn half_is_of_each_load()
+    ensures half { (n : ℕ) (m : Mark) (here : State) (d : Document) → IsHalf n m here (Some d)
+        → NodesBegin (nodes_so_far here) d.nodes }
+    ensures whole { (n : ℕ) (taken rest : List Event) (here : State) (x : Ending) (d : Document)
+        (others : List Load) → Leads n between taken [] here
+        → bounded_loads n (taken ++ rest) x ≡ Ok d ∷ others → (d.nodes ≡ [] → ⊥)
+        → NodesBegin (nodes_so_far here) d.nodes }
 {}
 
 /// What a whole loop over the composed events of a parser yielded, over a list of tokens from the start, or

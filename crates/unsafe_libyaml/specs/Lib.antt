@@ -116,6 +116,7 @@ pub use Rattle.libyaml_loader.specs.composed.Written
 pub use Rattle.libyaml_loader.specs.loads.Loading
 pub use Rattle.libyaml_loader.specs.loads.HalfDocument
 pub use Rattle.libyaml_loader.specs.loads.PartialLoad
+pub use Rattle.libyaml_loader.specs.loads.SharedNodes
 pub use Rattle.libyaml_loader.specs.loads.LoadsInTurn
 pub use Rattle.libyaml_loader.specs.loads.NextLoad
 pub use Rattle.libyaml_loader.specs.loads.OneLoad

@@ -15,14 +15,14 @@ use Rattle.libyaml_events.proofs.exported.Taking.{took_both, took_none}
 use Rattle.libyaml_graphs.specs.graphs.GraphParts.{Closing, Opening, closing_of, opening_of, part_of}
 use Rattle.libyaml_graphs.specs.loads.Leads.{Leads, as_loads, loads_from}
 use Rattle.libyaml_graphs.specs.loads.Loads.{Load, last_load}
-use Rattle.libyaml_graphs.specs.machine.Loader.{Loader, Loading, State, between, bounded_option, failed, going, within}
+use Rattle.libyaml_graphs.specs.machine.Loader.{Loading, State, between, bounded_option, failed, going, within}
 use Rattle.libyaml_graphs.proofs.exported.Leading.{closes_there, from_none, goes_there, leads_both, leads_none, opens_there, passes_by}
 use Rattle.libyaml_loader.specs.declared.load_partial.yaml_partial_t.{yaml_partial_t}
 use Rattle.libyaml_loader.specs.document.Context.{loader_of}
 use Rattle.libyaml_loader.specs.loads.HalfDocument.{IsHalf, last_end}
 use Rattle.libyaml_loader.specs.loads.Loading.{ParserFails}
 use Rattle.libyaml_events.specs.sources.Naming.{NamesHandle}
-use Rattle.libyaml_loader.specs.loads.PartialLoad.{HalfOf, IsTaken, by_loader, by_memory, by_parser, named_by}
+use Rattle.libyaml_loader.specs.loads.PartialLoad.{HalfOf, DocumentTakes, by_loader, by_memory, by_parser, named_by}
 use Rattle.libyaml_loader.specs.pushes.Composing as composing
 use Rattle.libyaml_loader.specs.declared.composer.DocumentBuilder.{DocumentBuilder}
 use Rattle.libyaml_loader.specs.pushes.Composing.{RefusesEvent, composer_state, state_by}
@@ -39,7 +39,7 @@ not_refused n s t e d f leads h = not_first d f
     (sym (leads.loads [] Ends ∙ ap (λ (l : List Load). as_loads d ++ l) (from_none n t Ends)) ∙ h)
 
 -- an event that the document takes isn't refused
-never : (n : ℕ) (s : State) (e : Event) (f : Fault) → IsTaken n s e
+never : (n : ℕ) (s : State) (e : Event) (f : Fault) → DocumentTakes n s e
     → ((rest : List Event) (x : Ending) → loads_from n s (e ∷ rest) x ≡ Err f ∷ []) → ⊥
 never n between e f taken h = by (opening_of e) refl
   where
@@ -75,7 +75,7 @@ module _ {S : Type 0} (g : Ghosts S) (n : ℕ) (first now : Parser S) (here : St
 
   -- an allocation failed at an event that the document takes
   pub half_by_memory : (mid new : Parser S) (e : Event) (f : Fault) → Took g now mid (e ∷ []) → RefusesEvent ⊥ n here e f
-      → IsTaken n here e → new ≡ keeping f mid → p.document ≡ None → p.name ≡ None → HalfOf g n first new p
+      → DocumentTakes n here e → new ≡ keeping f mid → p.document ≡ None → p.name ≡ None → HalfOf g n first new p
   half_by_memory mid new e f took (composing.by_loads loads) taken keeps document name = absurd (never n here e f taken loads)
   half_by_memory mid new e f took (composing.by_memory is needs) taken keeps document name = by_memory w.taken e mid here
       (took_both g first now mid w.taken (e ∷ []) w.took took)
@@ -110,7 +110,7 @@ module _ {S : Type 0} (g : Ghosts S) (n : ℕ) where
 
 pub no_error : (b : DocumentBuilder) (e : Event) (n : ℕ) → b.max_entries ≡ n
     → (b.is_open ≡ true → (x : Fault) → bounded_option b.max_entries (loader_of b.ctx) (part_of e) ≡ failed x → ⊥)
-    → IsTaken n (composer_state b) e
+    → DocumentTakes n (composer_state b) e
 no_error b e n is none o l at x fails = by b.is_open refl
   where
     by : (i : Bool) → b.is_open ≡ i → ⊥

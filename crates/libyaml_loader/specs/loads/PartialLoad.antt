@@ -31,8 +31,8 @@ named_by YAML_MEMORY_ERROR a = None
 named_by _ a = a
 
 -- the document that is open, if one is, takes the event: no list is full, no anchor repeated, no alias undefined
-abbrev pub IsTaken : ℕ → State → Event → Type 0
-IsTaken n here e = (o : Opening) (l : Loader) → here ≡ within o l → (x : Fault) → bounded_option n l (part_of e) ≡ failed x → ⊥
+abbrev pub DocumentTakes : ℕ → State → Event → Type 0
+DocumentTakes n here e = (o : Opening) (l : Loader) → here ≡ within o l → (x : Fault) → bounded_option n l (part_of e) ≡ failed x → ⊥
 
 -- After the events that it took the parser failed, with the name of an undefined handle, or the next event has an error of a
 -- load: then the document that they leave open is closed where the last of them ends. None is given if an allocation failed
@@ -47,5 +47,5 @@ pub data HalfOf {S : Type 0} (g : Ghosts S) (n : ℕ) (old new : Parser S) (p : 
       → IsHalf n (last_end zero_mark taken) here p.document
       → option_map string_bytes p.name ≡ named_by f.error (event_anchor e.content) → HalfOf g n old new p
   by_memory : (taken : List Event) (e : Event) (parser : Parser S) (here : State) → Took g old parser (taken ++ e ∷ [])
-      → KeptBy memory_fault parser new → Leads n between taken [] here → NeedsMemoryAt ⊥ here e → IsTaken n here e
+      → KeptBy memory_fault parser new → Leads n between taken [] here → NeedsMemoryAt ⊥ here e → DocumentTakes n here e
       → p.document ≡ None → p.name ≡ None → HalfOf g n old new p
