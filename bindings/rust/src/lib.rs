@@ -12,9 +12,9 @@
 //! and builds with the original.
 //!
 //! [`yaml_parser_parse`], [`yaml_parser_load`] and [`yaml_parser_delete`] are replaced. A parse takes as many tokens of the
-//! scanner as its event needs, a load as many as its document needs, and their texts are moved. The `yaml_parser_t` itself keeps
-//! in its last field what the parser needs, and after an error what that tells: so you may move
-//! and delete it as before, at any time, and two parsers share nothing.
+//! scanner as its event needs, a load as many as its document needs, where they stand in the scanner's queue, and their texts are
+//! moved. The `yaml_parser_t` itself keeps what the parser needs, and what an error tells, in its last field: so you may move and
+//! delete it as before, at any time, and two parsers share nothing.
 //!
 //! These differ from the original, besides what DIFFERENCES.md of the repository lists:
 //!
