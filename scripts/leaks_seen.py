@@ -5,10 +5,11 @@
     python3 scripts/leaks_seen.py by_rustc [LEAK..]     (no further word: each but those of KEPT)
 
 In a copy each is planted in turn, and `rt run` proves and builds `vectors_hostile` over it. With `by_rustc` the crate `pokhvizi`
-is built over it instead, in seconds, and its test `memory.rs` has to see the leak. `put_over` of `libyaml_events/src/states`
-writes over an event without texts, by `mem::forget` in place of a drop: LEAKS has each way to leak there, one for the bound
-on what is kept, for handles, and for half a document. Some minutes each; needs `rt`, and GNU time. KEPT has those whose
-texts are freed with their parser, so that test sees none of them; `by_rustc` needs cargo.
+is built over it instead, in seconds, and its test `memory.rs` has to see the leak. Texts are let go of by hand in
+`libyaml_events/src/states`, where `mem::forget` stands in place of a drop: LEAKS has one at each such place but
+`forget_anchor`, over which no run is known that holds an anchor, and one for the bound on what is kept, for handles, and for
+half a document. Some minutes each; needs `rt`, and GNU time. KEPT has those whose texts are freed with their parser, or
+which need a source that keeps texts, so that test sees none of them; `by_rustc` needs cargo.
 
 Run by hand, after such a place or `flat_memory.sh` changed.
 """
@@ -25,15 +26,30 @@ CONTENTS = "libyaml_events/src/states/contents.rt"
 HANDLES = "libyaml_events/src/handle_table.rt"
 # name: the file, the function, what stands in it, and what comes in its place
 LEAKS = {
-    "content_forgotten": (CONTENTS, "put_over", "if is_bare {", "if is_bare || true {"),
-    "properties_of_a_start_forgotten": (CONTENTS, "put_over", "event.anchor.is_none() && event.tag.is_none()", "event.anchor.is_none() || event.tag.is_none() || true"),
-    "content_with_texts_forgotten": (CONTENTS, "put_over", "_ => false,", "_ => true,"),
-    "long_tag_kept": (CONTENTS, "keep_memory", " && room <= MAX_SPARE", ""),
+    "content_with_properties_is_light": (CONTENTS, "is_light", "anchor.is_none() && tag.is_none()", "anchor.is_none() || tag.is_none() || true"),
+    "directives_are_light": (CONTENTS, "is_light", "event.tag_directives.capacity() == 0", "true"),
+    "alias_is_light": (CONTENTS, "is_light", "unnamed_yaml_event_t_data::Alias(_) => return false", "unnamed_yaml_event_t_data::Alias(_) => return true"),
+    "texts_of_a_kept_content_forgotten": (CONTENTS, "drop_option", "*text = None;", "mem::forget(text.take());"),
+    "directives_forgotten": (CONTENTS, "let_go_texts", "_ => *content = unnamed_yaml_event_t_data::NoEvent,", "_ => mem::forget(mem::replace(content, unnamed_yaml_event_t_data::NoEvent)),"),
+    "text_kept_before_forgotten": (CONTENTS, "release", "*spare = taken;", "mem::forget(mem::replace(spare, taken));"),
+    "long_text_kept": (CONTENTS, "release", " && room <= MAX_SPARE", ""),
+    "properties_forgotten": (CONTENTS, "drop_text", "release(spare, text);", "mem::forget(mem::replace(text, String::new(*spare.allocator())));"),
+    "tag_forgotten": (CONTENTS, "put_text", "release(spare, earlier);", "let _ = earlier.len().max(spare.len());"),
+    "alias_before_a_scalar_forgotten": (CONTENTS, "put_scalar_in_place", "take_memory(alloc, &mut event.anchor)", "String::new(*event.anchor.allocator())"),
+    "scalar_before_an_alias_forgotten": (CONTENTS, "replace_by_alias", "take_memory(alloc, &mut event.value)", "String::new(*event.value.allocator())"),
+    **{
+        f"content_forgotten_{function}": (CONTENTS, function, "make_light(spare, content);", "let _ = spare.len();")
+        for function in (
+            "put_scalar_in_place", "put_scalar", "replace_by_empty_scalar", "replace_by_sequence_start", "replace_by_mapping_start",
+            "replace_by_sequence_end", "replace_by_mapping_end", "replace_by_alias",
+        )
+    },
+    "content_forgotten_put_node": ("libyaml_events/src/states/after_properties.rt", "put_node", "make_light(&mut self.spare, &mut out.content);", "let _ = self.spare.len();"),
     "handles_forgotten": (HANDLES, "clear", "self.first.clear();", "let alloc = *self.first.allocator(); std::mem::forget(std::mem::replace(&mut self.first, Vec::new(alloc)));"),
     "later_handles_forgotten": (HANDLES, "clear", "self.others = BTreeMap::new(*self.first.allocator());", "std::mem::forget(std::mem::replace(&mut self.others, BTreeMap::new(*self.first.allocator())));"),
     "half_a_document_forgotten": ("libyaml_loader/src/composer.rt", "keep", "self.ctx = loader_ctx::new(self.ctx.alloc, self.max_entries);", "let fresh = loader_ctx::new(self.ctx.alloc, self.max_entries); mem::forget(mem::replace(&mut self.ctx, fresh));"),
 }
-KEPT = {"long_tag_kept"}
+KEPT = {"text_kept_before_forgotten", "long_text_kept"}
 
 
 def planted(leak, crates):

@@ -73,7 +73,8 @@ impl<S> Model for yaml_parser_t<S> {
 pub(crate) struct TokenParser {
     pub(crate) automaton: AutomatonWithStacks,
     handles: HandleTable,
-    /// The tag of an earlier event, whose memory a later tag may take. Its value has no meaning.
+    /// A text of an earlier event, whose memory a later token's text or full tag may take. Its value has no
+    /// meaning.
     pub(crate) spare: String,
     prefix: yaml_parser_t_prefix,
     alloc: Global,

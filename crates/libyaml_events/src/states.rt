@@ -28,8 +28,10 @@ mod properties;
 
 use crate::parser::TokenParser;
 use crate::pending::Pending;
-use crate::states::contents::{put_alias, put_over, put_scalar};
-use crate::states::node_events::{mapping_start, plain_scalar, sequence_start};
+use crate::states::contents::{
+    put_alias, put_bare_scalar, put_empty_scalar, put_mapping_end, put_mapping_start,
+    put_sequence_end, put_sequence_start,
+};
 use crate::step::Step;
 use libyaml_automaton::{
     Action, DUPLICATE_TAG, DUPLICATE_VERSION, INCOMPATIBLE_VERSION, NO_BLOCK_CONTENT,
@@ -166,105 +168,111 @@ impl TokenParser {
                 out.start_mark = token.start_mark;
                 out.end_mark = token.end_mark;
                 if let unnamed_yaml_token_t_data::Scalar(scalar) = &mut token.content {
-                    put_scalar(&mut self.spare, None, None, scalar, &mut out.content);
+                    put_bare_scalar(&mut self.spare, scalar, &mut out.content);
                 }
                 Step::Given
             }
             Action::Empty => {
                 out.start_mark = token.start_mark;
                 out.end_mark = token.start_mark;
-                out.content = plain_scalar(None, None, String::new(self.allocator()), true);
+                put_empty_scalar(&mut self.spare, &mut out.content);
                 Step::GivenBefore
             }
             Action::EmptyAfter => {
                 out.start_mark = pending.reading.mark;
                 out.end_mark = pending.reading.mark;
-                out.content = plain_scalar(None, None, String::new(self.allocator()), true);
+                put_empty_scalar(&mut self.spare, &mut out.content);
                 Step::GivenBefore
             }
             Action::SequenceEnd => {
                 out.start_mark = token.start_mark;
                 out.end_mark = token.end_mark;
-                put_over(&mut out.content, unnamed_yaml_event_t_data::SequenceEnd);
+                put_sequence_end(&mut self.spare, &mut out.content);
                 Step::Given
             }
             Action::MappingEnd => {
                 out.start_mark = token.start_mark;
                 out.end_mark = token.end_mark;
-                put_over(&mut out.content, unnamed_yaml_event_t_data::MappingEnd);
+                put_mapping_end(&mut self.spare, &mut out.content);
                 Step::Given
             }
             Action::IndentlessEnd => {
                 out.start_mark = token.start_mark;
                 out.end_mark = token.start_mark;
-                put_over(&mut out.content, unnamed_yaml_event_t_data::SequenceEnd);
+                put_sequence_end(&mut self.spare, &mut out.content);
                 Step::GivenBefore
             }
             Action::PairEnd => {
                 out.start_mark = token.start_mark;
                 out.end_mark = token.start_mark;
-                put_over(&mut out.content, unnamed_yaml_event_t_data::MappingEnd);
+                put_mapping_end(&mut self.spare, &mut out.content);
                 Step::GivenBefore
             }
             Action::Alias => {
                 out.start_mark = token.start_mark;
                 out.end_mark = token.end_mark;
                 if let unnamed_yaml_token_t_data::Alias(alias) = &mut token.content {
-                    put_alias(self.allocator(), alias, &mut out.content);
+                    put_alias(&mut self.spare, alias, &mut out.content);
                 }
                 Step::Given
             }
             Action::Pair => {
                 out.start_mark = token.start_mark;
                 out.end_mark = token.end_mark;
-                put_over(
+                put_mapping_start(
+                    yaml_mapping_style_t::YAML_FLOW_MAPPING_STYLE,
+                    &mut self.spare,
                     &mut out.content,
-                    mapping_start(None, None, yaml_mapping_style_t::YAML_FLOW_MAPPING_STYLE),
                 );
                 Step::Given
             }
             Action::IndentlessSequence => {
                 out.start_mark = token.start_mark;
                 out.end_mark = token.end_mark;
-                put_over(
+                put_sequence_start(
+                    yaml_sequence_style_t::YAML_BLOCK_SEQUENCE_STYLE,
+                    &mut self.spare,
                     &mut out.content,
-                    sequence_start(None, None, yaml_sequence_style_t::YAML_BLOCK_SEQUENCE_STYLE),
                 );
                 Step::GivenBefore
             }
             Action::BlockSequence => {
                 out.start_mark = token.start_mark;
                 out.end_mark = token.end_mark;
-                put_over(
+                put_sequence_start(
+                    yaml_sequence_style_t::YAML_BLOCK_SEQUENCE_STYLE,
+                    &mut self.spare,
                     &mut out.content,
-                    sequence_start(None, None, yaml_sequence_style_t::YAML_BLOCK_SEQUENCE_STYLE),
                 );
                 Step::Given
             }
             Action::BlockMapping => {
                 out.start_mark = token.start_mark;
                 out.end_mark = token.end_mark;
-                put_over(
+                put_mapping_start(
+                    yaml_mapping_style_t::YAML_BLOCK_MAPPING_STYLE,
+                    &mut self.spare,
                     &mut out.content,
-                    mapping_start(None, None, yaml_mapping_style_t::YAML_BLOCK_MAPPING_STYLE),
                 );
                 Step::Given
             }
             Action::FlowSequence => {
                 out.start_mark = token.start_mark;
                 out.end_mark = token.end_mark;
-                put_over(
+                put_sequence_start(
+                    yaml_sequence_style_t::YAML_FLOW_SEQUENCE_STYLE,
+                    &mut self.spare,
                     &mut out.content,
-                    sequence_start(None, None, yaml_sequence_style_t::YAML_FLOW_SEQUENCE_STYLE),
                 );
                 Step::Given
             }
             Action::FlowMapping => {
                 out.start_mark = token.start_mark;
                 out.end_mark = token.end_mark;
-                put_over(
+                put_mapping_start(
+                    yaml_mapping_style_t::YAML_FLOW_MAPPING_STYLE,
+                    &mut self.spare,
                     &mut out.content,
-                    mapping_start(None, None, yaml_mapping_style_t::YAML_FLOW_MAPPING_STYLE),
                 );
                 Step::Given
             }

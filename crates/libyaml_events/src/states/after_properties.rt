@@ -20,7 +20,7 @@ ghost use Rattle.libyaml_events.specs.automaton.AutomatonResults.{ReadsTag, Refu
 
 use crate::parser::TokenParser;
 use crate::pending::Pending;
-use crate::states::contents::put_scalar;
+use crate::states::contents::{make_light, put_anchored_scalar, put_over, put_scalar};
 use crate::states::node_events::{collection_start, is_missing, plain_scalar, sequence_start};
 use crate::states::properties::{forget_earlier, take_anchor};
 use crate::step::Step;
@@ -286,8 +286,12 @@ impl TokenParser {
     {
         out.end_mark = token.end_mark;
         if let unnamed_yaml_token_t_data::Scalar(scalar) = &mut token.content {
-            let anchor = take_anchor(pending);
-            put_scalar(&mut self.spare, anchor, tag, scalar, &mut out.content);
+            let anchor = &mut pending.properties.anchor;
+            if tag.is_none() {
+                put_anchored_scalar(&mut self.spare, anchor, scalar, &mut out.content);
+            } else {
+                put_scalar(&mut self.spare, anchor, tag, scalar, &mut out.content);
+            }
         }
     }
 
@@ -302,7 +306,8 @@ impl TokenParser {
         ensures same { self.new ≡ self.old }
         ensures put { out.new ≡ event content out.old.start_mark end_mark.now }
     {
-        out.content = content;
+        make_light(&mut self.spare, &mut out.content);
+        put_over(&mut out.content, content);
         out.end_mark = *end_mark;
     }
 
