@@ -3,15 +3,17 @@
     wrong: what the mutant does, if its name doesn't say so
     seen: the test that fails over it (mutants_seen.py writes this)
     refused: what the prover could not prove (refusals.py writes this)
+    kept: the rule that it breaks, if others show its clauses too
 
 Used by refusals.py, mutants_seen.py and gate/links.py.
 """
 import re
+from collections import Counter
 from pathlib import Path
 
 TOP = Path(__file__).resolve().parents[1]
 FILE = TOP / "scripts" / "mutants.txt"
-KEYS = ("wrong", "seen", "refused")
+KEYS = ("wrong", "seen", "refused", "kept")
 
 
 def mutants():
@@ -48,9 +50,28 @@ def write_line(path, key, says):
     FILE.write_text(f"{head}\n\n" + "".join(rows))
 
 
+def shown(path, refused):
+    """The clauses that a mutant shows, each with its function, and with the file of that if the mutant changes it."""
+    clauses, _, other = refused.partition(" of `")
+    name = other.rstrip("`") or path.stem.partition("-")[0]
+    files = [path.parents[1] / file for file in re.findall(r"^file: (.*)$", path.read_text(), flags=re.M)]
+    home = next((file for file in files if re.search(rf"\bfn {name}\b", file.read_text())), path.parents[1])
+    return {(home, name, clause) for clause in re.split(", | and ", clauses)}
+
+
+def idle(found):
+    """The mutants that show nothing that no other shows and have no line `kept:`, and those that have it without need."""
+    shows = {name_of(path): shown(path, found[name_of(path)]["refused"]) for path in mutants()}
+    counts = Counter(clause for name, clauses in shows.items() if "kept" not in found[name] for clause in clauses)
+    for name, clauses in shows.items():
+        is_kept = "kept" in found[name]
+        if all(counts[clause] > (not is_kept) for clause in clauses) != is_kept:
+            yield f"scripts/mutants.txt: {name} shows " + ("what no other shows: its line `kept:` goes" if is_kept else "nothing that no other shows")
+
+
 def wrong_lines():
-    """What is wrong with the file: a mutant of which it doesn't say enough, or one that isn't there."""
+    """What is wrong with the file: a mutant of which it doesn't say enough, one that isn't there, or one that shows nothing of its own."""
     found, there = said()[1], [name_of(path) for path in mutants()]
-    for name in there:
-        yield from (f"scripts/mutants.txt: {name} has no line `{key}:`" for key in ("seen", "refused") if key not in found.get(name, {}))
-    yield from (f"scripts/mutants.txt: {name} is no mutant" for name in found if name not in there)
+    wrong = [f"{name} has no line `{key}:`" for name in there for key in ("seen", "refused") if key not in found.get(name, {})]
+    wrong += [f"{name} is no mutant" for name in found if name not in there]
+    return [f"scripts/mutants.txt: {one}" for one in wrong] or list(idle(found))
