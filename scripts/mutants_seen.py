@@ -43,10 +43,8 @@ PROGRAMS = {
     "line_reading": ["yamltokens", "vectors_lines", "vectors_hostile"],
     "line_writing": ["yamltokens", "vectors_lines"],
     "token_lines": ["yamltokens", "vectors_lines"],
-    "example_source": ["vectors_hostile"],
     "yaml_path": ["example_paths"],
-    "yaml_expansion": ["example_sizes", "vectors_hostile"],
-    "yaml_keys": ["example_lint"],
+    "yaml_expansion": ["example_bounded", "vectors_hostile"],
     "yaml_bounds": ["vectors_hostile"],
 }
 # Tables that take minutes without proof: they are tried only for a mutant whose line names them.

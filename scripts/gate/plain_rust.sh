@@ -139,11 +139,7 @@ printf '[source.crates-io]\nreplace-with = "none"\n[source.none]\ndirectory = "%
 CARGO_HOME=$work/fuzz_home cargo run -q --manifest-path bindings/plain/fuzz/Cargo.toml --bin tokens > "$work/said" 2>&1 ||
     { cat "$work/said"; complain "the target for cargo-fuzz"; }
 
-# ---- Examples, which write what crates write of the same tokens ----
-
-crate_of() {
-    case $1 in lint) echo crates/example_lint ;; outline) echo crates/example_broken ;; esac
-}
+# ---- Examples, with what they print ----
 
 cat > "$work/lint.yaml" << 'YAML'
 a: &x 1
@@ -185,8 +181,8 @@ if [ -d "$crates/unsafe-libyaml-0.2.11" ]; then
     for name in lint outline; do
         # The crate has one word for what ends a block.
         "$work/target/debug/examples/$name" < "$work/$name.yaml" | sed 's/^\(expected the end of the block\) .*/\1/' |
-            cmp - "$(crate_of $name)/stdout" || complain "the example $name"
-        if echo '- *a' | "$work/target/debug/examples/$name" 2> "$work/said" | cmp -s - "$(crate_of $name)/stdout"; then
+            cmp - "bindings/plain/examples/$name.stdout" || complain "the example $name"
+        if echo '- *a' | "$work/target/debug/examples/$name" 2> "$work/said" | cmp -s - "bindings/plain/examples/$name.stdout"; then
             complain "the example $name says the same of another text"
         fi
     done
@@ -203,7 +199,7 @@ if sh scripts/build_plain.sh "$work/c" > "$work/said" 2>&1; then
         done
     done
     for name in lint outline; do
-        "$work/c/yaml" tokens "$work/$name.yaml" | cmp - "$(crate_of $name)/stdin" || complain "the tokens of the example $name"
+        "$work/c/yaml" tokens "$work/$name.yaml" | cmp - "bindings/plain/examples/$name.tokens" || complain "the tokens of the example $name"
     done
 else
     cat "$work/said"

@@ -1,10 +1,15 @@
 //! `example_bounded FILE..`: the settings of each file of token lines, read as a program should read text that it
-//! doesn't trust: within bounds on depth, on nodes and on nodes with aliases written out.
+//! doesn't trust: within bounds on depth, on nodes and on nodes with aliases written out. Then the size of each
+//! document of the last file, loaded without these bounds. The exit status is 1 if one of them has none.
 #![tactic(auto)]
 
+mod sizes;
+
 use anyhow::Result;
+use sizes::print_sizes;
 use std::alloc::Global;
 use std::fmt::Write;
+use std::process::ExitCode;
 use std::rt::Files;
 use std::{env, fs};
 use token_limits::yaml_limited_source_t;
@@ -23,15 +28,31 @@ const BOUNDS: yaml_node_bounds_t = yaml_node_bounds_t {
     max_expanded: Some(100_000),
 };
 
-fn main(rt: HostRuntime) -> Result<()> {
-    let files: Vec<String> = env::args(&rt)?.skip(1).collect(rt.alloc())?;
+fn main(rt: HostRuntime) -> ExitCode {
+    match print_files(&rt) {
+        Ok(true) => ExitCode::SUCCESS,
+        Ok(false) => ExitCode::FAILURE,
+        Err(error) => {
+            let _ = eprintln!(rt; "example_bounded: {error}");
+            ExitCode::FAILURE
+        }
+    }
+}
+
+/// Prints the settings of each file, and the sizes of the last one's documents. Returns whether each of these has
+/// one.
+fn print_files(rt: &HostRuntime) -> Result<bool> {
+    let files: Vec<String> = env::args(rt)?.skip(1).collect(rt.alloc())?;
     for file in &files {
-        match read_settings(&rt, file.as_str()) {
+        match read_settings(rt, file.as_str()) {
             Ok(settings) => print!(rt; "{file}:\n{settings}")?,
             Err(error) => println!(rt; "{file}: {error}")?,
         }
     }
-    Ok(())
+    match files.last() {
+        Some(file) => print_sizes(rt, file.as_str()),
+        None => Ok(true),
+    }
 }
 
 /// Returns the settings of a file of token lines.

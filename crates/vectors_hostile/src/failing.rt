@@ -7,7 +7,7 @@
 use crate::calls::{built, constructed};
 use crate::lines::{are_same_or_cut, lines_of};
 use crate::sizes::is_size_or_memory;
-use example_source::Letters;
+use example_theorems::Letters;
 use std::alloc::Global;
 use unsafe_libyaml::{
     yaml_parser_initialize, yaml_parser_load, yaml_parser_parse, yaml_token_source_t,

@@ -3,7 +3,7 @@ use Rattle.std.proofs.Common.{◌≡◌, ◌+◌, List, [], ◌∷◌, Some, Ok,
 use Rattle.unsafe_libyaml.specs.Fault.{Fault, SourceResult, memory_fault}
 use Rattle.unsafe_libyaml.specs.Source.{Coming, coming, Follows, FollowsList}
 use Rattle.unsafe_libyaml.specs.Tokens.{Token}
-use Rattle.example_source.specs.Letters.{LettersGive}
+use Rattle.example_theorems.specs.Letters.{LettersGive}
 
 pub letters_fall : (s t : Coming) (token : Token) → LettersGive s (Ok token) t → length s.tokens ≡ length t.tokens + 1
 letters_fall s t token h = ap length h.0 ∙ sym (add-one _)

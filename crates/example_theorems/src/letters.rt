@@ -5,8 +5,8 @@ ghost use Rattle.std.specs.Prelude.{option_map};
 ghost use Rattle.unsafe_libyaml.specs.Fault.{memory_fault, source_fault};
 ghost use Rattle.unsafe_libyaml.specs.VectorNotation.{place};
 ghost use Rattle.unsafe_libyaml.specs.Source.{coming};
-ghost use Rattle.example_source.specs.Letters.{LettersGive, all_tokens, letter_content, letter_token_at};
-ghost use Rattle.example_source.specs.LettersLaws.{letters_fall, letters_follow, letters_repeat};
+ghost use Rattle.example_theorems.specs.Letters.{LettersGive, all_tokens, letter_content, letter_token_at};
+ghost use Rattle.example_theorems.specs.LettersLaws.{letters_fall, letters_follow, letters_repeat};
 
 use std::alloc::Global;
 use std::marker::Model;
@@ -30,7 +30,7 @@ impl<'a> Model for Letters<'a> {
     ghost use Rattle.std.specs.Prelude.{option_map};
     ghost use Rattle.unsafe_libyaml.specs.Fault.{source_fault};
     ghost use Rattle.unsafe_libyaml.specs.Source.{Coming};
-    ghost use Rattle.example_source.specs.Letters.{letters_coming};
+    ghost use Rattle.example_theorems.specs.Letters.{letters_coming};
 
     ghost Value = { Coming };
 
