@@ -31,20 +31,15 @@ layout() {
 }
 
 check python3 scripts/gate/links.py
-check python3 scripts/gate/layers.py
 check python3 scripts/gate/words.py
-check python3 scripts/gate/figures.py
-check python3 scripts/gate/surface.py
-check python3 scripts/gate/definitions.py --check
-check python3 scripts/gate/unused_dependencies.py
-check python3 scripts/gate/proofs_between_crates.py
+check python3 scripts/pages.py --check
+check python3 scripts/gate/mutants.py
+check python3 scripts/gate/between_crates.py
 check python3 scripts/gate/reexports.py
 check python3 scripts/gate/imports.py --check
 check python3 scripts/gate/dead_and_duplicate.py
 check python3 scripts/gate/lists.py
 check python3 scripts/gate/worked.py
-check python3 scripts/gate/proof_tables.py
-check python3 scripts/gate/plantable.py
 check python3 scripts/doors/abi.py
 check sh scripts/gate/wrong_words.sh
 check layout

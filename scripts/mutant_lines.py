@@ -5,7 +5,7 @@
     refused: what the prover could not prove (refusals.py writes this)
     kept: the rule that it breaks, if others show its clauses too
 
-Used by refusals.py, mutants_seen.py and gate/links.py.
+Used by refusals.py, mutants_seen.py and gate/mutants.py.
 """
 import re
 from collections import Counter

@@ -1,13 +1,12 @@
 #!/usr/bin/env python3
-"""Counts what a reader of specs and proofs meets twice or in vain:
+"""Names what a reader of specs and proofs meets twice or in vain, and fails if there is something:
 
-    python3 scripts/gate/dead_and_duplicate.py [--write] [names|dead|twice|unnamed]
+- a name of specs/ that stands for more than one definition, except those of KNOWN;
+- a definition of specs/ and proofs/ that no code, contract or proof reaches, by the names that are mentioned;
+- lemmas whose statements are equal except for the names of their variables;
+- a public function or type of the libraries that docs/surface.txt doesn't have and no other crate names.
 
-names: names of specs/ that stand for more than one definition. dead: definitions of specs/ and proofs/ that no
-code, contract or proof reaches, by the names that are mentioned. twice: lemmas whose statements are equal except for
-the names of their variables. unnamed: public functions and types of the libraries that docs/surface.txt doesn't have and
-no other crate names. scripts/gate/dead_and_duplicate.txt has the four figures, which may only fall: the exit status is 1
-if one is another, and with --write it is written. A word prints what is counted.
+    python3 scripts/gate/dead_and_duplicate.py
 
 Run by check.sh.
 """
@@ -16,10 +15,13 @@ import sys
 from collections import defaultdict
 from pathlib import Path
 
-import surface
-
 TOP = Path(__file__).resolve().parents[2]
-LIMITS = TOP / "scripts" / "gate" / "dead_and_duplicate.txt"
+sys.path[:0] = [str(TOP / "scripts/parts"), str(TOP / "scripts/parts/pages")]
+
+import surface  # noqa: E402
+from sources import CRATES  # noqa: E402
+
+KNOWN = {"step"}  # of the automaton, and of the machine over it
 NAME = r"[^\s(){}.,;:=→λ]+"
 HEAD = re.compile(rf"^(?:abbrev )?(?:pub )?(?:(record|data) ({NAME})(?: |$)|({NAME}|\S*◌\S*) :(?: |$))")
 WORD = re.compile(rf"{NAME}(?:\.{NAME})*")
@@ -80,13 +82,6 @@ def is_goal(path):
     return path.name in ("Answers.antt", "Invariants.antt", "Proof.antt")
 
 
-def doubled_names(specs):
-    places = defaultdict(set)
-    for one in specs:
-        places[one.name].add(one.path)
-    return {name: paths for name, paths in places.items() if len(paths) > 1}
-
-
 def dead(every):
     """What neither code nor a goal, an operator or a set of rules reaches. A mention of a name reaches each definition of that name."""
     by_name = defaultdict(list)
@@ -137,19 +132,14 @@ def unnamed():
     """Public functions and types of the libraries whose name stands neither in docs/surface.txt nor in another crate."""
     named = set(re.findall(r"\w+", surface.PAGE.read_text()))
     of_crate = {}
-    for crate in surface.crates():
+    for crate in CRATES:
         texts = (path.read_text() for path in (TOP / "crates" / crate).glob("[ps]*/**/*") if path.suffix in (".rt", ".antt"))
         of_crate[crate] = {word for text in texts for word in re.findall(r"\w+", text)}
-    found = []
-    for crate in of_crate:
-        if surface.root(crate) is None or surface.root(crate).name == "main.rt" or crate in surface.EXAMPLES:
-            continue
-        above = set().union(*(words for other, words in of_crate.items() if other != crate))
+    for crate in filter(surface.is_library, CRATES):
+        above = named.union(*(words for other, words in of_crate.items() if other != crate))
         for name, item in surface.public_of(crate).items():
-            is_named = name.split("::")[-1] in named | above
-            if item is not None and item.kind not in ("impl", "const") and not surface.LAWS.match(name) and not is_named:
-                found.append(f"{crate}: {name}")
-    return found
+            if item is not None and item.kind not in ("impl", "const") and not surface.LAWS.match(name) and name.split("::")[-1] not in above:
+                yield f"{crate}: {name}"
 
 
 def place(one):
@@ -157,32 +147,17 @@ def place(one):
 
 
 def main():
-    words = sys.argv[1:]
-    if not set(words) <= {"--write", "names", "dead", "twice", "unnamed"}:
-        sys.exit(__doc__)
     specs = [one for path in files("specs") for one in definitions(path)]
     proofs = [one for path in files("proofs") for one in definitions(path)]
-    names, gone, same = doubled_names(specs), dead(specs + proofs), twice(proofs)
-    public = unnamed()
-    figures = {"names": len(names), "dead": len(gone), "twice": len(same), "unnamed": len(public)}
-    if "names" in words:
-        print("\n".join(f"{name}: {', '.join(str(p.relative_to(TOP / 'crates')) for p in sorted(names[name]))}" for name in sorted(names)))
-    if "dead" in words:
-        print("\n".join(sorted(map(place, gone))))
-    if "twice" in words:
-        print("\n\n".join("\n".join(map(place, group)) for group in same))
-    if "unnamed" in words:
-        print("\n".join(public))
-    if "--write" in words:
-        LIMITS.write_text("".join(f"{word} {count}\n" for word, count in figures.items()))
-    limits = {word: int(count) for word, count in map(str.split, LIMITS.read_text().splitlines())}
-    for word, count in figures.items():
-        if count > limits[word]:
-            print(f"{word}: {count}, and not {limits[word]}: `dead_and_duplicate.py {word}` prints them")
-        elif count < limits[word]:
-            print(f"{word}: {count}, fewer than the {limits[word]} of scripts/gate/dead_and_duplicate.txt: `dead_and_duplicate.py --write` writes it")
-    print(", ".join(f"{word} {count}" for word, count in figures.items()))
-    sys.exit(figures != limits)
+    places = defaultdict(dict)
+    for one in specs:
+        places[one.name][one.path] = place(one)
+    doubled = {name for name, some in places.items() if len(some) > 1}
+    wrong = [f"not as KNOWN says, one name or several: {', '.join(places[name].values())}" for name in sorted(doubled ^ KNOWN)]
+    wrong += sorted(f"nothing reaches {place(one)}" for one in dead(specs + proofs))
+    wrong += [f"one statement: {', '.join(map(place, group))}" for group in twice(proofs)]
+    wrong += [f"no page and no other crate names {name}" for name in unnamed()]
+    sys.exit("\n".join(wrong) or 0)
 
 
 if __name__ == "__main__":

@@ -6,9 +6,11 @@
 - a heading of a page, such as `docs/DEFINITIONS.md, "Runs"`, that it does not have; comments of code are read for these too;
 - a Rust block or a clause of a contract that no file of crates/ or examples/ has word for word (a block of bindings/plain is run by
   `cargo test`);
-- a mutant of which scripts/mutants.txt doesn't say where it is seen and what refuses it, or the other way round;
-- a script that scripts/README.md doesn't list;
-- another version than that of the file VERSION, in CHANGELOG's first entry the macro of pokhvizi/version.h, the Python package or the Rust crate.
+- a name in backticks that no file of the repository has as a word, except those of OUTSIDE; one in a heading of docs/DEFINITIONS.md has to
+  be a definition, a file of `specs/` or a module;
+- another version than that of the file VERSION: CHANGELOG's first entry, and the files of VERSIONS;
+
+or if scripts/README.md doesn't list a script, or a crate has no README.md.
 
     python3 scripts/gate/links.py
 
@@ -19,17 +21,29 @@ import sys
 from pathlib import Path
 
 TOP = Path(__file__).resolve().parents[2]
-sys.path.insert(0, str(TOP / "scripts"))
+sys.path.insert(0, str(TOP / "scripts/parts"))
 
-from mutant_lines import wrong_lines  # noqa: E402
+from sources import CRATES, read_specs  # noqa: E402
 
 PAGES = [*TOP.glob("*.md"), *TOP.glob("docs/*.md"), *TOP.glob("crates/*/README.md"), *TOP.glob("bindings/*/README.md"),
-         *TOP.glob("scripts/README.md"), *TOP.glob("scripts/*/README.md")]
+         *TOP.glob("scripts/**/README.md")]
+VERSIONS = {
+    "CHANGELOG.md": r"^## (.*)$",
+    "Cargo.toml": r'^version = "(.*)"$',
+    "bindings/c/Cargo.toml": r'^version = "(.*)"$',
+    "bindings/c/include/pokhvizi/version.h": r'^#define POKHVIZI_VERSION "(.*)"$',
+    "bindings/python/src/pokhvizi/__init__.py": r'^__version__ = "(.*)"$',
+    "bindings/rust/src/lib.rs": r'^pub const POKHVIZI_VERSION: &str = "(.*)";$',
+}
+# Names of other software, of the prover, of what a reader makes, and of a crate that is five now.
+OUTSIDE = {"dac8208d650f15bf", "malloc_consolidate", "my_program", "raw_parse", "raw_scan", "yaml_buffer_t", "yaml_queue_t", "yaml_rows", "yaml_stack_t"}
+NAME = re.compile(r"`([A-Za-z_]\w*(?:(?:::|\.)\w+)*)`")
 MADE = re.compile(r"(^|/)(out|build|target|my_project)(/|$)|^(list\.tokens|vendored\.txt)$|\b(NAME|FILE|DEST)\b")
 FILE = r"rt|antt|oantt|edit|md|py|sh|c|h|txt|yaml|tokens|events|nodes"
 PATH = re.compile(rf"[\w.*-]+(/[\w.*-]+)+/?|\w+\.({FILE})")
 IN_COMMAND = re.compile(r"(?<![\w./])(?:crates|docs|scripts|examples|bindings)/[\w./*-]*[\w*/]")
 LINK = re.compile(r"\[[^\]]*\]\(([^)\s]+)\)")
+TEXTS = [".rt", ".antt", ".edit", ".py", ".sh", ".c", ".h", ".rs", ".txt", ""]
 HEADING = re.compile(r"(\w+\.md)\)?`?, (\"[^\"\n]+\"(?:(?:, | and |, and )\"[^\"\n]+\")*)")
 
 
@@ -104,20 +118,39 @@ def missing_blocks(text, code):
                 yield f"a clause that no file has: {clause.splitlines()[0]}"
 
 
-def unlisted_scripts():
+def known_words():
+    """The words of the repository's files, without pages, and of their names."""
+    folders = [path for name in ("crates", "scripts", "examples", "bindings", "bench") for path in (TOP / name).rglob("*")]
+    paths = [path for path in [*folders, *TOP.glob("*")] if "out" not in path.parts]
+    texts = [path.read_text(errors="ignore") for path in paths if path.is_file() and path.suffix in TEXTS]
+    return set(re.findall(r"\w+", "\n".join([*texts, *(str(path.relative_to(TOP)) for path in paths)])))
+
+
+def defined_words():
+    """The names that a heading of DEFINITIONS may have."""
+    defined = {name for module, file in read_specs().items() for name in [*file.names, *module.split(".")]}
+    return defined | {path.stem for path in [*TOP.glob("crates/*"), *TOP.glob("crates/*/src/**/*.rt")]}
+
+
+def unknown_names(page, text, known, defined):
+    for line in outside_code(text).splitlines():
+        words = defined if page.name == "DEFINITIONS.md" and line.startswith("#") else known
+        yield from (f"nothing is named `{name}`" for name in NAME.findall(line) if not words.issuperset(re.split(r"::|\.", name)))
+
+
+def unlisted():
     text = (TOP / "scripts" / "README.md").read_text()
-    for path in [*TOP.glob("scripts/*.sh"), *TOP.glob("scripts/*.py"), *TOP.glob("scripts/*/run.sh"), *TOP.glob("scripts/doors/*.sh"), *TOP.glob("scripts/doors/*.py"),
-                 *TOP.glob("scripts/gate/*"), *TOP.glob("scripts/parts/*.sh")]:
-        name = str(path.relative_to(TOP / "scripts")).removeprefix("gate/").removeprefix("parts/")
+    folders = ("*.sh", "*.py", "*/run.sh", "doors/*.sh", "doors/*.py", "gate/*.*", "parts/*.sh", "parts/*.py", "parts/pages/*.py")
+    for path in (path for folder in folders for path in TOP.glob(f"scripts/{folder}")):
+        name = re.sub("^(gate|parts)/", "", str(path.relative_to(TOP / "scripts")))
         if not re.search(rf"(`|/){re.escape(name)}`", text):
             yield f"scripts/README.md: {name} is not listed"
+    yield from (f"crates/{crate} has no README.md" for crate in CRATES if not (TOP / "crates" / crate / "README.md").exists())
 
 
 def other_versions():
     version = (TOP / "VERSION").read_text().strip()
-    for name, form in [("CHANGELOG.md", r"^## (.*)$"), ("Cargo.toml", r'^version = "(.*)"$'), ("bindings/c/Cargo.toml", r'^version = "(.*)"$'), ("bindings/c/include/pokhvizi/version.h", r'^#define POKHVIZI_VERSION "(.*)"$'),
-                       ("bindings/python/src/pokhvizi/__init__.py", r'^__version__ = "(.*)"$'),
-                       ("bindings/rust/src/lib.rs", r'^pub const POKHVIZI_VERSION: &str = "(.*)";$')]:
+    for name, form in VERSIONS.items():
         shown = re.search(form, (TOP / name).read_text(), flags=re.M)
         if shown is None or shown[1] != version:
             yield f"{name}: the version is {shown and shown[1]}, and VERSION says {version}"
@@ -133,11 +166,13 @@ def comments():
 def problems():
     files = [*TOP.glob("crates/*/src/**/*.rt"), *TOP.glob("examples/*.txt")]
     code = unindented("\n".join(path.read_text() for path in files))
+    known, defined = known_words() | OUTSIDE, defined_words()
     for page in PAGES:
         text = page.read_text()
         found = [*broken_links(page, text), *missing_paths(page, text), *missing_headings(text), *missing_blocks(text, code)]
+        found += [] if page.name == "CHANGELOG.md" else unknown_names(page, text, known, defined)
         yield from (f"{page.relative_to(TOP)}: {problem}" for problem in found)
-    yield from [*wrong_lines(), *unlisted_scripts(), *other_versions()]
+    yield from [*unlisted(), *other_versions()]
     for path, text in comments():
         yield from (f"{path.relative_to(TOP)}: {problem}" for problem in missing_headings(text))
 

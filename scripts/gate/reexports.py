@@ -13,66 +13,55 @@ import re
 import sys
 from pathlib import Path
 
-from definitions import ROOT, WORD, closure, imports, read_specs
+TOP = Path(__file__).resolve().parents[2]
+sys.path.insert(0, str(TOP / "scripts/parts"))
+from sources import CRATES, WORD, closure, imports, read_specs, reexports  # noqa: E402
 
 FACADES = ["unsafe_libyaml", "token_lines"]
-CRATES = re.findall(r"^(\w+).*:", (ROOT / "crates.txt").read_text(), flags=re.MULTILINE)
 ITEM = r"^pub (?:const )?(?:fn|struct|enum|trait|const|type) {}\b"
-REEXPORT = re.compile(r"^pub use ([\w:]+?)(?:::\{([^}]*)\})?(?: as (\w+))?;", re.MULTILINE)
 
 
 def sources(crate):
-    return sorted((ROOT / "crates" / crate / "src").rglob("*.rt"))
-
-
-def named_by(path):
-    """The items that a file names in public: of other crates, or of its own crate where the first word is no crate."""
-    for where, names, alias in REEXPORT.findall(path.read_text()):
-        if names:
-            first, *rest = where.split("::")
-            yield from ((first, rest, name.split(" as ")[0].strip()) for name in names.split(",") if name.strip())
-        else:
-            *first, last = where.split("::")
-            yield first[0], first[1:], last
+    return sorted((TOP / "crates" / crate / "src").rglob("*.rt"))
 
 
 def module_files(crate, path):
     """The file of a public module, and those of its public modules."""
     if path.exists():
         yield crate, path
-        for child in re.findall(r"^pub mod (\w+);", path.read_text(), re.MULTILINE):
+        for child in re.findall(r"^pub mod (\w+);", path.read_text(), re.M):
             yield from module_files(crate, path.with_suffix("") / (child + ".rt"))
 
 
 def items(crate, path):
     """The crate, file and name of each item that the file declares or names in public."""
-    for name in re.findall(ITEM.format(r"(\w+)"), path.read_text(), re.MULTILINE):
+    for name in re.findall(ITEM.format(r"(\w+)"), path.read_text(), re.M):
         yield crate, path, name
-    for first, _, name in named_by(path):
-        yield from resolved(first if first in CRATES else crate, name)
+    for where, name, _ in reexports(path):
+        yield from resolved(where[0] if where[0] in CRATES else crate, name)
 
 
 def resolved(crate, name):
-    module = ROOT / "crates" / crate / "src" / (name + ".rt")
-    if re.search(rf"^pub mod {name};", (ROOT / "crates" / crate / "src" / "lib.rt").read_text(), re.MULTILINE):
+    module = TOP / "crates" / crate / "src" / (name + ".rt")
+    if re.search(rf"^pub mod {name};", (TOP / "crates" / crate / "src" / "lib.rt").read_text(), re.M):
         for owner, path in module_files(crate, module):
             yield from items(owner, path)
         return
     for path in sources(crate):
-        if re.search(ITEM.format(name), path.read_text(), re.MULTILINE):
+        if re.search(ITEM.format(name), path.read_text(), re.M):
             yield crate, path, name
             return
     for path in sources(crate):
-        for first, _, other in named_by(path):
-            if other == name and first in CRATES and first != crate:
-                yield from resolved(first, name)
+        for where, other, _ in reexports(path):
+            if other == name and where[0] in CRATES and where[0] != crate:
+                yield from resolved(where[0], name)
                 return
 
 
 def public_items(crate):
-    root = ROOT / "crates" / crate / "src" / "lib.rt"
+    root = TOP / "crates" / crate / "src" / "lib.rt"
     found = set(items(crate, root))
-    for child in re.findall(r"^pub mod (\w+);", root.read_text(), re.MULTILINE):
+    for child in re.findall(r"^pub mod (\w+);", root.read_text(), re.M):
         for owner, path in module_files(crate, root.parent / (child + ".rt")):
             found |= set(items(owner, path))
     return found
@@ -86,7 +75,7 @@ def header(text, start):
 
 def block(text, start):
     """From the start of an item to its closing brace at the left edge."""
-    end = re.compile(r"^(\}|\{\})|;$", re.MULTILINE).search(text, start)
+    end = re.compile(r"^(\}|\{\})|;$", re.M).search(text, start)
     return text[start : end.end() if end else len(text)]
 
 
@@ -96,18 +85,18 @@ def without_bodies(text):
 
 def of_impl(text, found):
     """The clauses of an `impl` block: of its public functions, and all that stands in one of a trait."""
-    whole = text[found.start() : re.compile(r"^\}", re.MULTILINE).search(text, found.end()).end()]
+    whole = text[found.start() : re.compile(r"^\}", re.M).search(text, found.end()).end()]
     if " for " in found.group():
-        yield text + re.sub(r"^ +", "", whole, flags=re.MULTILINE), without_bodies(whole)
+        yield text + re.sub(r"^ +", "", whole, flags=re.M), without_bodies(whole)
         return
-    for method in re.finditer(r"^    pub (const )?fn ", whole, re.MULTILINE):
+    for method in re.finditer(r"^    pub (const )?fn ", whole, re.M):
         yield text, header(whole, method.start())
 
 
 def clauses_of(crate, path, name):
     """The texts of an item's clauses, each behind a text with the imports that it uses."""
     text = path.read_text()
-    start = re.search(ITEM.format(name), text, re.MULTILINE)
+    start = re.search(ITEM.format(name), text, re.M)
     if re.match(r"pub (const )?fn", start.group()):
         yield text, header(text, start.start())
         return
@@ -115,7 +104,7 @@ def clauses_of(crate, path, name):
         yield text, block(text, start.start())
     for file in sources(crate):
         text = file.read_text()
-        for found in re.finditer(rf"^impl\b[^\n{{]*\b{name}\b[^\n]*\{{$", text, re.MULTILINE):
+        for found in re.finditer(rf"^impl\b[^\n{{]*\b{name}\b[^\n]*\{{$", text, re.M):
             yield from of_impl(text, found)
 
 
@@ -147,7 +136,7 @@ def own_modules(folder, listing):
 
 def reexported(crate):
     """The modules that a crate's specs/Lib.antt names, each under the name that a user writes."""
-    specs = ROOT / "crates" / crate / "specs"
+    specs = TOP / "crates" / crate / "specs"
     found = {}
     for path in own_modules(specs, specs / "Lib.antt"):
         rest = path.relative_to(specs).with_suffix("").parts

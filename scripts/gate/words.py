@@ -12,6 +12,8 @@ in `specs` and `proofs`.
 Names of code and of files have the words of pages for test vectors and mutants, too (NAMED). Only `line_reading` has a `row`: the line
 that a mark counts, where a line is one of tokens.
 
+It fails too if README, or all pages together, have more words than MOST says.
+
 Run by check.sh.
 """
 import re
@@ -150,12 +152,26 @@ def names():
             yield from ((path, name) for name in sorted(set(NAMED.findall(path.stem.partition("-")[0]) + NAMED.findall(text))))
 
 
+MOST = [
+    ("README.md has", ["README.md"], 800),
+    ("all pages together have", ["README.md", "CONTRIBUTING.md", "SECURITY.md", "docs/*.md", "bindings/**/README.md", "crates/*/README.md"], 25_000),
+]
+
+
+def too_many():
+    for names, patterns, most in MOST:
+        found = {page for pattern in patterns for page in TOP.glob(pattern) if not {"out", "build", "target"} & set(page.relative_to(TOP).parts)}
+        if (words := sum(len(page.read_text().split()) for page in found)) > most:
+            yield f"{names} {words} words, of {most}"
+
+
 def main():
     found = [
         f"{path.relative_to(TOP)}:{number}: {word}"
         for path, lines, words in files(sys.argv[1:] or sorted(crate.name for crate in TOP.glob("crates/*")))
         for number, word in given_up(lines, words)
     ]
+    found += too_many()
     found += [f"{path.relative_to(TOP)}: its name (now: {instead})" for path, instead in mutants()]
     found += [f"{path.relative_to(TOP)}: {name} (now: test vector, mutant)" for path, name in names()]
     if found:

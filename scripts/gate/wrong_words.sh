@@ -19,7 +19,8 @@ wrong=0
 refuses() {
     script=$1
     shift
-    timeout 20 sh "$top/$script" "$@" > "$work/out" 2> "$work/err" < /dev/null
+    case $script in *.py) by=python3 ;; *) by=sh ;; esac
+    timeout 20 $by "$top/$script" "$@" > "$work/out" 2> "$work/err" < /dev/null
     got=$?
     runs=$((runs + 1))
     if [ $got -ne 2 ] || [ -s "$work/out" ] || [ "$(wc -l < "$work/err")" -ne 1 ] || ! grep -q 'usage: ' "$work/err"; then
@@ -40,7 +41,7 @@ for script in bench/clients.sh bindings/c/build_libyaml.sh bindings/c/proved-lib
     refuses $script
     refuses $script --help
 done
-for script in bench/run.sh scripts/check_programs.sh scripts/differential/run.sh scripts/differential/turned.sh; do
+for script in bench/run.sh scripts/pages.py scripts/gate/imports.py scripts/check_programs.sh scripts/differential/run.sh scripts/differential/turned.sh; do
     refuses $script --help
     refuses $script no_such_word
 done

@@ -1,26 +1,15 @@
-#!/usr/bin/env python3
-"""Tables, in docs/proofs.txt, of which file of proofs carries which clause: for each public function with parts of its
-proof written by hand (`Answers.antt`, `Invariants.antt`, `Proof.antt`, or lemmas that an attribute hands to the search) its clauses
-by the files that they cite; "all" if the parts are of the whole contract. Laws stand together by their file of src/laws, functions
-that aren't public in one line.
-
-    python3 scripts/gate/proof_tables.py           fails if the page is stale
-    python3 scripts/gate/proof_tables.py --write   writes it
-
-A file of the crate that only other files cite is counted in its folder. A file of another crate has that crate's name before it.
-
-Run by check.sh.
-"""
+"""docs/proofs.txt: which file of proofs carries which clause: for each public function with parts of its proof written by hand
+(`Answers.antt`, `Invariants.antt`, `Proof.antt`, or lemmas that an attribute hands to the search) its clauses by the files that they cite;
+"all" if the parts are of the whole contract. Laws stand together by their file of src/laws, functions that aren't public in one line. A file
+of the crate that only other files cite is counted in its folder. A file of another crate has that crate's name before it."""
 import re
-import sys
 from collections import Counter, defaultdict
-from pathlib import Path
 
-TOP = Path(__file__).resolve().parents[2]
-PAGE = TOP / "docs" / "proofs.txt"
+from sources import TOP, imports
+
 HEAD = """# Proofs by hand
 
-`python3 scripts/gate/proof_tables.py --write` makes this page: what the prover's search does not find alone, crate by crate. *Loops* stands for invariants and measures, *calls* for what a call requires, *alone* for a proof that cites no file; a number counts functions or files.
+`python3 scripts/pages.py` makes this page: what the prover's search does not find alone, crate by crate. *Loops* stands for invariants and measures, *calls* for what a call requires, *alone* for a proof that cites no file; a number counts functions or files.
 """
 TABLE = """
 ## `{crate}`
@@ -28,7 +17,6 @@ TABLE = """
 | function | files of `proofs` that its clauses cite | files beneath |
 |---|---|---|
 """
-USE = re.compile(r"^(?:pub )?use Rattle\.([\w.]+?)(?:\.\{([^}]*)\}| as (\w+));?$", re.M)
 USING = re.compile(r"#(!?)\[tactic\([^\]]*using\(([^)]*)\)")
 FN = re.compile(r"( {4})?(?:(pub(?:\([^)]*\))?) )?(?:extern \"C\" )?fn (\w+)")
 ENSURES = re.compile(r" +ensures (\w+) \{")
@@ -48,12 +36,9 @@ def module_of(path, crate):
     return ".".join([crate.name, *path.relative_to(crate).with_suffix("").parts])
 
 
-def imports(text):
+def modules(text):
     """Each imported name, or alias, with its module."""
-    found = {}
-    for module, names, alias in USE.findall(text):
-        found.update((name.strip(), module) for name in ([alias] if alias else names.split(",")))
-    return found
+    return {name: module.removeprefix("Rattle.") for name, (module, _) in imports(text).items()}
 
 
 def is_lemmas(module):
@@ -88,7 +73,7 @@ class Crate:
         for path in self.sources():
             self.read(path, public)
         for path in folder.glob("proofs/**/*.antt"):
-            self.cites[module_of(path, folder)] = {module for module in imports(path.read_text()).values() if is_lemmas(module)}
+            self.cites[module_of(path, folder)] = {module for module in modules(path.read_text()).values() if is_lemmas(module)}
 
     def sources(self):
         return sorted((self.folder / "src").rglob("*.rt"))
@@ -124,7 +109,7 @@ class Crate:
                     return (owner, name)
         if (None, name) in self.functions:
             return (None, name)
-        sys.exit(f"{folder.relative_to(TOP)}: no such function in src")
+        raise LookupError(f"{folder.relative_to(TOP)}: no such function in src")
 
     def by_hand(self):
         """Each function with parts by hand: its clauses, each with a module that it cites or none."""
@@ -176,7 +161,7 @@ def fields_of(body):
 def clauses_of(path, kind, clauses):
     """The clauses that a file answers, each with a module that its answer cites, or with none; `clauses` are the function's."""
     text = path.read_text()
-    named, defined = imports(text), definitions(text)
+    named, defined = modules(text), definitions(text)
     for name, body in defined.items():
         if kind == "Answers" and f": goal.{name}" not in body:
             continue
@@ -261,21 +246,7 @@ def line(name, said, modules, crate):
     return f"| {name} | {said} | {shown_beneath(modules, crate)} |\n"
 
 
-def page():
+def make(pages):
     tables = ((folder.name, "".join(rows(Crate(folder)))) for folder in sorted(TOP.glob("crates/*/")))
-    return HEAD + "".join(TABLE.format(crate=crate) + table for crate, table in tables if table)
-
-
-def main():
-    if sys.argv[1:] not in ([], ["--write"]):
-        sys.exit(__doc__)
-    now = page()
-    if sys.argv[1:]:
-        PAGE.write_text(now)
-    elif not PAGE.exists() or PAGE.read_text() != now:
-        sys.exit("docs/proofs.txt is not as scripts/gate/proof_tables.py --write leaves it")
-    print("the tables are those of the proofs")
-
-
-if __name__ == "__main__":
-    main()
+    pages[TOP / "docs/proofs.txt"] = HEAD + "".join(TABLE.format(crate=crate) + table for crate, table in tables if table)
+    return []

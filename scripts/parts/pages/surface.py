@@ -1,30 +1,20 @@
-#!/usr/bin/env python3
-"""Lists in docs/surface.txt every public item that a user of the libraries can name: first those that a program uses first, with
-what the doc of each says first if that has more than a few words and no public field or variant shows it; then the others,
-by their crates; each with its signature, its fields or its variants. Lists in docs/laws.txt every law, with its comment, which is
-its statement, and the names of its clauses.
-
-    python3 scripts/gate/surface.py           fails if a list is stale, an item has no doc, one is `pub` for its crate alone, or
-                                         docs/PROVED.md doesn't name a law (those of `vectors` and `productions` by their module)
-    python3 scripts/gate/surface.py --write   writes the lists
-
+"""docs/surface.txt: every public item that a user of the libraries can name; first those that a program uses first, with what the doc of
+each says first if that has more than a few words and no public field or variant shows it; then the others, by their crates; each with its
+signature, its fields or its variants. docs/laws.txt: every law, with its comment, which is its statement, and the names of its clauses.
 The examples and the programs of test vectors are left out.
 
-Run by check.sh.
-"""
+It can't be made if an item has no doc, one is `pub` for its crate alone, or docs/PROVED.md doesn't name a law (those of `vectors` and
+`productions` by their module)."""
 import re
-import sys
 import textwrap
-from pathlib import Path
 
-TOP = Path(__file__).resolve().parents[2]
+from sources import CRATES, TOP, reexports
+
 PAGE = TOP / "docs" / "surface.txt"
-LAWS_PAGE = TOP / "docs" / "laws.txt"
 CLAUSE = re.compile(r"^ +ensures (\w+) \{", re.M)
 ITEM = re.compile(r"pub (?:extern \"C\" )?(fn|struct|enum|trait|type|const) (\w+)")
 METHOD = re.compile(r"    (pub )?fn (\w+)")
 IMPL = re.compile(r"impl(<.*?>)? (?:(.+?) for )?(\w+)")
-USE = re.compile(r"pub use ([\w:]+?)(?:::\{([^}]*)\}| as (\w+))?;")
 LAWS = re.compile(r"(?:laws|vectors)::")
 OF_ENUM = re.compile(r"(order|equality|hash)_of_")
 NAMED = (
@@ -35,7 +25,7 @@ INNER = re.compile(r"putting::")  # a module for the crates above alone
 EXAMPLES = {"example_theorems", "vectors_common"}
 WIDTH = 110
 
-HEAD = """Every public item. `python3 scripts/gate/surface.py --write` makes this list.
+HEAD = """Every public item. `python3 scripts/pages.py` makes this list.
 
 Depend on `unsafe_libyaml`, which re-exports the crates of events, documents and loads, and on `token_lines`, which re-exports
 those of lines. `fn T::f` is a method or a function of the type `T`; a struct shown without fields has private ones; those of
@@ -43,7 +33,7 @@ those of lines. `fn T::f` is a method or a function of the type `T`; a struct sh
 CALLING.md shows how to use it. The laws are in laws.txt; items that only crates above use are left out.
 """
 
-LAWS_HEAD = """Every law. `python3 scripts/gate/surface.py --write` makes this list.
+LAWS_HEAD = """Every law. `python3 scripts/pages.py` makes this list.
 
 A law is a function that does nothing and whose contract is a theorem. Its comment is its statement; the names of its
 clauses, if they have some, stand after its name. PROVED.md says which belong together, and has those of the enums' order,
@@ -195,14 +185,13 @@ def items_of(path):
     return found
 
 
-def crates():
-    """The folders of crates.txt, in its order."""
-    return re.findall(r"^(\w+).*:", (TOP / "crates.txt").read_text(), flags=re.MULTILINE)
-
-
 def root(crate):
     folder = TOP / "crates" / crate / "src"
     return next((folder / name for name in ("lib.rt", "main.rt") if (folder / name).exists()), None)
+
+
+def is_library(crate):
+    return root(crate) is not None and root(crate).name != "main.rt" and crate not in EXAMPLES
 
 
 def module_files(crate, module):
@@ -212,18 +201,6 @@ def module_files(crate, module):
     return [path, *(path.with_suffix("") / f"{name}.rt" for name in sorted(inner))]
 
 
-def names_passed_on(crate, file=None):
-    """What a crate's root, or a module's file, gives by `pub use`: pairs of the path and a name."""
-    text = re.sub(r"\s+", " ", (file or root(crate)).read_text())
-    for path, group, renamed in USE.findall(text):
-        if group:
-            for name in group.split(","):
-                if name.strip():
-                    yield path, name.split(" as ")[-1].strip()
-        else:
-            yield "::".join(path.split("::")[:-1]), renamed or path.split("::")[-1]
-
-
 def public_of(crate):
     """Each public name of a crate: its item, or `None` where it is re-exported from another crate."""
     own = {}
@@ -231,16 +208,15 @@ def public_of(crate):
         for item in items_of(path):
             own.setdefault(item.name, item)
     public = {item.name: item for item in items_of(root(crate))}
-    for path, name in names_passed_on(crate):
-        first = path.split("::")[0]
-        public[name] = own.get(name) if first not in crates() else None
+    for where, _, name in reexports(root(crate)):
+        public[name] = own.get(name) if where[0] not in CRATES else None
     for module in re.findall(r"^pub mod (\w+);", root(crate).read_text(), re.M):
         for path in module_files(crate, module):
             prefix = "::".join(path.relative_to(TOP / "crates" / crate / "src").with_suffix("").parts)
             for item in items_of(path):
                 if item.name.split("::")[0] not in public:
                     public[f"{prefix}::{item.name}"] = item
-            for _, name in names_passed_on(crate, path):
+            for _, _, name in reexports(path):
                 if name in own and name not in public:
                     public[f"{prefix}::{name}"] = own[name]
     for name, item in list(own.items()):
@@ -252,7 +228,7 @@ def public_of(crate):
 
 def named_above(crate):
     """The types of a crate that specs and proofs of the crates above name."""
-    texts = (path.read_text() for other in crates() if other != crate for path in (TOP / "crates" / other).glob("[ps]*s/**/*.antt"))
+    texts = (path.read_text() for other in CRATES if other != crate for path in (TOP / "crates" / other).glob("[ps]*s/**/*.antt"))
     paths = (match for text in texts for match in re.findall(rf"Rattle\.{crate}\.specs\.declared\.([\w.]+)", text))
     return {name for path in paths for name in path.split(".")}
 
@@ -328,12 +304,9 @@ def block(items, is_brief=False):
         yield from item.lines(is_brief)
 
 
-def page():
-    """The two lists, and what is wrong with an item."""
+def make(pages):
     listed, laws, without, everything = {}, [], [], {}
-    for crate in crates():
-        if root(crate) is None or root(crate).name == "main.rt" or crate in EXAMPLES:
-            continue
+    for crate in filter(is_library, CRATES):
         rows = [(name, item) for name, item in public_of(crate).items() if item is not None]
         without += [f"{crate}: {name} has no doc" for name, item in rows if not item.says and item.kind != "impl"]
         without += [f"{crate}: {name} is no public item, so `pub(crate)`" for _, _, name in hidden(crate)]
@@ -342,15 +315,15 @@ def page():
         listed[crate] = [(name, item) for name, item in rows if not LAWS.match(name)]
         everything.update(listed[crate])
     first = {name for _, names in FIRST for name in names.split()}
-    without += [f"{name}, which surface.py puts first, is no item" for name in sorted(first - set(everything))]
+    without += [f"{name}, which parts/pages/surface.py puts first, is no item" for name in sorted(first - set(everything))]
     without += unnamed_laws((crate, [name for name, _ in rows]) for crate, rows in laws)
     if without:
-        return "", "", without
+        return without
     lines = [HEAD.rstrip(), "", "", "WHAT A PROGRAM USES FIRST"]
     for title, names in FIRST:
         lines += ["", f"-- {title}", "", *block(everything[name] for name in names.split())]
     lines += ["", "", "THE OTHERS, BY THEIR CRATES"]
-    passing = {user: {name for _, name in names_passed_on(user)} for user in NAMED if user in listed}
+    passing = {user: {name for _, _, name in reexports(root(user))} for user in NAMED if user in listed}
     for crate, rows in listed.items():
         users = [user for user, names in passing.items() if crate != user and any(name in names for name, _ in rows)]
         can_name = [(n, i) for n, i in rows if crate in NAMED and not INNER.match(n) or any(n.split("::")[0] in passing[user] for user in users)]
@@ -358,19 +331,6 @@ def page():
         if left:
             title = f"-- {crate}" + (f", re-exported by {' and '.join(users)}" if users and crate not in NAMED else "")
             lines += ["", title, "", *block(grouped(left), is_brief=True)]
-    return "\n".join(lines) + "\n", "\n".join([LAWS_HEAD.rstrip(), *law_lines(laws)]) + "\n", without
+    pages[PAGE], pages[TOP / "docs/laws.txt"] = ("\n".join([*made, ""]) for made in (lines, [LAWS_HEAD.rstrip(), *law_lines(laws)]))
+    return []
 
-
-def main():
-    text, of_laws, without = page()
-    if without:
-        sys.exit("\n".join(without))
-    for path, made in [(PAGE, text), (LAWS_PAGE, of_laws)]:
-        if sys.argv[1:] == ["--write"]:
-            path.write_text(made)
-        elif not path.exists() or path.read_text() != made:
-            sys.exit(f"docs/{path.name} is stale: python3 scripts/gate/surface.py --write")
-
-
-if __name__ == "__main__":
-    main()
