@@ -1,5 +1,5 @@
 /* All tokens of standard input, for programs in C and in Rust: `yaml_token_t` is laid out alike in both. */
-#include "token_lines.h"
+#include "../scripts/parts/lines/read_tokens.h"
 
 size_t size_of_token(void)
 {

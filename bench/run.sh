@@ -51,7 +51,7 @@ cd "$top/bench"
 flags='-std=gnu11 -O2 -Wall -Wextra'
 "$CC" $flags -c -o "$work/read_tokens.o" read_tokens.c
 "$CC" $flags -o "$work/libyaml" libyaml.c "$work/read_tokens.o" -Wl,-Bstatic -lyaml -Wl,-Bdynamic
-"$CC" $flags -o "$work/libyaml_lines" libyaml_lines.c -Wl,-Bstatic -lyaml -Wl,-Bdynamic
+"$CC" $flags -o "$work/libyaml_lines" ../scripts/differential/libyaml_lines.c -Wl,-Bstatic -lyaml -Wl,-Bdynamic
 if [ -n "${UNSAFE_LIBYAML-}" ] && command -v rustc > /dev/null; then
     for by in libyaml moved copied serde; do
         rustc --edition 2021 -O -C codegen-units=1 -C panic=abort --cfg "$by" -o "$work/unsafe_$by" unsafe_libyaml.rs \

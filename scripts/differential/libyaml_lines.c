@@ -1,75 +1,113 @@
-/* What `yamltokens` does, by libyaml's own parser and loader: token lines on standard input, the lines of events or of
- * documents on standard output. run.sh builds it. */
-#include "libyaml_lines.h"
-#include <stdio.h>
-#include <string.h>
+/* What `yamltokens` does, by libyaml's own parser and loader: token lines on standard input, the lines of events or of documents on
+ * standard output. Built with -DBY_RULES (run.sh), it differs nowhere from this repository; without (bench/run.sh), wherever libyaml does. */
+#include <setjmp.h>
 
-static const char USAGE[] =
-    "usage: libyaml_lines [--without RULE].. events|nodes\n"
-    "RULE is pair_key, value_first, bare_document, empty_place or zero_bytes: there libyaml does as it always does.\n"
-    "Exit status: 0 the stream ended, 1 a fault was written, 2 wrong words, 3 the output can't be written.\n";
+#ifndef BY_RULES
+#define BY_RULES 0
+#endif
 
-enum { ENDED = 0, FAULTED = 1, WRONG_WORDS = 2, OUTPUT_FAILED = 3 };
+static jmp_buf before_lines;
+#define bad_line(why) longjmp(before_lines, ((void)(why), 1))
 
-static int run_events(yaml_parser_t *parser)
+#include "../parts/lines/read_tokens.h"
+#include "../parts/lines/write_lines.h"
+
+static size_t tokens_given;
+static yaml_parser_t parser;
+
+static int source_error(yaml_error_type_t error, const char *problem)
 {
-    yaml_event_t event;
-    int is_last = 0;
+    parser.error = error;
+    parser.problem = problem;
+    parser.problem_mark = (yaml_mark_t){tokens_given, tokens_given, 0};
+    return 0;
+}
 
-    while (!is_last) {
-        if (!yaml_parser_parse(parser, &event))
-            return FAULTED;
-        write_event(&event);
+/* What the parser calls where it has no token, in place of its scanner; it uses one place of the queue. */
+int yaml_parser_fetch_more_tokens(yaml_parser_t *same)
+{
+    same->tokens.head = same->tokens.tail = same->tokens.start;
+    if (!next_token(same->tokens.tail))
+        return source_error(YAML_READER_ERROR, "no more tokens");
+    same->tokens.tail++;
+    same->token_available = 1;
+    same->stream_start_produced = 1; /* for the loader, which begins the stream where it isn't set */
+    tokens_given++;
+    return 1;
+}
+
+#if BY_RULES
+#include "rules.h"
+#else
+static int leave_out(const char *name)
+{
+    return (void)name, 0;
+}
+#endif
+
+static yaml_char_t *written = output; /* the end of what is written and not flushed */
+
+static int write_events(void)
+{
+    yaml_char_t *at = written;
+    yaml_event_t event;
+    int went = 1, is_last = 0;
+
+    for (; !is_last && (went = yaml_parser_parse(&parser, &event)); written = at) {
+        at = put_event(at, &event);
         is_last = event.type == YAML_STREAM_END_EVENT;
         yaml_event_delete(&event);
     }
-    return ENDED;
+    return went;
 }
 
-static int run_nodes(yaml_parser_t *parser)
+static int write_nodes(void)
 {
+    yaml_char_t *at = written;
     yaml_document_t document;
-    int is_last = 0;
+    int went = 1, is_last = 0;
 
-    while (!is_last) {
-        if (!yaml_parser_load(parser, &document))
-            return FAULTED;
-        is_last = yaml_document_get_root_node(&document) == NULL;
+    for (; !is_last && (went = yaml_parser_load(&parser, &document)); written = at) {
+        is_last = document.nodes.start == document.nodes.top;
         if (!is_last)
-            write_document(&document);
+            at = put_document(at, &document);
         yaml_document_delete(&document);
     }
-    return ENDED;
+    return went;
 }
 
-/* Leaves out the rule of this name; 0 where there is none. */
-static int leave_out(const char *name)
+/* The lines of the error (docs/DEFINITIONS.md, "Error text"). */
+static void write_error(void)
 {
-    int rule = 0;
+    static const char *const KINDS[] = {"none", "memory", "reader", "scanner", "parser", "composer", "writer", "emitter"};
+    yaml_mark_t mark = parser.problem_mark, context = parser.context_mark;
 
-    while (rule < RULES && strcmp(RULE_NAMES[rule], name) != 0)
-        rule++;
-    if (rule < RULES)
-        left_out[rule] = 1;
-    return rule < RULES;
+    dprintf(1, "FAULT %s %zu:%zu:%zu %s\n", KINDS[parser.error], mark.index, mark.line, mark.column,
+            parser.problem == NULL ? "-" : parser.problem);
+    if (parser.context != NULL)
+        dprintf(1, "CONTEXT %zu:%zu:%zu %s\n", context.index, context.line, context.column, parser.context);
 }
 
 int main(int count, char **words)
 {
-    yaml_parser_t parser;
-    int at = 1, outcome;
+    int at = 1, went;
 
+    zero_byte = BY_RULES ? ZERO_BYTE : 0;
     while (at + 1 < count && strcmp(words[at], "--without") == 0 && leave_out(words[at + 1]))
         at += 2;
     if (at + 1 != count || (strcmp(words[at], "events") != 0 && strcmp(words[at], "nodes") != 0)) {
-        fputs(USAGE, stderr);
-        return WRONG_WORDS;
+        fputs("usage: libyaml_lines [--without RULE].. events|nodes < token-lines\n", stderr);
+        return 2;
     }
     if (!yaml_parser_initialize(&parser))
-        return OUTPUT_FAILED;
-    outcome = words[at][0] == 'e' ? run_events(&parser) : run_nodes(&parser);
-    if (outcome == FAULTED)
-        write_fault(&parser);
+        quit("out of memory");
+    if (setjmp(before_lines) == 0)
+        went = words[at][0] == 'e' ? write_events() : write_nodes();
+    else
+        went = source_error(YAML_SCANNER_ERROR, "bad token line");
+    flush(written);
+    if (!went)
+        write_error();
     yaml_parser_delete(&parser);
-    return fflush(stdout) == 0 && !ferror(stdout) ? outcome : OUTPUT_FAILED;
+    return went ? 0 : 1;
 }

@@ -5,7 +5,7 @@
 #
 # COUNT is 10000 if none is named, SEED 1. From the environment: PROGRAM, a built yamltokens, is
 # crates/yamltokens/out/yamltokens if none is named; JOBS is how many lists are compared side by side, as many as there
-# are cores; WITHOUT is a rule of libyaml_lines.h that is left out, so that lists differ. The status is 0 if no list
+# are cores; WITHOUT is a rule of rules.h that is left out, so that lists differ. The status is 0 if no list
 # differs, 1 if one does, 2 if a tool or the program lacks. Needs a C compiler, Debian's libyaml-dev and Python 3.8.
 #
 # Run by hand after the parser changed, and by check_programs.sh.
@@ -26,7 +26,7 @@ work=$(mktemp -d) || exit 2
 trap 'rm -rf "$work"' EXIT
 
 # libyaml is linked as an archive, of which only those parts are taken that are asked for: no scanner.
-"${CC:-cc}" -std=gnu11 -O2 -Wall -Wextra "$here"/*.c -Wl,--wrap=yaml_parser_parse -Wl,-Bstatic -lyaml -Wl,-Bdynamic \
+"${CC:-cc}" -std=gnu11 -O2 -Wall -Wextra -DBY_RULES "$here/libyaml_lines.c" -Wl,--wrap=yaml_parser_parse -Wl,-Bstatic -lyaml -Wl,-Bdynamic \
     -o "$work/libyaml_lines" || lacks "libyaml_lines is not built; it needs Debian's libyaml-dev"
 
 export PYTHONDONTWRITEBYTECODE=1

@@ -1,4 +1,5 @@
-/* Token lines on standard input, read into libyaml's tokens. A line that is none ends the program (status 3).
+/* Token lines on standard input, read into libyaml's tokens (docs/DEFINITIONS.md, "Lines" and "Token lines as read"). A line that is
+ * none ends the program (status 3), unless `bad_line` is another macro.
  *
  * A line is read once, from the left: each reader takes the place where its field begins, and returns where
  * it ended. A line stands in the buffer with its line feed, which is in no field, so readers stop there by
@@ -14,11 +15,19 @@ enum { MAX_LINE = 1048576, MOST_READ = 1 << 16, SLACK = 32 };
 
 _Static_assert(__BYTE_ORDER__ == __ORDER_LITTLE_ENDIAN__, "a word's lowest byte comes first");
 
-static void quit(const char *why)
+static _Noreturn void quit(const char *why)
 {
     fprintf(stderr, "%s\n", why);
     exit(3);
 }
+
+#ifndef bad_line
+#define bad_line quit
+#endif
+
+/* What a zero byte becomes within a text that libyaml keeps as a C string, which ends there otherwise: a byte that no UTF-8 text has. */
+enum { ZERO_BYTE = 0xFF };
+static yaml_char_t zero_byte;
 
 /* ---- Words of eight bytes ---- */
 
@@ -53,7 +62,7 @@ static inline int is_field_end(yaml_char_t c)
 static inline const yaml_char_t *next_field(const yaml_char_t *at)
 {
     if (*at != ' ')
-        quit(*at == '\n' ? "a token line with too few fields" : "a token line with a bad number");
+        bad_line(*at == '\n' ? "a token line with too few fields" : "a token line with a bad number");
     return at + 1;
 }
 
@@ -62,11 +71,11 @@ static const yaml_char_t *read_long_number(const yaml_char_t *at, uint64_t *numb
 {
     unsigned digit = *at - (unsigned)'0';
 
-    if (digit > 9)
-        quit(is_field_end(*at) ? "a token line without a number" : "a token line with a bad number");
+    if (digit > 9 || (digit == 0 && at[1] - (unsigned)'0' <= 9))
+        bad_line(is_field_end(*at) ? "a token line without a number" : "a token line with a bad number");
     for (*number = 0; digit <= 9; digit = *++at - (unsigned)'0') {
         if (*number > (UINT64_MAX - digit) / 10)
-            quit("a token line with a bad number");
+            bad_line("a token line with a bad number");
         *number = *number * 10 + digit;
     }
     return at;
@@ -79,7 +88,7 @@ static inline const yaml_char_t *read_number(const yaml_char_t *at, uint64_t *nu
     uint64_t others = ((word + EACH_BYTE(0x7F - 9)) | word) & EACH_BYTE(0x80);
     int count = others == 0 ? 0 : __builtin_ctzll(others) / 8;
 
-    if (count == 0)
+    if (count == 0 || ((word & 0xFF) == 0 && count != 1))
         return read_long_number(at, number);
     word <<= 64 - 8 * count;
     word = (word * 10 + (word >> 8)) & UINT64_C(0x00FF00FF00FF00FF);
@@ -93,7 +102,7 @@ static inline const yaml_char_t *read_part(const yaml_char_t *at, yaml_char_t st
 {
     at = read_number(at, number);
     if (*at != stop)
-        quit(is_field_end(*at) ? "a token line without a number" : "a token line with a bad number");
+        bad_line(is_field_end(*at) ? "a token line without a number" : "a token line with a bad number");
     return at + 1;
 }
 
@@ -115,7 +124,7 @@ static const yaml_char_t *read_int(const yaml_char_t *at, int *number)
 
     at = read_number(at + is_negative, &value);
     if (value > INT32_MAX + (uint64_t)is_negative || (is_negative && value == 0))
-        quit("a token line with a bad number");
+        bad_line("a token line with a bad number");
     *number = (int)(is_negative ? -(int64_t)value : (int64_t)value);
     return at;
 }
@@ -159,9 +168,9 @@ static inline yaml_char_t *new_text(size_t size, const yaml_char_t *at, size_t l
     return text;
 }
 
-/* A text with bytes that aren't clean, the first of them at `odd`. */
+/* A text with bytes that aren't clean, the first of them at `odd`; `zero` stands for a zero byte. */
 static const yaml_char_t *read_escaped(const yaml_char_t *at, const yaml_char_t *odd, yaml_char_t **text,
-                                       size_t *length)
+                                       size_t *length, yaml_char_t zero)
 {
     const yaml_char_t *end = odd;
     size_t count = (size_t)(odd - at);
@@ -181,28 +190,37 @@ static const yaml_char_t *read_escaped(const yaml_char_t *at, const yaml_char_t 
     }
     (*text)[count] = '\0';
     if (seen >= 0x80 && !is_utf8(*text, count))
-        quit("a token line with a text that is not UTF-8");
+        bad_line("a token line with a text that is not UTF-8");
+    for (yaml_char_t *found = *text; zero != 0 && (found = memchr(found, 0, (size_t)(*text + count - found)));)
+        *found = zero;
     *length = count;
     return end;
 }
 
 /* The text of a field, made by malloc and ended by a zero byte, and its length. */
-static const yaml_char_t *read_text(const yaml_char_t *at, yaml_char_t **text, size_t *length)
+static const yaml_char_t *read_text(const yaml_char_t *at, yaml_char_t **text, size_t *length, yaml_char_t zero)
 {
     uint64_t unclean;
 
     if (*at++ != '=')
-        quit("a token line without a text");
+        bad_line("a token line without a text");
     const yaml_char_t *end = at;
     while ((unclean = unclean_bytes(load_word(end))) == 0)
         end += sizeof unclean;
     end += __builtin_ctzll(unclean) / 8;
     if (!is_field_end(*end))
-        return read_escaped(at, end, text, length);
+        return read_escaped(at, end, text, length, zero);
     *length = (size_t)(end - at);
     *text = new_text(*length, at, *length);
     (*text)[*length] = '\0';
     return end;
+}
+
+static inline const yaml_char_t *read_string(const yaml_char_t *at, yaml_char_t **text)
+{
+    size_t length;
+
+    return read_text(at, text, &length, zero_byte);
 }
 
 /* ---- Tokens ---- */
@@ -236,7 +254,7 @@ static inline const yaml_char_t *read_name(const yaml_char_t *at, yaml_token_typ
     IF_WORD("STREAM-START", YAML_STREAM_START_TOKEN);
     IF_WORD("STREAM-END", YAML_STREAM_END_TOKEN);
     IF_WORD("NO-TOKEN", YAML_NO_TOKEN);
-    quit("a token line with an unknown word");
+    bad_line("a token line with an unknown word");
     return at;
 }
 
@@ -248,7 +266,7 @@ static inline const yaml_char_t *read_style(const yaml_char_t *at, yaml_scalar_s
     IF_WORD("literal", YAML_LITERAL_SCALAR_STYLE);
     IF_WORD("folded", YAML_FOLDED_SCALAR_STYLE);
     IF_WORD("any", YAML_ANY_SCALAR_STYLE);
-    quit("a token line with an unknown word");
+    bad_line("a token line with an unknown word");
     return at;
 }
 
@@ -258,35 +276,33 @@ static const yaml_char_t *read_encoding(const yaml_char_t *at, yaml_encoding_t *
     IF_WORD("utf16le", YAML_UTF16LE_ENCODING);
     IF_WORD("utf16be", YAML_UTF16BE_ENCODING);
     IF_WORD("any", YAML_ANY_ENCODING);
-    quit("a token line with an unknown word");
+    bad_line("a token line with an unknown word");
     return at;
 }
 
 /* What follows a token's marks. */
 static inline const yaml_char_t *read_fields(const yaml_char_t *at, yaml_token_t *token)
 {
-    size_t length;
-
     switch (token->type) {
     case YAML_STREAM_START_TOKEN:
         return read_encoding(next_field(at), &token->data.stream_start.encoding);
     case YAML_VERSION_DIRECTIVE_TOKEN:
         at = read_int(next_field(at), &token->data.version_directive.major);
         if (*at != '.')
-            quit("a token line without a number");
+            bad_line("a token line without a number");
         return read_int(at + 1, &token->data.version_directive.minor);
     case YAML_TAG_DIRECTIVE_TOKEN:
-        at = read_text(next_field(at), &token->data.tag_directive.handle, &length);
-        return read_text(next_field(at), &token->data.tag_directive.prefix, &length);
+        at = read_string(next_field(at), &token->data.tag_directive.handle);
+        return read_string(next_field(at), &token->data.tag_directive.prefix);
     case YAML_ALIAS_TOKEN:
-        return read_text(next_field(at), &token->data.alias.value, &length);
+        return read_string(next_field(at), &token->data.alias.value);
     case YAML_ANCHOR_TOKEN:
-        return read_text(next_field(at), &token->data.anchor.value, &length);
+        return read_string(next_field(at), &token->data.anchor.value);
     case YAML_TAG_TOKEN:
-        at = read_text(next_field(at), &token->data.tag.handle, &length);
-        return read_text(next_field(at), &token->data.tag.suffix, &length);
+        at = read_string(next_field(at), &token->data.tag.handle);
+        return read_string(next_field(at), &token->data.tag.suffix);
     case YAML_SCALAR_TOKEN:
-        at = read_text(next_field(at), &token->data.scalar.value, &token->data.scalar.length);
+        at = read_text(next_field(at), &token->data.scalar.value, &token->data.scalar.length, 0);
         return read_style(next_field(at), &token->data.scalar.style);
     default:
         return at;
@@ -339,7 +355,7 @@ static int next_token(yaml_token_t *token)
     at = read_mark(next_field(at), &token->end_mark);
     at = read_fields(at, token);
     if (*at != '\n')
-        quit(*at == ' ' ? "a token line with too many fields" : "a token line with a bad number");
+        bad_line(*at == ' ' ? "a token line with too many fields" : "a token line with a bad number");
     input_at = at + 1;
     return 1;
 }

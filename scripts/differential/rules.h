@@ -1,57 +1,22 @@
-/* libyaml's parser over token lines, and the rules of docs/DIFFERENCES.md, "Other events", around it.
+/* The rules of docs/DIFFERENCES.md, "Other events", around libyaml's parser over token lines, for libyaml_lines.c.
  *
- * libyaml's parser asks its scanner for tokens by yaml_parser_fetch_more_tokens, which is defined here, so that the scanner
- * is not linked. Its loader calls yaml_parser_parse, which the linker leads here (--wrap): before libyaml's parser is
- * called, each rule looks whether the state and the next token are its own. */
-#include "libyaml_lines.h"
-#include <stdio.h>
-#include <stdlib.h>
-#include <string.h>
-#include <sys/types.h>
+ * libyaml's loader calls yaml_parser_parse, which the linker leads here (--wrap): before libyaml's parser is called, each rule looks
+ * whether the state and the next token are its own. */
 
-const char *const RULE_NAMES[RULES] = {"pair_key", "value_first", "bare_document", "empty_place", "zero_bytes"};
-int left_out[RULES];
+/* In the order of that page. */
+enum rule { PAIR_KEY, VALUE_FIRST, BARE_DOCUMENT, EMPTY_PLACE, ZERO_BYTES, RULES };
+static const char *const RULE_NAMES[RULES] = {"pair_key", "value_first", "bare_document", "empty_place", "zero_bytes"};
 
-static size_t tokens_given;
+/* Whether a rule is left out, so that libyaml does there as it always does. */
+static int left_out[RULES];
+
 static int has_explicit_end; /* of the document that ended last */
 
 /* Of libyaml, but in no public header. */
 int yaml_stack_extend(void **start, void **top, void **end);
 
-/* ---- The source ---- */
-
-static int source_fault(yaml_parser_t *parser, yaml_error_type_t error, const char *problem)
-{
-    parser->error = error;
-    parser->problem = problem;
-    parser->problem_offset = tokens_given;
-    parser->problem_value = -1;
-    parser->problem_mark = (yaml_mark_t){tokens_given, tokens_given, 0};
-    return 0;
-}
-
-/* Puts the next token in the queue, of which one place is used: a token is asked for where none is left. */
-int yaml_parser_fetch_more_tokens(yaml_parser_t *parser)
-{
-    static char *line;
-    static size_t room;
-    ssize_t length = getline(&line, &room, stdin);
-
-    if (length < 0)
-        return source_fault(parser, YAML_READER_ERROR, "no more tokens");
-    if (line[length - 1] == '\n')
-        length--;
-    parser->tokens.head = parser->tokens.tail = parser->tokens.start;
-    if (!read_token((unsigned char *)line, (size_t)length, parser->tokens.head))
-        return source_fault(parser, YAML_SCANNER_ERROR, "bad token line");
-    parser->tokens.tail++;
-    parser->token_available = 1;
-    parser->stream_start_produced = 1; /* for the loader, which begins the stream where it isn't set */
-    tokens_given++;
-    return 1;
-}
-
-/* ---- What the rules do ---- */
+int __wrap_yaml_parser_parse(yaml_parser_t *parser, yaml_event_t *event);
+int __real_yaml_parser_parse(yaml_parser_t *parser, yaml_event_t *event);
 
 /* The next token, which stays; NULL where the source has a fault. */
 static const yaml_token_t *peek(yaml_parser_t *parser)
@@ -166,4 +131,18 @@ int __wrap_yaml_parser_parse(yaml_parser_t *parser, yaml_event_t *event)
     if (parsed && event->type == YAML_DOCUMENT_END_EVENT)
         has_explicit_end = !event->data.document_end.implicit;
     return parsed;
+}
+
+/* Leaves out the rule of this name; 0 where there is none. */
+static int leave_out(const char *name)
+{
+    int rule = 0;
+
+    while (rule < RULES && strcmp(RULE_NAMES[rule], name) != 0)
+        rule++;
+    if (rule < RULES)
+        left_out[rule] = 1;
+    if (rule == ZERO_BYTES)
+        zero_byte = 0;
+    return rule < RULES;
 }

@@ -1,7 +1,4 @@
-/* libyaml_lines events|nodes < token-lines: what `yamltokens` writes of a valid list, by libyaml's parser and
- * loader fed with the same lines. Build: cc -O2 libyaml_lines.c -Wl,-Bstatic -lyaml -Wl,-Bdynamic */
-#include "token_lines.h"
-
+/* The lines of events and documents (docs/DEFINITIONS.md, "Lines" and "Document text"), of libyaml's values. */
 /* A word as it is written, with the space before it if it has one. */
 typedef struct {
     char bytes[16];
@@ -21,18 +18,6 @@ static const word_t COLLECTION_STYLES[] = {WORD(" any"), WORD(" block"), WORD(" 
 static const word_t SCALAR_STYLES[] = {
     WORD(" any"), WORD(" plain"), WORD(" single"), WORD(" double"), WORD(" literal"), WORD(" folded"),
 };
-
-/* What the parser calls where it has no token. */
-int yaml_parser_fetch_more_tokens(yaml_parser_t *parser)
-{
-    parser->tokens.head = parser->tokens.tail = parser->tokens.start;
-    if (!next_token(parser->tokens.tail))
-        return 0;
-    parser->tokens.tail++;
-    parser->token_available = 1;
-    parser->stream_start_produced = 1;
-    return 1;
-}
 
 /* ---- Bytes written ---- */
 
@@ -163,12 +148,13 @@ static yaml_char_t *put_escaped(yaml_char_t *at, const yaml_char_t *text, size_t
     static const char hex[] = "0123456789ABCDEF";
 
     for (size_t i = 0; i < length; i++) {
-        if (text[i] > 0x20 && text[i] < 0x7F && text[i] != '%') {
-            *at++ = text[i];
+        yaml_char_t c = text[i] == ZERO_BYTE ? 0 : text[i];
+        if (c > 0x20 && c < 0x7F && c != '%') {
+            *at++ = c;
         } else {
             *at++ = '%';
-            *at++ = (yaml_char_t)hex[text[i] >> 4];
-            *at++ = (yaml_char_t)hex[text[i] & 15];
+            *at++ = (yaml_char_t)hex[c >> 4];
+            *at++ = (yaml_char_t)hex[c & 15];
         }
     }
     return at;
@@ -264,21 +250,11 @@ static inline yaml_char_t *put_event_fields(yaml_char_t *at, const yaml_event_t 
     }
 }
 
-static int write_events(yaml_parser_t *parser)
+static inline yaml_char_t *put_event(yaml_char_t *at, const yaml_event_t *event)
 {
-    yaml_char_t *at = output;
-    yaml_event_t event;
-    int went = 1, is_last = 0;
-
-    while (!is_last && (went = yaml_parser_parse(parser, &event))) {
-        at = put_word(make_room(at), &EVENT_NAMES[event.type]);
-        at = put_marks(at, &event.start_mark, &event.end_mark);
-        at = put_byte(put_event_fields(at, &event), '\n');
-        is_last = event.type == YAML_STREAM_END_EVENT;
-        yaml_event_delete(&event);
-    }
-    flush(at);
-    return went;
+    at = put_word(make_room(at), &EVENT_NAMES[event->type]);
+    at = put_marks(at, &event->start_mark, &event->end_mark);
+    return put_byte(put_event_fields(at, event), '\n');
 }
 
 /* ---- Nodes ---- */
@@ -325,38 +301,4 @@ static yaml_char_t *put_document(yaml_char_t *at, const yaml_document_t *documen
         at = put_byte(put_content(at, node), '\n');
     }
     return at;
-}
-
-static int write_nodes(yaml_parser_t *parser)
-{
-    yaml_char_t *at = output;
-    yaml_document_t document;
-    int went = 1, is_last = 0;
-
-    while (!is_last && (went = yaml_parser_load(parser, &document))) {
-        is_last = document.nodes.start == document.nodes.top;
-        if (!is_last)
-            at = put_document(at, &document);
-        yaml_document_delete(&document);
-    }
-    flush(at);
-    return went;
-}
-
-int main(int words, char **word)
-{
-    yaml_parser_t parser;
-    int nodes = words == 2 && strcmp(word[1], "nodes") == 0;
-
-    if (words != 2 || (!nodes && strcmp(word[1], "events") != 0)) {
-        fputs("usage: libyaml_lines events|nodes < token-lines\n", stderr);
-        return 2;
-    }
-    if (!yaml_parser_initialize(&parser))
-        quit("out of memory");
-    int went = nodes ? write_nodes(&parser) : write_events(&parser);
-    if (!went)
-        fprintf(stderr, "libyaml_lines: %s\n", parser.problem != NULL ? parser.problem : "no more tokens");
-    yaml_parser_delete(&parser);
-    return went ? 0 : 1;
 }
