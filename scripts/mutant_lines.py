@@ -1,4 +1,4 @@
-"""What mutants.txt says of each mutant of crates/*/must-fail: lines below its crate and name.
+"""What docs/mutants.txt says of each mutant of crates/*/must-fail: lines below its crate and name.
 
     wrong: what the mutant does, if its name doesn't say so
     seen: the test that fails over it (mutants_seen.py writes this)
@@ -12,7 +12,7 @@ from collections import Counter
 from pathlib import Path
 
 TOP = Path(__file__).resolve().parents[1]
-FILE = TOP / "scripts" / "mutants.txt"
+FILE = TOP / "docs" / "mutants.txt"
 KEYS = ("wrong", "seen", "refused", "kept")
 
 
@@ -66,7 +66,7 @@ def idle(found):
     for name, clauses in shows.items():
         is_kept = "kept" in found[name]
         if all(counts[clause] > (not is_kept) for clause in clauses) != is_kept:
-            yield f"scripts/mutants.txt: {name} shows " + ("what no other shows: its line `kept:` goes" if is_kept else "nothing that no other shows")
+            yield f"docs/mutants.txt: {name} shows " + ("what no other shows: its line `kept:` goes" if is_kept else "nothing that no other shows")
 
 
 def wrong_lines():
@@ -74,4 +74,4 @@ def wrong_lines():
     found, there = said()[1], [name_of(path) for path in mutants()]
     wrong = [f"{name} has no line `{key}:`" for name in there for key in ("seen", "refused") if key not in found.get(name, {})]
     wrong += [f"{name} is no mutant" for name in found if name not in there]
-    return [f"scripts/mutants.txt: {one}" for one in wrong] or list(idle(found))
+    return [f"docs/mutants.txt: {one}" for one in wrong] or list(idle(found))

@@ -1,5 +1,5 @@
 #!/usr/bin/env python3
-"""Tells which test vector sees each mutant of crates/*/must-fail; fails if none does and mutants.txt doesn't say so.
+"""Tells which test vector sees each mutant of crates/*/must-fail; fails if none does and docs/mutants.txt doesn't say so.
 
     python3 scripts/mutants_seen.py [--write] [CRATE | CRATE/MUTANT]..        (no such word: every mutant)
     python3 scripts/mutants_seen.py none                                    runs the programs over no mutant

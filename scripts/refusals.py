@@ -1,9 +1,9 @@
 #!/usr/bin/env python3
-"""Writes into mutants.txt, in its line `refused:`, which clause refuses each mutant, as `rt must-fail` says.
+"""Writes into docs/mutants.txt, in its line `refused:`, which clause refuses each mutant, as `rt must-fail` says.
 
     python3 scripts/refusals.py CRATE..           (runs `rt must-fail CRATE..`)
     python3 scripts/refusals.py --from FILE       (reads what `rt must-fail` wrote, instead of running it)
-    python3 scripts/refusals.py --check ..        (changes nothing, and fails if mutants.txt says something else)
+    python3 scripts/refusals.py --check ..        (changes nothing, and fails if docs/mutants.txt says something else)
 
 A mutant that breaks a proof by hand of a function (`proofs/**/Answers.antt`) is refused by shape, unless an equivalent mutant that
 changes the same lines (`controls/`) is proved over that file. Then the reason is a goal that stays open without the parts of the

@@ -6,13 +6,10 @@
  *     steps_driver exact FILE..       the same of exact steps
  *     steps_driver bad FILE..         numbers that are no token's, stacks that are too small, records of any bytes
  *     steps_driver threads FILE..     the first, in eight threads at once
- *     steps_driver times N FILE       the least time of N runs of libyaml's parser, and of the steps
  *
  * DIR is that of scripts/build_c.sh. The status is 1 if something is wrong. A program of your own takes what stands before
  * "Beside libyaml's events". */
-#define _POSIX_C_SOURCE 200809L
 #include <pokhvizi/steps.h>
-#include <time.h>
 #include "driver.h"
 
 /* ---- A parser ---- */
@@ -623,82 +620,12 @@ static int threads(char **names)
     return wrong != 0 || files == 0;
 }
 
-/* ---- Times ---- */
-
-static double now(void)
-{
-    struct timespec time;
-    clock_gettime(CLOCK_MONOTONIC, &time);
-    return time.tv_sec * 1e3 + time.tv_nsec * 1e-6;
-}
-
-static size_t parse_all(const struct bytes *yaml)
-{
-    yaml_parser_t parser;
-    yaml_event_t event;
-    size_t count = 0;
-    int more = 1;
-
-    begin_parser(&parser, yaml);
-    while (more && yaml_parser_parse(&parser, &event)) {
-        more = event.type != YAML_STREAM_END_EVENT;
-        count++;
-        yaml_event_delete(&event);
-    }
-    yaml_parser_delete(&parser);
-    return count;
-}
-
-static size_t step_all(const struct bytes *yaml)
-{
-    struct stream stream;
-    struct event made = {0};
-    pokhvizi_fault_t fault;
-    uint32_t did = POKHVIZI_WANTS;
-    size_t count = 0;
-
-    begin(&stream, yaml, 64);
-    do {
-        did = next(&stream, did, &made, &fault);
-        if (did != POKHVIZI_GAVE && did != POKHVIZI_STAYS)
-            break;
-        if (made.shape.kind == YAML_DOCUMENT_END_EVENT)
-            end_document(&stream);
-        count++;
-    } while (made.shape.kind != YAML_STREAM_END_EVENT);
-    free_event(&made);
-    end(&stream);
-    return count;
-}
-
-static int times(int count, const char *name)
-{
-    static const char *const parts[] = {"libyaml's scanner and parser", "its scanner, and the steps"};
-    struct bytes yaml = read_file(name);
-
-    for (int part = 0; part < 2; part++) {
-        double least = 1e9;
-        size_t events = 0;
-        for (int i = 0; i < count; i++) {
-            double begun = now();
-            events = part == 0 ? parse_all(&yaml) : step_all(&yaml);
-            double taken = now() - begun;
-            least = taken < least ? taken : least;
-        }
-        printf("%s: %.3f ms, %zu events\n", parts[part], least, events);
-    }
-    free(yaml.at);
-    return 0;
-}
-
 int main(int count, char **words)
 {
     if (count > 2 && strcmp(words[1], "bad") == 0)
         return bad(words + 2);
     if (count > 2 && strcmp(words[1], "threads") == 0)
         return threads(words + 2);
-    if (count == 4 && strcmp(words[1], "times") == 0)
-        return times(atoi(words[2]), words[3]);
     if (count > 2 && strcmp(words[1], "exact") == 0)
         return compare(words + 2, 1);
     return compare(words + 1, 0);

@@ -1,5 +1,5 @@
 #!/usr/bin/env python3
-"""Fails if mutants.txt doesn't say where a mutant is seen and what refuses it, or names one that isn't there; if a mutant shows nothing that
+"""Fails if docs/mutants.txt doesn't say where a mutant is seen and what refuses it, or names one that isn't there; if a mutant shows nothing that
 no other shows; or if an equivalent mutant of `controls/`, or a leak of leaks_seen.py, changes text that the code no longer has: these are
 tried by hand, and would go stale unseen.
 
