@@ -21,6 +21,9 @@ import tempfile
 from pathlib import Path
 
 TOP = Path(__file__).resolve().parent.parent
+sys.path.insert(0, str(TOP / "scripts/parts"))
+from usage import wrong_words  # noqa: E402
+
 LIMIT = int(os.environ.get("LIMIT", "900"))
 
 
@@ -79,14 +82,14 @@ def tried(crate):
 
 
 def main(names):
+    if not all((TOP / "crates" / name / "src").is_dir() for name in names):
+        wrong_words(__doc__)
     names = names or sorted({path.relative_to(TOP / "crates").parts[0] for path in TOP.glob("crates/*/proofs/**/Answers.antt")})
     lost = 0
     with tempfile.TemporaryDirectory() as room:
         copied(Path(room))
         for name in names:
             crate = Path(room) / "crates" / name
-            if not crate.is_dir():
-                sys.exit(f"no crate {name}")
             needed, others = tried(crate)
             for function in sorted([*needed, *others]):
                 print(f"{name}::{function}: {'needed' if function in needed else 'not needed'}", flush=True)

@@ -17,7 +17,7 @@ import sys
 import tempfile
 from pathlib import Path
 
-from answers import TOP, answers, copied
+from answers import TOP, answers, copied, wrong_words
 
 
 def mutated(crate, mutant):
@@ -93,14 +93,14 @@ def lacking(crate):
 
 
 def main(names):
+    if not all((TOP / "crates" / name / "src").is_dir() for name in names):
+        wrong_words(__doc__)
     names = names or sorted({path.parent.parent.name for path in TOP.glob("crates/*/must-fail/*.edit")})
     wrong = 0
     with tempfile.TemporaryDirectory() as room:
         copied(Path(room))
         for name in names:
             crate = Path(room) / "crates" / name
-            if not crate.is_dir():
-                sys.exit(f"no crate {name}")
             for function in lacking(crate):
                 print(f"{name}: {function} has answers and no mutant of equal meaning", flush=True)
                 wrong += 1

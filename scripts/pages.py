@@ -18,6 +18,7 @@ import headline  # noqa: E402
 import layers  # noqa: E402
 import proofs  # noqa: E402
 import surface  # noqa: E402
+from usage import wrong_words  # noqa: E402
 
 
 class Pages(dict):
@@ -35,8 +36,7 @@ def first_other(was, now):
 
 def main(words):
     if words not in ([], ["--check"]):
-        print("usage: python3 scripts/pages.py [--check]", file=sys.stderr)
-        return 2
+        wrong_words(__doc__)
     pages, was = Pages(), Pages()
     wrong = [said for module in (surface, proofs, headline, layers, figures) for said in module.make(pages)]
     others = {} if wrong else {path: text for path, text in pages.items() if was[path] != text}

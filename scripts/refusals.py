@@ -17,7 +17,7 @@ import re
 import subprocess
 import sys
 
-from answers import TOP, answers
+from answers import TOP, answers, wrong_words
 from controls import answered, is_by_shape, mutated
 from mutant_lines import line_of, write_line
 
@@ -137,12 +137,12 @@ def reason(crate, mutant, said):
 def main(words):
     checks = "--check" in words
     words = [word for word in words if word != "--check"]
+    if not words or words[0] != "--from" and not all((TOP / "crates" / name / "src").is_dir() for name in words) or words == ["--from"]:
+        wrong_words(__doc__)
     if words[:1] == ["--from"]:
         said = open(words[1]).read()
-    elif words:
-        said = subprocess.run(["rt", "must-fail", *words], cwd=TOP, stdin=subprocess.DEVNULL, capture_output=True, text=True).stdout
     else:
-        sys.exit(__doc__)
+        said = subprocess.run(["rt", "must-fail", *words], cwd=TOP, stdin=subprocess.DEVNULL, capture_output=True, text=True).stdout
     reasons, unknown = {}, []
     for crate, mutant, text in SAID.findall(said):
         why = reason(TOP / "crates" / crate, mutant, text)

@@ -18,7 +18,11 @@ from pathlib import Path
 
 import layout
 
-C = Path(__file__).resolve().parents[2] / "bindings" / "c"
+TOP = Path(__file__).resolve().parents[2]
+sys.path.insert(0, str(TOP / "scripts/parts"))
+from usage import wrong_words  # noqa: E402
+
+C = TOP / "bindings" / "c"
 FUNCTION = re.compile(r"^[a-z][\w ]*\bpokhvizi_\w+\([^;{]*\);", re.M)
 
 
@@ -191,7 +195,7 @@ def differing():
 def main():
     words = sys.argv[1:]
     if words not in ([], ["--write"]):
-        sys.exit(__doc__)
+        wrong_words(__doc__)
     number, now = (C / "ABI_VERSION").read_text().strip(), list(lines())
     path = C / "abi.txt"
     first, *before = path.read_text().splitlines() if path.exists() else [f"ABI {number}"]

@@ -18,7 +18,11 @@ from pathlib import Path
 
 import yaml
 
-BROKEN = Path(__file__).resolve().parents[1] / "parts" / "broken"
+PARTS = Path(__file__).resolve().parents[1] / "parts"
+sys.path.insert(0, str(PARTS))
+from usage import wrong_words  # noqa: E402
+
+BROKEN = PARTS / "broken"
 FAULT = re.compile(r"^FAULT .*\n(?:CONTEXT .*\n)?\Z", re.MULTILINE)
 SIDES = {"libyaml": yaml.CLoader, "pyyaml": yaml.Loader}
 KINDS = [
@@ -100,8 +104,8 @@ def compare(front, path, named):
 
 def main():
     front = [word for word in sys.argv[1:] if word != "--write"]
-    if not front:
-        sys.exit(__doc__)
+    if not front or front[0].startswith("-"):
+        wrong_words(__doc__)
     texts = sorted(BROKEN.glob("*.yaml"))
     if "--write" in sys.argv:
         for path in texts:

@@ -16,6 +16,9 @@ from itertools import product
 from pathlib import Path
 
 TOP = Path(__file__).resolve().parents[2]
+sys.path.insert(0, str(TOP / "scripts/parts"))
+from usage import wrong_words  # noqa: E402
+
 FOLDERS = ["scripts/parts/broken", "scripts/parts/whole", "examples"]
 MODES = ["tokens", "events", "nodes"]
 
@@ -38,8 +41,8 @@ def difference(mode, path, program, words):
 
 
 def main():
-    if len(sys.argv) < 2:
-        sys.exit(__doc__)
+    if len(sys.argv) < 2 or sys.argv[1].startswith("-"):
+        wrong_words(__doc__)
     texts = [path for folder in FOLDERS for path in sorted((TOP / folder).glob("*.yaml"))]
     for path in texts:
         if path.parent.name == "whole" and path.read_bytes().endswith(b"\n"):

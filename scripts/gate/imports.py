@@ -14,6 +14,9 @@ import sys
 from pathlib import Path
 
 TOP = Path(__file__).resolve().parents[2]
+sys.path.insert(0, str(TOP / "scripts/parts"))
+from usage import wrong_words  # noqa: E402
+
 WIDTH = 300
 ALIAS = re.compile(r"^\s*(?:ghost )?use Rattle\.([\w.]+) as (\w+);?$", re.M)
 OWN = {"goal", "given"}
@@ -70,8 +73,7 @@ def files():
 
 def main(words):
     if words not in ([], ["--check"]):
-        print("usage: python3 scripts/gate/imports.py [--check]", file=sys.stderr)
-        return 2
+        wrong_words(__doc__)
     others = [(path, text) for path in files() if (text := rewritten(path.read_text())) != path.read_text()]
     for path, text in [] if words else others:
         path.write_text(text)

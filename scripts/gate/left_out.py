@@ -20,6 +20,9 @@ from collections import Counter
 from pathlib import Path
 
 TOP = Path(__file__).resolve().parents[2]
+sys.path.insert(0, str(TOP / "scripts/parts"))
+from usage import wrong_words  # noqa: E402
+
 KINDS = {
     "ghost": "an item that only the prover reads: `ghost use`, `ghost NAME = { .. };`, with its comment",
     "clause": "`requires { .. }` or `ensures { .. }`",
@@ -170,8 +173,7 @@ def has_code(source):
 def main():
     asked = sys.argv[1:]
     if len(asked) > 1 or any(kind not in KINDS for kind in asked):
-        print(__doc__ + "\nKINDS: " + "".join(f"\n  {kind}: {what}" for kind, what in KINDS.items()), file=sys.stderr)
-        sys.exit(2)
+        wrong_words(__doc__)
     counts, files, wrong, laws = Counter(), 0, 0, 0
     with tempfile.TemporaryDirectory() as directory:
         out = built(directory)

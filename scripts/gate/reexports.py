@@ -1,8 +1,7 @@
 #!/usr/bin/env python3
 """Fails if a crate that stands for those below it doesn't re-export a module of `specs/` that its public clauses reach.
 
-    python3 scripts/gate/reexports.py              names what is missing
-    python3 scripts/gate/reexports.py CRATE        prints the modules that the crate's public clauses reach
+    python3 scripts/gate/reexports.py
 
 The public clauses are those of the items that the crate's root names, its own and those of the crates below; a clause reaches
 the modules of the words that it cites, and of the words in their definitions. Declared types are named by Rust's own paths.
@@ -149,9 +148,6 @@ def reexported(crate):
 
 def main():
     files = read_specs()
-    if len(sys.argv) > 1:
-        print("\n".join(reached(sys.argv[1], files)))
-        return
     failed = False
     for crate in FACADES:
         told = reexported(crate)

@@ -21,8 +21,9 @@ import tempfile
 from pathlib import Path
 
 TOP = Path(__file__).resolve().parents[2]
-sys.path.insert(0, str(TOP / "scripts/differential"))
+sys.path[:0] = [str(TOP / "scripts/differential"), str(TOP / "scripts/parts")]
 import lists  # noqa: E402
+from usage import wrong_words  # noqa: E402
 
 MODES = ("events", "nodes")
 AT_ONCE = 2000
@@ -149,8 +150,7 @@ def main():
     try:
         count, length = [int(word) for word in sys.argv[1:]] + [600, 3][len(sys.argv) - 1:]
     except ValueError:
-        print(__doc__, file=sys.stderr)
-        sys.exit(2)
+        wrong_words(__doc__)
     program = Path(os.environ.get("PROGRAM") or TOP / "crates/yamltokens/out/yamltokens").resolve()
     program = str(program) if program.exists() else None
     with tempfile.TemporaryDirectory() as directory, multiprocessing.Pool() as pool:

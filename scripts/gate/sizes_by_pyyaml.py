@@ -18,7 +18,11 @@ import yaml
 from yaml.composer import Composer, ComposerError
 from yaml.resolver import BaseResolver
 
-LISTS = Path(__file__).resolve().parents[2] / "crates" / "vectors_steps" / "data" / "lists"
+TOP = Path(__file__).resolve().parents[2]
+sys.path.insert(0, str(TOP / "scripts/parts"))
+from usage import wrong_words  # noqa: E402
+
+LISTS = TOP / "crates/vectors_steps/data/lists"
 # The bound of a list's entries in `vectors_steps`, the largest total, and the numbers of `pokhvizi/compose.h`.
 ENTRIES, LARGEST, NO_BOUND = 50, 2**63 - 1, 2**64 - 1
 PASSES, BEGINS, ENDS, ROOT, ITEM, KEY, VALUE, CLOSES = range(8)
@@ -193,6 +197,8 @@ def bounds_of(events):
 
 def main(words):
     names = [word for word in words if word != "--write"] or sorted(path.stem for path in LISTS.glob("*.steps"))
+    if not all((LISTS / f"{name}.steps").exists() for name in names):
+        wrong_words(__doc__)
     wrong = 0
     for name in names:
         read = map(event_of, (LISTS / f"{name}.steps").read_text().splitlines())

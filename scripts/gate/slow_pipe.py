@@ -13,6 +13,10 @@ import select
 import subprocess
 import sys
 import time
+from pathlib import Path
+
+sys.path.insert(0, str(Path(__file__).resolve().parents[1] / "parts"))
+from usage import wrong_words  # noqa: E402
 
 SECONDS = 10
 # Each token line of `---`, `- a`, `- b` and `...`, the event lines that it settles, and the node lines.
@@ -71,8 +75,8 @@ def wrong(program, mode):
 
 
 def main():
-    if len(sys.argv) != 2:
-        sys.exit(__doc__)
+    if len(sys.argv) != 2 or sys.argv[1].startswith("-"):
+        wrong_words(__doc__)
     failed = False
     for mode in ("events", "nodes"):
         said = wrong(sys.argv[1], mode)

@@ -1,7 +1,7 @@
 #!/usr/bin/env python3
 """Fails if a page, a comment or the name of a mutant has a word that is given up, and says what stands in its place: the tables below.
 
-    python3 scripts/gate/words.py [CRATE..]     pages, examples, and the comments of these crates, or of all if none is named
+    python3 scripts/gate/words.py
 
 The lines of a paragraph or of a comment are read as one text, so that a phrase over two of them is found; the first is named.
 Names of code, in backticks, in blocks or as the target of a link, are not words.
@@ -168,7 +168,7 @@ def too_many():
 def main():
     found = [
         f"{path.relative_to(TOP)}:{number}: {word}"
-        for path, lines, words in files(sys.argv[1:] or sorted(crate.name for crate in TOP.glob("crates/*")))
+        for path, lines, words in files(sorted(crate.name for crate in TOP.glob("crates/*")))
         for number, word in given_up(lines, words)
     ]
     found += too_many()

@@ -37,11 +37,13 @@ refuses() {
 for script in bench/clients.sh bindings/c/build_libyaml.sh bindings/c/proved-libyaml bindings/python/build_extension.sh \
     scripts/build_c.sh scripts/doors/any_processor.sh scripts/doors/clients.sh \
     scripts/doors/door_checks.sh scripts/doors/extension_checks.sh scripts/gate/inlined.sh scripts/parts/llvm_source.sh scripts/release.sh \
-    scripts/gate/release_checks.sh scripts/release_trees.sh scripts/vectors.sh scripts/gate/statuses.sh scripts/vendor.sh; do
+    scripts/gate/release_checks.sh scripts/release_trees.sh scripts/vectors.sh scripts/gate/statuses.sh scripts/vendor.sh scripts/refusals.py \
+    scripts/gate/compare_errors.py scripts/gate/compare_fronts.py scripts/gate/slow_pipe.py; do
     refuses $script
     refuses $script --help
 done
-for script in bench/run.sh scripts/pages.py scripts/gate/imports.py scripts/check_programs.sh scripts/differential/run.sh scripts/differential/turned.sh; do
+for script in bench/run.sh scripts/pages.py scripts/answers.py scripts/controls.py scripts/doors/abi.py scripts/gate/imports.py \
+    scripts/gate/left_out.py scripts/gate/same_machine.py scripts/gate/sizes_by_pyyaml.py scripts/check_programs.sh scripts/differential/run.sh scripts/differential/turned.sh; do
     refuses $script --help
     refuses $script no_such_word
 done
