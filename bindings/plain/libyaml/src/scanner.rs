@@ -48,15 +48,13 @@ impl<'a> Scanner<'a> {
             made
         }
     }
-}
 
-impl Scanner<'_> {
     /// Puts the next token into a variable. A scalar's text is written over the one that is there, in its memory.
     fn scan_into(&mut self, slot: &mut Token) -> Result<(), SourceError> {
         let mut token = MaybeUninit::uninit();
         unsafe {
-            if libyaml::yaml_parser_scan(self.parser.as_mut_ptr(), token.as_mut_ptr()).fail {
-                return Err(fault_of(self.parser.assume_init_ref()));
+            if libyaml::yaml_parser_scan(self.parser, token.as_mut_ptr()).fail {
+                return Err(fault_of(&*self.parser));
             }
             let token = token.assume_init_mut();
             slot.start_mark = mark_of(token.start_mark);
