@@ -2,7 +2,7 @@
 //! crate `pokhvizi`, which is their source text without contracts, or those of the archive that the prover's
 //! compiler made of that text.
 
-use original::{yaml_mark_t, yaml_token_type_t};
+use original::yaml_mark_t;
 
 pub use pokhvizi::document_sizes::sizes_t;
 pub use pokhvizi::libyaml_composer::{composer_t, open_t, place_t};
@@ -26,10 +26,10 @@ mod plain {
         steps_t::new()
     }
 
-    /// The types of token by the original's numbers.
-    const KINDS: [(yaml_token_type_t, Kind); 22] = {
+    /// Each type has the same number there and here, as a byte.
+    const _: () = {
         use yaml_token_type_t::*;
-        [
+        let kinds: [(yaml_token_type_t, Kind); 22] = [
             (YAML_NO_TOKEN, Kind::YAML_NO_TOKEN),
             (YAML_STREAM_START_TOKEN, Kind::YAML_STREAM_START_TOKEN),
             (YAML_STREAM_END_TOKEN, Kind::YAML_STREAM_END_TOKEN),
@@ -52,16 +52,12 @@ mod plain {
             (YAML_ANCHOR_TOKEN, Kind::YAML_ANCHOR_TOKEN),
             (YAML_TAG_TOKEN, Kind::YAML_TAG_TOKEN),
             (YAML_SCALAR_TOKEN, Kind::YAML_SCALAR_TOKEN),
-        ]
-    };
-
-    /// Each type has the same number there and here, as a byte.
-    const _: () = {
+        ];
         let mut place = 0;
-        while place < KINDS.len() {
+        while place < kinds.len() {
             // SAFETY: a type without fields, of one byte.
-            let number = unsafe { transmute::<Kind, u8>(KINDS[place].1) };
-            assert!(KINDS[place].0 as usize == place && number as usize == place);
+            let number = unsafe { transmute::<Kind, u8>(kinds[place].1) };
+            assert!(kinds[place].0 as usize == place && number as usize == place);
             place += 1;
         }
     };
@@ -116,6 +112,7 @@ mod plain {
 #[allow(clippy::too_many_arguments)]
 mod archive {
     use super::*;
+    use original::yaml_token_type_t;
     use std::mem::MaybeUninit;
 
     extern "C" {
