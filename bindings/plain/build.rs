@@ -4,7 +4,8 @@ mod erase;
 
 use erase::{erase, Crate};
 use std::path::{Path, PathBuf};
-use std::{env, fs, process};
+use std::process::{self, Command};
+use std::{env, fs};
 
 /// The crates, lowest first: what C's library is made of, and with the feature `alloc` the parser with texts,
 /// documents and the loader.
@@ -43,6 +44,17 @@ fn fail(file: &Path, line: usize, what: &str) -> ! {
     process::exit(1);
 }
 
+/// Ends the build, in words, where rustc is older than the feature `alloc` needs.
+fn require_new_rustc() {
+    let said = Command::new(env::var_os("RUSTC").expect("RUSTC")).arg("--version").output();
+    let said = said.map(|said| String::from_utf8_lossy(&said.stdout).into_owned()).unwrap_or_default();
+    let minor = said.strip_prefix("rustc 1.").and_then(|rest| rest.split('.').next()?.parse::<u32>().ok());
+    if matches!(minor, Some(0..=80)) {
+        eprintln!("the features `std` (the default) and `alloc` need rustc 1.81 or later; this is {}", said.trim());
+        process::exit(1);
+    }
+}
+
 /// Without `alloc` only the types without texts are taken. Nothing calls what is in `laws`.
 fn takes_of_types(module: &str) -> bool {
     ["enums", "mark"].contains(&module)
@@ -74,6 +86,9 @@ fn main() {
     let [top, out] =
         ["CARGO_MANIFEST_DIR", "OUT_DIR"].map(|name| PathBuf::from(env::var_os(name).expect(name)));
     let [has_alloc, has_std] = ["ALLOC", "STD"].map(|name| env::var_os(format!("CARGO_FEATURE_{name}")).is_some());
+    if has_alloc {
+        require_new_rustc();
+    }
     let with_texts = if has_alloc { &WITH_TEXTS[..] } else { &[] };
     let with_lines = if has_std { &WITH_LINES[..] } else { &[] };
     let (all, mut modules) = ([&CRATES, with_texts, with_lines].concat(), String::new());
