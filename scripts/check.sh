@@ -35,6 +35,7 @@ check python3 scripts/gate/words.py
 check python3 scripts/pages.py --check
 check python3 scripts/gate/mutants.py
 check python3 scripts/gate/between_crates.py
+check python3 scripts/gate/names.py
 check python3 scripts/gate/reexports.py
 check python3 scripts/gate/imports.py --check
 check python3 scripts/gate/dead_and_duplicate.py
