@@ -308,7 +308,7 @@ fn main() -> Result<(), Box<dyn std::error::Error>> {
     let (work, rounds): (&str, u32) = (&words[1], words[2].parse()?);
     let mut input = String::new();
     std::io::stdin().read_to_string(&mut input)?;
-    let tokens: Vec<Token> = input.lines().map(lines::token_of).collect();
+    let tokens: Vec<Token> = input.lines().map(lines::tokens::token_of).collect();
     let mut whole = Seen {
         is_whole: true,
         ..Seen::default()

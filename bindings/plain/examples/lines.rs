@@ -13,7 +13,7 @@ fn main() -> io::Result<()> {
     io::stdin().read_to_string(&mut input)?;
     let mut output = io::BufWriter::new(io::stdout().lock());
     for list in input.split_terminator("--\n") {
-        for told in [lines::events(list), lines::nodes(list)] {
+        for told in [lines::written::events(list), lines::written::nodes(list)] {
             let status = u8::from(told.lines().any(|line| line.starts_with("FAULT ")));
             writeln!(output, "{told}== {status}")?;
         }

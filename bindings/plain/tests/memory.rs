@@ -5,11 +5,11 @@
 
 mod lines;
 
-use lines::{token_files, token_of};
+use lines::data::{lists_of, TABLES};
+use lines::tokens::token_of;
 use pokhvizi::yaml::*;
 use std::alloc::{GlobalAlloc, Layout, System};
 use std::cell::Cell;
-use std::fs;
 
 thread_local! {
     /// How many allocations are left before one is refused; without one each is made.
@@ -209,11 +209,10 @@ fn refuse_all(name: &str, list: &[Token]) -> u64 {
 #[test]
 fn each_allocation_is_refused_in_turn() {
     let mut made = 0;
-    for file in token_files() {
-        let lines = fs::read_to_string(&file).unwrap();
+    for list in lists_of(&TABLES) {
         // Long lists only repeat what the short ones show.
-        let list: Vec<Token> = lines.lines().take(300).map(token_of).collect();
-        made += refuse_all(&file.display().to_string(), &list);
+        let tokens: Vec<Token> = list.tokens.lines().take(300).map(token_of).collect();
+        made += refuse_all(&list.name, &tokens);
     }
     assert!(made > 8_000, "only {made} allocations");
 }

@@ -2,25 +2,20 @@
 
 mod lines;
 
-use lines::{document_lines, event_line, events, fault_lines, nodes, source_of, token_files, token_of};
+use lines::data::{lists_of, TABLES};
+use lines::tokens::{source_of, token_of, tokens_of};
+use lines::written::{document_lines, event_line, events, fault_lines, nodes};
 use pokhvizi::unsafe_libyaml::yaml_parser_initialize;
 use pokhvizi::yaml::*;
-use std::fs;
 use std::num::NonZeroU32;
 
 /// Each list of the test vectors: its name, its lines, its tokens.
 fn each_list(mut then: impl FnMut(&str, &str, Vec<Token>)) {
-    let mut lists = 0;
-    for file in token_files() {
-        let lines = fs::read_to_string(&file).unwrap();
-        then(
-            &file.display().to_string(),
-            &lines,
-            lines.lines().map(token_of).collect(),
-        );
-        lists += 1;
+    let lists = lists_of(&TABLES);
+    assert!(lists.len() >= 142, "only {} lists", lists.len());
+    for list in lists {
+        then(&list.name, &list.tokens, tokens_of(&list.tokens));
     }
-    assert!(lists >= 142, "only {lists} lists");
 }
 
 fn told(error: &Error) -> String {
