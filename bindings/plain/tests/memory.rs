@@ -3,86 +3,32 @@
 // With `alloc` the crate needs a later rustc than without.
 #![allow(clippy::incompatible_msrv)]
 
+mod allocator;
 mod lines;
 
+use allocator::{refusing, Refused};
 use lines::data::{lists_of, TABLES};
 use lines::tokens::token_of;
 use pokhvizi::yaml::*;
-use std::alloc::{GlobalAlloc, Layout, System};
-use std::cell::Cell;
-
-thread_local! {
-    /// How many allocations are left before one is refused; without one each is made.
-    static LEFT: Cell<Option<u64>> = const { Cell::new(None) };
-    static MADE: Cell<u64> = const { Cell::new(0) };
-    static BYTES: Cell<isize> = const { Cell::new(0) };
-}
-
-struct Refusing;
-
-/// Counts an allocation, and says whether it is made.
-fn is_made(bytes: isize) -> bool {
-    let left = LEFT.get();
-    if left == Some(0) {
-        return false;
-    }
-    LEFT.set(left.map(|left| left - 1));
-    MADE.set(MADE.get() + 1);
-    BYTES.set(BYTES.get() + bytes);
-    true
-}
-
-// What is made and freed is the system's.
-unsafe impl GlobalAlloc for Refusing {
-    unsafe fn alloc(&self, layout: Layout) -> *mut u8 {
-        match is_made(layout.size() as isize) {
-            true => System.alloc(layout),
-            false => std::ptr::null_mut(),
-        }
-    }
-
-    unsafe fn realloc(&self, old: *mut u8, layout: Layout, size: usize) -> *mut u8 {
-        match is_made(size as isize - layout.size() as isize) {
-            true => System.realloc(old, layout, size),
-            false => std::ptr::null_mut(),
-        }
-    }
-
-    unsafe fn dealloc(&self, old: *mut u8, layout: Layout) {
-        BYTES.set(BYTES.get() - layout.size() as isize);
-        System.dealloc(old, layout);
-    }
-}
-
-#[global_allocator]
-static ALLOCATOR: Refusing = Refusing;
 
 /// What a call gave in the end: how much came before, and its error.
 type Outcome = (usize, Option<Error>);
 
-/// Runs a call with all of its memory, and then with each allocation refused. Returns how many there are.
+/// Runs a call with all of its memory, and then with each allocation refused, and all after it. Returns how many
+/// there are.
 fn refuse_each(name: &str, call: impl Fn() -> Outcome) -> u64 {
-    let begun = MADE.get();
-    let whole = call();
-    let made = MADE.get() - begun;
-    for left in 0..made {
-        let before = BYTES.get();
-        LEFT.set(Some(left));
-        let outcome = call();
-        LEFT.set(None);
-        assert_eq!(
-            BYTES.get(),
-            before,
-            "{name}: what is left behind, {left} allocations made"
-        );
+    let (whole, taken) = refusing(Refused::Never, &call);
+    for first in 0..taken.asked {
+        let (outcome, taken) = refusing(Refused::AllFrom(first), &call);
+        assert_eq!(taken.held, 0, "{name}: what is left behind, {first} allocations made");
         // Whoever does without some memory, such as more room than is needed, ends as before.
         if outcome != whole {
             let kind = outcome.1.map(|error| error.kind());
-            assert_eq!(kind, Some(ErrorKind::MEMORY), "{name}, {left} allocations made");
-            assert!(outcome.0 <= whole.0, "{name}, {left} allocations made");
+            assert_eq!(kind, Some(ErrorKind::MEMORY), "{name}, {first} allocations made");
+            assert!(outcome.0 <= whole.0, "{name}, {first} allocations made");
         }
     }
-    made
+    taken.asked
 }
 
 /// How many values an iterator gives, and its first error.
