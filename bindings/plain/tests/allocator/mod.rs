@@ -63,6 +63,15 @@ pub fn refuse_each<T>(mut work: impl FnMut() -> T, mut then: impl FnMut(T, Taken
     }
 }
 
+/// Does a part of a work that is the test's own: of this nothing is counted or refused.
+pub fn apart<T>(part: impl FnOnce() -> T) -> T {
+    let (refused, taken) = (REFUSED.replace(Refused::Never), TAKEN.get());
+    let result = part();
+    REFUSED.set(refused);
+    TAKEN.set(taken);
+    result
+}
+
 struct Counting;
 
 /// Counts an allocation, and says whether it is made.

@@ -6,11 +6,7 @@ use std::fmt::Write;
 /// The mark of a field.
 pub fn mark_of(field: &str) -> yaml_mark_t {
     let numbers: Vec<u64> = field.split(':').map(|number| number.parse().unwrap()).collect();
-    yaml_mark_t {
-        index: numbers[0],
-        line: numbers[1],
-        column: numbers[2],
-    }
+    yaml_mark_t { index: numbers[0], line: numbers[1], column: numbers[2] }
 }
 
 /// The field of a mark.
@@ -23,9 +19,7 @@ pub fn text_of(field: &str) -> Vec<u8> {
     let (bytes, mut text, mut place) = (field.as_bytes(), Vec::new(), 1);
     assert_eq!(bytes[0], b'=');
     while place < bytes.len() {
-        let digits = bytes
-            .get(place + 1..place + 3)
-            .and_then(|two| std::str::from_utf8(two).ok());
+        let digits = bytes.get(place + 1..place + 3).and_then(|two| std::str::from_utf8(two).ok());
         match digits.and_then(|two| u8::from_str_radix(two, 16).ok()) {
             Some(byte) if bytes[place] == b'%' => {
                 text.push(byte);

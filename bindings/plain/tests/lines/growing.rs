@@ -1,8 +1,8 @@
 //! Lists that grow by a number n, computed or as lists.
 //!
-//! Such a list is a text of parts with `/` between them. Each has `1`, `n` or `n-1`, how often it is repeated,
-//! and after a space token lines with `;` between them, which have `#` for the marks and `@` for how often
-//! the part was repeated before.
+//! Such a list is a text of parts with `/` between them. Each has `1`, `n` or `n-1`, how often it is
+//! repeated, and after a space token lines with `;` between them, which have `#` for the marks and `@` for
+//! how often the part was repeated before.
 
 use super::tokens::token_of;
 use pokhvizi::kit::Vec as Tokens;

@@ -10,9 +10,7 @@ use pokhvizi::unsafe_libyaml::{yaml_parser_documents, yaml_parser_initialize};
 pub const ENCODINGS: [&str; 4] = ["any", "utf8", "utf16le", "utf16be"];
 pub const SCALARS: [&str; 6] = ["any", "plain", "single", "double", "literal", "folded"];
 const COLLECTIONS: [&str; 3] = ["any", "block", "flow"];
-const ERRORS: [&str; 8] = [
-    "none", "memory", "reader", "scanner", "parser", "composer", "writer", "emitter",
-];
+const ERRORS: [&str; 8] = ["none", "memory", "reader", "scanner", "parser", "composer", "writer", "emitter"];
 
 fn optional(text: &Option<Text>) -> String {
     text.as_ref().map_or("-".to_string(), |text| field_of(text.as_bytes()))
@@ -55,12 +53,14 @@ pub fn event_line(event: &yaml_event_t) -> String {
         Alias(alias) => ("ALIAS", Some(field_of(alias.anchor.as_bytes()))),
         Scalar(scalar) => ("SCALAR", Some(scalar_fields(scalar))),
         SequenceStart(start) => {
-            let (rest, style) = (properties(&start.anchor, &start.tag), COLLECTIONS[start.style.number() as usize]);
+            let (rest, style) =
+                (properties(&start.anchor, &start.tag), COLLECTIONS[start.style.number() as usize]);
             ("SEQUENCE-START", Some(format!("{rest} {} {style}", flag(start.implicit))))
         }
         SequenceEnd => ("SEQUENCE-END", None),
         MappingStart(start) => {
-            let (rest, style) = (properties(&start.anchor, &start.tag), COLLECTIONS[start.style.number() as usize]);
+            let (rest, style) =
+                (properties(&start.anchor, &start.tag), COLLECTIONS[start.style.number() as usize]);
             ("MAPPING-START", Some(format!("{rest} {} {style}", flag(start.implicit))))
         }
         MappingEnd => ("MAPPING-END", None),

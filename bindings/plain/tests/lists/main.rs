@@ -1,15 +1,73 @@
-//! The lists of `crates/vectors_yaml`: each gives the events and the documents that stand there, however it is read.
+//! The lists of `crates/vectors_yaml`: each gives the lines that stand there, however it is read.
+// With `alloc` the crate needs a later rustc than without.
+#![allow(clippy::incompatible_msrv)]
 
+#[path = "../allocator/mod.rs"]
+mod allocator;
+mod calls;
+mod composed;
+mod cuts;
 #[path = "../lines/mod.rs"]
 mod lines;
+mod pushed;
+mod refused;
+#[cfg(feature = "std")]
+mod runs;
+mod whole;
 
-use lines::data::{lists_of, TABLES};
-use lines::written::{events, nodes};
+use lines::data::{lists_of, List, TABLES};
 
-#[test]
-fn lists_give_their_events_and_nodes() {
-    for list in lists_of(&TABLES) {
-        assert_eq!(events(&list.tokens), list.text("events"), "{}.events", list.name);
-        assert_eq!(nodes(&list.tokens), list.text("nodes"), "{}.nodes", list.name);
+/// What is read of a list.
+#[derive(Clone, Copy, Debug, PartialEq)]
+enum Given {
+    Events,
+    /// The documents, where each list of a document has at most so many entries.
+    Nodes(i32),
+}
+
+/// A list, what is read of it, and the lines that it has to give.
+struct Case<'a> {
+    list: &'a List,
+    ending: &'a str,
+    given: Given,
+    wanted: String,
+}
+
+impl Case<'_> {
+    fn tokens(&self) -> &str {
+        &self.list.tokens
     }
+
+    fn name(&self) -> String {
+        format!("{}/{}.{}", self.list.table, self.list.name, self.ending)
+    }
+
+    /// Compares what was read, and tells the first line that differs.
+    fn wants(&self, given: &str) {
+        lines::same(&self.name(), &self.wanted, given);
+    }
+}
+
+/// What the file of this ending has; none if it has no lines of events or documents.
+fn given_of(ending: &str) -> Option<Given> {
+    match ending {
+        "events" => Some(Given::Events),
+        "nodes" => Some(Given::Nodes(i32::MAX)),
+        _ => Some(Given::Nodes(ending.strip_prefix("nodes@")?.parse().unwrap())),
+    }
+}
+
+/// Hands on each file of events or documents of each list.
+fn each_case(mut then: impl FnMut(&Case)) {
+    let mut cases = 0;
+    for list in &lists_of(&TABLES) {
+        for ending in &list.endings {
+            if let Some(given) = given_of(ending) {
+                let wanted = list.text(ending);
+                then(&Case { list, ending, given, wanted });
+                cases += 1;
+            }
+        }
+    }
+    assert!(cases >= 299, "only {cases} files");
 }
