@@ -106,10 +106,6 @@ check slow_pipe python3 $yamltokens -- python3 scripts/gate/slow_pipe.py $yamlto
 check inlined nm $yamltokens crates/bench_lists/out/bench_lists -- sh scripts/gate/inlined.sh $yamltokens crates/bench_lists/out/bench_lists
 check sizes_by_pyyaml.py PyYAML -- python3 scripts/gate/sizes_by_pyyaml.py
 check faults_of_yaml_lines.py PyYAML $yamltokens -- python3 scripts/gate/compare_errors.py $front
-for program in vectors_hostile vectors_lines vectors_yaml; do
-    check "allocations_of_$program" cc timeout crates/$program/out/$program -- sh scripts/gate/allocation_failures.sh $program
-done
-check flat_memory /usr/bin/time crates/vectors_hostile/out/vectors_hostile -- sh scripts/gate/flat_memory.sh
 check differential python3 cc yaml.h $yamltokens -- env JOBS=4 sh scripts/differential/run.sh $lists
 
 check plain_rust cargo python3 cc ld objcopy ar nm yaml.h -- sh scripts/gate/plain_rust.sh

@@ -1,26 +1,24 @@
 #!/usr/bin/env python3
-"""Plants leaks, which no contract rules out, and fails where `gate/flat_memory.sh` sees one not.
+"""Plants leaks, which no contract rules out, and fails where the tests of memory see one not.
 
     python3 scripts/leaks_seen.py [LEAK..]              (no word: each of LEAKS)
-    python3 scripts/leaks_seen.py by_rustc [LEAK..]     (no further word: each but those of KEPT)
 
-In a copy each is planted in turn, and `rt run` proves and builds `vectors_hostile` over it. With `by_rustc` the crate `pokhvizi`
-is built over it instead, in seconds, and its test `memory.rs` has to see the leak. Texts are let go of by hand in
-`libyaml_events/src/states`, where `mem::forget` stands in place of a drop: LEAKS has one at each such place but
-`forget_anchor`, over which no run is known that holds an anchor, and one for the bound on what is kept, for handles, and for
-half a document. Some minutes each; needs `rt`, and GNU time. KEPT has those whose texts are freed with their parser, or
-which need a source that keeps texts, so that test sees none of them; `by_rustc` needs cargo.
+In a copy each is planted in turn, and the tests `memory` and `flat` of the crate `pokhvizi` are built over it: one of these has
+to fail, and to say that memory is left. Texts are let go of by hand in `libyaml_events/src/states`, where `mem::forget` stands in
+place of a drop: LEAKS has one at each such place but `forget_anchor`, over which no run is known that holds an anchor, and one for
+the bound on what is kept, for handles, and for half a document. Some seconds each; needs cargo.
 
-Run by hand, after such a place or `flat_memory.sh` changed.
+Run by hand, after such a place or one of these tests changed.
 """
 import os
+import re
 import shutil
 import subprocess
 import sys
 import tempfile
 from pathlib import Path
 
-from answers import TOP, copied
+from answers import TOP, wrong_words
 
 CONTENTS = "libyaml_events/src/states/contents.rt"
 HANDLES = "libyaml_events/src/handle_table.rt"
@@ -49,7 +47,6 @@ LEAKS = {
     "later_handles_forgotten": (HANDLES, "clear", "self.others = BTreeMap::new(*self.first.allocator());", "std::mem::forget(std::mem::replace(&mut self.others, BTreeMap::new(*self.first.allocator())));"),
     "half_a_document_forgotten": ("libyaml_loader/src/composer.rt", "keep", "self.ctx = loader_ctx::new(self.ctx.alloc, self.max_entries);", "let fresh = loader_ctx::new(self.ctx.alloc, self.max_entries); mem::forget(mem::replace(&mut self.ctx, fresh));"),
 }
-KEPT = {"text_kept_before_forgotten", "long_text_kept"}
 
 
 def planted(leak, crates):
@@ -66,50 +63,28 @@ def planted(leak, crates):
 
 
 def seen(leak, room):
-    """Whether a leak is seen, planted in this copy, and in words where; what was said if it isn't built."""
-    path, text = planted(leak, room / "crates")
-    was = path.read_text()
-    program = room / "crates/vectors_hostile/out/vectors_hostile"
-    program.unlink(missing_ok=True)
-    path.write_text(text)
-    run = subprocess.run(["rt", "run", "--", "work", "kept", "1"], cwd=room / "crates/vectors_hostile", stdin=subprocess.DEVNULL, capture_output=True, text=True)
-    path.write_text(was)
-    if not program.exists():
-        return f"not built: {(run.stdout + run.stderr)[-1000:]}", False
-    run = subprocess.run(["sh", "scripts/gate/flat_memory.sh"], cwd=room, capture_output=True, text=True)
-    works = [line.partition(":")[0] for line in run.stdout.splitlines() if line.endswith(": not flat")]
-    return (f"seen in {' '.join(works)}", True) if works else ("not seen", False)
-
-
-def seen_by_rustc(leak, room):
-    """Whether the test of the crate `pokhvizi` sees a leak, planted in this copy; what was said if it isn't built."""
+    """Whether the tests see a leak, planted in this copy, and in words where; what was said if they aren't built."""
     path, text = planted(leak, room / "crates")
     was = path.read_text()
     path.write_text(text)
-    run = subprocess.run(["cargo", "test", "-q", "--release", "--offline", "--test", "memory"], cwd=room,
+    run = subprocess.run(["cargo", "test", "--offline", "--no-fail-fast", "--test", "memory", "--test", "flat"], cwd=room,
                          env={**os.environ, "CARGO_TARGET_DIR": str(room / "target")}, stdin=subprocess.DEVNULL, capture_output=True, text=True)
     path.write_text(was)
     if "running" not in run.stdout:
         return f"not built: {run.stderr[-1000:]}", False
-    return ("seen by memory.rs", True) if run.returncode and "what is left behind" in run.stdout + run.stderr else ("not seen", False)
+    tests = re.findall(r"^---- (\S+) stdout ----$(?=(?:\n(?!----).*)*left behind)", run.stdout, re.MULTILINE)
+    return (f"seen by {' '.join(tests)}", True) if run.returncode and tests else ("not seen", False)
 
 
 def main(words):
-    by_rustc = words[:1] == ["by_rustc"]
-    words = words[by_rustc:]
     if not set(words) <= set(LEAKS):
-        sys.exit(__doc__)
+        wrong_words(__doc__)
     unseen = 0
     with tempfile.TemporaryDirectory() as folder:
         room = Path(folder) / "copy"
-        if by_rustc:
-            shutil.copytree(TOP, room, symlinks=True, ignore=shutil.ignore_patterns(".git", "out", "target"))
-        else:
-            copied(room)
-            (room / "scripts/gate").mkdir(parents=True)
-            shutil.copy2(TOP / "scripts/gate/flat_memory.sh", room / "scripts/gate")
-        for leak in words or [leak for leak in LEAKS if not by_rustc or leak not in KEPT]:
-            says, is_seen = (seen_by_rustc if by_rustc else seen)(leak, room)
+        shutil.copytree(TOP, room, symlinks=True, ignore=shutil.ignore_patterns(".git", "out", "target"))
+        for leak in words or LEAKS:
+            says, is_seen = seen(leak, room)
             print(f"{leak}: {says}", flush=True)
             unseen += not is_seen
     if unseen:

@@ -148,7 +148,8 @@ crate() {
     done
     sh scripts/parts/rust_manifest.sh original plain > "$tree/Cargo.toml"
     # For other machines the crate `pokhvizi`, without the lists of its test.
-    sed -n 's#^    "/\(.*\)",$#\1#p' Cargo.toml | grep -v vectors_ | xargs git ls-files Cargo.toml -- | while read -r file; do
+    sed -n 's#^    "/\(.*\)",$#\1#p' Cargo.toml | grep -v vectors_ | xargs git ls-files Cargo.toml -- |
+        grep -v '^bindings/plain/tests/data/' | while read -r file; do
         mkdir -p "$tree/plain/$(dirname "$file")"
         cp "$file" "$tree/plain/$file"
     done

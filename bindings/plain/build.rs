@@ -31,6 +31,10 @@ const WITH_TEXTS: [&str; 8] = [
 /// With the feature `std` also what reads and writes lines.
 const WITH_LINES: [&str; 3] = ["line_reading", "line_writing", "token_lines"];
 
+/// Crates that tests alone use: `for_tests.rs` beside `crates.rs` has them as modules of a program that names the
+/// others.
+const FOR_TESTS: [&str; 2] = ["yaml_bounds", "example_theorems"];
+
 /// Enums with fields that are looked at for each token or event. Without a tag of their own rustc says their
 /// variant by what another field never is, and computes it at each look, or packs it into a number with the
 /// fields and no longer sees which variant a caller is given.
@@ -60,6 +64,11 @@ fn takes_of_types(module: &str) -> bool {
     ["enums", "mark"].contains(&module)
 }
 
+/// Of the example only its source.
+fn takes_of_theorems(module: &str) -> bool {
+    module == "letters"
+}
+
 fn takes(module: &str) -> bool {
     module != "laws"
 }
@@ -82,42 +91,49 @@ fn write(of: &Crate<'_>, from: &Path, to: &Path, below: (&Path, &Path)) {
     }
 }
 
-fn main() {
+/// What the text of a crate is given by the library of the prover, which has it in each file.
+fn prelude_of(name: &str, has_alloc: bool) -> &'static str {
+    if WITH_LINES.contains(&name) {
+        "AllocGlobal, HostRuntime, String, Vec"
+    } else if has_alloc && (name == "libyaml_types" || WITH_TEXTS.contains(&name) || FOR_TESTS.contains(&name)) {
+        "String, Vec"
+    } else {
+        ""
+    }
+}
+
+/// Writes the plain Rust of crates, of all these, and the file that has them as modules.
+fn write_list(list: &str, crates: &[&str], all: &[&str], has_alloc: bool) {
     let [top, out] =
         ["CARGO_MANIFEST_DIR", "OUT_DIR"].map(|name| PathBuf::from(env::var_os(name).expect(name)));
+    let mut modules = String::new();
+    for name in crates {
+        let takes = match *name {
+            "libyaml_types" if !has_alloc => takes_of_types,
+            "example_theorems" => takes_of_theorems,
+            _ => takes,
+        };
+        let (from, to) = (top.join("crates").join(name).join("src"), out.join(name));
+        let prelude = prelude_of(name, has_alloc);
+        let of = Crate { name, all, takes, prelude, tags: &TAGS };
+        write(&of, &from.join("lib.rt"), &to.join("mod.rs"), (&from, &to));
+        modules += ALLOWED;
+        modules += &format!("#[path = {:?}]\npub mod {name};\n", to.join("mod.rs"));
+    }
+    let list = out.join(list);
+    fs::write(&list, modules).unwrap_or_else(|error| fail(&list, 0, &error.to_string()));
+}
+
+fn main() {
     let [has_alloc, has_std] = ["ALLOC", "STD"].map(|name| env::var_os(format!("CARGO_FEATURE_{name}")).is_some());
     if has_alloc {
         require_new_rustc();
     }
     let with_texts = if has_alloc { &WITH_TEXTS[..] } else { &[] };
     let with_lines = if has_std { &WITH_LINES[..] } else { &[] };
-    let (all, mut modules) = ([&CRATES, with_texts, with_lines].concat(), String::new());
-    for name in all.iter().copied() {
-        let takes = if name == "libyaml_types" && !has_alloc {
-            takes_of_types
-        } else {
-            takes
-        };
-        let has_texts = has_alloc && (name == "libyaml_types" || with_texts.contains(&name));
-        let prelude = if with_lines.contains(&name) {
-            "AllocGlobal, HostRuntime, String, Vec"
-        } else if has_texts {
-            "String, Vec"
-        } else {
-            ""
-        };
-        let (from, to) = (top.join("crates").join(name).join("src"), out.join(name));
-        let of = Crate {
-            name,
-            all: &all,
-            takes,
-            prelude,
-            tags: &TAGS,
-        };
-        write(&of, &from.join("lib.rt"), &to.join("mod.rs"), (&from, &to));
-        modules += ALLOWED;
-        modules += &format!("#[path = {:?}]\npub mod {name};\n", to.join("mod.rs"));
+    let crates = [&CRATES, with_texts, with_lines].concat();
+    write_list("crates.rs", &crates, &crates, has_alloc);
+    if has_std {
+        write_list("for_tests.rs", &FOR_TESTS, &[&crates[..], &FOR_TESTS].concat(), has_alloc);
     }
-    let list = out.join("crates.rs");
-    fs::write(&list, modules).unwrap_or_else(|error| fail(&list, 0, &error.to_string()));
 }

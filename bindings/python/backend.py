@@ -86,7 +86,9 @@ def source_files():
 
 
 def is_source(path):
-    return not {"build", "out", "target", "__pycache__", "Cargo.lock"} & set(path.relative_to(TOP).parts)
+    """Whether a build reads this, and not a test its data."""
+    is_made = {"build", "out", "target", "__pycache__", "Cargo.lock"} & set(path.relative_to(TOP).parts)
+    return not is_made and not path.is_relative_to(TOP / "bindings/plain/tests/data")
 
 
 def build_sdist(sdist_directory, config_settings=None):

@@ -1,4 +1,4 @@
-/* Makes the Nth allocation of a program fail, for scripts/gate/allocation_failures.sh and the checks beside this file. If the
+/* Makes the Nth allocation of a program fail, for the checks beside this file. If the
  * program makes fewer, it says so. If N is 0 none fails, and it says how many the program made.
  *
  *     cc -O2 -fPIC -shared -o fail_allocation.so fail_allocation.c

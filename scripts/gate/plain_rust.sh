@@ -4,9 +4,7 @@
 #
 #     sh scripts/gate/plain_rust.sh
 #
-# Runs its tests, without features, with `alloc` and with all: the lists of vectors_steps and vectors_yaml, which give
-# the lines that stand there; the program yamltokens over these and over the runs of vectors_lines; what the build leaves out, and what ends it; the module `yaml` and its map; each
-# allocation refused in turn; drawn tokens, which each call has to read alike; the programs of its README. Makes its pages, and asks clippy, which may not warn.
+# Runs its tests, without features, with `alloc` and with all (docs/GATE.md), and the programs of its README. Makes its pages, and asks clippy, which may not warn.
 # Makes its package, which has each source as it stands here, and tests that alone; a crate that names it
 # in two lines parses and loads. A line of a list that is
 # changed there must fail the test, and a construct that isn't known must end the build with its file and
@@ -100,11 +98,11 @@ said=$(cd "$work/app" && cargo run -q --release 2> "$work/said")
 
 # ---- What must fail ----
 
-lines=$package/crates/vectors_steps/data/lists/configuration
+lines=$package/bindings/plain/tests/data/steps/configuration
 for turned in steps deeds sizes; do
     cp "$lines.$turned" "$work/kept"
     sed '7s/$/ 0/' "$work/kept" > "$lines.$turned"
-    (cd "$package" && cargo test -q --test vectors) > "$work/said" 2>&1 && complain "a changed line of configuration.$turned isn't seen"
+    (cd "$package" && cargo test -q --test steps) > "$work/said" 2>&1 && complain "a changed line of configuration.$turned isn't seen"
     grep -q "configuration.$turned" "$work/said" || { cat "$work/said"; complain "configuration.$turned isn't named"; }
     cp "$work/kept" "$lines.$turned"
 done

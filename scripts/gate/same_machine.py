@@ -111,8 +111,8 @@ class Comparison:
 
 
 def vectors():
-    """The files of lists of test vectors. Those of vectors_lines have lines that are no token lines."""
-    folders = [TOP / "crates" / name / "data" for name in ("vectors_yaml", "vectors_steps")]
+    """The files of lists of test vectors. Those of runs have lines that are no token lines."""
+    folders = [TOP / "crates/vectors_yaml/data", *(TOP / "bindings/plain/tests/data" / name for name in ("steps", "exact"))]
     return sorted(file for folder in folders for file in folder.glob("**/*.tokens")) + sorted(TOP.glob("examples/*.tokens"))
 
 

@@ -1,9 +1,9 @@
 #!/usr/bin/env python3
-"""Compares the counts that `vectors_steps` expects of its lists with those of PyYAML's composer.
+"""Compares the counts that the test `steps` expects of its lists with those of PyYAML's composer.
 
     python3 scripts/gate/sizes_by_pyyaml.py [--write] [NAME..]        (no name: each list)
 
-For each list of `crates/vectors_steps/data/lists` the events of `NAME.steps` are handed in one by one. After each, what came of
+For each list of `bindings/plain/tests/data/steps` the events of `NAME.steps` are handed in one by one. After each, what came of
 the document is ended (an empty value after a key that waits, and the ends of what is open), composed by PyYAML, and its nodes
 are counted once for each way that leads to them. `NAME.sizes` has to tell so for each of its bounds: the deed, what the count
 says, and the total. The exit status is 1 if one doesn't, and each is named. With --write, the files are written, with their
@@ -22,8 +22,8 @@ TOP = Path(__file__).resolve().parents[2]
 sys.path.insert(0, str(TOP / "scripts/parts"))
 from usage import wrong_words  # noqa: E402
 
-LISTS = TOP / "crates/vectors_steps/data/lists"
-# The bound of a list's entries in `vectors_steps`, the largest total, and the numbers of `pokhvizi/compose.h`.
+LISTS = TOP / "bindings/plain/tests/data/steps"
+# The bound of a list's entries in that test, the largest total, and the numbers of `pokhvizi/compose.h`.
 ENTRIES, LARGEST, NO_BOUND = 50, 2**63 - 1, 2**64 - 1
 PASSES, BEGINS, ENDS, ROOT, ITEM, KEY, VALUE, CLOSES = range(8)
 WITHIN, TOO_LARGE, ENDLESS, FULL = 0, 13, 14, 16

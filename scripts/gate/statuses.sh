@@ -1,5 +1,5 @@
 #!/bin/sh
-# Runs a built `yamltokens` as crates/vectors_lines/data/worked says, and over what no line there can have, and fails if its
+# Runs a built `yamltokens` as bindings/plain/tests/data/runs/worked says, and over what no line there can have, and fails if its
 # exit status, its output or its error output is another (docs/DEFINITIONS.md, "The program"). The contract of `run_words` says
 # its status; that `main` passes that on is seen here alone.
 #
@@ -9,7 +9,7 @@
 set -uf
 [ $# -eq 1 ] && case $1 in '' | -*) false ;; esac || { echo "usage: statuses.sh PROGRAM" >&2; exit 2; }
 program=$(realpath "$1") && [ -x "$program" ] || { echo "no program" >&2; exit 2; }
-data=$(cd "$(dirname "$0")/../../crates/vectors_lines/data" && pwd) || exit 2
+data=$(cd "$(dirname "$0")/../../bindings/plain/tests/data/runs" && pwd) || exit 2
 work=$(mktemp -d) || exit 2
 trap 'rm -rf "$work"' EXIT
 cd "$work" || exit 2
@@ -19,7 +19,7 @@ runs=0
 
 # file NAME: where a file of a line is; `-` has no bytes
 file() {
-    case $1 in -) echo none ;; *) echo "$data/runs/$1" ;; esac
+    case $1 in -) echo none ;; *) echo "$data/lists/$1" ;; esac
 }
 
 # is NAME STATUS INPUT OUTPUT ERRORS WORD..: runs the program with these words over a file, and compares
@@ -49,10 +49,10 @@ while IFS= read -r line; do
     is "$name" "$wanted" "$(file "$input")" "$output" "$(file "$errors")" "$@"
 done < "$data/worked"
 
-whole=$data/runs/implicit_document.tokens
-usage=$data/runs/usage.errors
-failed=$data/runs/output_failed.errors
-bad=$data/runs/empty_line.events
+whole=$data/lists/implicit_document.tokens
+usage=$data/lists/usage.errors
+failed=$data/lists/output_failed.errors
+bad=$data/lists/empty_line.events
 printf 'a: b\n' > yaml
 { printf '\357\273\277' && cat "$whole"; } > bom
 head -n 2 "$whole" > cut

@@ -7,12 +7,13 @@
 A worked example is a list, a line or a call whose result the field's own words give, to the byte. They stand in three places:
 
 - `crates/vectors_yaml/data/worked`: lists of tokens, with a line each in its `index`;
-- `crates/vectors_lines/data/worked`: runs of `yamltokens`, a line each: name, exit status, input, output, error output, words;
+- `bindings/plain/tests/data/runs/worked`: runs of `yamltokens`, a line each: name, exit status, input, output, error output, words;
 - `worked.txt` beside this script: calls, and lists that are computed.
 
-The first two are named by their program's stored `stdout` where they are as expected, so the gate names one that differs or is gone.
-Of each call the program's files or sources have to name the table and the vector, and its `stdout` the table. A file of any program of test
-vectors that has a worked list's name has to have its bytes.
+The first are named by their program's stored `stdout` where they are as expected, so the gate names one that differs or is gone. Of each
+call of a program its files or sources have to name the table and the vector, and its `stdout` the table. Of each call of `cargo test`
+the file that it names has to have the test vector in a line, below a line `# TABLE` if it has such, and a test to name the table, or to
+have its name. A file of any test that has a worked list's name has to have its bytes.
 
 Run by check.sh.
 """
@@ -24,7 +25,8 @@ from pathlib import Path
 TOP = Path(__file__).resolve().parents[2]
 CRATES = TOP / "crates"
 LISTS = CRATES / "vectors_yaml" / "data" / "worked"
-RUNS = CRATES / "vectors_lines" / "data" / "worked"
+TESTS = TOP / "bindings/plain/tests"
+RUNS = TESTS / "data/runs/worked"
 CALLS = Path(__file__).with_suffix(".txt")
 ONE_TEXT = {".tokens", ".events", ".nodes"}
 
@@ -91,7 +93,7 @@ def wrong_lists():
 
 def wrong_copies(names):
     """The files of a worked list's name that have other bytes."""
-    for path in sorted(CRATES.glob("vectors_*/data/**/*")):
+    for path in [*sorted(CRATES.glob("vectors_*/data/**/*")), *sorted(TESTS.glob("data/**/*"))]:
         own = LISTS / path.name
         if path.suffix in ONE_TEXT and path.stem in names and own.exists() and path.read_bytes() != own.read_bytes():
             yield f"{path.stem}: {path.relative_to(TOP)} is another text than {own.relative_to(TOP)}"
@@ -112,12 +114,9 @@ def wrong_runs():
         if len(files) != 3 or not shown:
             yield f"{name}: a line of another form"
         for file in files:
-            if file not in ("-", "full") and not (RUNS.parent / "runs" / file).exists():
+            if file not in ("-", "full") and not (RUNS.parent / "lists" / file).exists():
                 yield f"{name}: no file {file}"
-    if counted("vectors_lines", "worked") != [len(entries)]:
-        yield "worked: vectors_lines/stdout counts other runs"
-    yield from twice(names, "vectors_lines/data/worked")
-    yield from named("vectors_lines", names)
+    yield from twice(names, "data/runs/worked")
 
 
 def call_entries():
@@ -127,25 +126,30 @@ def call_entries():
             yield tuple(line.split(" | "))
 
 
-def listed(program):
-    """The test vectors of each table of a program that its files `vectors`, `drawn` and `failing` have."""
-    tables = defaultdict(list)
-    for path in (CRATES / program / "data" / name for name in ("vectors", "drawn", "failing")):
-        table = ""
-        for line in lines_of(path) if path.exists() else []:
-            table = line[2:] if line.startswith("# ") else table
-            tables[table].append(line.partition("|")[0])
+def listed(path):
+    """The test vectors of each table of a file; those of no table have the name ""."""
+    tables, table = defaultdict(list), ""
+    for line in lines_of(path) if path.exists() else []:
+        table = line[2:] if line.startswith("# ") else table
+        tables[table].append(line.partition("|")[0])
     return tables
 
 
 def is_there(program, table, vector):
-    """Whether a program's files or sources name the table and the vector, or the vector is a run that `names` names."""
-    tables = listed(program)
+    """Whether a program's files or sources name the table and the vector."""
+    tables = listed(CRATES / program / "data" / "vectors")
     if table in tables:
         return vector == "*" or vector in tables[table]
     text = sources(program)
-    runs = CRATES / program / "data" / "names"
-    return f'"{table}"' in text and (vector == "*" or f'"{vector}"' in text or (runs.exists() and vector in lines_of(runs)))
+    return f'"{table}"' in text and (vector == "*" or f'"{vector}"' in text)
+
+
+def is_tested(file, table, vector):
+    """Whether a file has this test vector in the table, and a test of `cargo test` names the table, or has its name."""
+    tables = listed(TOP / file)
+    vectors = tables.get(table, tables[""])
+    text = "\n".join(path.read_text() for path in TESTS.rglob("*.rs"))
+    return bool(vectors) and (vector == "*" or vector in vectors) and (f'"{table}"' in text or f"fn {table}(" in text)
 
 
 def wrong_calls():
@@ -155,7 +159,10 @@ def wrong_calls():
             yield f"{' | '.join(entry)}: a line of another form"
             continue
         program, table, vector, _ = entry
-        if not counted(program, table):
+        if "/" in program:
+            if not is_tested(program, table, vector):
+                yield f"{vector}: no test of {table} has it in {program}"
+        elif not counted(program, table):
             yield f"{vector}: {program}/stdout doesn't count the table {table}"
         elif not is_there(program, table, vector):
             yield f"{vector}: {program} has no such vector in its table {table}"

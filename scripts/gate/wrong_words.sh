@@ -42,7 +42,7 @@ for script in bench/clients.sh bindings/c/build_libyaml.sh bindings/c/proved-lib
     refuses $script
     refuses $script --help
 done
-for script in bench/run.sh scripts/pages.py scripts/answers.py scripts/controls.py scripts/doors/abi.py scripts/gate/imports.py \
+for script in bench/run.sh scripts/pages.py scripts/answers.py scripts/leaks_seen.py scripts/controls.py scripts/doors/abi.py scripts/gate/imports.py \
     scripts/gate/left_out.py scripts/gate/same_machine.py scripts/gate/sizes_by_pyyaml.py scripts/check_programs.sh scripts/differential/run.sh scripts/differential/turned.sh; do
     refuses $script --help
     refuses $script no_such_word

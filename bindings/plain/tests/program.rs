@@ -1,13 +1,16 @@
-//! The program `yamltokens` by rustc: over the lists of `crates/vectors_yaml` and `crates/vectors_lines` it
-//! writes the bytes that stand there, with the status and the error output.
+//! The program `yamltokens` by rustc: over the lists of `crates/vectors_yaml` and those of `data/runs` it writes
+//! the bytes that stand there, with the status and the error output.
 
 use std::fs;
 use std::io::Write;
 use std::path::{Path, PathBuf};
 use std::process::{Command, Output, Stdio};
 
-fn data(program: &str) -> PathBuf {
-    Path::new(env!("CARGO_MANIFEST_DIR")).join("crates").join(program).join("data")
+/// Where the files of runs are.
+const RUNS: &str = "bindings/plain/tests/data/runs";
+
+fn data(folder: &str) -> PathBuf {
+    Path::new(env!("CARGO_MANIFEST_DIR")).join(folder)
 }
 
 /// Runs the program with these words over these token lines.
@@ -57,17 +60,17 @@ fn runs_of(folder: &Path) -> usize {
 
 #[test]
 fn lists_give_their_lines() {
-    let runs = runs_of(&data("vectors_yaml")) + runs_of(&data("vectors_lines"));
+    let runs = runs_of(&data("crates/vectors_yaml/data")) + runs_of(&data(RUNS));
     assert!(runs >= 328, "only {runs} runs");
 }
 
 /// A worked example is a line: its name, the status, the tokens, the output, the error output, the words.
 #[test]
 fn worked_examples_give_their_status_and_both_outputs() {
-    let data = data("vectors_lines");
+    let data = data(RUNS);
     let read = |name: &str| match name {
         "-" => Vec::new(),
-        _ => fs::read(data.join("runs").join(name)).unwrap(),
+        _ => fs::read(data.join("lists").join(name)).unwrap(),
     };
     let worked = fs::read_to_string(data.join("worked")).unwrap();
     for line in worked.lines() {
@@ -94,7 +97,7 @@ fn worked_examples_give_their_status_and_both_outputs() {
 
 #[test]
 fn each_bad_line_is_refused_and_each_good_line_is_read() {
-    let data = data("vectors_lines");
+    let data = data(RUNS);
     for (lines, wanted, count) in [("bad_lines", "bad_line.events", 54), ("good_lines", "good_line.events", 37)] {
         let (lines, wanted) = (fs::read(data.join(lines)).unwrap(), fs::read(data.join(wanted)).unwrap());
         let lines: Vec<&[u8]> = lines.strip_suffix(b"\n").unwrap_or(&lines).split(|byte| *byte == b'\n').collect();
@@ -118,7 +121,7 @@ fn each_bad_line_is_refused_and_each_good_line_is_read() {
 /// A line of 1,048,576 bytes is read, and one of a byte more is not.
 #[test]
 fn the_longest_line_is_read() {
-    let data = data("vectors_lines");
+    let data = data(RUNS);
     for (name, length) in [("longest_line", 1_048_550), ("longer_line", 1_048_551)] {
         let text = "a".repeat(length);
         let tokens = format!("STREAM-START 0:0:0 1:0:1 utf8\nSCALAR 2:0:2 3:0:3 ={text} plain\nSTREAM-END 4:0:4 5:0:5\n");

@@ -24,13 +24,18 @@ fn times_of(word: &str, n: u64) -> u64 {
     }
 }
 
-/// The tokens of a list at n.
-pub fn growing(parts: &str, n: u64) -> impl Iterator<Item = yaml_token_t> + '_ {
+/// The token lines of a list at n.
+pub fn growing_lines(parts: &str, n: u64) -> impl Iterator<Item = String> + '_ {
     let lines = parts.split('/').flat_map(move |part| {
         let (word, lines) = part.split_once(' ').unwrap();
         (0..times_of(word, n)).flat_map(move |number| lines.split(';').map(move |line| (line, number)))
     });
-    lines.zip(0..).map(|((line, number), place)| token_of(&filled(line, place, &number.to_string())))
+    lines.zip(0..).map(|((line, number), place)| filled(line, place, &number.to_string()))
+}
+
+/// The tokens of a list at n.
+pub fn growing(parts: &str, n: u64) -> impl Iterator<Item = yaml_token_t> + '_ {
+    growing_lines(parts, n).map(|line| token_of(&line))
 }
 
 /// The fault that ends a list's tokens.
