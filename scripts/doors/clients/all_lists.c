@@ -64,10 +64,16 @@ static int begin_list(yaml_parser_t *parser)
 
 /* ---- What a run told ---- */
 
+#define OWN_ROOM
+#include "../../../scripts/parts/lines/write_lines.h"
+
+enum { TOLD = 6000 };
 struct told {
-    char text[6000];
+    char text[TOLD + 3 * PIECE + REST];
     size_t length;
 };
+
+static const yaml_char_t *full; /* where what is told has to end */
 
 static void tell(struct told *told, const char *form, ...)
 {
@@ -81,71 +87,41 @@ static void tell(struct told *told, const char *form, ...)
 }
 
 #define NUMBERS(mark) (mark).index, (mark).line, (mark).column
-#define MARKS(of) NUMBERS((of)->start_mark), NUMBERS((of)->end_mark)
 #define TEXT(text) (text) == NULL ? "-" : (const char *)(text)
 
-static void tell_directives(struct told *told, const yaml_version_directive_t *version, const yaml_tag_directive_t *tag,
-                            const yaml_tag_directive_t *end)
+static yaml_char_t *with_room(yaml_char_t *at)
 {
-    if (version != NULL)
-        tell(told, " %d.%d", version->major, version->minor);
-    for (; tag != end; tag++)
-        tell(told, " %s=%s", tag->handle, tag->prefix);
+    if (at >= full)
+        abort();
+    return at;
+}
+
+/* Tells a line, and if a text of so many bytes has no zero byte after it. */
+static void tell_to(struct told *told, yaml_char_t *end, const yaml_char_t *text, size_t length)
+{
+    told->length = (size_t)(end - (yaml_char_t *)told->text);
+    tell(told, text == NULL || text[length] == 0 ? "" : "no zero byte\n");
+}
+
+static yaml_char_t *end_of(struct told *told)
+{
+    full = (yaml_char_t *)told->text + TOLD;
+    return (yaml_char_t *)told->text + told->length;
 }
 
 static void tell_event(struct told *told, const yaml_event_t *event)
 {
-    tell(told, "%d %zu:%zu:%zu %zu:%zu:%zu", event->type, MARKS(event));
-    switch (event->type) {
-    case YAML_STREAM_START_EVENT:
-        tell(told, " %d", event->data.stream_start.encoding);
-        break;
-    case YAML_DOCUMENT_START_EVENT:
-        tell(told, " %d", event->data.document_start.implicit);
-        tell_directives(told, event->data.document_start.version_directive, event->data.document_start.tag_directives.start,
-                        event->data.document_start.tag_directives.end);
-        break;
-    case YAML_DOCUMENT_END_EVENT:
-        tell(told, " %d", event->data.document_end.implicit);
-        break;
-    case YAML_ALIAS_EVENT:
-        tell(told, " %s", event->data.alias.anchor);
-        break;
-    case YAML_SCALAR_EVENT:
-        tell(told, " %s %s %zu %s %d %d %d", TEXT(event->data.scalar.anchor), TEXT(event->data.scalar.tag), event->data.scalar.length,
-             event->data.scalar.value, event->data.scalar.plain_implicit, event->data.scalar.quoted_implicit, event->data.scalar.style);
-        break;
-    case YAML_SEQUENCE_START_EVENT:
-    case YAML_MAPPING_START_EVENT:  /* whose fields stand at the same places */
-        tell(told, " %s %s %d %d", TEXT(event->data.sequence_start.anchor), TEXT(event->data.sequence_start.tag),
-             event->data.sequence_start.implicit, event->data.sequence_start.style);
-        break;
-    default:
-        break;
-    }
-    tell(told, "\n");
+    int is_scalar = event->type == YAML_SCALAR_EVENT;
+
+    tell_to(told, put_event(end_of(told), event), is_scalar ? event->data.scalar.value : NULL, is_scalar ? event->data.scalar.length : 0);
 }
 
 static void tell_document(struct told *told, const yaml_document_t *document)
 {
-    tell(told, "document %zu:%zu:%zu %zu:%zu:%zu %d %d", MARKS(document), document->start_implicit, document->end_implicit);
-    tell_directives(told, document->version_directive, document->tag_directives.start, document->tag_directives.end);
-    for (const yaml_node_t *node = document->nodes.start; node != document->nodes.top; node++) {
-        tell(told, "\n%d %zu:%zu:%zu %zu:%zu:%zu %s", node->type, MARKS(node), node->tag);
+    tell_to(told, put_document(end_of(told), document), NULL, 0);
+    for (const yaml_node_t *node = document->nodes.start; node != document->nodes.top; node++)
         if (node->type == YAML_SCALAR_NODE)
-            tell(told, " %zu %s %d", node->data.scalar.length, node->data.scalar.value, node->data.scalar.style);
-        if (node->type == YAML_SEQUENCE_NODE) {
-            tell(told, " %d", node->data.sequence.style);
-            for (const int *item = node->data.sequence.items.start; item != node->data.sequence.items.top; item++)
-                tell(told, " %d", *item);
-        }
-        if (node->type == YAML_MAPPING_NODE) {
-            tell(told, " %d", node->data.mapping.style);
-            for (const yaml_node_pair_t *pair = node->data.mapping.pairs.start; pair != node->data.mapping.pairs.top; pair++)
-                tell(told, " %d:%d", pair->key, pair->value);
-        }
-    }
-    tell(told, "\n");
+            tell_to(told, end_of(told), node->data.scalar.value, node->data.scalar.length);
 }
 
 static void tell_error(struct told *told, const yaml_parser_t *parser)

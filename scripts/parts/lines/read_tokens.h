@@ -4,53 +4,16 @@
  * A line is read once, from the left: each reader takes the place where its field begins, and returns where
  * it ended. A line stands in the buffer with its line feed, which is in no field, so readers stop there by
  * themselves. `SLACK` bytes follow the lines, so words of a fixed length can be looked at anywhere. */
-#include <stdint.h>
-#include <stdio.h>
-#include <stdlib.h>
-#include <string.h>
-#include <unistd.h>
-#include <yaml.h>
+#include "bytes.h"
 
 enum { MAX_LINE = 1048576, MOST_READ = 1 << 16, SLACK = 32 };
-
-_Static_assert(__BYTE_ORDER__ == __ORDER_LITTLE_ENDIAN__, "a word's lowest byte comes first");
-
-static _Noreturn void quit(const char *why)
-{
-    fprintf(stderr, "%s\n", why);
-    exit(3);
-}
 
 #ifndef bad_line
 #define bad_line quit
 #endif
 
-/* What a zero byte becomes within a text that libyaml keeps as a C string, which ends there otherwise: a byte that no UTF-8 text has. */
-enum { ZERO_BYTE = 0xFF };
+/* What a zero byte becomes within a text that libyaml keeps as a C string, which ends there otherwise. */
 static yaml_char_t zero_byte;
-
-/* ---- Words of eight bytes ---- */
-
-#define EACH_BYTE(byte) (UINT64_C(0x0101010101010101) * (byte))
-
-static inline uint64_t load_word(const yaml_char_t *at)
-{
-    uint64_t word;
-
-    memcpy(&word, at, sizeof word);
-    return word;
-}
-
-/* The highest bit of each byte that isn't clean: up to hexadecimal 20, `%`, or above 7E. */
-static inline uint64_t unclean_bytes(uint64_t word)
-{
-    uint64_t low = word & EACH_BYTE(0x7F);
-    uint64_t above_space = low + EACH_BYTE(0x7F - 0x20);
-    uint64_t no_percent = (low ^ EACH_BYTE('%')) + EACH_BYTE(0x7F);
-    uint64_t above_tilde = (low + EACH_BYTE(1)) | word;
-
-    return ~(above_space & no_percent & ~above_tilde) & EACH_BYTE(0x80);
-}
 
 /* ---- Fields ---- */
 

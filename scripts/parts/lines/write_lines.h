@@ -1,4 +1,7 @@
-/* The lines of events and documents (docs/DEFINITIONS.md, "Lines" and "Document text"), of libyaml's values. */
+/* The lines of events and documents (docs/DEFINITIONS.md, "Lines" and "Document text"), of libyaml's values, on standard output, or
+ * where the `with_room` of a program leads that defines OWN_ROOM. */
+#include "bytes.h"
+
 /* A word as it is written, with the space before it if it has one. */
 typedef struct {
     char bytes[16];
@@ -27,6 +30,9 @@ static const word_t SCALAR_STYLES[] = {
  * has between these takes less than `REST`. */
 enum { SIZE = 1 << 16, PIECE = 1024, REST = 1024 };
 
+#ifdef OWN_ROOM
+static yaml_char_t *with_room(yaml_char_t *at);
+#else
 static yaml_char_t output[SIZE + 3 * PIECE + REST];
 static yaml_char_t *const output_full = output + SIZE;
 
@@ -40,13 +46,14 @@ static void flush(const yaml_char_t *end)
     }
 }
 
-static inline yaml_char_t *make_room(yaml_char_t *at)
+static inline yaml_char_t *with_room(yaml_char_t *at)
 {
     if (at < output_full)
         return at;
     flush(at);
     return output;
 }
+#endif
 
 static inline yaml_char_t *put_byte(yaml_char_t *at, char byte)
 {
@@ -62,7 +69,7 @@ static inline yaml_char_t *put_word(yaml_char_t *at, const word_t *word)
 
 static inline yaml_char_t *put_flag(yaml_char_t *at, int flag)
 {
-    return put_byte(put_byte(at, ' '), flag ? '1' : '0');
+    return put_byte(put_byte(at, ' '), (char)('0' + flag));
 }
 
 /* A number's digits, the last one before `end`; returns where they begin. */
@@ -171,7 +178,7 @@ static yaml_char_t *put_bytes(yaml_char_t *at, const yaml_char_t *text, size_t l
         } else {
             at = put_escaped(at, text, piece);
         }
-        at = make_room(at);
+        at = with_room(at);
         text += piece;
         length -= piece;
     } while (length > 0);
@@ -252,7 +259,7 @@ static inline yaml_char_t *put_event_fields(yaml_char_t *at, const yaml_event_t 
 
 static inline yaml_char_t *put_event(yaml_char_t *at, const yaml_event_t *event)
 {
-    at = put_word(make_room(at), &EVENT_NAMES[event->type]);
+    at = put_word(with_room(at), &EVENT_NAMES[event->type]);
     at = put_marks(at, &event->start_mark, &event->end_mark);
     return put_byte(put_event_fields(at, event), '\n');
 }
@@ -270,14 +277,14 @@ static inline yaml_char_t *put_content(yaml_char_t *at, const yaml_node_t *node)
         const yaml_node_item_t *item = node->data.sequence.items.start, *end = node->data.sequence.items.top;
         at = put_word(at, &COLLECTION_STYLES[node->data.sequence.style]);
         for (at = put_number(put_byte(at, ' '), (uint64_t)(end - item)); item < end; item++)
-            at = make_room(put_int(put_byte(at, ' '), *item));
+            at = with_room(put_int(put_byte(at, ' '), *item));
         return at;
     }
     const yaml_node_pair_t *pair = node->data.mapping.pairs.start, *end = node->data.mapping.pairs.top;
     at = put_word(at, &COLLECTION_STYLES[node->data.mapping.style]);
     for (at = put_number(put_byte(at, ' '), (uint64_t)(end - pair)); pair < end; pair++) {
         at = put_int(put_byte(at, ' '), pair->key);
-        at = make_room(put_int(put_byte(at, ':'), pair->value));
+        at = with_room(put_int(put_byte(at, ':'), pair->value));
     }
     return at;
 }
@@ -286,7 +293,7 @@ static yaml_char_t *put_document(yaml_char_t *at, const yaml_document_t *documen
 {
     static const word_t name = WORD("DOCUMENT");
 
-    at = put_word(make_room(at), &name);
+    at = put_word(with_room(at), &name);
     at = put_marks(at, &document->start_mark, &document->end_mark);
     at = put_flag(at, document->start_implicit);
     at = put_flag(at, document->end_implicit);
@@ -294,7 +301,7 @@ static yaml_char_t *put_document(yaml_char_t *at, const yaml_document_t *documen
                         document->tag_directives.end);
     at = put_byte(at, '\n');
     for (const yaml_node_t *node = document->nodes.start; node < document->nodes.top; node++) {
-        at = put_number(make_room(at), (uint64_t)(node - document->nodes.start) + 1);
+        at = put_number(with_room(at), (uint64_t)(node - document->nodes.start) + 1);
         at = put_word(at, &NODE_NAMES[node->type]);
         at = put_marks(at, &node->start_mark, &node->end_mark);
         at = put_text(at, node->tag);
