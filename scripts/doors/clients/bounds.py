@@ -18,6 +18,7 @@ Run by clients.sh.
 """
 import os
 import random
+import re
 import sys
 
 import yaml
@@ -90,10 +91,7 @@ def write(folder, count, seed):
 
 # ---- Reading, in lines that begin as those of events.c ----
 
-KINDS = {kind: number for number, kind in enumerate(
-    (yaml.StreamStartEvent, yaml.StreamEndEvent, yaml.DocumentStartEvent, yaml.DocumentEndEvent, yaml.AliasEvent, yaml.ScalarEvent,
-     yaml.SequenceStartEvent, yaml.SequenceEndEvent, yaml.MappingStartEvent, yaml.MappingEndEvent), 1)}
-STARTS, ENDS, ALIAS, SCALAR = (7, 9), (8, 10), 5, 6
+STARTS, ENDS = ("SEQUENCE-START", "MAPPING-START"), ("SEQUENCE-END", "MAPPING-END")
 ERRORS = {yaml.reader.ReaderError: 2, yaml.scanner.ScannerError: 3, yaml.parser.ParserError: 4, yaml.composer.ComposerError: 5}
 
 
@@ -137,10 +135,11 @@ def read(loader, what, depth, nodes, expanded):
                 text = file.read()
             if what == "events":
                 for it in yaml.parse(text, Bounded):
-                    print(KINDS[type(it)], place(it.start_mark), place(it.end_mark), f"{it.anchor}." if getattr(it, "anchor", None) else "-")
+                    kind = re.sub(r"(?<=[a-z])(?=[A-Z])", "-", type(it).__name__.replace("Event", "")).upper()
+                    print(kind, place(it.start_mark), place(it.end_mark), f"={it.anchor}" if getattr(it, "anchor", None) else "-")
             else:
                 for root in yaml.compose_all(text, Bounded):
-                    print("document")
+                    print("DOCUMENT")
                     print("\n".join(listed(root)))
         except yaml.YAMLError as failure:
             print(told(failure))
@@ -182,14 +181,14 @@ class Document:
     def take(self, kind, start, anchor):
         """Takes an event that is a node or an alias; returns whether it is no error of another kind, which ends a load."""
         is_known = anchor in self.anchors
-        if self.loads and kind == ALIAS and not is_known:
+        if self.loads and kind == "ALIAS" and not is_known:
             return False
         if self.open:
             entry = self.open[-1]
             if not (entry["is_mapping"] and entry["parts"] % 2) and entry["parts"] // (1 + entry["is_mapping"]) == self.most:
                 raise Stops(5, "found too many nodes", start)
             entry["parts"] += 1
-        if kind != ALIAS:
+        if kind != "ALIAS":
             if self.left == 0:
                 raise Stops(5, "found too many nodes", start)
             if self.loads and is_known:
@@ -223,22 +222,22 @@ def sizes_of(events):
     the last node that has it, and an alias without one is none: a load ends there."""
     documents, children, carriers, open_ = [], [], {}, []
     for line in events:
-        words = line.split()
-        if words[0] in ("3", "error"):
+        kind, *words = line.split()
+        if kind in ("DOCUMENT-START", "error"):
             documents.append([])
             children, carriers, open_ = [], {}, []
-        elif int(words[0]) in ENDS:
+        elif kind in ENDS:
             open_.pop()
-        elif int(words[0]) in (ALIAS, SCALAR, *STARTS):
-            anchor, node = words[3], len(children)
-            if int(words[0]) == ALIAS:
+        elif kind in ("ALIAS", "SCALAR", *STARTS):
+            anchor, node = words[2], len(children)
+            if kind == "ALIAS":
                 node = carriers.get(anchor)
             else:
                 children.append([])
                 carriers[anchor] = node
             if open_ and node is not None:
                 children[open_[-1]].append(node)
-            if int(words[0]) in STARTS:
+            if kind in STARTS:
                 open_.append(node)
             documents[-1].append(tree_of(0, children, {}, frozenset()) if children else 0)
     return documents
@@ -254,7 +253,7 @@ def wanted(events, free, opens, sizes, bounds, loads):
             words = line.split()
             if words[0] == "error":
                 return free
-            kind, start, end, anchor = int(words[0]), words[1], words[2], words[3] if len(words) > 3 else "-"
+            kind, start, end, anchor = words[:4] if len(words) > 3 else [*words, "-"]
             if kind in STARTS:
                 at = opens.get((kind, end))
                 if at is not None and sum(collections) == depth:
@@ -262,19 +261,19 @@ def wanted(events, free, opens, sizes, bounds, loads):
                 collections.append(at is not None)
             elif kind in ENDS:
                 collections.pop()
-            if kind == 3:
+            if kind == "DOCUMENT-START":
                 document = Document(nodes, expanded, iter(sizes[ended]), loads)
-            elif kind == 4:
+            elif kind == "DOCUMENT-END":
                 ended += 1
             elif kind in ENDS:
                 document.open.pop()
-            elif kind in (ALIAS, SCALAR, *STARTS) and not document.take(kind, start, anchor) and loads:
+            elif kind in ("ALIAS", "SCALAR", *STARTS) and not document.take(kind, start, anchor) and loads:
                 return free
             given.append(line)
     except Stops as stop:
         number, *words = stop.args
         if loads:
-            places = [number for number, line in enumerate(free) if line.startswith(("document", "error"))] + [len(free)]
+            places = [number for number, line in enumerate(free) if line.startswith(("DOCUMENT", "error"))] + [len(free)]
             given = free[:places[ended]]
         return given + ["error %d %s %s - 0:0:0" % (number if loads else 4, *words)]
     return free

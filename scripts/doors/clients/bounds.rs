@@ -11,6 +11,11 @@ use std::mem::MaybeUninit;
 use std::{env, fs, io};
 use unsafe_libyaml::*;
 
+const NAMES: [&str; 11] = [
+    "NO-EVENT", "STREAM-START", "STREAM-END", "DOCUMENT-START", "DOCUMENT-END", "ALIAS", "SCALAR", "SEQUENCE-START", "SEQUENCE-END",
+    "MAPPING-START", "MAPPING-END",
+];
+
 fn place(mark: yaml_mark_t) -> String {
     format!("{}:{}:{}", mark.index, mark.line, mark.column)
 }
@@ -30,12 +35,12 @@ unsafe fn put_event(event: &yaml_event_t) {
         YAML_MAPPING_START_EVENT => event.data.mapping_start.anchor,
         _ => std::ptr::null_mut(),
     };
-    let anchor = text(anchor.cast()) + if anchor.is_null() { "" } else { "." };
-    println!("{} {} {} {anchor}", event.type_ as u32, place(event.start_mark), place(event.end_mark));
+    let anchor = if anchor.is_null() { "-".to_owned() } else { format!("={}", text(anchor.cast())) };
+    println!("{} {} {} {anchor}", NAMES[event.type_ as usize], place(event.start_mark), place(event.end_mark));
 }
 
 unsafe fn put_nodes(document: &yaml_document_t) {
-    println!("document");
+    println!("DOCUMENT");
     let mut node = document.nodes.start;
     while node != document.nodes.top {
         println!("{} {} {}", (*node).type_ as u32, place((*node).start_mark), place((*node).end_mark));

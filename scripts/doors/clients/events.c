@@ -1,6 +1,6 @@
 /* What libyaml's parser gives, for clients.sh, plainly and over bindings/c/libyaml_proved.c:
  *
- *     events files < NAMES     each event of each file that a line of the input names, all fields
+ *     events files < NAMES     each event of each file that a line of the input names, in its line (docs/DEFINITIONS.md, "Lines")
  *     events nodes < NAMES     each node of their documents, by yaml_parser_load
  *     events names < NAMES     the place of each file's error, by events and by nodes, its words, and what it is about, over that
  *     events pipe < YAML       the kind of each event of the input, as soon as it is there
@@ -15,104 +15,56 @@
 #include <unistd.h>
 #include <yaml.h>
 
-static void put_mark(yaml_mark_t mark)
+#define OWN_ROOM
+#include "../../parts/lines/write_lines.h"
+
+enum { FULL = 1 << 16 };
+static yaml_char_t room[FULL + 3 * PIECE + REST];
+
+static void print_to(const yaml_char_t *end)
+{
+    fwrite(room, 1, (size_t)(end - room), stdout);
+}
+
+static yaml_char_t *with_room(yaml_char_t *at)
+{
+    if (at < room + FULL)
+        return at;
+    print_to(at);
+    return room;
+}
+
+/* A text of so many bytes has a zero byte after it. */
+static void check_end(const yaml_char_t *text, size_t length)
+{
+    if (text[length] != '\0')
+        puts("no zero byte");
+}
+
+static void print_event(const yaml_event_t *event)
+{
+    print_to(put_event(room, event));
+    if (event->type == YAML_SCALAR_EVENT)
+        check_end(event->data.scalar.value, event->data.scalar.length);
+}
+
+static void print_document(const yaml_document_t *document)
+{
+    print_to(put_document(room, document));
+    for (yaml_node_t *node = document->nodes.start; node != document->nodes.top; node++)
+        if (node->type == YAML_SCALAR_NODE)
+            check_end(node->data.scalar.value, node->data.scalar.length);
+}
+
+static void print_mark(yaml_mark_t mark)
 {
     printf(" %zu:%zu:%zu", mark.index, mark.line, mark.column);
-}
-
-static void put_bytes(const yaml_char_t *bytes, size_t length)
-{
-    putchar(' ');
-    for (size_t i = 0; i < length; i++)
-        if (bytes[i] <= ' ' || bytes[i] == '%' || bytes[i] > '~')
-            printf("%%%02X", bytes[i]);
-        else
-            putchar(bytes[i]);
-    fputs(bytes[length] == '\0' ? "." : " without a zero byte", stdout);
-}
-
-static void put_text(const yaml_char_t *text)
-{
-    if (text == NULL)
-        fputs(" -", stdout);
-    else
-        put_bytes(text, strlen((const char *)text));
-}
-
-static void put_document_start(const yaml_event_t *event)
-{
-    const yaml_version_directive_t *version = event->data.document_start.version_directive;
-    const yaml_tag_directive_t *tag = event->data.document_start.tag_directives.start;
-
-    printf(" %d", event->data.document_start.implicit);
-    if (version != NULL)
-        printf(" %d.%d", version->major, version->minor);
-    for (; tag != event->data.document_start.tag_directives.end; tag++) {
-        put_text(tag->handle);
-        put_text(tag->prefix);
-    }
-}
-
-static void put_scalar(const yaml_event_t *event)
-{
-    put_text(event->data.scalar.anchor);
-    put_text(event->data.scalar.tag);
-    put_bytes(event->data.scalar.value, event->data.scalar.length);
-    printf(" %d %d %d", event->data.scalar.plain_implicit, event->data.scalar.quoted_implicit, event->data.scalar.style);
-}
-
-static void put_event(const yaml_event_t *event)
-{
-    printf("%d", event->type);
-    put_mark(event->start_mark);
-    put_mark(event->end_mark);
-    if (event->type == YAML_STREAM_START_EVENT)
-        printf(" %d", event->data.stream_start.encoding);
-    else if (event->type == YAML_DOCUMENT_START_EVENT)
-        put_document_start(event);
-    else if (event->type == YAML_DOCUMENT_END_EVENT)
-        printf(" %d", event->data.document_end.implicit);
-    else if (event->type == YAML_ALIAS_EVENT)
-        put_text(event->data.alias.anchor);
-    else if (event->type == YAML_SCALAR_EVENT)
-        put_scalar(event);
-    else if (event->type == YAML_SEQUENCE_START_EVENT || event->type == YAML_MAPPING_START_EVENT) {
-        /* the two have one layout */
-        put_text(event->data.sequence_start.anchor);
-        put_text(event->data.sequence_start.tag);
-        printf(" %d %d", event->data.sequence_start.implicit, event->data.sequence_start.style);
-    }
-    putchar('\n');
-}
-
-static void put_node(const yaml_node_t *node)
-{
-    printf("%d", node->type);
-    put_mark(node->start_mark);
-    put_mark(node->end_mark);
-    put_text(node->tag);
-    if (node->type == YAML_SCALAR_NODE)
-        put_bytes(node->data.scalar.value, node->data.scalar.length);
-    else if (node->type == YAML_SEQUENCE_NODE)
-        for (yaml_node_item_t *item = node->data.sequence.items.start; item != node->data.sequence.items.top; item++)
-            printf(" %d", *item);
-    else
-        for (yaml_node_pair_t *pair = node->data.mapping.pairs.start; pair != node->data.mapping.pairs.top; pair++)
-            printf(" %d:%d", pair->key, pair->value);
-    putchar('\n');
-}
-
-static void put_document(const yaml_document_t *document)
-{
-    printf("document %d %d\n", document->start_implicit, document->end_implicit);
-    for (yaml_node_t *node = document->nodes.start; node != document->nodes.top; node++)
-        put_node(node);
 }
 
 static const char *(*name_of)(const yaml_parser_t *);
 static const char *what;  /* the parser is of this, if names are wanted */
 
-static void put_name(const yaml_parser_t *parser)
+static void print_name(const yaml_parser_t *parser)
 {
     const char *name = name_of(parser);
 
@@ -120,16 +72,16 @@ static void put_name(const yaml_parser_t *parser)
         printf("%s %zu %s | %s\n", what, parser->problem_mark.index, parser->problem, name == NULL ? "-" : name);
 }
 
-static void put_error(const yaml_parser_t *parser)
+static void print_error(const yaml_parser_t *parser)
 {
     if (name_of != NULL) {
-        put_name(parser);
+        print_name(parser);
         return;
     }
     printf("error %d %s", parser->error, parser->problem ? parser->problem : "-");
-    put_mark(parser->problem_mark);
+    print_mark(parser->problem_mark);
     printf(" %s", parser->context ? parser->context : "-");
-    put_mark(parser->context_mark);
+    print_mark(parser->context_mark);
     printf(" %zu %d\n", parser->problem_offset, parser->problem_value);
 }
 
@@ -142,7 +94,7 @@ static long parse(yaml_parser_t *parser, void (*put)(const yaml_event_t *))
 
     do {
         if (!yaml_parser_parse(parser, &event)) {
-            put_error(parser);
+            print_error(parser);
             return count;
         }
         if (put != NULL)
@@ -163,7 +115,7 @@ static long load(yaml_parser_t *parser, void (*put)(const yaml_document_t *))
 
     do {
         if (!yaml_parser_load(parser, &document)) {
-            put_error(parser);
+            print_error(parser);
             return count;
         }
         if (put != NULL)
@@ -189,7 +141,7 @@ static int each_file(int by_nodes)
             return 3;
         yaml_parser_set_input_file(&parser, file);
         printf("file %s\n", name);
-        count += by_nodes ? load(&parser, put_document) : parse(&parser, put_event);
+        count += by_nodes ? load(&parser, print_document) : parse(&parser, print_event);
         yaml_parser_delete(&parser);
         fclose(file);
         files++;
@@ -248,7 +200,7 @@ static int read_all(void *data, unsigned char *buffer, size_t size, size_t *got)
     return 1;
 }
 
-static void put_kind(const yaml_event_t *event)
+static void print_kind(const yaml_event_t *event)
 {
     printf("%d\n", event->type);
     fflush(stdout);
@@ -276,7 +228,7 @@ static int input(const char *how)
     if (!yaml_parser_initialize(&parser))
         return 3;
     yaml_parser_set_input(&parser, strcmp(how, "late") == 0 ? read_all : read_some, NULL);
-    long count = is_loads ? load(&parser, NULL) : parse(&parser, is_memory ? NULL : put_kind);
+    long count = is_loads ? load(&parser, NULL) : parse(&parser, is_memory ? NULL : print_kind);
     yaml_parser_delete(&parser);
     if (is_memory || is_loads)
         printf("%ld %ld\n", count, peak());

@@ -134,7 +134,7 @@ def wanted_of(free, text, loads, is_turned):
     if not found:
         return free, False
     count, first, second = found
-    starts = [at for at, line in enumerate(free) if not loads or line.startswith("document")] + [len(free)] * 2
+    starts = [at for at, line in enumerate(free) if not loads or line.startswith("DOCUMENT")] + [len(free)] * 2
     before = [line for line in free[:starts[count]] if not line.startswith("error ")]
     if is_turned:
         first, second = second, first
