@@ -60,18 +60,19 @@ def shown(path, refused):
 
 
 def idle(found):
-    """The mutants that show nothing that no other shows and have no line `kept:`, and those that have it without need."""
+    """The mutants that show nothing that no other shows and have no line `kept:`, or have one without need."""
     shows = {name_of(path): shown(path, found[name_of(path)]["refused"]) for path in mutants()}
     counts = Counter(clause for name, clauses in shows.items() if "kept" not in found[name] for clause in clauses)
     for name, clauses in shows.items():
         is_kept = "kept" in found[name]
         if all(counts[clause] > (not is_kept) for clause in clauses) != is_kept:
-            yield f"docs/mutants.txt: {name} shows " + ("what no other shows: its line `kept:` goes" if is_kept else "nothing that no other shows")
+            says = "what no other shows: its line `kept:` goes" if is_kept else "nothing that no other shows"
+            yield f"docs/mutants.txt: {name} shows {says}"
 
 
 def wrong_lines():
-    """What is wrong with the file: a mutant of which it doesn't say enough, one that isn't there, or one that shows nothing of its own."""
+    """What is wrong with the file: mutants of which it doesn't say enough, that aren't there, or show nothing more."""
     found, there = said()[1], [name_of(path) for path in mutants()]
-    wrong = [f"{name} has no line `{key}:`" for name in there for key in ("seen", "refused") if key not in found.get(name, {})]
+    wrong = [f"{name} has no line `{key}:`" for name in there for key in KEYS[1:3] if key not in found.get(name, {})]
     wrong += [f"{name} is no mutant" for name in found if name not in there]
     return [f"docs/mutants.txt: {one}" for one in wrong] or list(idle(found))

@@ -31,7 +31,8 @@ class Pages(dict):
 def first_other(was, now):
     """The first line that differs, by its number."""
     pairs = zip_longest(was.split("\n"), now.split("\n"), fillvalue="nothing")
-    return next(f"{number}: {one}\n    and not: {other}" for number, (one, other) in enumerate(pairs, 1) if one != other)
+    number, (one, other) = next(pair for pair in enumerate(pairs, 1) if len(set(pair[1])) > 1)
+    return f"{number}: {one}\n    and not: {other}"
 
 
 def main(words):
@@ -45,7 +46,8 @@ def main(words):
             wrong.append(f"{path.relative_to(TOP)}:{first_other(was[path], text)}")
         else:
             path.write_text(text)
-    print("\n".join([*wrong, "python3 scripts/pages.py writes the pages"] if words and others else wrong), end="\n" if wrong else "")
+    wrong += ["python3 scripts/pages.py writes the pages"] if words and others else []
+    print("\n".join(wrong), end="\n" if wrong else "")
     return 1 if wrong else 0
 
 

@@ -1,5 +1,6 @@
-/* What `yamltokens` does, by libyaml's own parser and loader: token lines on standard input, the lines of events or of documents on
- * standard output. Built with -DBY_RULES (run.sh), it differs nowhere from this repository; without (bench/run.sh), wherever libyaml does. */
+/* What `yamltokens` does, by libyaml's own parser and loader: token lines on standard input, the lines of events or of
+ * documents on standard output. Built with -DBY_RULES (run.sh), it differs nowhere from this repository; without
+ * (bench/run.sh), wherever libyaml does. */
 #include <setjmp.h>
 
 #ifndef BY_RULES

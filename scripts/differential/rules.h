@@ -1,7 +1,7 @@
 /* The rules of docs/DIFFERENCES.md, "Other events", around libyaml's parser over token lines, for libyaml_lines.c.
  *
- * libyaml's loader calls yaml_parser_parse, which the linker leads here (--wrap): before libyaml's parser is called, each rule looks
- * whether the state and the next token are its own. */
+ * libyaml's loader calls yaml_parser_parse, which the linker leads here (--wrap): before libyaml's parser is called,
+ * each rule looks whether the state and the next token are its own. */
 
 /* In the order of that page. */
 enum rule { PAIR_KEY, VALUE_FIRST, BARE_DOCUMENT, EMPTY_PLACE, ZERO_BYTES, RULES };

@@ -2,7 +2,8 @@
 """Fails if a crate
 
 - is listed on another's line of crates.txt, and no file of that one names it;
-- names a proof of another crate of the repository that isn't in its `proofs/exported`, or, in `specs/`, any proof of the repository;
+- names a proof of another crate of the repository that isn't in its `proofs/exported`, or, in `specs/`, any proof of the
+  repository;
 - has something in `proofs/exported` that no other crate names.
 
     python3 scripts/gate/between_crates.py
@@ -37,7 +38,8 @@ def main():
             used |= {(owner, module)} - {(crate, module)}
             if owner in CRATES and (room == "specs" or owner != crate and not module.startswith("exported.")):
                 wrong.append(f"{path.relative_to(TOP)} names {module} of the proofs of {owner}")
-    wrong += [f"crates.txt: {crate} lists {name}, which it does not use" for crate in CRATES for name in CRATES[crate] if name not in words[crate]]
+    unused = ((crate, name) for crate in CRATES for name in CRATES[crate] if name not in words[crate])
+    wrong += [f"crates.txt: {crate} lists {name}, which it does not use" for crate, name in unused]
     for path in sorted(TOP.glob("crates/*/proofs/exported/*.antt")):
         if (path.parts[-4], "exported." + path.stem) not in used:
             wrong.append(f"{path.relative_to(TOP)} is named by no other crate")

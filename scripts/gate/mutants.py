@@ -1,7 +1,7 @@
 #!/usr/bin/env python3
-"""Fails if docs/mutants.txt doesn't say where a mutant is seen and what refuses it, or names one that isn't there; if a mutant shows nothing that
-no other shows; or if an equivalent mutant of `controls/`, or a leak of leaks_seen.py, changes text that the code no longer has: these are
-tried by hand, and would go stale unseen.
+"""Fails if docs/mutants.txt doesn't say where a mutant is seen and what refuses it, or names one that isn't there; if a
+mutant shows nothing that no other shows; or if an equivalent mutant of `controls/`, or a leak of leaks_seen.py, changes
+text that the code no longer has: these are tried by hand, and would go stale unseen.
 
     python3 scripts/gate/mutants.py
 
@@ -27,7 +27,8 @@ def stale(make, *words):
 def main():
     crates = TOP / "crates"
     found = [*wrong_lines(), *(said for leak in LEAKS for said in stale(planted, leak, crates))]
-    found += [said for mutant in sorted(crates.glob("*/controls/*.edit")) for said in stale(mutated, mutant.parents[1], mutant)]
+    for mutant in sorted(crates.glob("*/controls/*.edit")):
+        found += stale(mutated, mutant.parents[1], mutant)
     sys.exit("\n".join(found) or 0)
 
 

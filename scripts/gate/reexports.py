@@ -14,14 +14,10 @@ from pathlib import Path
 
 TOP = Path(__file__).resolve().parents[2]
 sys.path.insert(0, str(TOP / "scripts/parts"))
-from sources import CRATES, WORD, closure, imports, read_specs, reexports  # noqa: E402
+from sources import CRATES, WORD, closure, imports, read_specs, reexports, sources  # noqa: E402
 
 FACADES = ["unsafe_libyaml", "token_lines"]
 ITEM = r"^pub (?:const )?(?:fn|struct|enum|trait|const|type) {}\b"
-
-
-def sources(crate):
-    return sorted((TOP / "crates" / crate / "src").rglob("*.rt"))
 
 
 def module_files(crate, path):

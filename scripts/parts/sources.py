@@ -25,6 +25,11 @@ def layers():
 CRATES = {name: listed for _, layer in layers() for name, listed in layer.items()}
 
 
+def sources(crate):
+    """The files of a crate's code."""
+    return sorted((TOP / "crates" / crate / "src").rglob("*.rt"))
+
+
 def reexports(path):
     """What a file of code re-exports: the path, as words, the name there, and the name here."""
     for where, names, alias in REEXPORT.findall(path.read_text()):

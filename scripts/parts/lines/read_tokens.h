@@ -1,5 +1,5 @@
-/* Token lines on standard input, read into libyaml's tokens (docs/DEFINITIONS.md, "Lines" and "Token lines as read"). A line that is
- * none ends the program (status 3), unless `bad_line` is another macro.
+/* Token lines on standard input, read into libyaml's tokens (docs/DEFINITIONS.md, "Lines" and "Token lines as read").
+ * A line that is none ends the program (status 3), unless `bad_line` is another macro.
  *
  * A line is read once, from the left: each reader takes the place where its field begins, and returns where
  * it ended. A line stands in the buffer with its line feed, which is in no field, so readers stop there by

@@ -1,5 +1,5 @@
-/* The lines of events and documents (docs/DEFINITIONS.md, "Lines" and "Document text"), of libyaml's values, on standard output, or
- * where the `with_room` of a program leads that defines OWN_ROOM. */
+/* The lines of events and documents (docs/DEFINITIONS.md, "Lines" and "Document text"), of libyaml's values, on standard
+ * output, or where the `with_room` of a program leads that defines OWN_ROOM. */
 #include "bytes.h"
 
 /* A word as it is written, with the space before it if it has one. */

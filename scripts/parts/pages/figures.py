@@ -1,12 +1,14 @@
-"""Numbers within pages that are written by hand: FIGURES has each one's page, the words around it with N in its place, and how it is counted.
-They can't be made if no page says these words, or if a number stands before one of the words of COUNTED and isn't in FIGURES."""
+"""Numbers within pages that are written by hand: FIGURES has each one's page, the words around it with N in its
+place, and how it is counted. They can't be made if no page says these words, or if a number stands before one of the
+words of COUNTED and isn't in FIGURES."""
 import re
 
 from sources import CRATES, TOP
 
 WORDS = "none one two three four five six seven eight nine ten eleven twelve".split()
 NUMBER = rf"(\d[\d,]*|{'|'.join(WORDS)})"
-COUNTED = re.compile(rf"\b(\d[\d,]*|{'|'.join(WORDS[4:])}) (?:crates|mutants|equivalent mutants|edits|test vectors|vectors|broken texts)\b", re.IGNORECASE)
+THINGS = "crates|mutants|equivalent mutants|edits|test vectors|vectors|broken texts"
+COUNTED = re.compile(rf"\b(\d[\d,]*|{'|'.join(WORDS[4:])}) (?:{THINGS})\b", re.IGNORECASE)
 OTHERS = {"CHANGELOG.md", "WRONG_BODIES.md", "PERFORMANCE.md"}  # made by other scripts, or of earlier states
 
 
@@ -32,8 +34,8 @@ def texts_of(side):
 
 def back_bytes():
     """The bytes of the stack of states that lead back."""
-    defined = re.search(r"^is_back_byte byte = (.*(?:\n .*)*)", (TOP / "crates/libyaml_automaton/specs/Numbers.antt").read_text(), flags=re.M)[1]
-    *most, last = re.findall(r"byte == (\d+)", defined)
+    text = (TOP / "crates/libyaml_automaton/specs/Numbers.antt").read_text()
+    *most, last = re.findall(r"byte == (\d+)", re.search(r"^is_back_byte byte = (.*(?:\n .*)*)", text, flags=re.M)[1])
     return ", ".join(most) + " or " + last
 
 
@@ -48,8 +50,10 @@ FIGURES = [
     ("docs/CALLING.md", "and N from PyYAML's", lambda: texts_of("pyyaml")),
     ("docs/CALLING.md", "N ghost members", lambda: lines(r"^    ghost \w+:", "crates/libyaml_types/src/source.rt")),
     ("docs/PROVED.md", "hashes of the N enums", lambda: lines(r"^pub fn order_of_", "crates/libyaml_types/src/laws.rt")),
-    ("docs/PROVED.md", "`laws::vectors`: N test vectors", lambda: lines(r"^ +ensures ", "crates/libyaml_graphs/src/laws/vectors.rt")),
-    ("docs/PROVED.md", "N test vectors (`vectors`)", lambda: lines(r"^Vector\w* :|^abbrev pub Vector\w* :", "crates/rust_original/specs/vectors/*.antt")),
+    ("docs/PROVED.md", "`laws::vectors`: N test vectors",
+     lambda: lines(r"^ +ensures ", "crates/libyaml_graphs/src/laws/vectors.rt")),
+    ("docs/PROVED.md", "N test vectors (`vectors`)",
+     lambda: lines(r"^(?:abbrev pub )?Vector\w* :", "crates/rust_original/specs/vectors/*.antt")),
 ]
 
 
@@ -80,8 +84,9 @@ def make(pages):
             text = text[: match.start(1)] + shown_as(count(), match[1]) + text[match.end(1) :]
         pages[TOP / name] = text
     proved = TOP / "docs/PROVED.md"
-    pages[proved], count = re.subn(r"[\d, ]+ or \d+(?=: a state to which a parser goes back)", f" {back_bytes()}", pages[proved])
+    listed = r"[\d, ]+ or \d+(?=: a state to which a parser goes back)"
+    pages[proved], count = re.subn(listed, f" {back_bytes()}", pages[proved])
     wrong += [] if count == 1 else ["docs/PROVED.md doesn't list the bytes of the stack of states"]
-    for page in [*TOP.glob("*.md"), *TOP.glob("docs/*.md"), *TOP.glob("*/*/README.md"), *TOP.glob("scripts/README.md")]:
+    for page in [page for form in ("*.md", "docs/*.md", "*/*/README.md", "scripts/README.md") for page in TOP.glob(form)]:
         wrong += [] if page.name in OTHERS else unknown(str(page.relative_to(TOP)), page.read_text())
     return wrong

@@ -1,5 +1,5 @@
-"""docs/layers.mmd: a picture of what each crate needs directly, without crates that one of these needs itself, those of the kit, and the
-last two layers, which are the examples, the tests and the bench."""
+"""docs/layers.mmd: a picture of what each crate needs directly, without crates that one of these needs itself, those of
+the kit, and the last two layers, which are the examples, the tests and the bench."""
 from sources import CRATES, TOP, layers
 
 

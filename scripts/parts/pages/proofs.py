@@ -1,11 +1,12 @@
-"""docs/proofs.txt: which file of proofs carries which clause: for each public function with parts of its proof written by hand
-(`Answers.antt`, `Invariants.antt`, `Proof.antt`, or lemmas that an attribute hands to the search) its clauses by the files that they cite;
-"all" if the parts are of the whole contract. Laws stand together by their file of src/laws, functions that aren't public in one line. A file
-of the crate that only other files cite is counted in its folder. A file of another crate has that crate's name before it."""
+"""docs/proofs.txt: which file of proofs carries which clause: for each public function with parts of its proof written
+by hand (`Answers.antt`, `Invariants.antt`, `Proof.antt`, or lemmas that an attribute hands to the search) its clauses by
+the files that they cite; "all" if the parts are of the whole contract. Laws stand together by their file of src/laws,
+functions that aren't public in one line. A file of the crate that only other files cite is counted in its folder. A file
+of another crate has that crate's name before it."""
 import re
 from collections import Counter, defaultdict
 
-from sources import TOP, imports
+from sources import TOP, imports, sources
 
 HEAD = """# Proofs by hand
 
@@ -69,14 +70,11 @@ class Crate:
         self.folder = folder
         self.functions, self.lemmas, self.named = {}, defaultdict(list), defaultdict(set)
         self.cites, self.traits = {}, {""}
-        public = {name for path in self.sources() for name in TYPE.findall(path.read_text())}
-        for path in self.sources():
+        public = {name for path in sources(self.folder.name) for name in TYPE.findall(path.read_text())}
+        for path in sources(self.folder.name):
             self.read(path, public)
         for path in folder.glob("proofs/**/*.antt"):
             self.cites[module_of(path, folder)] = {module for module in modules(path.read_text()).values() if is_lemmas(module)}
-
-    def sources(self):
-        return sorted((self.folder / "src").rglob("*.rt"))
 
     def read(self, path, public):
         """Which functions of a file are public, and the lemmas that its attributes hand out."""

@@ -1,14 +1,14 @@
-"""docs/surface.txt: every public item that a user of the libraries can name; first those that a program uses first, with what the doc of
-each says first if that has more than a few words and no public field or variant shows it; then the others, by their crates; each with its
-signature, its fields or its variants. docs/laws.txt: every law, with its comment, which is its statement, and the names of its clauses.
-The examples and the programs of test vectors are left out.
+"""docs/surface.txt: every public item that a user of the libraries can name; first those that a program uses first, with
+what the doc of each says first if that has more than a few words and no public field or variant shows it; then the
+others, by their crates; each with its signature, its fields or its variants. docs/laws.txt: every law, with its comment,
+which is its statement, and the names of its clauses. The examples and the programs of test vectors are left out.
 
-It can't be made if an item has no doc, one is `pub` for its crate alone, or docs/PROVED.md doesn't name a law (those of `vectors` and
-`productions` by their module)."""
+It can't be made if an item has no doc, one is `pub` for its crate alone, or docs/PROVED.md doesn't name a law (those of
+`vectors` and `productions` by their module)."""
 import re
 import textwrap
 
-from sources import CRATES, TOP, reexports
+from sources import CRATES, TOP, reexports, sources
 
 PAGE = TOP / "docs" / "surface.txt"
 CLAUSE = re.compile(r"^ +ensures (\w+) \{", re.M)
@@ -204,7 +204,7 @@ def module_files(crate, module):
 def public_of(crate):
     """Each public name of a crate: its item, or `None` where it is re-exported from another crate."""
     own = {}
-    for path in sorted((TOP / "crates" / crate / "src").rglob("*.rt")):
+    for path in sources(crate):
         for item in items_of(path):
             own.setdefault(item.name, item)
     public = {item.name: item for item in items_of(root(crate))}
@@ -234,20 +234,10 @@ def named_above(crate):
 
 
 def hidden(crate):
-    """The items, as a file, a line and a name, that say `pub` where no path from the root reaches them, and no proof above."""
+    """The names of items that say `pub` where no path from the root reaches them, and no proof above."""
     public = [*public_of(crate), *named_above(crate)]
-    for path in sorted((TOP / "crates" / crate / "src").rglob("*.rt")):
-        owner = None
-        for number, line in enumerate(path.read_text().splitlines()):
-            if match := ITEM.match(line):
-                name = match[2]
-            elif match := IMPL.match(line):
-                owner, name = None if match[2] else match[3], None
-            else:
-                match = METHOD.match(line)
-                name = f"{owner}::{match[2]}" if owner and match and match[1] else None
-            if name and not any(key == name or key.endswith("::" + name) for key in public):
-                yield path, number, name
+    names = [item.name for path in sources(crate) for item in items_of(path) if item.kind != "impl"]
+    return [name for name in names if not any(key == name or key.endswith("::" + name) for key in public)]
 
 
 def grouped(rows):
@@ -309,7 +299,7 @@ def make(pages):
     for crate in filter(is_library, CRATES):
         rows = [(name, item) for name, item in public_of(crate).items() if item is not None]
         without += [f"{crate}: {name} has no doc" for name, item in rows if not item.says and item.kind != "impl"]
-        without += [f"{crate}: {name} is no public item, so `pub(crate)`" for _, _, name in hidden(crate)]
+        without += [f"{crate}: {name} is no public item, so `pub(crate)`" for name in hidden(crate)]
         of_crate = [(name, item) for name, item in rows if LAWS.match(name)]
         laws += [(crate, of_crate)] if of_crate else []
         listed[crate] = [(name, item) for name, item in rows if not LAWS.match(name)]
