@@ -15,7 +15,8 @@ FILE - is standard input.
 
 Events and nodes are made by the program yamltokens, and are at most those of 1,000,000 tokens:
 
-  --program PATH   where it is; without it, crates/yamltokens/out/yamltokens or else the first in the path
+  --program PATH   where it is; without it, crates/yamltokens/out/yamltokens, target/release/yamltokens or else the
+                   first in the path
 
 A line of a token is 1,048,576 bytes at most, where each byte of a text that is no visible ASCII counts as three. Where
 the YAML is beyond a limit, that is no fault of the YAML: the last line says `line too long` or `too many tokens`, and
@@ -47,7 +48,8 @@ SMALL = [str(number) for number in range(1000)]
 TOKENS_AT_ONCE = 2048
 BYTES_AT_ONCE = 1 << 16
 LONGEST_FAULT = 4096
-HOW_TO_BUILD = "(cd crates/yamltokens && rt run -- events) < examples/list.tokens"
+BUILT = ("crates/yamltokens/out/yamltokens", "target/release/yamltokens")
+HOW_TO_BUILD = "(cd crates/yamltokens && rt run -- events) < examples/list.tokens; without the kit: cargo build -r"
 
 
 class WrongWords(Exception):
@@ -171,8 +173,8 @@ class Program:
     OF_DOCUMENT = re.compile(br"(?:\A|\n)(?!STREAM-|DOCUMENT-END|\Z)")
 
     def __init__(self, mode, path):
-        built = os.path.join(HERE, os.pardir, "crates", "yamltokens", "out", "yamltokens")
-        found = os.path.normpath(built) if os.path.exists(built) else "yamltokens"
+        built = [os.path.join(os.path.dirname(HERE), place) for place in BUILT]
+        found = next(filter(os.path.exists, built), "yamltokens")
         self.path = found if path is None else path
         self.mode, self.has_node, self.output = mode, False, Output()
         pipe = subprocess.PIPE
