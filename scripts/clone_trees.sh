@@ -54,6 +54,13 @@ rust_over_the_clone() {
     want 'the patch is taken' 'serde_yaml' \
         "cd app && CARGO_HOME=/srv/use/home cargo tree -q --offline -i unsafe-libyaml@0.2.12 | sed -n 's/^.── \\(serde_yaml\\) .*/\\1/p'"
     want 'the original by its commit again' '' 'mv kept clone/bindings/rust/Cargo.toml'
+
+    # The clone stands within the workspace of a program.
+    mkdir -p "$root/srv/use/texts/src"
+    printf '[package]\nname = "texts"\nversion = "0.1.0"\nedition = "2021"\n[dependencies]\npokhvizi-libyaml = { path = "clone/bindings/plain/libyaml" }\n[workspace]\n' \
+        > "$root/srv/use/texts/Cargo.toml"
+    echo 'fn main() { print!("{}", pokhvizi_libyaml::from_str("a: [b]").unwrap().text_at(&["a", "0"]).unwrap()); }' > "$root/srv/use/texts/src/main.rs"
+    want 'pokhvizi-libyaml' 'b' 'cp -R clone texts && cd texts && CARGO_HOME=/srv/use/home cargo run -q --offline'
 }
 
 if [ "${2-}" = arm64 ]; then
@@ -82,6 +89,18 @@ for program in 'python3 parse.py:8' 'ruby parse.rb:["a", "b"]'; do
     want "${program%%:*} over this libyaml" 'refused' "proved-libyaml --check ${program%%:*} 2> /dev/null || echo unused"
     want "${program%%:*} over it, with the fixes" "${program#*:}" "POKHVIZI_FIXES=1 proved-libyaml ${program%%:*}"
 done
+cat > "$root/srv/use/load.c" << 'C'
+#include <yaml.h>
+int main(void) {
+    yaml_parser_t parser;
+    yaml_document_t document;
+    yaml_parser_initialize(&parser);
+    yaml_parser_set_input_file(&parser, stdin);
+    return yaml_parser_load(&parser, &document) ? 0 : puts(parser.problem);
+}
+C
+want 'a program that links this libyaml' 'found duplicate key' 'gcc load.c -Wl,-rpath,/usr/local/lib/pokhvizi -o load \
+    $(PKG_CONFIG_PATH=/usr/local/lib/pokhvizi/pkgconfig pkg-config --cflags --libs yaml-0.1) && printf "a: 1\na: 2\n" | POKHVIZI_UNIQUE_KEYS=1 ./load'
 want 'make uninstall' '' "make -s -C clone/bindings/c BUILD=/srv/use/c PREFIX=/usr/local uninstall && find /usr/local | grep -i -e pokhvizi -e proved; true"
 
 want 'the libraries by their scripts' '' 'cd clone && sh scripts/build_plain.sh build && sh bindings/c/build_libyaml.sh build'
