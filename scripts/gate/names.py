@@ -29,25 +29,29 @@ def file_of(crate, modules):
     return next((path for path in paths if path.exists()), None)
 
 
+def text_of(crate, modules):
+    path = file_of(crate, modules)
+    return path.read_text() if path else ""
+
+
 def item(crate, modules, name):
     """The file and text of the item that this path names, or of the enum whose variant it names, or None."""
-    path = file_of(crate, modules)
-    text = path.read_text() if path else ""
+    text = text_of(crate, modules)
     if found := re.search(ITEM.format(name), text, re.M):
-        return path, found[0]
+        return file_of(crate, modules), found[0]
     for where, group in USE.findall(text):
         steps = where.split("::")
         names = re.findall(r"\w+", group) if group else [steps.pop()]
         if name in names:
             is_crate = (CRATES / steps[0]).is_dir()
             return item(*((steps[0], steps[1:]) if is_crate else (crate, modules + steps)), name)
-    enum = item(crate, modules[:-1], modules[-1]) if modules and not path else None
+    enum = item(crate, modules[:-1], modules[-1]) if modules and not text else None
     return enum if enum and name in re.findall(r"^    (\w+)", enum[1], re.M) else None
 
 
 def named(crate, modules, name):
     """The item that a user names by this path, or None."""
-    above = [file_of(crate, modules[:depth]).read_text() for depth in range(len(modules))]
+    above = (text_of(crate, modules[:depth]) for depth in range(len(modules)))
     is_open = all(f"\npub mod {module};" in text for module, text in zip(modules, above))
     return item(crate, modules, name) if is_open else None
 
