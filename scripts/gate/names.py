@@ -72,6 +72,9 @@ def calls(path, name):
 
 def lacks(kind, name, parts, path, text):
     """What an item lacks, in words, or nothing."""
+    is_item = kind not in ("has", "derives", "variant")
+    if is_item and not re.search(rf"^pub (?:const )?{kind} {name}\b", text, re.M):
+        return f"is no {kind}"
     if kind in ("struct", "enum") and members(text) != parts:
         return f"has {members(text) or 'no public field'} in place of {parts or 'private fields alone'}"
     if kind == "const" and f"{name}: {parts};" not in text:
