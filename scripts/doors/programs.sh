@@ -16,7 +16,7 @@
 #     perl      YAML::XS's tests                     libyaml-libyaml-perl libtest-deep-perl libtest-warn-perl libtest-base-perl
 #     netplan   its tests of generator and parser    netplan.io python3-pytest python3-pytest-cov
 #
-# A source is taken from the folder PROGRAM_SOURCES if it is there, where it has the name of its archive (as php-yaml's yaml-2.2.4).
+# A source is taken from the folder PROGRAM_SOURCES if it is there, under the name of its package or of its archive (as yaml-2.2.4).
 # A program that lacks something is skipped, and the script says what. The last line is `N passed, M failed, K skipped`; the status is 1
 # if one failed, 2 for wrong words. It takes some three minutes.
 #
@@ -39,12 +39,16 @@ passed=0 failed=0 skipped=0
 python=${PYTHON:-/usr/bin/python3}
 export PYTHONDONTWRITEBYTECODE=1 LC_ALL=C.UTF-8
 
-# Puts the folder of a source, whose files' names match a pattern, into `at`.
+# The last folder of a source, which has the name of its package or of its archive.
+find_source() {
+    find "${PROGRAM_SOURCES:-$work}" "$work" -maxdepth 2 -type d \( -name "$1-[0-9]*" -o -name "$2" \) 2> /dev/null | sort -V | tail -n 1
+}
+
+# Puts a copy of it into `at`.
 source_of() {
-    package=$1 pattern=$2
-    at=$(find "${PROGRAM_SOURCES:-$work}" "$work" -maxdepth 2 -type d -name "$pattern" 2> /dev/null | sort | head -n 1)
-    [ -n "$at" ] || (cd "$work" && apt-get source -q "$package") > "$work/source.log" 2>&1
-    [ -n "$at" ] || at=$(find "$work" -maxdepth 2 -type d -name "$pattern" | sort | head -n 1)
+    at=$(find_source "$1" "$2")
+    [ -n "$at" ] || (cd "$work" && apt-get source -q "$1") > "$work/source.log" 2>&1
+    at=${at:-$(find_source "$1" "$2")}
     [ -n "$at" ] || return 1
     rm -rf "$work/tree"
     cp -R "$at" "$work/tree"
@@ -131,7 +135,7 @@ test_netplan() {
     "$python" -c 'import pytest' 2> /dev/null && [ -x /lib/netplan/generate ] || { echo "netplan.io, python3-pytest"; return 3; }
     cd "$at" || return 1
     rm -f sitecustomize.py
-    [ -e netplan/_features.py ] || sh features_py_generator.sh > netplan/_features.py || return 1
+    [ -e netplan/_features.py ] || sh features_py_generator.sh > /dev/null || return 1
     run used sorted env NETPLAN_GENERATE_PATH=/lib/netplan/generate "$python" -m pytest -q -p no:cacheprovider --tb=no --no-header tests/generator tests/parser \
         tests/test_libnetplan.py tests/test_configmanager.py
 }
