@@ -673,11 +673,11 @@ static int load_checked(yaml_parser_t *parser, struct loading *loading, struct h
  * nothing has come after it. */
 static int was_start(const yaml_parser_t *parser, const struct loading *loading)
 {
-    const pokhvizi_open_t *last = &loading->stack[loading->composer.depth - 1];
+    const pokhvizi_open_t *after = loading->stack + loading->composer.depth;
 
     if (parser->error == YAML_COMPOSER_ERROR)
         return parser->token_available && STARTS >> parser->tokens.head->type & 1;
-    return loading->composer.depth != 0 && last->children == 0 && last->key == 0;
+    return after != loading->stack && after[-1].children == 0 && after[-1].key == 0;
 }
 
 /* After an error in a load: the state after the last event. */

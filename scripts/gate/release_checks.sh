@@ -60,15 +60,19 @@ for archive in "$out"/*.tar.gz; do
     tar xzf "$archive" -C "$work/unpacked"
 done
 want 'no path of this machine' '' sh -c "cd '$work/unpacked' && grep -rlE \"$top|$work|/opt/rattle\" . | head -n 3"
-notices_of() {
+# licences_in ARCHIVE: how many there are in NOTICES, and beside it of libyaml's code.
+licences_in() {
     case $1 in
     *.whl) python3 -c 'import sys, zipfile; z = zipfile.ZipFile(sys.argv[1])
-print(*[z.read(name).decode() for name in z.namelist() if name.endswith("/NOTICES")])' "$1" ;;
-    *) tar xzOf "$1" --wildcards '*/NOTICES' ;;
+print(*[z.read(name).decode() for name in z.namelist() if name.endswith(("/NOTICES", "/LICENSE.libyaml"))])' "$1" ;;
+    *) tar xzOf "$1" --wildcards '*/NOTICES' '*/LICENSE.libyaml' '*/original/LICENSE-MIT' 2> "$work/said" ;;
     esac | grep -c 'Permission is hereby granted'
 }
 for archive in "$out"/*.tar.gz "$out"/*.whl; do
-    want "licences of four ported crates in ${archive##*/}" 4 notices_of "$archive"
+    names=$(python3 -c 'import sys, tarfile, zipfile; name = sys.argv[1]
+print(*zipfile.ZipFile(name).namelist() if name.endswith(".whl") else tarfile.open(name).getnames(), sep="\n")' "$archive")
+    of_libyaml=$(echo "$names" | grep -c -m 1 -e '/libyaml-0\.so' -e '/_yaml\.abi3\.so$' -e '/original/src$')
+    want "licences of four ported crates, and of libyaml's code if it is there, in ${archive##*/}" $((4 + of_libyaml)) licences_in "$archive"
 done
 
 # ---- C ----
@@ -200,7 +204,13 @@ if [ -e "$installed/lib/pokhvizi/libyaml.a" ]; then
     gcc -O2 -static use.c -o static -L"$installed/lib/pokhvizi" -lyaml || complain "use.c, statically over the proved libyaml"
     want 'a program that contains the proved libyaml' "proved-libyaml: ./static used the proved parser, Pokhvizi $version" "$starter" --check ./static
 fi
-make -s -C "unpacked/pokhvizi-$version-x86_64-linux" PREFIX="$PWD/system" install-libyaml
+library=$PWD/system/lib/libyaml-0.so.2
+for again in first second; do
+    make -s -C "unpacked/pokhvizi-$version-x86_64-linux" PREFIX="$PWD/system" install-libyaml
+    [ $again = second ] || exec 9< "$library"
+done
+want 'a library in use, which another takes the place of' no sh -c "[ /proc/self/fd/9 -ef '$library' ] || echo no"
+exec 9<&-
 want 'libyaml where programs look for it' "$PWD/system/lib/libyaml-0.so.2" sh -c "LD_LIBRARY_PATH='$PWD/system/lib' ldd ./use | sed -n 's/.*libyaml-0.so.2 => \\([^ ]*\\).*/\\1/p'"
 make -s -C "unpacked/pokhvizi-$version-x86_64-linux" PREFIX="$PWD/system" uninstall-libyaml
 want 'what uninstalling libyaml leaves' '' find "$PWD/system" ! -type d
