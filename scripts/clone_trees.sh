@@ -40,7 +40,7 @@ git clone -q --no-hardlinks . "$root/srv/use/clone"
 # ---- Rust ----
 
 rust_over_the_clone() {
-    want 'the crate, by plain_rust.sh' '0 wrong' "cd clone && sh scripts/gate/plain_rust.sh > ../said 2>&1; tail -n 1 ../said | grep -o -w '0 wrong' || cat ../said"
+    want 'the crate, by plain_rust.sh' '0 wrong' "cd clone && sh scripts/gate/plain_rust.sh > ../said 2>&1; tail -n 1 ../said | grep -o '0 wrong.*' || cat ../said"
 
     crates_of_tree
     want 'the original from a folder' '' "sh clone/scripts/parts/rust_manifest.sh /usr/share/cargo/registry/unsafe-libyaml-0.2.11 ../.. > Cargo.toml &&

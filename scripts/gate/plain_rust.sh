@@ -9,7 +9,7 @@
 # in two lines parses and loads. A line of a list that is
 # changed there must fail the test, and a construct that isn't known must end the build with its file and
 # line. What is left out is what left_out.py finds. Runs the tests of pokhvizi-libyaml, and the examples over it, if the crate unsafe-libyaml 0.2.11 is in the folder that CLIENT_CRATES
-# names or /usr/share/cargo/registry. Last it builds C's library by build_plain.sh, and runs the samples of
+# names or /usr/share/cargo/registry, and else says so in the last line. Last it builds C's library by build_plain.sh, and runs the samples of
 # yaml.c over it.
 #
 # The status is 0 if all is as it should be. Needs what build_plain.sh needs.
@@ -169,6 +169,7 @@ YAML
 # ---- libyaml's scanner before it ----
 
 crates=$(realpath "${CLIENT_CRATES:-/usr/share/cargo/registry}" 2> /dev/null || true)
+without=
 if [ -d "$crates/unsafe-libyaml-0.2.11" ]; then
     mkdir "$work/home"
     printf '[source.crates-io]\nreplace-with = "debian"\n[source.debian]\ndirectory = "%s"\n' "$crates" > "$work/home/config.toml"
@@ -185,7 +186,7 @@ if [ -d "$crates/unsafe-libyaml-0.2.11" ]; then
         fi
     done
 else
-    echo "unsafe-libyaml 0.2.11 isn't there"
+    without="; not run: pokhvizi-libyaml and its examples, since unsafe-libyaml 0.2.11 isn't there"
 fi
 
 # ---- C ----
@@ -203,5 +204,5 @@ else
     cat "$work/said"
     complain "build_plain.sh"
 fi
-echo "$passed tests, $(echo "$sources" | grep -c '\.rt$') sources, $(wc -c < "$work/c/libpokhvizi.a") bytes of library; $wrong wrong"
+echo "$passed tests, $(echo "$sources" | grep -c '\.rt$') sources, $(wc -c < "$work/c/libpokhvizi.a") bytes of library; $wrong wrong$without"
 [ $wrong -eq 0 ]
