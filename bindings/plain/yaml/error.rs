@@ -77,16 +77,21 @@ impl Error {
             let (kind, expected) = (token.type_(), parser.expected());
             let next = match &token.content {
                 TokenData::Tag(tag) => Text::from_str(Global, &tag.handle).ok(),
+                TokenData::TagDirective(tag) => Text::from_str(Global, &tag.handle).ok(),
                 _ => None,
             };
             events.clear();
             match parser.push(token, &mut events) {
                 Ok(()) if expected != TokenTypes::none() => handle = next.or(handle),
                 Err(error) if error == self => {
-                    let is_right = expected.contains(kind);
+                    // That of an undefined handle comes with the token after the tag, whatever it is.
+                    let (is_right, name) = match self.problem() {
+                        Some("found undefined tag handle") => (true, handle),
+                        Some("found duplicate %TAG directive") => (true, next),
+                        _ => (expected.contains(kind), None),
+                    };
                     let expected = if is_right { TokenTypes::none() } else { expected };
-                    let is_named = self.problem() == Some("found undefined tag handle");
-                    return Explained::of(self, expected, handle.filter(|_| is_named).map(String::from));
+                    return Explained::of(self, expected, name.map(String::from));
                 }
                 _ => break,
             }
@@ -139,7 +144,7 @@ impl Explained {
         self.told.first().map_or(TokenTypes::none(), |told| told.0)
     }
 
-    /// Returns the anchor, the alias or the undefined tag handle that the error is about.
+    /// Returns the anchor, the alias or the tag handle that the error is about.
     pub fn name(&self) -> Option<&str> {
         self.told.first()?.1.as_deref()
     }

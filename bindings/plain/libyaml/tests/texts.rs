@@ -41,6 +41,8 @@ fn errors_have_places_names_and_what_was_expected() {
         ),
         (b"[*b]", "found undefined alias at line 1, column 2", Some("b"), ""),
         (b"- !e!x y\n", "found undefined tag handle at line 1, column 3; while parsing a node at line 1, column 3", Some("!e!"), ""),
+        (b"- !e!x *y\n", "found undefined tag handle at line 1, column 3; while parsing a node at line 1, column 3", Some("!e!"), ""),
+        (b"%TAG !e! a\n%TAG !e! b\n--- c\n", "found duplicate %TAG directive at line 2, column 1", Some("!e!"), ""),
         (b"a: b\n- c\n", "did not find expected key at line 2, column 1; while parsing a block mapping at line 1, column 1", None,
             "a key, a value or the end of the block mapping"),
         (b"a: \xff\n", "invalid leading UTF-8 octet at position 3", None, ""),
