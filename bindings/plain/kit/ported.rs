@@ -118,17 +118,17 @@ pub mod percent_encoding {
     pub struct AsciiSet(u128);
 
     /// The control characters.
-    pub const CONTROLS: AsciiSet = AsciiSet(1 << 0x7f | 0xffff_ffff);
+    pub const CONTROLS: AsciiSet = AsciiSet((1 << 0x7f) | 0xffff_ffff);
 
     impl AsciiSet {
         /// Returns the set with one byte more.
         #[must_use]
         pub const fn add(self, byte: u8) -> Self {
-            AsciiSet(self.0 | 1 << byte)
+            AsciiSet(self.0 | (1 << byte))
         }
 
         fn has(self, byte: u8) -> bool {
-            !byte.is_ascii() || self.0 >> byte & 1 == 1
+            !byte.is_ascii() || (self.0 >> byte) & 1 == 1
         }
     }
 
@@ -319,11 +319,11 @@ pub mod simd {
                     right[(lane + 3) % 16] = 0;
                     let (x, y) = (u8x16::from_slice(&left), u8x16::from_slice(&right));
                     let mask = |holds: fn(u8, u8) -> bool| {
-                        (0..16).fold(0, |bits, lane| bits | u64::from(holds(left[lane], right[lane])) << lane)
+                        (0..16).fold(0, |bits, lane| bits | (u64::from(holds(left[lane], right[lane])) << lane))
                     };
                     assert_eq!(x.simd_ge(y).to_bitmask(), mask(|a, b| a >= b));
                     assert_eq!(x.simd_eq(y).to_bitmask(), mask(|a, b| a == b));
-                    assert_eq!((x.simd_ge(y) | x.simd_eq(u8x16::splat(a))).to_bitmask(), mask(|a, b| a >= b) | 1 << lane);
+                    assert_eq!((x.simd_ge(y) | x.simd_eq(u8x16::splat(a))).to_bitmask(), mask(|a, b| a >= b) | (1 << lane));
                     let (x, y) = (u8x8::from_slice(&left), u8x8::from_slice(&right));
                     assert_eq!((x - y).to_array()[..], (0..8).map(|lane| left[lane].wrapping_sub(right[lane])).collect::<std::vec::Vec<_>>());
                 }
