@@ -14,8 +14,8 @@ The doors, of which those are tried that have a path:
     yamltokens=PROGRAM        by examples/yaml_lines.py and PyYAML's scanner; its bound on tokens can't be set
 
 Prints each case with its time and the peak of its memory, which no check looks at; with --table also those of loads,
-in the lines of the table of bench/results/hostile.md. A case may take 60 seconds; those that may take more are tried with
---all alone, and have 300. With --turned each wants another outcome, so all have to be wrong. The status is 0 if each
+in the lines of the table of bench/results/hostile.md. A case may take 60 seconds of a processor, and ten times as
+many of the clock; those that may take more are tried with --all alone, and have 300. With --turned each wants another outcome, so all have to be wrong. The status is 0 if each
 outcome is the one that is listed.
 
 Run by clients.sh. Needs GNU time.
@@ -23,6 +23,7 @@ Run by clients.sh. Needs GNU time.
 import fnmatch
 import os
 import re
+import resource
 import subprocess
 import sys
 import tempfile
@@ -227,9 +228,10 @@ class Rows:
 def outcome_of(door, what, file, bounds, exact, most, figures):
     """What a case ends in, the seconds that it takes of a processor, and its memory in KB."""
     command, more, name = door.run(what, file, bounds, exact)
-    timed = ["/usr/bin/time", "-q", "-f", "%U %S %M", "-o", figures, "timeout", "-k", "1", str(most), *command]
+    timed = ["/usr/bin/time", "-q", "-f", "%U %S %M", "-o", figures, "timeout", "-k", "1", str(10 * most), *command]
     with open(name or os.devnull, "rb") as into:
-        run = subprocess.run(timed, stdin=into, env=dict(os.environ, **more), stdout=subprocess.PIPE, stderr=subprocess.PIPE)
+        run = subprocess.run(timed, stdin=into, env=dict(os.environ, **more), stdout=subprocess.PIPE, stderr=subprocess.PIPE,
+                             preexec_fn=lambda: resource.setrlimit(resource.RLIMIT_CPU, (most, most)))
     with open(figures, encoding="ascii") as said:
         user, system, memory = map(float, said.read().split()[-3:])
     lines = run.stdout.decode(errors="replace").splitlines()
