@@ -9,13 +9,15 @@ use std::io::{BufRead, ErrorKind, Read, Result, Write};
 /// What is noted of the bytes that were flushed once a call of the writer has failed.
 const FAILED: usize = usize::MAX;
 
-/// Which call of a writer fails.
+/// A call of a writer.
 #[derive(Clone, Copy, Debug, PartialEq)]
-enum Failing {
-    Never,
+enum Call {
     Write,
     Flush,
 }
+
+/// Which call of a writer fails: the first of its kind after so many.
+type Failing = Option<(Call, usize)>;
 
 /// Notes at each call how many bytes were flushed before. It hands out a line a call, or all bytes.
 struct NotingReader<'a> {
@@ -56,11 +58,15 @@ struct FlushWriter<'a> {
 }
 
 impl FlushWriter<'_> {
-    fn count(&mut self, call: Failing) -> Result<()> {
+    fn count(&mut self, call: Call) -> Result<()> {
         self.goes_on |= self.flushed.get() == FAILED;
-        if self.failing == call {
-            self.flushed.set(FAILED);
-            return Err(ErrorKind::Other.into());
+        match &mut self.failing {
+            Some((failing, 0)) if *failing == call => {
+                self.flushed.set(FAILED);
+                return Err(ErrorKind::Other.into());
+            }
+            Some((failing, left)) if *failing == call => *left -= 1,
+            _ => {}
         }
         Ok(())
     }
@@ -68,12 +74,12 @@ impl FlushWriter<'_> {
 
 impl Write for FlushWriter<'_> {
     fn write(&mut self, buf: &[u8]) -> Result<usize> {
-        self.count(Failing::Write)?;
+        self.count(Call::Write)?;
         self.written.write(buf)
     }
 
     fn flush(&mut self) -> Result<()> {
-        self.count(Failing::Flush)?;
+        self.count(Call::Flush)?;
         self.flushed.set(self.written.len());
         Ok(())
     }
@@ -88,7 +94,7 @@ struct Ran {
     goes_on: bool,
 }
 
-/// Runs, with the first of these calls of the writer failing.
+/// Runs, with a call of the writer failing.
 fn run_noted(of: Of, tokens: &[u8], hands_out_all: bool, failing: Failing) -> Ran {
     let flushed = &Cell::new(0);
     let mut reader = NotingReader { bytes: tokens, hands_out_all, flushed, noted: Vec::new() };
@@ -109,7 +115,7 @@ fn settled(run: &Run, bytes: usize) -> usize {
 #[test]
 fn lines_are_flushed_before_the_next_is_read() {
     for run in runs() {
-        let ran = run_noted(run.of, &run.tokens, false, Failing::Never);
+        let ran = run_noted(run.of, &run.tokens, false, None);
         assert!(!ran.at_calls.is_empty() && ran.at_end == run.lines.len(), "{}", run.name);
         let mut read = 0;
         for flushed in ran.at_calls {
@@ -120,14 +126,27 @@ fn lines_are_flushed_before_the_next_is_read() {
     }
 }
 
-/// A run fails where a write or a flush does, and then writes, flushes and reads nothing.
+/// A run fails at each write and at each flush that fails, and then writes, flushes and reads nothing.
 #[test]
 fn a_failed_write_or_flush_is_the_last() {
     for run in runs() {
-        for failing in [Failing::Write, Failing::Flush] {
-            let ran = run_noted(run.of, &run.tokens, false, failing);
-            assert_eq!(ran.ended, Outcome::OutputFailed, "{}, {failing:?}", run.name);
-            assert!(!ran.goes_on && !ran.at_calls.contains(&FAILED), "{}, {failing:?}", run.name);
+        for call in [Call::Write, Call::Flush] {
+            let mut after = 0;
+            loop {
+                let ran = run_noted(run.of, &run.tokens, false, Some((call, after)));
+                assert!(
+                    !ran.goes_on && !ran.at_calls.contains(&FAILED),
+                    "{}, {after} before {call:?}",
+                    run.name
+                );
+                if ran.at_end != FAILED {
+                    assert_eq!(ran.ended, run.outcome, "{}, {after} before {call:?}", run.name);
+                    break;
+                }
+                assert_eq!(ran.ended, Outcome::OutputFailed, "{}, {after} before {call:?}", run.name);
+                after += 1;
+            }
+            assert!(after > 0, "{}: no {call:?}", run.name);
         }
     }
 }
@@ -138,7 +157,7 @@ fn a_failed_write_or_flush_is_the_last() {
 fn few_bytes_that_are_left_are_no_line() {
     for row in rows("flushes where bytes are left", 2) {
         let tokens = long_tokens(row.number(0));
-        let ran = run_noted(Of::Events, tokens.as_bytes(), true, Failing::Never);
+        let ran = run_noted(Of::Events, tokens.as_bytes(), true, None);
         let flushed = [ran.at_calls, vec![ran.at_end]].concat();
         assert_eq!(format!("{flushed:?}"), row.wanted, "{}", row.name);
     }
