@@ -33,8 +33,9 @@ impl List {
         text_of(&path_of(self.folder, &format!("{}.{ending}", self.name)))
     }
 
-    /// What steps over the tokens give. A document may have `max` nodes with its aliases written out.
+    /// What steps over the tokens give. If that panics, the list is what was printed last. A document may have `max` nodes with its aliases written out.
     fn parsed(&self, is_exact: bool, max: u64) -> Parser {
+        println!("{}/{}", self.folder, self.name);
         let tokens: Vec<Token<'_>> = self.tokens.lines().map(token_of).collect();
         Parser::new(is_exact, max).take_all(&tokens)
     }

@@ -143,8 +143,9 @@ impl Parser {
     /// A step over stacks of an entry fewer than the record counts does nothing, and says so.
     fn assert_short_stacks_are_bad(&self, token: &Token<'_>, fact: u8) {
         let (states, marks) = (self.steps.machine.states_count, self.steps.machine.marks_count);
-        assert!(states == 0 || self.step_within(token, fact, states - 1, marks) == 6);
-        assert!(marks == 0 || self.step_within(token, fact, states, marks - 1) == 6);
+        let too_short = "stacks that are too short are taken";
+        assert!(states == 0 || self.step_within(token, fact, states - 1, marks) == 6, "{too_short}");
+        assert!(marks == 0 || self.step_within(token, fact, states, marks - 1) == 6, "{too_short}");
     }
 
     fn step(&mut self, token: &Token<'_>) -> u32 {
@@ -260,7 +261,8 @@ impl Parser {
             _ => {}
         }
         self.deepest = self.deepest.max(self.open);
-        assert!(self.states.len() <= self.deepest + 1 && self.marks.len() <= self.deepest);
+        let are_needed = self.states.len() <= self.deepest + 1 && self.marks.len() <= self.deepest;
+        assert!(are_needed, "stacks that are larger than the open collections need");
         self.documents.take(event.kind, anchor.as_deref());
         (self.anchor, self.version) = (None, None);
         if event.kind == 4 {
