@@ -1,5 +1,5 @@
 -- Keys of mappings, and when two are the same (docs/DEFINITIONS.md, "Duplicate keys").
-use Rattle.std.specs.Prelude.{◌≡◌, ◌⊎◌, ◌<◌, ◌≤◌, ◌<ℤ◌, ℕ, suc, ℤ, pos, List, Option, Some, None, Bool, true, false, length, get_or, slice_get}
+use Rattle.std.specs.Prelude.{◌≡◌, ◌⊎◌, ◌<◌, ◌≤◌, ◌<ℤ◌, ℕ, suc, ℤ, pos, List, Option, Some, None, Bool, true, false, Contains, length, get_or, slice_get}
 use Rattle.std.specs.Option.{option_map, option_and_then}
 use Rattle.libyaml_types.specs.declared.enums.yaml_scalar_style_t.{yaml_scalar_style_t}
 use Rattle.libyaml_types.specs.declared.enums.yaml_scalar_style_t.TheVariants.{YAML_PLAIN_SCALAR_STYLE}
@@ -52,6 +52,10 @@ pub record IsDuplicate (nodes : List yaml_node_t) (d : yaml_duplicate_key_t) : T
 -- one mapping before the other, or in one mapping the second pair before the other's
 abbrev pub IsBefore : (d other : yaml_duplicate_key_t) → Type 0
 IsBefore d other = (d.mapping <ℤ other.mapping) ⊎ ((d.mapping ≡ other.mapping) × (d.second < other.second))
+
+-- a mapping has two pairs
+abbrev pub HasTwoPairs : List yaml_node_t → Type 0
+HasTwoPairs nodes = (node : yaml_node_t) × Contains nodes node × (1 < length (pairs_of node.content))
 
 -- the first duplicate, or that there is none
 abbrev pub IsFirstDuplicate : List yaml_node_t → Option yaml_duplicate_key_t → Type 0

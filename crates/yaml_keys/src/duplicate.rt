@@ -1,11 +1,11 @@
 //! The first duplicate key of a document.
-ghost use Rattle.std.specs.Prelude.{◌<◌, ◌≡◌, pos, suc, IfOk};
+ghost use Rattle.std.specs.Prelude.{◌<◌, ◌≡◌, ◌↔◌, pos, suc, IfOk, IsTrue, OnErr};
 ghost use Rattle.libyaml_documents.specs.Documents.{most_nodes};
-ghost use Rattle.yaml_keys.specs.Keys.{IsFirstDuplicate};
+ghost use Rattle.yaml_keys.specs.Keys.{HasTwoPairs, IsFirstDuplicate};
 
 use crate::classes::key_classes;
 use crate::repeat::first_repeat;
-use libyaml_documents::yaml_document_t;
+use libyaml_documents::{yaml_document_t, yaml_node_t};
 use std::alloc::{AllocError, Global};
 
 /// Two pairs of one mapping that have the same key.
@@ -33,14 +33,18 @@ pub struct yaml_duplicate_key_t {
 ///
 /// # Errors
 ///
-/// `AllocError` if an allocation failed.
+/// `AllocError` if an allocation failed: memory is taken only where a mapping has two pairs.
 pub fn duplicate_key(
     alloc: Global,
     document: &yaml_document_t,
 ) -> Result<Option<yaml_duplicate_key_t>, AllocError>
-    ensures { IfOk result (IsFirstDuplicate document.now.nodes) }
+    ensures first { IfOk result (IsFirstDuplicate document.now.nodes) }
+    ensures memory { OnErr result (HasTwoPairs document.now.nodes) }
 {
     let nodes = document.nodes();
+    if !has_two_pairs(nodes) {
+        return Ok(None);
+    }
     let classes = key_classes(alloc, nodes)?;
     for (place, node) in nodes.iter().enumerate() {
         if let Some((first, second)) = first_repeat(alloc, classes.as_slice(), node.pairs())? {
@@ -48,6 +52,18 @@ pub fn duplicate_key(
         }
     }
     Ok(None)
+}
+
+/// Returns whether a mapping has two pairs.
+fn has_two_pairs(nodes: &[yaml_node_t]) -> bool
+    ensures { IsTrue result ↔ HasTwoPairs nodes.now }
+{
+    for node in nodes {
+        if node.pairs().len() > 1 {
+            return true;
+        }
+    }
+    false
 }
 
 /// Returns a duplicate of the mapping at this place: ids count from 1, places from 0.

@@ -33,8 +33,8 @@ first_repeat-requires c =
     c.loop-place.place c.index-nodes-place.result c.nodes-nodes.ensures.all c.nodes-nodes.ensures.ids_in_range
     c.in_ok-classes.ensures c.as_slice.ensures.value c.pairs.ensures c.loop-place-test.true c.index-nodes-place.is
 
-pub returns-in-Some : goal.returns-in-Some
-returns-in-Some c =
+pub returns-in-Some-clause-first : goal.returns-in-Some-clause-first
+returns-in-Some-clause-first c =
     let nodes = c.nodes-nodes.result.now in
     let classes = c.in_ok-classes.classes.items in
     let place = c.loop-place.place in
@@ -65,7 +65,7 @@ loop-place-preserved c =
     let none = subst (λ (r : Option (ℕ × ℕ)). IsFirstRepeat (map (λ (pair : yaml_node_pair_t). class_at classes pair.key) pairs) r) c.in_default.is said in
     none_here nodes classes c.in_ok-classes.ensures place node at c.loop-place.invariant none
 
-pub returns : goal.returns
-returns c =
+pub returns-clause-first : goal.returns-clause-first
+returns-clause-first c =
     subst (λ (l : List yaml_node_t). IsFirstDuplicate l None) c.nodes-nodes.ensures.all
     (none_at_all c.nodes-nodes.result.now c.loop-place.place c.loop-place.invariant c.loop-place-test.false)
