@@ -177,7 +177,8 @@ def main():
     counts, files, wrong, laws = Counter(), 0, 0, 0
     with tempfile.TemporaryDirectory() as directory:
         out = built(directory)
-        crates = sorted(path.name for path in out.iterdir() if path.is_dir())
+        # Not those that tests alone are given.
+        crates = sorted(re.findall(r"pub mod (\w+);", (out / "crates.rs").read_text()))
         for name in crates:
             folder = TOP / "crates" / name / "src"
             for path in sorted(folder.glob("**/*.rt")):
