@@ -6,7 +6,7 @@
 The lines of a paragraph or of a comment are read as one text, so that a phrase over two of them is found; the first is named.
 Names of code, in backticks, in blocks or as the target of a link, are not words.
 The words of a reader's own field stand in for those of OWN on each page but CHANGELOG, in names of mutants, in headers, in the
-first lines of scripts, and in the comments of the crates of RENAMED. STYLE, for examples and exceptions, holds there too, except
+first lines of scripts, and in the comments of crates, except OLD_CRATES. STYLE, for examples and exceptions, holds there too, except
 in `specs` and `proofs`.
 
 Names of code and of files have the words of pages for test vectors and mutants, too (NAMED). Only `line_reading` has a `row`: the line
@@ -52,9 +52,7 @@ STYLE = {
 NAMED = re.compile(r"\w*(?:(?<![A-Za-z])(?:row|edit)s?(?![a-z])|(?:Row|Edit)s?(?![a-z]))\w*")
 OLD_PAGES = {"CHANGELOG.md"}
 CALL = re.compile(r"\b\w+\([^()]*\);")
-RENAMED = ["libyaml_types", "libyaml_grammar", "libyaml_documents", "libyaml_graphs", "unsafe_libyaml", "yaml_path", "line_reading", "line_writing",
-           "libyaml_automaton", "libyaml_events", "libyaml_composer", "libyaml_loader", "token_steps", "document_steps",
-           "document_sizes", "pokhvizi_c", "rust_original", "token_lines", *(path.name for path in TOP.glob("crates/example_*"))]
+OLD_CRATES = ("vectors_", "bench_")
 
 
 def lines_of_page(text):
@@ -131,7 +129,7 @@ def files(crates):
             for path in sorted((TOP / "crates" / crate / room).rglob("*")):
                 if path.suffix in (".rt", ".antt"):
                     own = both if room == "src" else INSTEAD | OWN
-                    yield path, comments_of(path), own if crate in RENAMED else INSTEAD
+                    yield path, comments_of(path), INSTEAD if crate.startswith(OLD_CRATES) else own
 
 
 def mutants():

@@ -16,8 +16,6 @@ of these.
 
 Run by clients.sh.
 """
-import os
-import random
 import re
 import sys
 
@@ -79,14 +77,6 @@ def drawn(random_):
         return exact.drawn(random_)
     text = (nested if how < 0.7 else bomb if how < 0.85 else unindented)(random_)
     return "--- " * (text[0] not in "-?k") + text + (nested(random_) if random_.random() < 0.2 else "")
-
-
-def write(folder, count, seed):
-    for number in range(count):
-        name = os.path.join(folder, f"{number}.yaml")
-        with open(name, "w", encoding="utf-8", newline="") as file:
-            file.write(drawn(random.Random(f"{seed} {number}")))
-        print(name)
 
 
 # ---- Reading, in lines that begin as those of events.c ----
@@ -280,15 +270,8 @@ def wanted(events, free, opens, sizes, bounds, loads):
 
 
 def blocks(name):
-    """The lines of each file."""
-    found = {}
-    with open(name, encoding="utf-8") as lines:
-        for line in lines:
-            if line.startswith("file "):
-                here = found.setdefault(line[5:-1], [])
-            else:
-                here.append(" ".join(line.split()))
-    return found
+    """The lines of each file, in words."""
+    return {file: [" ".join(line.split()) for line in lines] for file, lines in exact.blocks(name).items()}
 
 
 def cut(lines):
@@ -329,7 +312,7 @@ def number(word):
 if __name__ == "__main__":
     command, *words = sys.argv[1:]
     if command == "write":
-        write(words[0], int(words[1]), words[2])
+        exact.write(words[0], int(words[1]), words[2], drawn)
     elif command == "read":
         read(*words[:2], *(None if word == "-" else int(word) for word in words[2:]))
     else:

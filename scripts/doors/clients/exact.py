@@ -42,11 +42,11 @@ def drawn(random_):
     return text
 
 
-def write(folder, count, seed):
+def write(folder, count, seed, draw=drawn):
     for number in range(count):
         name = os.path.join(folder, f"{number}.yaml")
         with open(name, "w", encoding="utf-8", newline="") as file:
-            file.write(drawn(random.Random(f"{seed} {number}")))
+            file.write(draw(random.Random(f"{seed} {number}")))
         print(name)
 
 
@@ -79,9 +79,9 @@ def blocks(name):
     with open(name, encoding="utf-8") as lines:
         for line in lines:
             if line.startswith("file "):
-                here = found.setdefault(line.strip(), [])
+                here = found.setdefault(line[5:-1], [])
             else:
-                here.append(line)
+                here.append(line[:-1])
     return found
 
 

@@ -20,6 +20,7 @@ from pathlib import Path
 import yaml
 
 sys.path.insert(0, str(Path(__file__).resolve().parents[1] / "extension"))
+import exact
 import keys as keys_of_texts
 from keys import drawn
 
@@ -117,17 +118,6 @@ def place(mark):
     return f"{mark.index}:{mark.line}:{mark.column}"
 
 
-def files_of(name):
-    """The lines of each file."""
-    files = {}
-    for line in Path(name).read_text().splitlines():
-        if line.startswith("file "):
-            lines = files[line[5:]] = []
-        else:
-            lines.append(line)
-    return files
-
-
 def wanted_of(free, text, loads, is_turned):
     """The lines that a text should give where keys have to differ, without the error's number and offsets; whether one is refused."""
     found = first_duplicate(text, loads)
@@ -142,7 +132,7 @@ def wanted_of(free, text, loads, is_turned):
 
 
 def compare(loads, free_name, unique_name, is_turned):
-    free, made, counts, wrong = files_of(free_name), files_of(unique_name), [0, 0], 0
+    free, made, counts, wrong = exact.blocks(free_name), exact.blocks(unique_name), [0, 0], 0
     for name in sys.stdin.read().split():
         wanted, is_refused = wanted_of(free[name], Path(name).read_bytes(), loads, is_turned)
         counts[is_refused] += 1
