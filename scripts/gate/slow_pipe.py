@@ -8,17 +8,13 @@ the program does not end with status 0.
 
 Run by check_programs.sh.
 """
-import os
-import select
-import subprocess
 import sys
-import time
 from pathlib import Path
 
 sys.path.insert(0, str(Path(__file__).resolve().parents[1] / "parts"))
+from slow_pipe import wrong  # noqa: E402
 from usage import wrong_words  # noqa: E402
 
-SECONDS = 10
 # Each token line of `---`, `- a`, `- b` and `...`, the event lines that it settles, and the node lines.
 TOKENS = [
     ("STREAM-START 0:0:0 0:0:0 utf8", ["STREAM-START 0:0:0 0:0:0 utf8"], []),
@@ -43,35 +39,8 @@ TOKENS = [
 ]
 
 
-def read(out, length):
-    """Reads so many bytes, or what has come within the time; where they are 0, what comes at once."""
-    got, end = b"", time.monotonic() + (SECONDS if length else 0.1)
-    while len(got) < max(length, 1) and select.select([out], [], [], max(0, end - time.monotonic()))[0]:
-        piece = os.read(out.fileno(), 65536)
-        if not piece:
-            break
-        got += piece
-    return got
-
-
-def wrong(program, mode):
-    """What is wrong with a run in this mode, if anything."""
-    run = subprocess.Popen([program, mode], stdin=subprocess.PIPE, stdout=subprocess.PIPE, bufsize=0)
-    try:
-        for token, events, nodes in TOKENS:
-            lines = events if mode == "events" else nodes
-            wanted = "".join(line + "\n" for line in lines).encode()
-            run.stdin.write(token.encode() + b"\n")
-            got = read(run.stdout, len(wanted))
-            if got != wanted:
-                return f"after {token} there is {got}, and not {wanted}"
-        run.stdin.close()
-        rest, status = run.stdout.read(), run.wait(SECONDS)
-        return f"at the end there is {rest}, and status {status}" if rest or status else None
-    except (BrokenPipeError, subprocess.TimeoutExpired) as error:
-        return str(error)
-    finally:
-        run.kill()
+def written(lines):
+    return "".join(line + "\n" for line in lines).encode()
 
 
 def main():
@@ -79,7 +48,8 @@ def main():
         wrong_words(__doc__)
     failed = False
     for mode in ("events", "nodes"):
-        said = wrong(sys.argv[1], mode)
+        lines = [(token, written(events if mode == "events" else nodes)) for token, events, nodes in TOKENS]
+        said = wrong([sys.argv[1], mode], [*lines, (None, b"")])
         failed = failed or said is not None
         print(f"{mode}: {said or 'each line came with its token'}")
     sys.exit(failed)

@@ -9,10 +9,11 @@ event comes late (after ten seconds, or those that SECONDS names) or is another.
 Run by clients.sh.
 """
 import os
-import select
-import subprocess
 import sys
-import time
+from pathlib import Path
+
+sys.path[0] = str(Path(__file__).resolve().parents[2] / "parts")
+from slow_pipe import wrong  # noqa: E402
 
 SECONDS = float(os.environ.get("SECONDS", "10"))
 # Each line, and the further events that are there once it was read.
@@ -31,45 +32,12 @@ LINES = [
 ]
 
 
-def read(out, count):
-    """Reads so many numbers, or those that come within the time."""
-    got, end = b"", time.monotonic() + SECONDS
-    while got.count(b"\n") < count and select.select([out], [], [], max(0, end - time.monotonic()))[0]:
-        piece = os.read(out.fileno(), 65536)
-        if not piece:
-            break
-        got += piece
-    return [int(word) for word in got.split()]
-
-
-def wrong(words):
-    """What is wrong with the program's events, if anything."""
-    run = subprocess.Popen(words, stdin=subprocess.PIPE, stdout=subprocess.PIPE, bufsize=0)
-    early, before = [], 0
-    try:
-        for line, wanted in LINES:
-            if line is None:
-                run.stdin.close()
-            else:
-                run.stdin.write(line.encode() + b"\n")
-            early += read(run.stdout, len(wanted) - len(early))
-            if early[:len(wanted)] != wanted:
-                return f"after {line} there are {early}, and not {wanted}"
-            early = early[len(wanted):]
-            before += len(wanted) * (line is not None)
-        status = run.wait(SECONDS)
-        print(f"{before} events before the end of the pipe")
-        return f"at the end there are {early}, and status {status}" if early or status else None
-    except (BrokenPipeError, ValueError, subprocess.TimeoutExpired) as error:
-        return str(error)
-    finally:
-        run.kill()
-
-
 def main():
     if len(sys.argv) < 2:
         sys.exit(__doc__)
-    said = wrong(sys.argv[1:])
+    lines = [(line, "".join(f"{kind}\n" for kind in kinds).encode()) for line, kinds in LINES]
+    print(f"{sum(len(kinds) for line, kinds in LINES if line is not None)} events before the end of the pipe")
+    said = wrong(sys.argv[1:], lines, SECONDS, may_be_early=True)
     if said:
         print(said)
         sys.exit(1)
