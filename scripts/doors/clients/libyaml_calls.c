@@ -36,7 +36,7 @@ static const struct {
     {"- &a !!b @\n", YAML_SCANNER_ERROR, "found character that cannot start any token", "while scanning for the next token", 9},
     {"- &a !!b &c d\n", YAML_PARSER_ERROR, "did not find expected '-' indicator", "while parsing a block collection", 9},
 };
-enum { EVENTS = 22, NODES = 11, LEVELS = 150 };
+enum { EVENTS = 22, NODES = 11, LEVELS = 150, ALL = 100000, LOADS = -1 };
 
 /* A text, and what its error is about, of a parse and of a load. */
 static const struct {
@@ -152,39 +152,34 @@ static long parse(yaml_parser_t *parser, long most, unsigned long *sum)
     return count;
 }
 
-static long parse_text(const char *text, long most, unsigned long *sum, yaml_error_type_t *error)
+/* Loads all documents; how many nodes there were up to the end or an error. */
+static long load(yaml_parser_t *parser)
+{
+    yaml_document_t document;
+    long nodes = 0;
+    int more = 1;
+
+    while (more && yaml_parser_load(parser, &document)) {
+        more = yaml_document_get_root_node(&document) != NULL;
+        nodes += document.nodes.top - document.nodes.start;
+        yaml_document_delete(&document);
+    }
+    return nodes;
+}
+
+/* Parses so many events of a text, or, where they are LOADS, loads it. */
+static long read_text(const char *text, long most, unsigned long *sum, yaml_error_type_t *error)
 {
     yaml_parser_t parser;
     long count = 0;
 
     *error = YAML_MEMORY_ERROR;
     if (begin(&parser, text)) {
-        count = parse(&parser, most, sum);
+        count = most == LOADS ? load(&parser) : parse(&parser, most, sum);
         *error = parser.error;
     }
     yaml_parser_delete(&parser);
     return count;
-}
-
-/* Loads all documents; how many nodes there were up to the end or an error. */
-static long load_text(const char *text, yaml_error_type_t *error)
-{
-    yaml_parser_t parser;
-    yaml_document_t document;
-    long nodes = 0;
-    int more = begin(&parser, text);
-
-    *error = YAML_MEMORY_ERROR;
-    while (more && (more = yaml_parser_load(&parser, &document))) {
-        more = yaml_document_get_root_node(&document) != NULL;
-        nodes += document.nodes.top - document.nodes.start;
-        yaml_document_delete(&document);
-        *error = YAML_NO_ERROR;
-    }
-    if (parser.error != YAML_NO_ERROR)
-        *error = parser.error;
-    yaml_parser_delete(&parser);
-    return nodes;
 }
 
 static void check_whole(void)
@@ -192,47 +187,28 @@ static void check_whole(void)
     unsigned long sum = 0;
     yaml_error_type_t error;
 
-    expect(parse_text(TEXT, 1000, &sum, &error) == EVENTS && error == YAML_NO_ERROR, "events", 0);
-    expect(load_text(TEXT, &error) == NODES && error == YAML_NO_ERROR, "nodes", 0);
+    expect(read_text(TEXT, ALL, &sum, &error) == EVENTS && error == YAML_NO_ERROR, "events", 0);
+    expect(read_text(TEXT, LOADS, &sum, &error) == NODES && error == YAML_NO_ERROR, "nodes", 0);
 }
 
-/* Each allocation refused in turn: a memory error or the same events, and every block given back. */
-static long check_refusals(const char *text, long events)
+/* Each allocation refused in turn: a memory error or the same events, or nodes, and every block given back. */
+static long check_refusals(const char *text, long most, long wanted)
 {
     unsigned long whole = 0, sum;
     yaml_error_type_t error;
     long at = 0, before = live, memory = 0, count;
 
-    expect(parse_text(text, 1000, &whole, &error) == events && error == YAML_NO_ERROR, "events", events);
+    expect(read_text(text, most, &whole, &error) == wanted && error == YAML_NO_ERROR, "events or nodes", wanted);
     do {
         sum = 0;
         refused_at = ++at;
-        count = parse_text(text, 1000, &sum, &error);
+        count = read_text(text, most, &sum, &error);
         expect(live == before, "blocks are lost", at);
-        expect(error == YAML_MEMORY_ERROR || (error == YAML_NO_ERROR && count == events && sum == whole), "a refusal", at);
+        expect(error == YAML_MEMORY_ERROR || (error == YAML_NO_ERROR && count == wanted && sum == whole), "a refusal", at);
         memory += error == YAML_MEMORY_ERROR;
     } while (refused_at == 0);
     refused_at = 0;
     expect(memory == at - 1, "refusals are told", memory);
-    return memory;
-}
-
-/* The same of documents. */
-static long check_refused_loads(const char *text, long nodes)
-{
-    yaml_error_type_t error;
-    long at = 0, before = live, memory = 0, count;
-
-    expect(load_text(text, &error) == nodes && error == YAML_NO_ERROR, "nodes", nodes);
-    do {
-        refused_at = ++at;
-        count = load_text(text, &error);
-        expect(live == before, "blocks of a document are lost", at);
-        expect(error == YAML_MEMORY_ERROR || (error == YAML_NO_ERROR && count == nodes), "a refusal in a document", at);
-        memory += error == YAML_MEMORY_ERROR;
-    } while (refused_at == 0);
-    refused_at = 0;
-    expect(memory == at - 1, "refusals in a document are told", memory);
     return memory;
 }
 
@@ -269,12 +245,13 @@ static char *make_directives(long count)
 static double time_of(char *(*make)(long), long count)
 {
     char *text = make(count);
+    unsigned long sum;
     yaml_error_type_t error;
     double least = 1e9;
 
     for (int i = 0; i < 3; i++) {
         clock_t begun = clock();
-        expect(load_text(text, &error) == count + 1 && error == YAML_NO_ERROR, "nodes", count);
+        expect(read_text(text, LOADS, &sum, &error) == count + 1 && error == YAML_NO_ERROR, "nodes", count);
         double taken = (double)(clock() - begun) / CLOCKS_PER_SEC;
         least = taken < least ? taken : least;
     }
@@ -404,7 +381,7 @@ static void check_deleted(void)
 
     for (long most = 0; most <= EVENTS; most++) {
         long before = live;
-        expect(parse_text(TEXT, most, &sum, &error) == most, "deleted", most);
+        expect(read_text(TEXT, most, &sum, &error) == most, "deleted", most);
         expect(live == before, "blocks are lost", most);
     }
 }
@@ -433,11 +410,12 @@ static void check_loads_within(void)
 static void check_environment(void)
 {
     yaml_error_type_t error;
+    unsigned long sum;
     long nodes;
 
     setenv("POKHVIZI_FIXES", has_fixes ? "0" : "1", 1);
     setenv("POKHVIZI_MAX_DEPTH", "0", 1);
-    nodes = load_text(": x", &error);
+    nodes = read_text(": x", LOADS, &sum, &error);
     expect(has_fixes ? nodes == 3 && error == YAML_NO_ERROR : nodes == 0 && error == YAML_PARSER_ERROR, "a later environment", error);
     unsetenv("POKHVIZI_FIXES");
     unsetenv("POKHVIZI_MAX_DEPTH");
@@ -487,11 +465,9 @@ static void check_names(void)
             abort();
         expect(name_of(&parser) == NULL, "a name before the first call", i);
         if (i % 2 == 0)
-            parse(&parser, 1000, &sum);
-        while (i % 2 == 1 && yaml_parser_load(&parser, &document) && yaml_document_get_root_node(&document) != NULL)
-            yaml_document_delete(&document);
-        if (i % 2 == 1)
-            yaml_document_delete(&document);
+            parse(&parser, ALL, &sum);
+        else
+            load(&parser);
         expect(is_name(&parser, wanted), "what an error is about", i);
         expect(yaml_parser_parse(&parser, &event) && !yaml_parser_load(&parser, &document) == (parser.error != YAML_NO_ERROR), "after it", i);
         yaml_document_delete(&document);
@@ -541,14 +517,14 @@ static void check_room(void)
 
     for (int i = 0; i < DOCUMENTS; i++)
         at += sprintf(at, "---\n");
-    expect(parse_text(text, 10000, &sum, &error) == 2 + 3 * DOCUMENTS && error == YAML_NO_ERROR, "documents", DOCUMENTS);
+    expect(read_text(text, ALL, &sum, &error) == 2 + 3 * DOCUMENTS && error == YAML_NO_ERROR, "documents", DOCUMENTS);
     at = text + sprintf(text, "%%TAG !e! tag:");
     memset(at, 'x', PREFIX);
     at += PREFIX;
     at += sprintf(at, "\n---\n");
     for (int i = 0; i < TAGS; i++)
         at += sprintf(at, "- !e!a b\n");
-    expect(parse_text(text, 10000, &sum, &error) == 6 + TAGS && error == YAML_NO_ERROR, "tags", TAGS);
+    expect(read_text(text, ALL, &sum, &error) == 6 + TAGS && error == YAML_NO_ERROR, "tags", TAGS);
 }
 
 static int read_file(void *file, unsigned char *buffer, size_t size, size_t *count)
@@ -578,7 +554,7 @@ static void check_moved(void)
         memset(&parsers[at % 2], 0xAA, sizeof *parsers);
         at++;
     }
-    parse_text(TEXT, 1000, &whole, &error);
+    read_text(TEXT, ALL, &whole, &error);
     expect(at == EVENTS && sum == whole, "moved", at);
     expect(yaml_parser_parse(&parsers[at % 2], &event) && event.type == YAML_NO_EVENT, "after the end", at);
     yaml_parser_delete(&parsers[at % 2]);
@@ -591,7 +567,7 @@ static void *many(void *whole)
 
     for (int i = 0; i < 500; i++) {
         unsigned long sum = 0;
-        if (parse_text(TEXT, 1000, &sum, &error) != EVENTS || sum != *(unsigned long *)whole)
+        if (read_text(TEXT, ALL, &sum, &error) != EVENTS || sum != *(unsigned long *)whole)
             return whole;
     }
     return NULL;
@@ -604,7 +580,7 @@ static void check_threads(void)
     yaml_error_type_t error;
     void *returned;
 
-    parse_text(TEXT, 1000, &whole, &error);
+    read_text(TEXT, ALL, &whole, &error);
     for (int i = 0; i < 8; i++)
         if (pthread_create(&threads[i], NULL, many, &whole) != 0)
             abort();
@@ -619,20 +595,12 @@ static void check_threads(void)
 static void check_bound(const char *text, int loads, long count, yaml_error_type_t error, const char *problem, size_t at)
 {
     yaml_parser_t parser;
-    yaml_document_t document;
     unsigned long sum = 0;
-    long before = live, there = 0;
-    int more = loads;
+    long before = live, there;
 
     if (!begin(&parser, text))
         abort();
-    if (!loads)
-        there = parse(&parser, 1000, &sum);
-    while (more && (more = yaml_parser_load(&parser, &document))) {
-        more = yaml_document_get_root_node(&document) != NULL;
-        there += document.nodes.top - document.nodes.start;
-        yaml_document_delete(&document);
-    }
+    there = loads ? load(&parser) : parse(&parser, ALL, &sum);
     expect(there == count && parser.error == error, "a bound", there);
     expect(problem == NULL || (parser.problem != NULL && strcmp(parser.problem, problem) == 0 &&
                                parser.problem_mark.index == at && parser.context == NULL),
@@ -687,7 +655,7 @@ static void check_bounds(void)
     check_bound("&a {k: *a}", 0, 4, YAML_PARSER_ERROR, endless, 7);
     check_bound("[*b, *b, &a [x, *b], &a y, *a]", 0, 14, YAML_NO_ERROR, NULL, 0);
     check_bound(items("*b", 31), 0, 33, YAML_PARSER_ERROR, nodes, 124);
-    long refused = check_refused_loads(items("b", 29), 30);
+    long refused = check_refusals(items("b", 29), LOADS, 30);
     if (!wrong)
         printf("bounds hold, %ld allocations refused within them\n", refused);
 }
@@ -714,9 +682,9 @@ int main(int count, char **words)
         return 1;
     check_environment();
     make_deep();
-    long refused = check_refusals(TEXT, EVENTS) + check_refusals(deep, 4 + 2 * LEVELS) + check_refusals("k: &a ! x\n", 8);
+    long refused = check_refusals(TEXT, ALL, EVENTS) + check_refusals(deep, ALL, 4 + 2 * LEVELS) + check_refusals("k: &a ! x\n", ALL, 8);
     char *anchors = make_anchors(40);
-    refused += check_refused_loads(TEXT, NODES) + check_refused_loads(deep, LEVELS) + check_refused_loads(anchors, 41);
+    refused += check_refusals(TEXT, LOADS, NODES) + check_refusals(deep, LOADS, LEVELS) + check_refusals(anchors, LOADS, 41);
     free(anchors);
     check_times();
     check_handles();
