@@ -4,6 +4,7 @@ the files that they cite; "all" if the parts are of the whole contract. Laws sta
 functions that aren't public in one line. A file of the crate that only other files cite is counted in its folder. A file
 of another crate has that crate's name before it."""
 import re
+import sys
 from collections import Counter, defaultdict
 
 from sources import TOP, imports, sources
@@ -107,7 +108,7 @@ class Crate:
                     return (owner, name)
         if (None, name) in self.functions:
             return (None, name)
-        raise LookupError(f"{folder.relative_to(TOP)}: no such function in src")
+        sys.exit(f"{folder.relative_to(TOP)}: no such function in src")
 
     def by_hand(self):
         """Each function with parts by hand: its clauses, each with a module that it cites or none."""
