@@ -71,8 +71,8 @@ print(*[z.read(name).decode() for name in z.namelist() if name.endswith(("/NOTIC
 for archive in "$out"/*.tar.gz "$out"/*.whl; do
     names=$(python3 -c 'import sys, tarfile, zipfile; name = sys.argv[1]
 print(*zipfile.ZipFile(name).namelist() if name.endswith(".whl") else tarfile.open(name).getnames(), sep="\n")' "$archive")
-    of_libyaml=$(echo "$names" | grep -c -m 1 -e '/libyaml-0\.so' -e '/_yaml\.abi3\.so$' -e '/original/src$')
-    want "licences of four ported crates, and of libyaml's code if it is there, in ${archive##*/}" $((4 + of_libyaml)) licences_in "$archive"
+    of_libyaml=$(echo "$names" | grep -c -m 1 -e '/libyaml-0\.so' -e '\.dist-info/WHEEL$' -e '/original/src$')
+    want "licences of four ported crates, and of libyaml where its code may be, in ${archive##*/}" $((4 + of_libyaml)) licences_in "$archive"
 done
 
 # ---- C ----
