@@ -34,8 +34,8 @@ fn next<S: yaml_token_source_t>(
     }
 }
 
-/// After the end or an error three parses give no event, and two loads no document, or the error again. What
-/// the parser keeps stays.
+/// After the end or an error three parses give no event, and two loads no document, or the error again.
+/// What the parser keeps stays.
 pub fn assert_over<S: yaml_token_source_t>(parser: &mut yaml_parser_t<S>) {
     let kept = *parser.prefix();
     for _ in 0..3 {

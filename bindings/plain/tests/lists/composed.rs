@@ -37,8 +37,8 @@ fn count(lines: &str, word: &str) -> usize {
     lines.lines().filter(|line| line.starts_with(word)).count()
 }
 
-/// Compares with the events of a list and with its loads. If these end by an error of their own, the next event
-/// is the one at that place, of which an error of memory has none.
+/// Compares with the events of a list and with its loads. If these end by an error of their own, the next
+/// event is the one at that place, of which an error of memory has none.
 fn assert_up_to(name: &str, given: &str, events: &str, loads: &str) {
     let [(given, fault), (all, end), (documents, wanted)] = [given, events, loads].map(split_fault);
     assert_eq!(fault, wanted, "{name}");

@@ -31,7 +31,8 @@ fn is_of_no_source(kept: &yaml_parser_t_prefix) -> bool {
     !is_source && (kept.problem_offset, kept.problem_value) == (0, 0)
 }
 
-/// Whether what is given is wanted, up to the error of the source if that comes, which isn't amid a document.
+/// Whether what is given is wanted, up to the error of the source if that comes, which isn't amid a
+/// document.
 pub fn is_front(given: &str, wanted: &str, fault: &str) -> bool {
     let Some(before) = given.strip_suffix(fault) else {
         return given == wanted;

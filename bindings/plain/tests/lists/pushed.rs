@@ -14,8 +14,8 @@ type Push<'a> = &'a mut dyn FnMut(yaml_token_t, &mut String) -> Pushed;
 #[derive(Clone, Copy, Debug, PartialEq)]
 struct Pushed(Result<(), yaml_parser_t_prefix>, yaml_parser_t_prefix);
 
-/// The lines of what the tokens give, also after an error or the end, and of the error that is kept. From the
-/// first error on each push returns that, and gives nothing.
+/// The lines of what the tokens give, also after an error or the end, and of the error that is kept. From
+/// the first error on each push returns that, and gives nothing.
 fn push_all(tokens: &str, push: Push) -> String {
     let (mut lines, mut last) = (String::new(), Pushed(Ok(()), NO_FAULT));
     let one_more = yaml_token_t::new(StreamEnd, ZERO_MARK, ZERO_MARK);

@@ -1,5 +1,5 @@
-//! Each list with each of its allocations refused in turn, alone: it gives its first lines and then the error
-//! out of memory, or all lines.
+//! Each list with each of its allocations refused in turn, alone: it gives its first lines and then the
+//! error out of memory, or all lines.
 
 use crate::allocator::{apart, refuse_each};
 use crate::calls::by_calls;

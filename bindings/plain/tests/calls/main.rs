@@ -1,0 +1,31 @@
+//! Calls that no list of tokens shows, with what they must give: the rows of `crates/vectors_calls/data`.
+// With `alloc` the crate needs a later rustc than without.
+#![allow(clippy::incompatible_msrv)]
+
+mod documents;
+mod events;
+mod limits;
+#[path = "../lines/mod.rs"]
+mod lines;
+mod parsers;
+mod places;
+mod scanners;
+mod texts;
+mod tokens;
+
+use lines::data::{rows_of, text_of, Row};
+
+/// Compares what the calls of each row of a table give. It has so many rows.
+fn table(name: &str, count: usize, given: impl Fn(&Row) -> String) {
+    let text = text_of("crates/vectors_calls/data/vectors");
+    let rows: Vec<Row> = rows_of(&text).into_iter().filter(|row| row.table == name).collect();
+    assert_eq!(rows.len(), count);
+    for row in rows {
+        lines::same(&format!("{name}, {}", row.name), row.wanted, &given(&row));
+    }
+}
+
+/// These lines in one, with `;` in place of each LF.
+fn joined(lines: &str) -> String {
+    lines.replace('\n', ";")
+}
