@@ -3,13 +3,13 @@
 (`KINDS`), DIR/NAME-few.tokens and DIR/NAME-many.tokens for those of `GROWING`, DIR/NAME-LENGTH.tokens for those of
 `REPEATED`, and DIR/program.tokens.
 
-The mixes are those of crates/vectors_yaml/data/real; each other list repeats one form and has some 4,000 tokens, or ten
+The mixes are those of crates/vectors/data/real; each other list repeats one form and has some 4,000 tokens, or ten
 times as many, or as many as `LENGTHS` says: glibc keeps and gives back blocks in another way at each length, so that a
 figure of one may be luck."""
 import os
 import sys
 
-REAL = os.path.join(os.path.dirname(os.path.abspath(__file__)), "../crates/vectors_yaml/data/real")
+REAL = os.path.join(os.path.dirname(os.path.abspath(__file__)), "../crates/vectors/data/real")
 FILES = ["compose", "list", "manifests", "workflow"]
 TOKENS = 4000
 PROGRAM_LINES = 60000

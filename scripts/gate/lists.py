@@ -1,6 +1,6 @@
 #!/usr/bin/env python3
 """Compares the test vectors that stand as definitions (`specs/vectors` of three crates) with those that stand as files (`NAME.tokens`
-in `data` of crates/vectors_*, in bindings/plain/tests/data and in examples). A list has one name: that of the first definition which has it, `VectorNextName` or
+in `data` of crates/vectors, in bindings/plain/tests/data and in examples). A list has one name: that of the first definition which has it, `VectorNextName` or
 `next_name`. Fails, and names each case, if
 
 - a file has the list of a definition, and another name; or a definition's name, and another list;
@@ -32,7 +32,7 @@ NOTATIONS = [
 ]
 OTHERS = {"StackVectors", "EmptyNodeVectors"}  # files of test vectors without lists
 CLAIMS = ("parse", "loads_within")  # left as they stand
-FILES = ["crates/vectors_*/data/**/*.tokens", "bindings/plain/tests/data/**/*.tokens", "examples/*.tokens"]
+FILES = ["crates/vectors/data/**/*.tokens", "bindings/plain/tests/data/**/*.tokens", "examples/*.tokens"]
 SUITE = "suite"  # whose names are those of the YAML test suite
 BY_FORM = {  # named after what isn't compared: encodings, marks and how lines are written
     "encoding_any", "encoding_utf8", "encoding_utf16le", "encoding_utf16be", "index_out_of_range", "largest_column", "no_last_line_feed",

@@ -7,7 +7,7 @@
 #     aarch64-unknown-linux-gnu
 #     riscv64gc-unknown-linux-gnu
 #     s390x-unknown-linux-gnu          the high byte first
-#     wasm32-wasip1                    32 bits: the lists of vectors_yaml alone, by node
+#     wasm32-wasip1                    32 bits: the lists of crates/vectors alone, by node
 #     wasm32-unknown-unknown           compiled, not run
 #
 # A target needs rustc's library for it, a linker and an emulator: Debian's rustc with libstd-rust-dev:ARCH (dpkg
@@ -42,7 +42,7 @@ run_tests() {
     done
 }
 
-# Runs the lists of vectors_yaml in node's wasm machine.
+# Runs the lists of crates/vectors in node's wasm machine.
 run_wasi() {
     # Debian's linker has a name of its own.
     if command -v wasm-ld > /dev/null; then export CARGO_TARGET_WASM32_WASIP1_LINKER=wasm-ld; fi
@@ -56,7 +56,7 @@ const { instance } = await WebAssembly.instantiate(readFileSync(program), wasi.g
 process.exit(wasi.start(instance));
 JS
     lists=0
-    for tokens in crates/vectors_yaml/data/*/*.tokens; do
+    for tokens in crates/vectors/data/*/*.tokens; do
         events=${tokens%.tokens}.events nodes=${tokens%.tokens}.nodes
         [ -e "$events" ] && [ -e "$nodes" ] || continue
         lists=$((lists + 1))

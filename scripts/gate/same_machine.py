@@ -112,7 +112,7 @@ class Comparison:
 
 def vectors():
     """The files of lists of test vectors. Those of runs have lines that are no token lines."""
-    folders = [TOP / "crates/vectors_yaml/data", *(TOP / "bindings/plain/tests/data" / name for name in ("steps", "exact"))]
+    folders = [TOP / "crates/vectors/data", *(TOP / "bindings/plain/tests/data" / name for name in ("steps", "exact"))]
     return sorted(file for folder in folders for file in folder.glob("**/*.tokens")) + sorted(TOP.glob("examples/*.tokens"))
 
 

@@ -59,7 +59,7 @@ while IFS= read -r line; do
 done < "$data/worked"
 [ $runs -ge 38 ] || { echo "only $runs worked runs"; wrong=1; }
 
-find "$top"/crates/vectors_yaml/data "$data/lists" -name '*.tokens' > lists
+find "$top/crates/vectors/data" "$data/lists" -name '*.tokens' > lists
 while IFS= read -r tokens; do
     for word in events nodes; do
         wanted_lines=${tokens%.tokens}.$word

@@ -37,12 +37,12 @@ refuses() {
 for script in bench/clients.sh bindings/c/build_libyaml.sh bindings/c/proved-libyaml bindings/python/build_extension.sh \
     scripts/build_c.sh scripts/doors/any_processor.sh scripts/doors/clients.sh \
     scripts/doors/door_checks.sh scripts/doors/extension_checks.sh scripts/gate/inlined.sh scripts/parts/llvm_source.sh scripts/release.sh \
-    scripts/gate/release_checks.sh scripts/release_trees.sh scripts/vectors.sh scripts/gate/statuses.sh scripts/vendor.sh scripts/refusals.py \
+    scripts/gate/release_checks.sh scripts/release_trees.sh scripts/gate/statuses.sh scripts/vendor.sh scripts/refusals.py \
     scripts/gate/compare_errors.py scripts/gate/compare_fronts.py scripts/gate/slow_pipe.py; do
     refuses $script
     refuses $script --help
 done
-for script in bench/run.sh scripts/pages.py scripts/answers.py scripts/leaks_seen.py scripts/controls.py scripts/doors/abi.py scripts/gate/imports.py \
+for script in bench/run.sh scripts/pages.py scripts/answers.py scripts/controls.py scripts/mutants_seen.py scripts/leaks_seen.py scripts/doors/abi.py scripts/gate/imports.py \
     scripts/gate/left_out.py scripts/gate/same_machine.py scripts/gate/sizes_by_pyyaml.py scripts/check_programs.sh scripts/differential/run.sh scripts/differential/turned.sh; do
     refuses $script --help
     refuses $script no_such_word
@@ -52,7 +52,6 @@ refuses scripts/build_c.sh "$work/built" no_such_word
 refuses scripts/doors/door_checks.sh no_such_door
 refuses scripts/parts/llvm_source.sh ''
 refuses scripts/parts/llvm_source.sh one two
-refuses scripts/vectors.sh no_such_vectors
 refuses bench/run.sh clock no_such_word
 echo "$runs runs, $wrong wrong"
 [ "$wrong" = 0 ]

@@ -1,4 +1,4 @@
-//! The program `yamltokens` by rustc: over the lists of `crates/vectors_yaml` and those of `data/runs` it writes
+//! The program `yamltokens` by rustc: over the lists of `crates/vectors` and those of `data/runs` it writes
 //! the bytes that stand there, with the status and the error output.
 
 use std::fs;
@@ -60,7 +60,7 @@ fn runs_of(folder: &Path) -> usize {
 
 #[test]
 fn lists_give_their_lines() {
-    let runs = runs_of(&data("crates/vectors_yaml/data")) + runs_of(&data(RUNS));
+    let runs = runs_of(&data("crates/vectors/data")) + runs_of(&data(RUNS));
     assert!(runs >= 328, "only {runs} runs");
 }
 

@@ -22,7 +22,7 @@ NAMED = (
     "document_steps", "document_sizes", "pokhvizi_c",
 )
 INNER = re.compile(r"putting::")  # a module for the crates above alone
-EXAMPLES = {"example_theorems", "vectors_common"}
+EXAMPLES = {"example_theorems"}
 WIDTH = 110
 
 HEAD = """Every public item. `python3 scripts/pages.py` makes this list.

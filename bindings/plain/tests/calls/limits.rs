@@ -2,7 +2,7 @@
 //! columns of the faults that come.
 
 use crate::lines::data::Row;
-use crate::lines::growing::listed;
+use crate::lines::growing::{growing, listed};
 use pokhvizi::kit::{Global, Vec as List};
 use pokhvizi::token_limits::{token_limiter_t, yaml_limited_source_t};
 use pokhvizi::unsafe_libyaml::*;
@@ -41,8 +41,7 @@ fn source(row: &Row) -> yaml_limited_source_t<yaml_list_source_t> {
 fn push_all(row: &Row) -> Result<(), yaml_parser_t_prefix> {
     let mut limiter = token_limiter_t::new(row.number(2));
     let (mut parser, mut events) = (yaml_push_parser_t::new(Global), List::new(Global));
-    let mut list = list(row);
-    while let Ok(token) = list.next_token() {
+    for token in growing(row.fields[0], row.number(1)) {
         if let Err(fault) = limiter.take(&token) {
             assert_eq!(limiter.take(&token), Err(fault));
             return Err(fault.prefix());
@@ -55,15 +54,12 @@ fn push_all(row: &Row) -> Result<(), yaml_parser_t_prefix> {
 /// How many tokens a source gives, its fault, a further call's, and its own source's next column.
 fn by_calls(row: &Row) -> (usize, End, End, Option<u64>) {
     let mut source = source(row);
-    let mut next = |()| source.next_token();
-    let mut tokens = 0;
-    let first = loop {
-        match next(()) {
-            Ok(_) => tokens += 1,
-            Err(fault) => break end_of(Some(fault.prefix())),
-        }
-    };
-    let again = end_of(next(()).err().map(|fault| fault.prefix()));
+    let mut next = || end_of(source.next_token().err().map(|fault| fault.prefix()));
+    let (mut tokens, mut first) = (0, next());
+    while first == End::Whole && tokens < 1000 {
+        (tokens, first) = (tokens + 1, next());
+    }
+    let again = next();
     let left = source.into_source().next_token();
     (tokens, first, again, left.ok().map(|token| token.start_mark.column))
 }

@@ -10,7 +10,7 @@ use pokhvizi::unsafe_libyaml::*;
 
 /// The list of this name of the worked examples.
 fn worked(name: &str) -> yaml_list_source_t {
-    source_of(&text_of(&format!("crates/vectors_yaml/data/worked/{name}.tokens")))
+    source_of(&text_of(&format!("crates/vectors/data/worked/{name}.tokens")))
 }
 
 /// Where a parser stands before the first and after each of five events.
@@ -50,13 +50,12 @@ fn ends_too_soon() -> (bool, yaml_error_type_t) {
 
 /// How many tokens calls of a list give, its fault after them, and whether two further calls give that.
 fn tokens_and_fault() -> String {
-    let (mut list, mut tokens) = (worked("implicit_document"), 0);
-    let end = loop {
-        match list.next_token() {
-            Ok(_) => tokens += 1,
-            Err(fault) => break Some(fault),
-        }
-    };
+    let mut list = worked("implicit_document");
+    let (mut tokens, mut end) = (0, None);
+    while end.is_none() && tokens < 10 {
+        end = list.next_token().err();
+        tokens += usize::from(end.is_none());
+    }
     let [again, at_last] = [(); 2].map(|()| list.next_token().err() == end);
     format!("{:?}", (tokens, end, again, at_last))
 }

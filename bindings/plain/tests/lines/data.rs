@@ -3,7 +3,7 @@
 use std::fs;
 use std::path::PathBuf;
 
-/// The folders of lists in `crates/vectors_yaml/data`.
+/// The folders of lists in `crates/vectors/data`.
 pub const TABLES: [&str; 6] = ["worked", "productions", "loads", "libyaml_differs", "suite", "real"];
 
 /// Where the files are of which this is the path from the clone's top folder.
@@ -27,7 +27,7 @@ pub struct List {
 impl List {
     /// The text of the file of this ending.
     pub fn text(&self, ending: &str) -> String {
-        text_of(&format!("crates/vectors_yaml/data/{}/{}.{ending}", self.table, self.name))
+        text_of(&format!("crates/vectors/data/{}/{}.{ending}", self.table, self.name))
     }
 }
 
@@ -35,12 +35,12 @@ impl List {
 pub fn lists_of(tables: &[&'static str]) -> Vec<List> {
     let mut lists = Vec::new();
     for &table in tables {
-        for line in text_of(&format!("crates/vectors_yaml/data/{table}/index")).lines() {
+        for line in text_of(&format!("crates/vectors/data/{table}/index")).lines() {
             let (names, _) = line.split_once(": ").unwrap();
             let mut words = names.split(' ').map(String::from);
             let name = words.next().unwrap();
             let endings = ["events", "nodes"].map(String::from).into_iter().chain(words).collect();
-            let tokens = text_of(&format!("crates/vectors_yaml/data/{table}/{name}.tokens"));
+            let tokens = text_of(&format!("crates/vectors/data/{table}/{name}.tokens"));
             lists.push(List { table, name, endings, tokens });
         }
     }

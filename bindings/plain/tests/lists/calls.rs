@@ -8,6 +8,9 @@ use pokhvizi::kit::Global;
 use pokhvizi::libyaml_types::unnamed_yaml_event_t_data::NoEvent;
 use pokhvizi::unsafe_libyaml::*;
 
+/// More calls than any list takes.
+const EVERY_CALL: u32 = 10_000;
+
 /// The line of a document without nodes.
 const NO_DOCUMENT: &str = "DOCUMENT 0:0:0 0:0:0 0 0 - 0\n";
 
@@ -62,7 +65,7 @@ pub fn by_calls(source: impl yaml_token_source_t, given: Given) -> (String, yaml
         yaml_parser_set_max_entries(&mut parser, most);
         assert_eq!(parser.max_entries(), most);
     }
-    loop {
+    for _ in 0..EVERY_CALL {
         match next(&mut parser, given) {
             Ok(Some(more)) => apart(|| lines += &more),
             Ok(None) => break,

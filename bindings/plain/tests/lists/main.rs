@@ -1,4 +1,4 @@
-//! The lists of `crates/vectors_yaml`: each gives the lines that stand there, however it is read.
+//! The lists of `crates/vectors`: each gives the lines that stand there, however it is read.
 // With `alloc` the crate needs a later rustc than without.
 #![allow(clippy::incompatible_msrv)]
 

@@ -1,22 +1,19 @@
-//! Events by calls: each call that may run out of memory once with ample memory, and the worked test
-//! vectors of their texts, in which the zero byte counts.
+//! Events by calls, of texts in which the zero byte counts, and of bytes that are no text.
 
-use crate::texts::{line_of, shown};
+use crate::calls::{joined, shown};
 use anyhow::Result;
 use std::alloc::Global;
+use token_lines::write_event;
 use unsafe_libyaml::{
     YAML_DOUBLE_QUOTED_SCALAR_STYLE, YAML_FLOW_MAPPING_STYLE, YAML_FLOW_SEQUENCE_STYLE,
-    YAML_FOLDED_SCALAR_STYLE, YAML_PLAIN_SCALAR_STYLE, yaml_alias_event_initialize,
-    yaml_document_start_event_initialize, yaml_event_delete, yaml_event_t,
-    yaml_mapping_start_event_initialize, yaml_refusal_t, yaml_scalar_event_initialize,
-    yaml_sequence_start_event_initialize, yaml_version_directive_t,
+    YAML_FOLDED_SCALAR_STYLE, YAML_PLAIN_SCALAR_STYLE, ZERO_MARK, unnamed_yaml_event_t_data,
+    yaml_alias_event_initialize, yaml_document_start_event_initialize, yaml_event_delete,
+    yaml_event_t, yaml_mapping_start_event_initialize, yaml_refusal_t,
+    yaml_scalar_event_initialize, yaml_sequence_start_event_initialize, yaml_version_directive_t,
 };
-use vectors_common::{is_empty, mark};
 
 /// A text with a zero byte in it.
 const ZERO: &[u8] = b"a\0b";
-
-const SURROGATE: &[u8] = b"\xed\xa0\x80";
 
 type Made = Result<yaml_event_t, yaml_refusal_t>;
 
@@ -36,7 +33,7 @@ fn bad_document_start(alloc: Global) -> Made {
     yaml_document_start_event_initialize(alloc, None, &pairs, false)
 }
 
-/// Makes the call of the test vector of this name.
+/// Makes the call of this name.
 fn made(alloc: Global, name: &str) -> Made {
     let zero = Some(ZERO);
     match name {
@@ -61,10 +58,15 @@ fn made(alloc: Global, name: &str) -> Made {
         "a prefix that is no text" => bad_document_start(alloc),
         "the last character" => scalar(alloc, b"\xf4\x8f\xbf\xbf"),
         "past the last character" => scalar(alloc, b"\xf4\x90\x80\x80"),
-        "a surrogate" => scalar(alloc, SURROGATE),
-        "an alias that is a surrogate" => yaml_alias_event_initialize(alloc, SURROGATE),
+        "a surrogate" => scalar(alloc, b"\xed\xa0\x80"),
         _ => Err(yaml_refusal_t::TooManyNodes),
     }
+}
+
+pub fn line_of(alloc: Global, event: &yaml_event_t) -> Result<String> {
+    let mut line = Vec::new(alloc);
+    write_event(alloc, event, &mut line)?;
+    joined(alloc, line.as_slice())
 }
 
 /// Returns the line of an event, or the name of the error in its place.
@@ -75,9 +77,13 @@ fn text_of_made(alloc: Global, made: &Made) -> Result<String> {
     }
 }
 
+fn is_empty(event: &yaml_event_t) -> bool {
+    matches!(event.content, unnamed_yaml_event_t_data::NoEvent) && event.end_mark == ZERO_MARK
+}
+
 /// Whether an event is empty after a first and after a second deletion.
 fn empties_twice(event: &mut yaml_event_t) -> [bool; 2] {
-    event.end_mark = mark(1);
+    event.end_mark.index = 1;
     yaml_event_delete(event);
     let is_emptied = is_empty(event);
     yaml_event_delete(event);
@@ -89,7 +95,7 @@ fn emptied_twice(alloc: Global) -> Result<String> {
     shown(alloc, &empties_twice(&mut event))
 }
 
-/// Returns the text of what the call of the test vector of this name makes.
+/// Returns the text of what the call of this name makes.
 pub fn given(alloc: Global, name: &str) -> Result<String> {
     if name == "an event is emptied twice" {
         return emptied_twice(alloc);

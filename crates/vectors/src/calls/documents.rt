@@ -1,10 +1,9 @@
-//! Documents by calls: each call once with ample memory, and the worked test vectors of them; and documents
-//! that are equal but for their ends.
+//! Documents by calls.
 
 ghost use Rattle.std.specs.Prelude.{◌≡◌, [], IfOk};
 
-use crate::texts::{joined, shown};
-use anyhow::{Context, Result, bail};
+use crate::calls::{joined, shown};
+use anyhow::{Result, bail};
 use std::alloc::Global;
 use token_lines::write_document;
 use unsafe_libyaml::{
@@ -12,10 +11,8 @@ use unsafe_libyaml::{
     YAML_PLAIN_SCALAR_STYLE, yaml_document_add_mapping, yaml_document_add_scalar,
     yaml_document_add_sequence, yaml_document_append_mapping_pair,
     yaml_document_append_sequence_item, yaml_document_get_node, yaml_document_get_root_node,
-    yaml_document_initialize, yaml_document_t, yaml_parser_initialize, yaml_parser_load,
-    yaml_refusal_t, yaml_version_directive_t,
+    yaml_document_initialize, yaml_document_t, yaml_refusal_t,
 };
-use vectors_common::{Vector, list_of_lines};
 
 type Made = Result<yaml_document_t, yaml_refusal_t>;
 
@@ -91,15 +88,6 @@ fn map_of_one(alloc: Global) -> Made {
     added.and(Ok(document))
 }
 
-fn with_directives(alloc: Global) -> Made {
-    let version = Some(yaml_version_directive_t {
-        major: 1,
-        minor: -1,
-    });
-    let directives: [(&[u8], &[u8]); 1] = [(b"!e!", b"tag:e,2000:")];
-    yaml_document_initialize(alloc, version, directives.as_slice(), false, true)
-}
-
 fn lines_of(alloc: Global, made: Made) -> Result<String> {
     let document = made?;
     let mut lines = Vec::new(alloc);
@@ -115,47 +103,14 @@ fn refused_tag(alloc: Global) -> Result<String> {
     shown(alloc, &(added, document.nodes().len()))
 }
 
-/// Loads the document of these lines, which have `;` in place of each LF.
-fn loaded(alloc: Global, lines: &str) -> Result<yaml_document_t> {
-    let lines = lines.replace(alloc, ';', "\n")?;
-    let mut parser = yaml_parser_initialize(alloc, list_of_lines(alloc, lines.as_bytes())?);
-    yaml_parser_load(&mut parser).ok().context("no document")
-}
-
-/// Which of three documents this one is equal to, whichever is compared with the other.
-fn equal_to(one: &yaml_document_t, documents: [&yaml_document_t; 3]) -> [[bool; 3]; 2] {
-    let [near, far, told] = documents;
-    [
-        [one == near, one == far, one == told],
-        [near == one, far == one, told == one],
-    ]
-}
-
-/// Shows which of three documents that are equal but for their ends are equal: that of a scalar which ends at
-/// the stream's end, there but later, and with a DOCUMENT-END.
-fn equal(alloc: Global, vector: Vector<'_>) -> Result<String> {
-    let near = loaded(alloc, vector.field(0))?;
-    let far = loaded(alloc, vector.field(1))?;
-    let told = loaded(alloc, vector.field(2))?;
-    let all = [&near, &far, &told];
-    let equal = [
-        equal_to(&near, all),
-        equal_to(&far, all),
-        equal_to(&told, all),
-    ];
-    shown(alloc, &equal)
-}
-
-/// Returns the text of what the calls of the test vector give.
-pub fn given(alloc: Global, vector: Vector<'_>) -> Result<String> {
-    match vector.name {
+/// Returns the text of what the calls of this name give.
+pub fn given(alloc: Global, name: &str) -> Result<String> {
+    match name {
         "ids count from one" => known_of_word(alloc),
         "items are appended in order" => lines_of(alloc, list_of_two(alloc)),
         "a given tag stays" => lines_of(alloc, tagged_word(alloc)),
         "a tag that is no text adds no node" => refused_tag(alloc),
         "a pair is appended" => lines_of(alloc, map_of_one(alloc)),
-        "directives stay" => lines_of(alloc, with_directives(alloc)),
-        "documents differ by their ends" => equal(alloc, vector),
         _ => bail!("no such document"),
     }
 }

@@ -1,0 +1,88 @@
+//! Large lists, over a scanner that computes their tokens: how much they give.
+
+use crate::files::{Host, Table, count};
+use crate::read::{gives_event, next_nodes};
+use crate::sources::Growing;
+use anyhow::{Context, Result};
+use std::alloc::Global;
+use std::fs;
+use unsafe_libyaml::{
+    yaml_parser_initialize, yaml_parser_t, yaml_scanner_source_t, yaml_token_source_t,
+};
+
+/// How large and deep the lists are.
+const N: u64 = 100_000;
+
+/// Compares the lists of the file `large`: a line `# TABLE` begins a table, the others are `NAME|LIST|TEXT`.
+pub fn compare(rt: &impl Host) -> Result<u64> {
+    let lines = fs::read_to_string(rt, "large")?;
+    compare_rows(rt, lines.as_str())
+}
+
+fn compare_rows(rt: &impl Host, lines: &str) -> Result<u64> {
+    let mut table = Table { name: "" };
+    let (mut lists, mut differ) = (0u64, 0u64);
+    for line in lines.lines() {
+        if let Some((name, fields)) = table.row(line) {
+            differ = differ.saturating_add(compare_list(rt, table.name, name, fields)?);
+            lists = lists.saturating_add(1);
+        }
+    }
+    println!(rt; "large lists: {lists}, {differ} differ")?;
+    Ok(differ)
+}
+
+fn compare_list(rt: &impl Host, table: &str, name: &str, fields: &str) -> Result<u64> {
+    let (list, wanted) = fields.split_once('|').context("a line of no list")?;
+    let text = given(rt.alloc(), table, list)?;
+    Ok(count(rt, table, name, text.as_str() == wanted)?)
+}
+
+/// Returns how much a list gives, as a text.
+fn given(alloc: Global, table: &str, list: &str) -> Result<String> {
+    let source = yaml_scanner_source_t::new(Growing::new(alloc, list, N), u64::MAX);
+    if table == "large lists, parsed" {
+        text_of_events(alloc, source)
+    } else {
+        text_of_documents(alloc, source)
+    }
+}
+
+fn text_of_events<S: yaml_token_source_t + Drop>(alloc: Global, source: S) -> Result<String> {
+    let mut parser = yaml_parser_initialize(alloc, source);
+    let mut events = 0u64;
+    for _ in 0..u64::MAX {
+        if !gives_event(&mut parser) {
+            break;
+        }
+        events = events.saturating_add(1);
+    }
+    let end = text_of_end(alloc, &parser)?;
+    Ok(format!(in alloc; "{events} events{end}")?)
+}
+
+fn text_of_documents<S: yaml_token_source_t + Drop>(alloc: Global, source: S) -> Result<String> {
+    let mut parser = yaml_parser_initialize(alloc, source);
+    let (mut documents, mut first) = (0u64, 0usize);
+    for _ in 0..u64::MAX {
+        match next_nodes(&mut parser) {
+            Some(Ok(nodes)) if nodes > 0 => {
+                documents = documents.saturating_add(1);
+                first = if documents == 1 { nodes } else { first };
+            }
+            _ => break,
+        }
+    }
+    let end = text_of_end(alloc, &parser)?;
+    Ok(format!(in alloc; "{documents} documents of {first} nodes{end}")?)
+}
+
+/// Returns the problem that a parser keeps, and where it is.
+fn text_of_end<S: yaml_token_source_t>(alloc: Global, parser: &yaml_parser_t<S>) -> Result<String> {
+    let prefix = parser.prefix();
+    let Some(problem) = prefix.problem else {
+        return Ok(String::new(alloc));
+    };
+    let index = prefix.problem_mark.index;
+    Ok(format!(in alloc; ", {problem} at {index}")?)
+}
