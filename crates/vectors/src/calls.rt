@@ -17,14 +17,14 @@ use unsafe_libyaml::{
 /// Compares the calls of the file `calls`: a line `# TABLE` begins a table, the others are `NAME|TEXT`.
 pub fn compare(rt: &impl Host) -> Result<u64> {
     let lines = fs::read_to_string(rt, "calls")?;
-    compare_rows(rt, lines.as_str())
+    compare_vectors(rt, lines.as_str())
 }
 
-fn compare_rows(rt: &impl Host, lines: &str) -> Result<u64> {
+fn compare_vectors(rt: &impl Host, lines: &str) -> Result<u64> {
     let mut table = Table { name: "" };
     let (mut calls, mut differ) = (0u64, 0u64);
     for line in lines.lines() {
-        if let Some((name, fields)) = table.row(line) {
+        if let Some((name, fields)) = table.vector(line) {
             differ = differ.saturating_add(compare_call(rt, table.name, name, fields)?);
             calls = calls.saturating_add(1);
         }

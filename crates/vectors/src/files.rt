@@ -29,7 +29,7 @@ pub struct Table<'a> {
 
 impl<'a> Table<'a> {
     /// Returns the name and the fields of a line `NAME|FIELDS`. A line `# TABLE` begins a table.
-    pub fn row(&mut self, line: &'a str) -> Option<(&'a str, &'a str)> {
+    pub fn vector(&mut self, line: &'a str) -> Option<(&'a str, &'a str)> {
         if let Some(name) = line.strip_prefix("# ") {
             self.name = name;
             return None;

@@ -16,14 +16,14 @@ const N: u64 = 100_000;
 /// Compares the lists of the file `large`: a line `# TABLE` begins a table, the others are `NAME|LIST|TEXT`.
 pub fn compare(rt: &impl Host) -> Result<u64> {
     let lines = fs::read_to_string(rt, "large")?;
-    compare_rows(rt, lines.as_str())
+    compare_vectors(rt, lines.as_str())
 }
 
-fn compare_rows(rt: &impl Host, lines: &str) -> Result<u64> {
+fn compare_vectors(rt: &impl Host, lines: &str) -> Result<u64> {
     let mut table = Table { name: "" };
     let (mut lists, mut differ) = (0u64, 0u64);
     for line in lines.lines() {
-        if let Some((name, fields)) = table.row(line) {
+        if let Some((name, fields)) = table.vector(line) {
             differ = differ.saturating_add(compare_list(rt, table.name, name, fields)?);
             lists = lists.saturating_add(1);
         }
@@ -38,7 +38,7 @@ fn compare_list(rt: &impl Host, table: &str, name: &str, fields: &str) -> Result
     Ok(count(rt, table, name, text.as_str() == wanted)?)
 }
 
-/// Returns how much a list gives, as a text.
+/// Returns the text of how much a list gives.
 fn given(alloc: Global, table: &str, list: &str) -> Result<String> {
     let source = yaml_scanner_source_t::new(Growing::new(alloc, list, N), u64::MAX);
     if table == "large lists, parsed" {
