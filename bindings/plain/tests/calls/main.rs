@@ -5,6 +5,7 @@
 
 mod documents;
 mod events;
+mod half;
 mod limits;
 #[path = "../lines/mod.rs"]
 mod lines;
