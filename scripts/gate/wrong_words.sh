@@ -20,7 +20,7 @@ refuses() {
     script=$1
     shift
     case $script in *.py) by=python3 ;; *) by=sh ;; esac
-    timeout 20 $by "$top/$script" "$@" > "$work/out" 2> "$work/err" < /dev/null
+    (ulimit -t 20 && exec timeout 200 $by "$top/$script" "$@") > "$work/out" 2> "$work/err" < /dev/null
     got=$?
     runs=$((runs + 1))
     if [ $got -ne 2 ] || [ -s "$work/out" ] || [ "$(wc -l < "$work/err")" -ne 1 ] || ! grep -q 'usage: ' "$work/err"; then
@@ -35,15 +35,16 @@ refuses() {
 }
 
 for script in bench/clients.sh bindings/c/build_libyaml.sh bindings/c/proved-libyaml bindings/python/build_extension.sh \
-    scripts/build_c.sh scripts/doors/any_processor.sh scripts/doors/clients.sh \
-    scripts/doors/door_checks.sh scripts/doors/extension_checks.sh scripts/gate/inlined.sh scripts/parts/llvm_source.sh scripts/release.sh \
+    scripts/build_c.sh scripts/build_plain.sh scripts/clone_trees.sh scripts/doors/any_processor.sh scripts/doors/clients.sh \
+    scripts/doors/door_checks.sh scripts/doors/extension_checks.sh scripts/doors/hostile_texts.py scripts/doors/programs.sh \
+    scripts/gate/inlined.sh scripts/parts/llvm_source.sh scripts/release.sh \
     scripts/gate/release_checks.sh scripts/release_trees.sh scripts/gate/statuses.sh scripts/vendor.sh scripts/refusals.py \
     scripts/gate/compare_errors.py scripts/gate/compare_fronts.py scripts/gate/slow_pipe.py; do
     refuses $script
     refuses $script --help
 done
 for script in bench/run.sh scripts/pages.py scripts/answers.py scripts/controls.py scripts/mutants_seen.py scripts/leaks_seen.py scripts/doors/abi.py scripts/gate/imports.py \
-    scripts/gate/left_out.py scripts/gate/same_machine.py scripts/gate/sizes_by_pyyaml.py scripts/check_programs.sh scripts/differential/run.sh scripts/differential/turned.sh; do
+    scripts/gate/left_out.py scripts/gate/names.py scripts/gate/same_machine.py scripts/gate/sizes_by_pyyaml.py scripts/check_programs.sh scripts/differential/run.sh scripts/differential/turned.sh; do
     refuses $script --help
     refuses $script no_such_word
 done
