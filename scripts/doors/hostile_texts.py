@@ -16,9 +16,9 @@ The doors, of which those are tried that have a path:
 Prints each case with its time and the peak of its memory, which no check looks at; with --table also those of loads,
 in the lines of the table of bench/results/hostile.md. A case may take 60 seconds of a processor, and ten times as
 many of the clock; those that may take more are tried with --all alone, and have 300. With --turned each wants another outcome, so all have to be wrong. The status is 0 if each
-outcome is the one that is listed.
+outcome is the one that is listed, 2 if GNU time lacks.
 
-Run by clients.sh. Needs GNU time.
+Run by clients.sh. Needs GNU time (Debian: time).
 """
 import fnmatch
 import os
@@ -30,6 +30,7 @@ import tempfile
 
 HERE = os.path.dirname(os.path.realpath(__file__))
 TOP = os.path.dirname(os.path.dirname(HERE))
+TIME = "/usr/bin/time"
 SECONDS, MANY_SECONDS = 60, 300
 NODES, EXPANDED = 100000, 1000000
 
@@ -228,7 +229,7 @@ class Rows:
 def outcome_of(door, what, file, bounds, exact, most, figures):
     """What a case ends in, the seconds that it takes of a processor, and its memory in KB."""
     command, more, name = door.run(what, file, bounds, exact)
-    timed = ["/usr/bin/time", "-q", "-f", "%U %S %M", "-o", figures, "timeout", "-k", "1", str(10 * most), *command]
+    timed = [TIME, "-q", "-f", "%U %S %M", "-o", figures, "timeout", "-k", "1", str(10 * most), *command]
     with open(name or os.devnull, "rb") as into:
         run = subprocess.run(timed, stdin=into, env=dict(os.environ, **more), stdout=subprocess.PIPE, stderr=subprocess.PIPE,
                              preexec_fn=lambda: resource.setrlimit(resource.RLIMIT_CPU, (most, most)))
@@ -272,6 +273,9 @@ def main(words):
     paths = dict(word.partition("=")[::2] for word in words if not word.startswith("--"))
     if options - {"--all", "--table", "--turned"} or not set(paths) & set(DOORS) or set(paths) - set(DOORS) - {"events", "rust_exact"}:
         sys.stderr.write("usage: hostile_texts.py [--all] [--table] [--turned] DOOR=PATH..; the first lines name the doors\n")
+        return 2
+    if not os.access(TIME, os.X_OK):
+        sys.stderr.write("hostile_texts.py: no GNU time %s\n" % TIME)
         return 2
     doors = [kind(name, paths[name], paths) for name, kind in DOORS.items() if name in paths]
     rows, figures, count, wrong = Rows(HERE + "/hostile_texts.txt"), {}, 0, 0
