@@ -65,8 +65,8 @@ pack() {
 
 notices() {
     echo "libyaml's code, in lib/pokhvizi of the archive for C and in the wheel's extension, is under LICENSE.libyaml, and that of the crate"
-    echo "unsafe-libyaml, in the archive for Rust, under original/LICENSE-MIT. The library has code of these crates, which the prover's kit"
-    echo "ported from Rust."
+    echo "unsafe-libyaml, in the archive for Rust, under original/LICENSE-MIT. The library has no code of these crates, which the prover's kit"
+    echo "ported from Rust; a program that the kit builds from the sources may have it."
     for ported in simdutf8 percent_encoding memchr itoa; do
         printf '\n---- %s ----\n\n' "$ported"
         if [ -e "$kit/rattle/$ported/LICENSE-MIT" ]; then licence=LICENSE-MIT; else licence=LICENSE; fi
