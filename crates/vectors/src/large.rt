@@ -42,39 +42,65 @@ fn compare_list(rt: &impl Host, table: &str, name: &str, fields: &str) -> Result
 fn given(alloc: Global, table: &str, list: &str) -> Result<String> {
     let source = yaml_scanner_source_t::new(Growing::new(alloc, list, N), u64::MAX);
     if table == "large lists, parsed" {
-        text_of_events(alloc, source)
+        events_of(alloc, source)
     } else {
-        text_of_documents(alloc, source)
+        documents_of(alloc, source)
     }
 }
 
-fn text_of_events<S: yaml_token_source_t + Drop>(alloc: Global, source: S) -> Result<String> {
+fn events_of<S: yaml_token_source_t + Drop>(alloc: Global, source: S) -> Result<String> {
     let mut parser = yaml_parser_initialize(alloc, source);
+    text_of_events(alloc, &mut parser)
+}
+
+fn text_of_events<S: yaml_token_source_t>(
+    alloc: Global,
+    parser: &mut yaml_parser_t<S>,
+) -> Result<String> {
+    let events = count_events(parser);
+    let end = text_of_end(alloc, parser)?;
+    Ok(format!(in alloc; "{events} events{end}")?)
+}
+
+fn count_events<S: yaml_token_source_t>(parser: &mut yaml_parser_t<S>) -> u64 {
     let mut events = 0u64;
     for _ in 0..u64::MAX {
-        if !gives_event(&mut parser) {
+        if !gives_event(parser) {
             break;
         }
         events = events.saturating_add(1);
     }
-    let end = text_of_end(alloc, &parser)?;
-    Ok(format!(in alloc; "{events} events{end}")?)
+    events
 }
 
-fn text_of_documents<S: yaml_token_source_t + Drop>(alloc: Global, source: S) -> Result<String> {
+fn documents_of<S: yaml_token_source_t + Drop>(alloc: Global, source: S) -> Result<String> {
     let mut parser = yaml_parser_initialize(alloc, source);
+    text_of_documents(alloc, &mut parser)
+}
+
+fn text_of_documents<S: yaml_token_source_t>(
+    alloc: Global,
+    parser: &mut yaml_parser_t<S>,
+) -> Result<String> {
+    let (documents, nodes) = count_documents(parser);
+    let end = text_of_end(alloc, parser)?;
+    Ok(format!(in alloc; "{documents} documents of {nodes} nodes{end}")?)
+}
+
+/// Counts the documents that have nodes, and the nodes of the first.
+fn count_documents<S: yaml_token_source_t>(parser: &mut yaml_parser_t<S>) -> (u64, usize) {
     let (mut documents, mut first) = (0u64, 0usize);
     for _ in 0..u64::MAX {
-        match next_nodes(&mut parser) {
-            Some(Ok(nodes)) if nodes > 0 => {
-                documents = documents.saturating_add(1);
-                first = if documents == 1 { nodes } else { first };
-            }
+        let nodes = match next_nodes(parser) {
+            Some(Ok(nodes)) if nodes > 0 => nodes,
             _ => break,
+        };
+        documents = documents.saturating_add(1);
+        if documents == 1 {
+            first = nodes;
         }
     }
-    let end = text_of_end(alloc, &parser)?;
-    Ok(format!(in alloc; "{documents} documents of {first} nodes{end}")?)
+    (documents, first)
 }
 
 /// Returns the problem that a parser keeps, and where it is.

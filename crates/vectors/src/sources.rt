@@ -12,7 +12,7 @@ fn token_of(alloc: Global, line: &str) -> Result<yaml_token_t, yaml_source_fault
     yaml_line_source_t::new(alloc, line.as_bytes(), 1).next_token()
 }
 
-/// The error at the end of so many tokens.
+/// The error where so many tokens end.
 fn end_of(tokens: u64) -> yaml_source_fault_t {
     let at = yaml_mark_t {
         index: tokens,

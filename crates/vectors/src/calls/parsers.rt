@@ -17,18 +17,46 @@ fn stands_between<S: yaml_token_source_t>(parser: &mut yaml_parser_t<S>) -> Opti
     gives_event(parser).then_some(yaml_parser_between_documents(parser))
 }
 
-/// Shows where a parser stands before the first and after each of five events.
 fn stands<S: yaml_token_source_t + Drop>(alloc: Global, source: S) -> Result<String> {
     let mut parser = yaml_parser_initialize(alloc, source);
-    let stands = [
-        Some(yaml_parser_between_documents(&parser)),
-        stands_between(&mut parser),
-        stands_between(&mut parser),
-        stands_between(&mut parser),
-        stands_between(&mut parser),
-        stands_between(&mut parser),
-    ];
+    let stands = stands_of(&mut parser);
     shown(alloc, &stands)
+}
+
+/// Where a parser stands before the first and after each of five events.
+fn stands_of<S: yaml_token_source_t>(parser: &mut yaml_parser_t<S>) -> [Option<bool>; 6] {
+    [
+        Some(yaml_parser_between_documents(parser)),
+        stands_between(parser),
+        stands_between(parser),
+        stands_between(parser),
+        stands_between(parser),
+        stands_between(parser),
+    ]
+}
+
+fn goes_on<S: yaml_token_source_t + Drop>(alloc: Global, source: S) -> Result<String> {
+    let mut parser = yaml_parser_initialize(alloc, source);
+    text_after_load(alloc, &mut parser)
+}
+
+/// Shows how many nodes a load gives, the next event, and whether the parser then is between documents.
+fn text_after_load<S: yaml_token_source_t>(
+    alloc: Global,
+    parser: &mut yaml_parser_t<S>,
+) -> Result<String> {
+    let nodes = next_nodes(parser);
+    let line = next_line(alloc, parser)?;
+    let is_between = yaml_parser_between_documents(parser);
+    shown(alloc, &(nodes, line.as_str(), is_between))
+}
+
+fn next_line<S: yaml_token_source_t>(
+    alloc: Global,
+    parser: &mut yaml_parser_t<S>,
+) -> Result<String> {
+    let parsed = yaml_parser_parse(parser);
+    line_of_parsed(alloc, &parsed)
 }
 
 fn line_of_parsed(
@@ -39,17 +67,6 @@ fn line_of_parsed(
         Ok(event) => line_of(alloc, event),
         Err(_) => bail!("no event"),
     }
-}
-
-/// Shows how many nodes a load gives, the next event, and whether the parser then is between documents.
-fn goes_on<S: yaml_token_source_t + Drop>(alloc: Global, source: S) -> Result<String> {
-    let mut parser = yaml_parser_initialize(alloc, source);
-    let nodes = next_nodes(&mut parser);
-    let line = line_of_parsed(alloc, &yaml_parser_parse(&mut parser))?;
-    shown(
-        alloc,
-        &(nodes, line.as_str(), yaml_parser_between_documents(&parser)),
-    )
 }
 
 /// Returns the text of what the calls of this name give.
