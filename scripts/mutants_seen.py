@@ -41,12 +41,13 @@ def programs(named):
 
 def first_failure(said):
     """The first test that fails, and the test vector that it tells, in words."""
-    test = re.search(r"^failures:\n\n---- (\S+) stdout ----\n\n?(?:.*panicked at .*\n)?(.*)", said, flags=re.M)
-    if not test:
+    failure = re.search(r"^---- (\S+) stdout ----\n(.*?)(?=^---- |^failures:$)", said, flags=re.M | re.S)
+    if not failure:
         return "which is aborted"
-    message = re.sub(r"^assertion .* failed(: |$)", "", test[2])
-    vector = re.match(r"(?!called |assertion failed|only )([^:]{1,80}?)(?:, line \d+)?(?:: |$)", message)
-    return f"`{test[1]}`" + (f": `{vector[1]}`" if vector else "")
+    test, told = failure.groups()
+    message = re.search(r"panicked at .*\n(?:assertion .* failed: )?(.*)", told)
+    vector = re.search(r"^in (.*)", told, flags=re.M) or re.match(r"(?!assertion |called |only )([^:]{1,80}?)(?:, line \d+)?(?:: |$)", message[1] if message else "")
+    return f"`{test}`" + (f": `{vector[1]}`" if vector else "")
 
 
 def run_test(room, program):

@@ -16,6 +16,7 @@ mod runs;
 mod whole;
 
 use lines::data::{lists_of, List, TABLES};
+use std::panic::{catch_unwind, resume_unwind, AssertUnwindSafe};
 
 /// What is read of a list.
 #[derive(Clone, Copy, Debug, PartialEq)]
@@ -57,14 +58,23 @@ fn given_of(ending: &str) -> Option<Given> {
     }
 }
 
-/// Hands on each file of events or documents of each list.
+/// Does this, and tells the name if it panics.
+fn named(name: &str, then: impl FnOnce()) {
+    if let Err(panic) = catch_unwind(AssertUnwindSafe(then)) {
+        eprintln!("in {name}");
+        resume_unwind(panic);
+    }
+}
+
+/// Hands on each file of events or documents of each list, and names it if that panics.
 fn each_case(mut then: impl FnMut(&Case)) {
     let mut cases = 0;
     for list in &lists_of(&TABLES) {
         for ending in &list.endings {
             if let Some(given) = given_of(ending) {
                 let wanted = list.text(ending);
-                then(&Case { list, ending, given, wanted });
+                let case = Case { list, ending, given, wanted };
+                named(&case.name(), || then(&case));
                 cases += 1;
             }
         }
