@@ -232,7 +232,8 @@ def main():
     growth, lengths, program = "growth" in words, "lengths" in words, "program" in words
     kinds = [kind for kind in KINDS if kind in words[1:]]
     if len(words) != 1 + len(kinds) + growth + lengths + program or len(words) == 1:
-        sys.exit(f"usage: measure.py DIR [--clock] [--out FIGURES] KIND..: of {' '.join(KINDS)} growth lengths program")
+        print(f"usage: measure.py DIR [--clock] [--out FIGURES] KIND..: of {' '.join(KINDS)} growth lengths program", file=sys.stderr)
+        return 2
     bench = Bench(words[0])
     if kinds:
         if not bench.has("unsafe_libyaml"):
@@ -257,6 +258,6 @@ def main():
 
 if __name__ == "__main__":
     try:
-        main()
+        sys.exit(main())
     except (Failed, OSError) as failure:
         sys.exit(f"measure.py: {failure}")

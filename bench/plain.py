@@ -69,7 +69,8 @@ def build(work):
 def main():
     kinds = sys.argv[1:] or list(KINDS)
     if any(kind not in KINDS for kind in kinds):
-        sys.exit(f"usage: plain.py KIND.., of {' '.join(KINDS)}")
+        print(f"usage: plain.py KIND.., of {' '.join(KINDS)}", file=sys.stderr)
+        return 2
     with tempfile.TemporaryDirectory() as work:
         build(work)
         measures = [*dict.fromkeys([*EVENTS.values(), *NODES.values()])]
@@ -80,6 +81,6 @@ def main():
 
 if __name__ == "__main__":
     try:
-        main()
+        sys.exit(main())
     except (measure.Failed, OSError, subprocess.CalledProcessError) as failure:
         sys.exit(f"plain.py: {failure}")

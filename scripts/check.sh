@@ -8,6 +8,7 @@
 #
 # Run by hand before each commit, and by .ci/run.
 set -u
+[ $# = 0 ] || { echo "usage: sh scripts/check.sh" >&2; exit 2; }
 cd "$(dirname "$0")/.." || exit 2
 work=$(mktemp -d) || exit 2
 trap 'rm -rf "$work"' EXIT

@@ -17,6 +17,7 @@ from pathlib import Path
 TOP = Path(__file__).resolve().parents[2]
 sys.path.insert(0, str(TOP / "scripts/parts"))
 from sources import CRATES  # noqa: E402
+from usage import no_words  # noqa: E402
 
 PROOF = re.compile(r"(?:Rattle\.)?\b(\w+)(?:\.|::)proofs(?:\.|::)((?:exported(?:\.|::))?\w+)")
 
@@ -47,4 +48,5 @@ def main():
 
 
 if __name__ == "__main__":
+    no_words(__file__)
     main()

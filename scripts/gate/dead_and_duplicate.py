@@ -20,6 +20,7 @@ sys.path[:0] = [str(TOP / "scripts/parts"), str(TOP / "scripts/parts/pages")]
 
 import surface  # noqa: E402
 from sources import CRATES  # noqa: E402
+from usage import no_words  # noqa: E402
 
 KNOWN = {"step"}  # of the automaton, and of the machine over it
 NAME = r"[^\s(){}.,;:=→λ]+"
@@ -161,4 +162,5 @@ def main():
 
 
 if __name__ == "__main__":
+    no_words(__file__)
     main()

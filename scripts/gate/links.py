@@ -24,6 +24,7 @@ TOP = Path(__file__).resolve().parents[2]
 sys.path.insert(0, str(TOP / "scripts/parts"))
 
 from sources import CRATES, read_specs  # noqa: E402
+from usage import no_words  # noqa: E402
 
 PAGES = [*TOP.glob("*.md"), *TOP.glob("docs/*.md"), *TOP.glob("crates/*/README.md"), *TOP.glob("bindings/*/README.md"),
          *TOP.glob("scripts/**/README.md")]
@@ -184,4 +185,5 @@ def main():
 
 
 if __name__ == "__main__":
+    no_words(__file__)
     main()

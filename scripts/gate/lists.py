@@ -22,6 +22,9 @@ import sys
 from collections import defaultdict
 from pathlib import Path
 
+sys.path.insert(0, str(Path(__file__).resolve().parents[1] / "parts"))
+from usage import no_words  # noqa: E402
+
 from notation import Notation
 
 TOP = Path(__file__).resolve().parents[2]
@@ -324,4 +327,5 @@ def main():
 
 
 if __name__ == "__main__":
+    no_words(__file__)
     main()

@@ -10,10 +10,11 @@ Run by check.sh.
 import sys
 from pathlib import Path
 
-sys.path.insert(0, str(Path(__file__).resolve().parents[1]))
+sys.path[:0] = [str(Path(__file__).resolve().parents[1] / part) for part in ("", "parts")]
 from controls import TOP, mutated  # noqa: E402
 from leaks_seen import LEAKS, planted  # noqa: E402
 from mutant_lines import wrong_lines  # noqa: E402
+from usage import no_words  # noqa: E402
 
 
 def stale(make, *words):
@@ -33,4 +34,5 @@ def main():
 
 
 if __name__ == "__main__":
+    no_words(__file__)
     main()

@@ -17,6 +17,7 @@
 #
 # Run by check_programs.sh with the word `all`, and by hand in a Debian tree that has these packages.
 set -u
+[ $# = 0 ] || { echo "usage: sh scripts/gate/platforms.sh" >&2; exit 2; }
 cd "$(dirname "$0")/../.." || exit 2
 work=$(mktemp -d) || exit 2
 trap 'rm -rf "$work"' EXIT

@@ -15,6 +15,7 @@ from pathlib import Path
 TOP = Path(__file__).resolve().parents[2]
 sys.path.insert(0, str(TOP / "scripts/parts"))
 from sources import CRATES, WORD, closure, imports, read_specs, reexports, sources  # noqa: E402
+from usage import no_words  # noqa: E402
 
 FACADES = ["unsafe_libyaml", "token_lines"]
 ITEM = r"^pub (?:const )?(?:fn|struct|enum|trait|const|type) {}\b"
@@ -162,4 +163,5 @@ def main():
 
 
 if __name__ == "__main__":
+    no_words(__file__)
     main()

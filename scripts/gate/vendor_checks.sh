@@ -6,6 +6,7 @@
 #
 # Run by check_programs.sh.
 set -u
+[ $# = 0 ] || { echo "usage: sh scripts/gate/vendor_checks.sh" >&2; exit 2; }
 cd "$(dirname "$0")/../.." || exit 2
 work=$(mktemp -d) || exit 2
 trap 'rm -rf "$work"' EXIT

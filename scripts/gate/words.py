@@ -21,6 +21,9 @@ import sys
 from itertools import groupby
 from pathlib import Path
 
+sys.path.insert(0, str(Path(__file__).resolve().parents[1] / "parts"))
+from usage import no_words  # noqa: E402
+
 TOP = Path(__file__).resolve().parents[2]
 INSTEAD = {
     r"want of memory": "out of memory",
@@ -177,4 +180,5 @@ def main():
 
 
 if __name__ == "__main__":
+    no_words(__file__)
     main()

@@ -21,6 +21,9 @@ import sys
 from collections import defaultdict
 from pathlib import Path
 
+sys.path.insert(0, str(Path(__file__).resolve().parents[1] / "parts"))
+from usage import no_words  # noqa: E402
+
 TOP = Path(__file__).resolve().parents[2]
 PROGRAM = TOP / "crates/vectors"
 LISTS = PROGRAM / "data/worked"
@@ -154,4 +157,5 @@ def main():
 
 
 if __name__ == "__main__":
+    no_words(__file__)
     main()

@@ -1,5 +1,5 @@
 #!/bin/sh
-# Gives each script that takes words wrong ones, and those that need a word none: it has to say its usage in one line on standard
+# Gives each script wrong words, and those that need a word none: it has to say its usage in one line on standard
 # error, and nothing else, to end with status 2 at once, and to leave the folder that it is run in empty.
 #
 #     sh scripts/gate/wrong_words.sh
@@ -8,6 +8,7 @@
 #
 # Run by check.sh.
 set -u
+[ $# = 0 ] || { echo "usage: sh scripts/gate/wrong_words.sh" >&2; exit 2; }
 top=$(cd "$(dirname "$0")/../.." && pwd) || exit 2
 work=$(mktemp -d) || exit 2
 trap 'rm -rf "$work"' EXIT
@@ -46,6 +47,11 @@ done
 for script in bench/run.sh scripts/pages.py scripts/answers.py scripts/controls.py scripts/mutants_seen.py scripts/leaks_seen.py scripts/doors/abi.py scripts/gate/imports.py \
     scripts/gate/left_out.py scripts/gate/names.py scripts/gate/same_machine.py scripts/gate/sizes_by_pyyaml.py scripts/check_programs.sh scripts/differential/run.sh scripts/differential/turned.sh; do
     refuses $script --help
+    refuses $script no_such_word
+done
+for script in scripts/check.sh scripts/gate/calling_steps.sh scripts/gate/plain_rust.sh scripts/gate/vendor_checks.sh scripts/gate/wrong_words.sh \
+    scripts/gate/platforms.sh scripts/gate/links.py scripts/gate/words.py scripts/gate/mutants.py scripts/gate/between_crates.py scripts/gate/reexports.py \
+    scripts/gate/dead_and_duplicate.py scripts/gate/names.py scripts/gate/worked.py scripts/gate/lists.py bench/plain.py bench/measure.py; do
     refuses $script no_such_word
 done
 refuses scripts/build_c.sh ''
