@@ -1,7 +1,7 @@
 //! The expanded size of a document, with the errors of loads.
-ghost use Rattle.std.specs.Prelude.{ℕ, ℤ, ◌<◌, ◌≤◌, ◌≡◌, ◌⊎◌, pos, Ok, IfOk, IfErr};
+ghost use Rattle.std.specs.Prelude.{ℕ, ℤ, ◌<◌, ◌≤◌, ◌≡◌, ◌≢◌, ◌⊎◌, [], pos, Ok, IfOk};
 ghost use Rattle.libyaml_types.specs.Fault.{fault_of, memory_fault};
-ghost use Rattle.yaml_expansion.specs.Expansion.{HasExpandedSize, IsCyclic, IsCyclicAt};
+ghost use Rattle.yaml_expansion.specs.Expansion.{HasExpandedSize, IsCyclic, IsCyclicAt, ids_at};
 ghost use Rattle.yaml_expansion.specs.ExpansionFaults.{ReturnsFault, cyclic, node_start_at, too_large};
 
 use crate::error::yaml_expansion_error_t;
@@ -21,7 +21,7 @@ use std::alloc::Global;
 ///   contains itself. The mark is where such a collection starts.
 /// - "found too many nodes, with aliases written out", where the tree has an end, and more than `max` nodes.
 ///   The mark is where the root starts.
-/// - Out of memory, if an allocation failed.
+/// - Out of memory, if an allocation failed: memory is taken only if the root holds an id.
 pub fn bounded_size(
     alloc: Global,
     document: &yaml_document_t,
@@ -35,6 +35,7 @@ pub fn bounded_size(
     ensures where_cyclic { IsCyclic document.now.nodes
         → ((id : ℤ) × IsCyclicAt document.now.nodes id × ReturnsFault result (cyclic document.now.nodes id))
         ⊎ ReturnsFault result memory_fault }
+    ensures memory { ReturnsFault result memory_fault → ids_at document.now.nodes (pos 1) ≢ [] }
 {
     match expanded_size(alloc, document, max) {
         Ok(size) => Ok(size),
