@@ -91,7 +91,7 @@ pub mod env {
 /// Readers and writers.
 pub mod io {
     use super::super::{AllocError, Global, Vec};
-    pub use std::io::{BufRead, Error, Read, Result, Write};
+    pub use std::io::{BufRead, Error, ErrorKind, Read, Result, Write};
 
     impl From<AllocError> for Error {
         fn from(_: AllocError) -> Self {

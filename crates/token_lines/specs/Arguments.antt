@@ -1,5 +1,6 @@
 -- The arguments of the command line: what its words ask for, and the exit statuses (docs/DEFINITIONS.md, "The program").
-use Rattle.std.specs.Prelude.{◌≡◌, ℕ, List, [], ◌∷◌, Option, Some, None, codes, bytes_eq, if◌then◌else◌}
+use Rattle.std.specs.Prelude.{◌≡◌, ℕ, List, [], ◌∷◌, Option, Some, None, codes, take, bytes_eq, if◌then◌else◌}
+use Rattle.std.specs.Io.KnownBytes.{Appends}
 use Rattle.token_lines.specs.declared.run.Outcome.{Outcome}
 use Rattle.token_lines.specs.declared.run.Outcome.TheVariants.{Ended, Faulted, OutputFailed}
 use Rattle.token_lines.specs.events.LastCall.{RunsOver}
@@ -21,6 +22,10 @@ abbrev pub exit_status_of : Outcome → ℕ
 exit_status_of Ended = 0
 exit_status_of Faulted = 1
 exit_status_of OutputFailed = 3
+
+-- known bytes grew by the line, or by what could be written of it
+abbrev pub BeginsLine : (line : List ℕ) → (before after : Option (List ℕ)) → Type 0
+BeginsLine line before after = (n : ℕ) × Appends before after (take n line)
 
 -- the run was over a reader's lines, and wrote what it writes
 abbrev pub WasOver : {R W : Type 0} → Run → (remaining : R → Option (List ℕ)) → (contents : W → Option (List ℕ)) → R

@@ -1,16 +1,19 @@
 //! What the words of the command line ask for.
-ghost use Rattle.std.specs.Prelude.{◌≡◌, ◌<◌, Some, None, map, string_bytes};
-ghost use Rattle.token_lines.specs.Arguments.{run_of, asked_run, RunsWith, WasOver};
+ghost use Rattle.std.specs.Prelude.{◌≡◌, ◌<◌, Some, None, codes, map, string_bytes};
+ghost use Rattle.token_lines.specs.Arguments.{run_of, asked_run, BeginsLine, RunsWith, WasOver};
 
 use crate::{Outcome, run_events, run_nodes};
 use std::alloc::Global;
-use std::io::{BufRead, Write};
+use std::io::{BufRead, ErrorKind, Write};
 
 /// The exit status of words that ask for nothing, or that can't be read.
 const WRONG_WORDS: u8 = 2;
 
 /// The exit status if a write or a flush failed, or if no memory was found for a buffer.
 const OUTPUT_FAILED: u8 = 3;
+
+/// A line for the user is given up after so many writes.
+const MOST_WRITES: u32 = 1 << 16;
 
 /// What the program is asked to write.
 #[derive(Copy, Clone)]
@@ -38,6 +41,10 @@ pub fn run_words<R: BufRead + Drop, W: Write, E: Write>(
     ensures refused { asked_run (map string_bytes words.now) ≡ None → (result ≡ 2)
         × (output.new ≡ output.old) }
     ensures quiet { result < 2 → errors.new ≡ errors.old }
+    ensures usage { result ≡ 2 → BeginsLine (codes "usage: yamltokens events|nodes\n")
+        (E.contents errors.old) (E.contents errors.new) }
+    ensures failed { result ≡ 3 → BeginsLine (codes "yamltokens: output failed\n")
+        (E.contents errors.old) (E.contents errors.new) }
 {
     let Some(asked) = asked_run(words) else {
         return refuse_words(errors);
@@ -88,22 +95,42 @@ fn run_of(word: &str) -> Option<Run>
 
 /// Writes the usage line.
 pub fn refuse_words<E: Write>(errors: &mut E) -> u8
-    ensures { result ≡ 2 }
+    ensures status { result ≡ 2 }
+    ensures usage { BeginsLine (codes "usage: yamltokens events|nodes\n")
+        (E.contents errors.old) (E.contents errors.new) }
 {
     refuse(WRONG_WORDS, "usage: yamltokens events|nodes\n", errors)
 }
 
 /// Writes that no memory was found for a buffer.
 pub fn no_memory<E: Write>(errors: &mut E) -> u8
-    ensures { result ≡ 3 }
+    ensures status { result ≡ 3 }
+    ensures told { BeginsLine (codes "yamltokens: no memory\n")
+        (E.contents errors.old) (E.contents errors.new) }
 {
     refuse(OUTPUT_FAILED, "yamltokens: no memory\n", errors)
 }
 
 /// Writes a line for the user, and returns the status.
 fn refuse<E: Write>(status: u8, line: &str, errors: &mut E) -> u8
-    ensures { result ≡ status }
+    ensures status { result ≡ status }
+    ensures told { BeginsLine line.now (E.contents errors.old) (E.contents errors.new) }
 {
-    let _ = errors.write_all(line.as_bytes());
+    tell(line.as_bytes(), errors);
     status
+}
+
+/// Writes as much of a line as can be written.
+fn tell<E: Write>(line: &[u8], errors: &mut E)
+    ensures { BeginsLine line.now (E.contents errors.old) (E.contents errors.new) }
+{
+    let mut written = 0;
+    for _ in 0..MOST_WRITES {
+        match errors.write(&line[written..]) {
+            Ok(0) => return,
+            Ok(more) => written += more,
+            Err(error) if error.kind() == ErrorKind::Interrupted => {}
+            Err(_) => return,
+        }
+    }
 }

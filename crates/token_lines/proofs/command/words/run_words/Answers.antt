@@ -28,4 +28,4 @@ returns-in-Faulted-clause-runs g c run e = made g.R.Read.remaining g.W.Write.con
 pub returns-in-OutputFailed-clause-runs : goal.returns-in-OutputFailed-clause-runs
 returns-in-OutputFailed-clause-runs g c run e = made g.R.Read.remaining g.W.Write.contents c.args.reader c.in-Some.asked run
     c.run_asked.result c.refuse.result _ _ (sym c.in-Some.is ∙ (c.asked_run.ensures ∙ e))
-    (c.refuse.ensures ∙ sym (ap exit_status_of c.in-OutputFailed.is)) c.run_asked.ensures
+    (c.refuse.ensures.status ∙ sym (ap exit_status_of c.in-OutputFailed.is)) c.run_asked.ensures
