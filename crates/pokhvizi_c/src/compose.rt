@@ -1,12 +1,14 @@
 //! The calls of `libyaml_composer`, `document_steps` and `document_sizes` for C, which
 //! `bindings/c/include/pokhvizi/compose.h` declares.
-ghost use Rattle.std.specs.Prelude.{◌≡◌, ◌≤◌, ◌↔◌, List, [], length, true, false};
+ghost use Rattle.std.specs.Prelude.{◌≡◌, ◌≤◌, ◌<◌, ◌+◌, ◌^◌, ◌<ℤ◌, ◌↔◌, ℕ, pos, List, [], length};
+ghost use Rattle.std.specs.Prelude.{Some, true, false};
 ghost use Rattle.libyaml_composer.specs.declared.deed.Deed.{Deed};
 ghost use Rattle.libyaml_composer.specs.declared.records.open_t.{open_t};
 ghost use Rattle.libyaml_composer.specs.Composing.{composer_of, is_start, most_of, composer_step, told};
 ghost use Rattle.libyaml_composer.specs.Numbers.{is_undone_number, event_kind, deed_number};
+ghost use Rattle.libyaml_composer.specs.Represents.{PutsNode};
 ghost use Rattle.document_steps.specs.Anchors.{node_in};
-ghost use Rattle.document_sizes.specs.Counting.{bound_of, count_of, counting};
+ghost use Rattle.document_sizes.specs.Counting.{IsBad, bound_of, count_of, counting, more_of, size_at};
 ghost use Rattle.document_sizes.specs.Numbers.{counted_number, deed_of};
 ghost use Rattle.document_sizes.specs.declared.counted.Counted.{Counted};
 
@@ -93,6 +95,14 @@ pub extern "C" fn pokhvizi_count(
         (is_start (event_kind kind)) place.now size.old.total sizes.old) }
     ensures numbers { result ≤ 16 }
     ensures undone { (result ≡ 0 → ⊥) → (size.new ≡ size.old) × (sizes.new ≡ sizes.old) }
+    ensures too_large { (result ≡ 13) ↔ (PutsNode (deed_of deed) × ((more : ℕ)
+        × (more_of place.now.node (size_at sizes.old place.now.child) ≡ Some more)
+        × (bound_of size.old.max < size.old.total + more))) }
+    ensures endless { (result ≡ 14) ↔ (PutsNode (deed_of deed) × (place.now.node ≡ pos 0)
+        × ((number : ℕ) × (size_at sizes.old place.now.child ≡ Some number) × (2 ^ 63 ≤ number))) }
+    ensures bad { (result ≡ 15) ↔ IsBad (deed_of deed) place.now size.old.total sizes.old }
+    ensures full { (result ≡ 16) ↔ (PutsNode (deed_of deed) × (pos (length sizes.old) <ℤ place.now.node)
+        × (size.old.total < bound_of size.old.max)) }
     ensures bound { size.new.max ≡ size.old.max }
 {
     size.count(sizes, deed_of(deed), event_kind(kind), place)
