@@ -1,19 +1,17 @@
 -- Composing events within bounds, without documents (docs/DEFINITIONS.md, "Bounded events").
-use Rattle.std.specs.Prelude.{◌≡◌, ◌++◌, ℕ, List, Option, None, Some, codes}
+use Rattle.std.specs.Prelude.{◌≡◌, ◌≢◌, ◌⊎◌, ◌++◌, ◌<ℤ◌, ℕ, pos, true, List, Option, None, Some, codes}
 use Rattle.libyaml_types.specs.Fault.{Fault, memory_fault, no_fault}
 use Rattle.libyaml_types.specs.Types.{event_type}
 use Rattle.libyaml_types.specs.declared.enums.yaml_error_type_t.TheVariants.{YAML_COMPOSER_ERROR}
 use Rattle.libyaml_types.specs.declared.enums.yaml_event_type_t.{yaml_event_type_t}
 use Rattle.libyaml_types.specs.declared.mark.yaml_mark_t.{yaml_mark_t}
 use Rattle.libyaml_grammar.specs.grammar.Events.{Event}
-use Rattle.libyaml_graphs.specs.graphs.GraphParts.{part_of}
 use Rattle.libyaml_composer.specs.declared.deed.Deed.{Deed}
 use Rattle.libyaml_composer.specs.declared.deed.Deed.TheVariants as deed
 use Rattle.libyaml_composer.specs.declared.records.place_t.{place_t}
 use Rattle.libyaml_composer.specs.Composing.{is_start}
 use Rattle.libyaml_composer.specs.DocumentSoFar.{IsRefused}
-use Rattle.libyaml_composer.specs.Represents.{IsNode}
-use Rattle.libyaml_loader.specs.composed.EventComposer.{EventComposer}
+use Rattle.libyaml_loader.specs.composed.EventComposer.{EventComposer, needs_memory}
 use Rattle.libyaml_loader.specs.composed.Telling.{TellsDeed, load_fault}
 use Rattle.document_sizes.specs.declared.counted.Counted.{Counted}
 use Rattle.document_sizes.specs.declared.counted.Counted.TheVariants as counted
@@ -72,12 +70,22 @@ pub record TakesNode (old : bounded_composer_t) (e : Event) (new : bounded_compo
   pub taken : IsRefused deed → ⊥
   pub counted : AnswersTo counted.Within deed (event_type e.content) place old new
 
+-- The count takes memory: at a node that the composer takes, where the expanded size has a bound.
+pub record CountTakes (old : bounded_composer_t) (e : Event) : Type 0 where
+  pub deed : Deed
+  pub place : place_t
+  pub composer : EventComposer
+  pub tells : TellsDeed old.composer e deed place composer
+  pub taken : IsRefused deed → ⊥
+  pub node : pos 0 <ℤ place.node
+  pub bounded : old.size ≢ None
+
 -- The event is refused: by the composer's deed; or the count says that the document is too large or has no end, or that a number
--- is one that no composer gives; or an allocation failed, at a node.
+-- is one that no composer gives; or an allocation failed, where the composer or the count takes memory.
 pub data RefusesNode (old : bounded_composer_t) (e : Event) (f : Fault) : Type 0 where
   by_deed : (d : Deed) (p : place_t) (c : EventComposer) → TellsDeed old.composer e d p c → IsRefused d
       → f ≡ refused_fault d old.composer e → RefusesNode old e f
   by_count : (a : Counted) (d : Deed) (p : place_t) (new : bounded_composer_t) → TellsDeed old.composer e d p new.composer
       → (IsRefused d → ⊥) → AnswersTo a d (event_type e.content) p old new → (a ≡ counted.Within → ⊥)
       → f ≡ count_fault a e.start_mark → RefusesNode old e f
-  by_memory : f ≡ memory_fault → IsNode (part_of e) → RefusesNode old e f
+  by_memory : f ≡ memory_fault → (needs_memory old.composer.anchors e ≡ true) ⊎ CountTakes old e → RefusesNode old e f

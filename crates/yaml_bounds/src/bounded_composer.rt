@@ -1,5 +1,5 @@
 //! What composes events within bounds, and makes no documents.
-ghost use Rattle.std.specs.Prelude.{◌≡◌, ◌⊎◌, ◌++◌, ◌<ℤ◌, List, [], ℕ, pos, IfErr, IfOk};
+ghost use Rattle.std.specs.Prelude.{◌≡◌, ◌≢◌, ◌⊎◌, ◌++◌, ◌<ℤ◌, List, [], ℕ, pos, IfErr, IfOk};
 ghost use Rattle.std.specs.Prelude.{IfSome, None, OnErr, OnOk};
 ghost use Rattle.libyaml_types.specs.Fault.{fault_of};
 ghost use Rattle.libyaml_composer.specs.Composing.{most_of};
@@ -93,7 +93,8 @@ impl bounded_composer_t {
     ///
     /// # Errors
     ///
-    /// The error of a load or of a bound, or out of memory.
+    /// The error of a load or of a bound, or out of memory: at the start of a collection or a node with an anchor
+    /// that none before has, or, if the expanded size is bounded, at a node that is taken.
     pub(crate) fn take(&mut self, event: &yaml_event_t) -> Result<(), yaml_parser_t_prefix>
         ensures takes { OnOk result (TakesNode self.old event.now self.new) }
         ensures refuses { IfErr result (λ f. RefusesNode self.old event.now (fault_of f)) }
@@ -134,7 +135,7 @@ impl bounded_composer_t {
     ///
     /// # Errors
     ///
-    /// An allocation failed, at a node.
+    /// An allocation failed, at a node, where there is a bound.
     fn count(
         &mut self,
         deed: Deed,
@@ -144,6 +145,7 @@ impl bounded_composer_t {
         ensures answers { IfOk result (λ answer. AnswersTo answer deed kind place.now self.old self.new) }
         ensures composer { self.new.composer ≡ self.old.composer }
         ensures err { OnErr result (pos 0 <ℤ place.now.node) }
+        ensures bounded { OnErr result (self.old.size ≢ None) }
     {
         let Some(size) = &mut self.size else {
             return Ok(Counted::Within);

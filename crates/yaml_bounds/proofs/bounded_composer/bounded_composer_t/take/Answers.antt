@@ -1,7 +1,7 @@
-use Rattle.std.proofs.Common.{◌∙◌, refl, sym, subst}
+use Rattle.std.proofs.Common.{◌∙◌, inr, refl, sym, subst}
 use Rattle.libyaml_loader.specs.composed.Telling.{TellsDeed}
 use Rattle.libyaml_loader.proofs.exported.Yielding.{refused_anchors}
-use Rattle.yaml_bounds.specs.Bounds.{by_count, by_deed}
+use Rattle.yaml_bounds.specs.Bounds.{by_count, by_deed, by_memory}
 use Rattle.yaml_bounds.proofs.Told.{refused_same}
 use Rattle.yaml_bounds.proofs.bounded_composer.bounded_composer_t.take.Goals as goal
 
@@ -21,3 +21,15 @@ returns-in-Some-count_fault-clause-refuses c =
     by_count c.in-Ok-count.counted c.in-Ok.deed c.compose.new.place c.count.new.self tells
     (c.in_default-refusal.ensures.taken refl) answers
     c.in-Some-count_fault.ensures.out.0 c.in-Some-count_fault.ensures.out.1
+
+pub returns-in_default-count-clause-refuses : goal.returns-in_default-count-clause-refuses
+returns-in_default-count-clause-refuses c =
+    by_memory refl (inr (record {
+      deed = c.in-Ok.deed;
+      place = c.compose.new.place;
+      composer = c.compose.new.self;
+      tells = c.in-Ok.ensures.tells;
+      taken = c.in_default-refusal.ensures.taken refl;
+      node = c.in_default-count.ensures.err;
+      bounded = c.in_default-count.ensures.bounded;
+    }))
