@@ -31,6 +31,7 @@ export PYTHONDONTWRITEBYTECODE=1
 passed=0
 failed=0
 skipped=0
+begun_beside=''
 
 is_there() {
     case $1 in
@@ -59,15 +60,34 @@ check() {
         return
     fi
     begun=$(date +%s)
-    if timeout 1800 "$@" > "$work/said" 2>&1; then
+    if timeout 1800 "$@" > "$work/$name.said" 2>&1; then
         passed=$((passed + 1))
-        echo "passed: $name, $(($(date +%s) - begun)) s: $(tail -n 1 "$work/said")"
+        echo "passed: $name, $(($(date +%s) - begun)) s: $(tail -n 1 "$work/$name.said")"
     else
         status=$?
         failed=$((failed + 1))
-        tail -n 100 "$work/said"
+        tail -n 100 "$work/$name.said"
         echo "failed: $name, with status $status: $*"
     fi
+}
+
+# beside NAME NEED.. -- COMMAND WORD..: a check that goes on beside the others; finish tells of it.
+beside() {
+    (
+        passed=0 failed=0 skipped=0
+        check "$@"
+        echo $passed $failed $skipped > "$work/$name.counts"
+    ) > "$work/$1.told" 2>&1 &
+    begun_beside="$begun_beside $1"
+}
+
+finish() {
+    wait
+    for name in $begun_beside; do
+        cat "$work/$name.told"
+        read -r more_passed more_failed more_skipped < "$work/$name.counts" || more_passed=0 more_failed=1 more_skipped=0
+        passed=$((passed + more_passed)) failed=$((failed + more_failed)) skipped=$((skipped + more_skipped))
+    done
 }
 
 # Runs the checks of clients.sh, which are passed, failed or skipped there.
@@ -99,8 +119,9 @@ front="python3 examples/yaml_lines.py"
 lists=2000
 [ -z "$all" ] || lists=100000
 
+beside calling rt -- sh scripts/gate/calling_steps.sh
+beside plain_rust cargo python3 cc ld objcopy ar nm yaml.h -- sh scripts/gate/plain_rust.sh
 check vendor sha256sum -- sh scripts/gate/vendor_checks.sh
-check calling rt -- sh scripts/gate/calling_steps.sh
 check statuses $yamltokens -- sh scripts/gate/statuses.sh $yamltokens
 check slow_pipe python3 $yamltokens -- python3 scripts/gate/slow_pipe.py $yamltokens
 check inlined nm $yamltokens crates/bench_lists/out/bench_lists -- sh scripts/gate/inlined.sh $yamltokens crates/bench_lists/out/bench_lists
@@ -108,7 +129,6 @@ check sizes_by_pyyaml.py PyYAML -- python3 scripts/gate/sizes_by_pyyaml.py
 check faults_of_yaml_lines.py PyYAML $yamltokens -- python3 scripts/gate/compare_errors.py $front
 check differential python3 cc yaml.h $yamltokens -- env JOBS=4 sh scripts/differential/run.sh $lists
 
-check plain_rust cargo python3 cc ld objcopy ar nm yaml.h -- sh scripts/gate/plain_rust.sh
 check same_machine cargo python3 -- python3 scripts/gate/same_machine.py
 check libraries_for_c rt cc ld objcopy ar nm yaml.h -- sh scripts/build_c.sh "$libraries" $ci
 check faults_of_yaml.c PyYAML "$yaml" -- python3 scripts/gate/compare_errors.py "$yaml"
@@ -124,6 +144,7 @@ if [ -n "$all" ]; then
     check platforms cargo i686-linux-gnu-gcc qemu-i386 i686-unknown-linux-gnu -- sh scripts/gate/platforms.sh
     check_clients
 fi
+finish
 
 echo "$passed passed, $failed failed$([ $skipped -eq 0 ] || echo ", $skipped skipped")"
 [ "$failed" -eq 0 ]
