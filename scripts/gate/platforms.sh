@@ -25,6 +25,8 @@ export CARGO_TARGET_DIR="$work/target" CARGO_NET_OFFLINE=true
 unset RUSTFLAGS POKHVIZI_DIR
 rustc=${RUSTC:-rustc} cargo=${CARGO:-cargo}
 ran=0 wrong=0 skipped=0
+# Debian's linker has a name of its own.
+! command -v wasm-ld > /dev/null || export CARGO_TARGET_WASM32_WASIP1_LINKER=wasm-ld CARGO_TARGET_WASM32_UNKNOWN_UNKNOWN_LINKER=wasm-ld
 [ $# -gt 0 ] || set -- i686-unknown-linux-gnu aarch64-unknown-linux-gnu riscv64gc-unknown-linux-gnu s390x-unknown-linux-gnu \
     wasm32-wasip1 wasm32-unknown-unknown
 
@@ -45,8 +47,6 @@ run_tests() {
 
 # Runs the lists of crates/vectors in node's wasm machine.
 run_wasi() {
-    # Debian's linker has a name of its own.
-    if command -v wasm-ld > /dev/null; then export CARGO_TARGET_WASM32_WASIP1_LINKER=wasm-ld; fi
     "$cargo" build -q --target "$target" --example lines || return 1
     cat > "$work/run.mjs" << 'JS'
 import { openSync, readFileSync } from "node:fs";
