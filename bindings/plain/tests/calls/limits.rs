@@ -32,14 +32,19 @@ fn list(row: &Row) -> yaml_list_source_t {
     listed(row.fields[0], row.number(1))
 }
 
+/// The bound of a row, which may be more than a `usize` of 32 bits.
+fn bound(row: &Row) -> usize {
+    usize::try_from(row.number::<u64>(2)).unwrap_or(usize::MAX)
+}
+
 /// The tokens of a row under its bound.
 fn source(row: &Row) -> yaml_limited_source_t<yaml_list_source_t> {
-    yaml_limited_source_t::new(list(row), row.number(2))
+    yaml_limited_source_t::new(list(row), bound(row))
 }
 
 /// Pushes each token that passes. One that is refused is refused again, by the same error.
 fn push_all(row: &Row) -> Result<(), yaml_parser_t_prefix> {
-    let mut limiter = token_limiter_t::new(row.number(2));
+    let mut limiter = token_limiter_t::new(bound(row));
     let (mut parser, mut events) = (yaml_push_parser_t::new(Global), List::new(Global));
     for token in growing(row.fields[0], row.number(1)) {
         if let Err(fault) = limiter.take(&token) {
